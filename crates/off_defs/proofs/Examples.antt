@@ -1,0 +1,25 @@
+-- Worked examples, evaluated: the definitions say what was meant.
+use Rattle.std.proofs.Common.{◌≡◌, [], ◌∷◌, refl, codes, Some, None}
+use Rattle.off_base.specs.Number.{number_read}
+use Rattle.off_defs.specs.Time.{time_bytes}
+use Rattle.off_defs.specs.Words.{serve_of}
+
+-- 1 January 1970: 2,208,988,800 seconds
+time_at_zero : time_bytes 0 ≡ 0x83 ∷ 0xaa ∷ 0x7e ∷ 0x80 ∷ []
+time_at_zero = refl
+
+-- 7 February 2036, 06:28:16 UTC: the number begins again
+time_wraps : time_bytes 2085978496 ≡ 0 ∷ 0 ∷ 0 ∷ 0 ∷ []
+time_wraps = refl
+
+time_in_2023 : time_bytes 1700000000 ≡ 0xe8 ∷ 0xfe ∷ 0x6f ∷ 0x80 ∷ []
+time_in_2023 = refl
+
+serve_words : serve_of (codes "serve" ∷ codes "--store" ∷ codes "memory" ∷ codes "--ports" ∷ codes "67,37,69,8080" ∷ codes "--turns" ∷ codes "5" ∷ [])
+    ≡ Some (record { store = codes "memory"; ports = 67 ∷ 37 ∷ 69 ∷ 8080 ∷ []; turns = 5 })
+unfolding serve_of number_read
+serve_words = refl
+
+no_port_zero : serve_of (codes "serve" ∷ codes "--store" ∷ codes "memory" ∷ codes "--ports" ∷ codes "67,0,69,8080" ∷ codes "--turns" ∷ codes "5" ∷ []) ≡ None
+unfolding serve_of number_read
+no_port_zero = refl

@@ -1,0 +1,4 @@
+pub mod ToldLemmas
+pub mod CountLemmas
+pub mod RunLemmas
+mod Examples

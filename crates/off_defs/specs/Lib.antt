@@ -1,0 +1,7 @@
+pub mod Told
+pub mod Counts
+pub mod State
+pub mod Time
+pub mod Step
+pub mod Run
+pub mod Words

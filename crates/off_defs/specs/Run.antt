@@ -1,0 +1,89 @@
+-- A run of the office: a list of turns, each an event with its outcome, what was said and which of the things to send went
+-- out. The states between the turns aren't in the list; Run says that there are some.
+use Rattle.std.specs.Prelude.{◌≡◌, ℕ, ◌+◌, ◌-◌, Bool, true, false, cond, not, List, [], ◌∷◌, ◌++◌, length, take, All, ◌==◌, decimal, codes, count_by}
+use Rattle.off_defs.specs.declared.events.Event.{Event}
+use Rattle.off_defs.specs.declared.events.What.{What}
+use Rattle.off_defs.specs.declared.events.What.TheVariants.{Datagram, Piece, Closed, Tick, End}
+use Rattle.off_defs.specs.declared.results.Outcome.{Outcome}
+use Rattle.off_defs.specs.declared.results.Sent.{Sent}
+use Rattle.off_defs.specs.State.{State, Said}
+use Rattle.off_defs.specs.Step.{Step, service_word}
+
+-- One turn. `went` tells of each item whether it was sent.
+pub record Turn : Type 0 where
+  pub event : Event
+  pub outcome : Outcome
+  pub said : Said
+  pub went : List Bool
+
+-- Step along the turns, each from the state that the one before it left
+abbrev pub Run : State → List Turn → State → Type 0
+Run s [] last = last ≡ s
+Run s (turn ∷ turns) last =
+    (after : State) × (Step s turn.event turn.outcome (record { said = turn.said; after = after }) × Run after turns last)
+
+-- the items that are marked as sent
+abbrev pub marked : List Sent → List Bool → List Sent
+marked [] marks = []
+marked (item ∷ items) [] = []
+marked (item ∷ items) (true ∷ marks) = item ∷ marked items marks
+marked (item ∷ items) (false ∷ marks) = marked items marks
+
+-- what a turn sent, and how many of its items were lost
+abbrev pub sent_in : Turn → List Sent
+sent_in turn = marked turn.said.items turn.went
+
+abbrev pub lost_in : Turn → ℕ
+lost_in turn = count_by not turn.went
+
+-- what the turns sent, in order, and how many items they lost
+abbrev pub sent_by : List Turn → List Sent
+sent_by [] = []
+sent_by (turn ∷ turns) = sent_in turn ++ sent_by turns
+
+abbrev pub lost_by : List Turn → ℕ
+lost_by [] = 0
+lost_by (turn ∷ turns) = lost_in turn + lost_by turns
+
+abbrev pub all_went : List Bool → Bool
+all_went [] = true
+all_went (mark ∷ marks) = cond mark (all_went marks) false
+
+-- the words of a turn's line: `link` stands in place of any other word where an item was lost
+abbrev pub words_of : Turn → List ℕ
+words_of turn = cond (all_went turn.went) turn.said.line (service_word turn.event.what ++ codes " link")
+
+-- the line of the log for turn number n: the number, a space, the words, a line feed. A turn that says nothing has none.
+abbrev pub line_of : ℕ → Turn → List ℕ
+line_of n turn = cond (length turn.said.line == 0) [] (((decimal n ++ 32 ∷ []) ++ words_of turn) ++ 10 ∷ [])
+
+-- the lines of turns that are numbered from n. Each turn counts, also one without a line.
+abbrev pub lines_from : ℕ → List Turn → List ℕ
+lines_from n [] = []
+lines_from n (turn ∷ turns) = line_of n turn ++ lines_from (n + 1) turns
+
+abbrev pub is_end : What → Bool
+is_end (Datagram service from bytes) = false
+is_end (Piece conn bytes) = false
+is_end (Closed conn) = false
+is_end Tick = false
+is_end End = true
+
+-- the event that a link gives where none is left
+abbrev pub end_event : Event
+end_event = record { at = record { 0 = 0 }; what = End }
+
+-- the first k of the events to come, with one End behind the last
+abbrev pub first_events : ℕ → List Event → List Event
+first_events k events = take k (events ++ end_event ∷ [])
+
+abbrev pub events_of : List Turn → List Event
+events_of [] = []
+events_of (turn ∷ turns) = turn.event ∷ events_of turns
+
+-- No turn but the last takes an End.
+abbrev pub IsNoEnd : Turn → Type 0
+IsNoEnd turn = is_end turn.event.what ≡ false
+
+abbrev pub EndsLast : List Turn → Type 0
+EndsLast turns = All IsNoEnd (take (length turns - 1) turns)

@@ -1,0 +1,49 @@
+-- One event of the office. Step relates a state, an event and its outcome to what is said and to the state after it;
+-- each pair of an event and an outcome has a line here, and ⊥ where the pair can't be.
+use Rattle.std.specs.Prelude.{◌≡◌, ◌++◌, List, [], ℕ, codes}
+use Rattle.off_defs.specs.declared.events.Service.TheVariants.{Dhcp, Time, Tftp}
+use Rattle.off_defs.specs.declared.events.What.{What}
+use Rattle.off_defs.specs.declared.events.What.TheVariants.{Datagram, Piece, Closed, Tick, End}
+use Rattle.off_defs.specs.declared.events.Event.{Event}
+use Rattle.off_defs.specs.declared.results.Outcome.{Outcome}
+use Rattle.off_defs.specs.declared.results.Outcome.TheVariants.{Did, Memory}
+use Rattle.off_defs.specs.State.{State, Effect, at_moment, only_line, silence}
+use Rattle.off_defs.specs.Time.{TimeDid}
+
+-- the service's name, with which each line of the log begins
+abbrev pub service_word : What → List ℕ
+service_word (Datagram Dhcp from bytes) = codes "dhcp"
+service_word (Datagram Time from bytes) = codes "time"
+service_word (Datagram Tftp from bytes) = codes "tftp"
+service_word (Piece conn bytes) = codes "http"
+service_word (Closed conn) = codes "http"
+service_word Tick = codes "tick"
+service_word End = []
+
+-- A service that isn't built yet says so and changes nothing.
+abbrev pub NotBuilt : State → What → Effect → Type 0
+NotBuilt s what effect = effect ≡ only_line s (service_word what ++ codes " not-built")
+
+-- Memory was wanted: nothing is sent and all is as before.
+abbrev pub WantedMemory : State → What → Effect → Type 0
+WantedMemory s what effect = effect ≡ only_line s (service_word what ++ codes " memory")
+
+-- what an event makes of a state whose moment is the event's already
+abbrev pub Does : State → What → Outcome → Effect → Type 0
+Does s (Datagram Dhcp from bytes) Did effect = NotBuilt s (Datagram Dhcp from bytes) effect
+Does s (Datagram Dhcp from bytes) Memory effect = ⊥
+Does s (Datagram Time from bytes) Did effect = TimeDid s from effect
+Does s (Datagram Time from bytes) Memory effect = WantedMemory s (Datagram Time from bytes) effect
+Does s (Datagram Tftp from bytes) Did effect = NotBuilt s (Datagram Tftp from bytes) effect
+Does s (Datagram Tftp from bytes) Memory effect = ⊥
+Does s (Piece conn bytes) Did effect = NotBuilt s (Piece conn bytes) effect
+Does s (Piece conn bytes) Memory effect = ⊥
+Does s (Closed conn) Did effect = NotBuilt s (Closed conn) effect
+Does s (Closed conn) Memory effect = ⊥
+Does s Tick Did effect = effect ≡ silence s
+Does s Tick Memory effect = ⊥
+Does s End Did effect = effect ≡ silence s
+Does s End Memory effect = ⊥
+
+unfoldable pub Step : State → Event → Outcome → Effect → Type 0
+Step s event outcome effect = Does (at_moment s event.at.0) event.what outcome effect

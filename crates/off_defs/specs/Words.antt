@@ -1,0 +1,66 @@
+-- The words of the command line behind the program's name, for `serve`:
+--     serve --store STORE --ports DHCP,TIME,TFTP,HTTP --turns N
+-- STORE is `memory` or a path that isn't empty and doesn't begin with `-`. Ports are numbers from 1 to 65535. N is 0 to 10^15.
+use Rattle.std.specs.Prelude.{ℕ, ◌==◌, Bool, true, false, not, ◌&&◌, nat_lt, List, [], ◌∷◌, length, codes, slice_index, Option, Some, None, option_and_then, if◌then◌else◌}
+use Rattle.std.specs.List.{before_first, after_first}
+use Rattle.off_base.specs.Number.{number_read}
+
+-- what the words of `serve` ask for; `ports` in the order DHCP, time, TFTP, HTTP
+pub record Serve : Type 0 where
+  pub store : List ℕ
+  pub ports : List ℕ
+  pub turns : ℕ
+
+-- two texts are the same
+abbrev pub same_text : List ℕ → List ℕ → Bool
+same_text [] [] = true
+same_text [] (b ∷ bs) = false
+same_text (a ∷ as') [] = false
+same_text (a ∷ as') (b ∷ bs) = (a == b) && same_text as' bs
+
+-- the greatest number of turns, 10^15
+abbrev pub most_turns : ℕ
+most_turns = 1000000000000000
+
+-- a port, from 1 to 65535
+abbrev pub port_of : List ℕ → Option ℕ
+port_of text = option_and_then (λ n. if n == 0 then None else Some n) (number_read 65535 text)
+
+-- the texts before and behind the first comma; a text without one has nothing behind it
+abbrev pub before_comma : List ℕ → List ℕ
+before_comma text = before_first (λ c. c == 44) text
+
+abbrev pub behind_comma : List ℕ → List ℕ
+behind_comma text = after_first (λ c. c == 44) text
+
+-- four ports with commas between them
+abbrev pub ports_of : List ℕ → Option (List ℕ)
+ports_of text =
+    let behind_one = behind_comma text in
+    let behind_two = behind_comma behind_one in
+    option_and_then (λ dhcp.
+    option_and_then (λ time.
+    option_and_then (λ tftp.
+    option_and_then (λ http. Some (dhcp ∷ time ∷ tftp ∷ http ∷ []))
+    (port_of (behind_comma behind_two)))
+    (port_of (before_comma behind_two)))
+    (port_of (before_comma behind_one)))
+    (port_of (before_comma text))
+
+-- `memory`, or a path
+abbrev pub is_store : List ℕ → Bool
+is_store text = nat_lt 0 (length text) && not (slice_index text 0 == 45)
+
+abbrev pub serve_by : List ℕ → Option (List ℕ) → Option ℕ → Option Serve
+serve_by store None turns = None
+serve_by store (Some ports) None = None
+serve_by store (Some ports) (Some turns) =
+    if is_store store then Some (record { store = store; ports = ports; turns = turns }) else None
+
+-- the one form of `serve`, or None for every other list of words
+unfoldable pub serve_of : List (List ℕ) → Option Serve
+serve_of (command ∷ store_flag ∷ store ∷ ports_flag ∷ ports ∷ turns_flag ∷ turns ∷ []) =
+    if (same_text command (codes "serve")
+    && (same_text store_flag (codes "--store") && (same_text ports_flag (codes "--ports") && same_text turns_flag (codes "--turns"))))
+    then serve_by store (ports_of ports) (number_read most_turns turns) else None
+serve_of words = None

@@ -1,0 +1,31 @@
+use crate::events::Service;
+use off_base::{Bytes, Peer};
+
+/// One thing that the office sends.
+#[derive(Debug, Drop)]
+pub enum Sent {
+    /// A datagram from a service's port.
+    Datagram {
+        service: Service,
+        to: Peer,
+        bytes: Bytes,
+    },
+    /// Bytes on a clerk's connection.
+    Answer {
+        conn: u32,
+        bytes: Bytes,
+    },
+    /// The end of a clerk's connection.
+    Close {
+        conn: u32,
+    },
+}
+
+/// How an event ended.
+#[derive(Clone, Copy, Debug, PartialEq, Eq)]
+pub enum Outcome {
+    /// The office did what its services say.
+    Did,
+    /// Memory was wanted, and refused.
+    Memory,
+}

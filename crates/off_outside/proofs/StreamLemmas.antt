@@ -1,0 +1,48 @@
+-- What a source in memory gives is what it tells of it.
+use Rattle.std.proofs.Common.{◌≡◌, ℕ, ◌≤◌, List, [], ◌∷◌, ◌++◌, Result, Ok, Err, MatchResult, IfOk, length, take, drop, refl, sym, ap, ◌∙◌, subst, arith, length-take}
+use Rattle.std.proofs.Math.Seq.{take-append_seam}
+use Rattle.std.proofs.lemmas.List.{take-append-drop}
+use Rattle.off_defs.proofs.ToldLemmas.{told_known}
+use Rattle.off_defs.specs.Counts.{Grew}
+use Rattle.off_outside.specs.declared.link.Failed.{Failed}
+use Rattle.off_outside.specs.Streams.{Gave, NotGiven}
+use Rattle.off_outside.specs.InMemory.{MemSourceHeld, MemGave, MemNotGiven, source_seen}
+
+none_of : (left : List ℕ) → length left ≡ 0 → left ≡ []
+none_of [] e = refl
+none_of (x ∷ left) e = absurd (omega arith)
+
+front_of : (n : ℕ) (left rest : List ℕ) → n ≤ length left → take n (take n left ++ rest) ≡ take n left
+front_of n left rest within =
+    let len : length (take n left) ≡ n = omega (arith, length-take n left) in
+    ap (λ k. take k (take n left ++ rest)) (sym len) ∙ take-append_seam (take n left) rest
+
+pub mem_gave_tells : {n : ℕ} {before after : List ℕ} {old new : MemSourceHeld} → MemGave n before after old new → length after ≡ length before → Gave n after (source_seen old) (source_seen new)
+mem_gave_tells {n} {before} {after} {old} {new} gave same = record {
+  left = told_known
+      (let within : n ≤ length old.left = omega (arith, gave.count) in
+      let front : take n after ≡ take n old.left = ap (λ v. take n v) gave.filled ∙ front_of n old.left (drop n before) within in
+      let whole : old.left ≡ take n after ++ drop n old.left = sym (ap (λ v. v ++ drop n old.left) front ∙ take-append-drop n old.left) in (
+        subst (λ (m : MemSourceHeld). old.left ≡ take n after ++ m.left) (sym gave.after_it) whole,
+        λ zero some. none_of old.left (omega (arith, gave.count)),
+      ));
+  faults = subst (λ (m : MemSourceHeld). old.faults ≤ m.faults) (sym gave.after_it) (omega arith);
+}
+
+not_given_tells : {before after : List ℕ} {old new : MemSourceHeld} → MemNotGiven before after old new → NotGiven (source_seen old) (source_seen new)
+not_given_tells {old = old} {new = new} not_given = record {
+  left = told_known (ap (λ (m : MemSourceHeld). m.left) not_given.after_it);
+  faults = subst (λ (m : MemSourceHeld). Grew 1 old.faults m.faults) (sym not_given.after_it) (record { later = omega (arith, not_given.fits); grew = omega arith });
+}
+
+pub read_tells : (r : Result ℕ Failed) (before after : List ℕ) (old new : MemSourceHeld)
+    → MatchResult r (λ n. MemGave n before after old new) (λ _. MemNotGiven before after old new) → length after ≡ length before
+    → MatchResult r (λ n. Gave n after (source_seen old) (source_seen new)) (λ _. NotGiven (source_seen old) (source_seen new))
+read_tells (Ok n) before after old new gave same = mem_gave_tells gave same
+read_tells (Err e) before after old new not_given same = not_given_tells not_given
+
+pub read_room : (r : Result ℕ Failed) (before after : List ℕ) (old new : MemSourceHeld)
+    → MatchResult r (λ n. MemGave n before after old new) (λ _. MemNotGiven before after old new) → length after ≡ length before
+    → IfOk r (λ n. n ≤ length after)
+read_room (Ok n) before after old new gave same = omega (arith, gave.count)
+read_room (Err e) before after old new not_given same = tt

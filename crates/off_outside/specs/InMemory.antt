@@ -1,0 +1,136 @@
+-- The forms in memory: what each holds, and exactly what each call makes of it.
+use Rattle.std.specs.Prelude.{◌≡◌, ℕ, ◌-◌, ◌<◌, ◌≤◌, List, [], ◌∷◌, ◌++◌, drop, take, length, min, Contains, ◌⊎◌}
+use Rattle.off_defs.specs.declared.events.Event.{Event}
+use Rattle.off_defs.specs.declared.results.Sent.{Sent}
+use Rattle.off_defs.specs.Counts.{one_more, most_count}
+use Rattle.off_outside.specs.LinkSeen.{LinkSeen}
+use Rattle.off_outside.specs.LinkCalls.{first_event}
+use Rattle.off_outside.specs.Streams.{SourceSeen, SinkSeen}
+use Rattle.off_outside.specs.declared.link.LinkErr.{LinkErr}
+use Rattle.off_outside.specs.declared.link.LinkErr.TheVariants as link_err
+
+-- the calls that are to fail, by number, and how many have been made; they count from 1
+pub record CallsHeld : Type 0 where
+  pub listed : List ℕ
+  pub made : ℕ
+
+-- the call that comes next, and whether it is to fail
+abbrev pub next_call : CallsHeld → ℕ
+next_call calls = one_more calls.made
+
+abbrev pub one_called : CallsHeld → CallsHeld
+one_called calls = record calls { made = next_call calls }
+
+abbrev pub IsToFail : CallsHeld → Type 0
+IsToFail calls = Contains calls.listed (next_call calls)
+
+-- what was sent, and the room that is left for items and for their bytes
+pub record OutboxHeld : Type 0 where
+  pub sent : List Sent
+  pub item_room : ℕ
+  pub octet_room : ℕ
+
+abbrev pub HasRoom : OutboxHeld → ℕ → Type 0
+HasRoom box len = (0 < box.item_room) × (len ≤ box.octet_room)
+
+abbrev pub with_item : OutboxHeld → Sent → ℕ → OutboxHeld
+with_item box item len = record { sent = box.sent ++ item ∷ []; item_room = box.item_room - 1; octet_room = box.octet_room - len }
+
+abbrev pub empty_outbox : ℕ → ℕ → OutboxHeld
+empty_outbox items octets = record { sent = []; item_room = items; octet_room = octets }
+
+-- a link in memory
+pub record MemLinkHeld : Type 0 where
+  pub left : List Event
+  pub outbox : OutboxHeld
+  pub calls : CallsHeld
+  pub missed : ℕ
+  pub faults : ℕ
+  pub unsent : ℕ
+
+-- it tells all that it holds
+abbrev pub link_seen : MemLinkHeld → LinkSeen
+link_seen m = record {
+  left = λ events. events ≡ m.left;
+  sent = λ items. items ≡ m.outbox.sent;
+  missed = m.missed;
+  faults = m.faults;
+  unsent = m.unsent;
+}
+
+-- the call counted, and nothing else yet
+abbrev pub link_called : MemLinkHeld → MemLinkHeld
+link_called m = record m { calls = one_called m.calls }
+
+-- `next` gives the first event exactly where the call isn't listed
+pub record MemTook (event : Event) (old new : MemLinkHeld) : Type 0 where
+  pub unlisted : ¬ (IsToFail old.calls)
+  pub first : event ≡ first_event old.left
+  pub after : new ≡ record (link_called old) { left = drop 1 old.left; missed = 0 }
+
+pub record MemNotTook (err : LinkErr) (old new : MemLinkHeld) : Type 0 where
+  pub listed : IsToFail old.calls
+  pub cause : err ≡ link_err.Failed
+  pub after : new ≡ record (link_called old) { missed = one_more old.missed; faults = one_more old.faults }
+
+-- an item of `len` bytes is sent exactly where the call isn't listed and there is room
+pub record MemSent (item : Sent) (len : ℕ) (old new : MemLinkHeld) : Type 0 where
+  pub unlisted : ¬ (IsToFail old.calls)
+  pub room : HasRoom old.outbox len
+  pub after : new ≡ record (link_called old) { outbox = with_item old.outbox item len }
+
+pub record MemNotSent (len : ℕ) (old new : MemLinkHeld) : Type 0 where
+  pub cause : IsToFail old.calls ⊎ (¬ (HasRoom old.outbox len))
+  pub after : new ≡ record (link_called old) { unsent = one_more old.unsent }
+
+-- a source in memory
+pub record MemSourceHeld : Type 0 where
+  pub left : List ℕ
+  pub calls : CallsHeld
+  pub faults : ℕ
+
+abbrev pub source_seen : MemSourceHeld → SourceSeen
+source_seen m = record { left = λ bytes. bytes ≡ m.left; faults = m.faults }
+
+-- `read` fills `out` as far as there are bytes, exactly where the call isn't listed
+pub record MemGave (n : ℕ) (before after : List ℕ) (old new : MemSourceHeld) : Type 0 where
+  pub unlisted : ¬ (IsToFail old.calls)
+  pub count : n ≡ min (length before) (length old.left)
+  pub filled : after ≡ take n old.left ++ drop n before
+  pub after_it : new ≡ record old { left = drop n old.left; calls = one_called old.calls }
+
+pub record MemNotGiven (before after : List ℕ) (old new : MemSourceHeld) : Type 0 where
+  pub listed : IsToFail old.calls
+  pub same : after ≡ before
+  pub fits : old.faults ≤ most_count
+  pub after_it : new ≡ record old { calls = one_called old.calls; faults = one_more old.faults }
+
+-- a sink in memory
+pub record MemSinkHeld : Type 0 where
+  pub written : List ℕ
+  pub room : ℕ
+  pub calls : CallsHeld
+  pub faults : ℕ
+
+abbrev pub sink_seen : MemSinkHeld → SinkSeen
+sink_seen m = record { written = λ bytes. bytes ≡ m.written; faults = m.faults }
+
+-- `write` takes the whole piece exactly where the call isn't listed and there is room
+pub record MemWrote (piece : List ℕ) (old new : MemSinkHeld) : Type 0 where
+  pub unlisted : ¬ (IsToFail old.calls)
+  pub room : length piece ≤ old.room
+  pub after : new ≡ record { written = old.written ++ piece; room = old.room - length piece; calls = one_called old.calls; faults = old.faults }
+
+-- a listed call writes nothing
+pub record MemFailed (old new : MemSinkHeld) : Type 0 where
+  pub listed : IsToFail old.calls
+  pub after : new ≡ record old { calls = one_called old.calls; faults = one_more old.faults }
+
+-- one that lacks room fills the room that is left
+pub record MemFilled (piece : List ℕ) (old new : MemSinkHeld) : Type 0 where
+  pub unlisted : ¬ (IsToFail old.calls)
+  pub short : old.room < length piece
+  pub after : new ≡ record { written = old.written ++ take old.room piece; room = 0; calls = one_called old.calls; faults = one_more old.faults }
+
+abbrev pub MemNotWritten : List ℕ → MemSinkHeld → MemSinkHeld → Type 0
+MemNotWritten piece old new = MemFailed old new ⊎ MemFilled piece old new

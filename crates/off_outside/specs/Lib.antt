@@ -1,0 +1,5 @@
+pub mod LinkSeen
+pub mod LinkCalls
+pub mod Streams
+pub mod Outboxes
+pub mod InMemory

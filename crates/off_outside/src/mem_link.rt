@@ -1,0 +1,165 @@
+ghost use Rattle.std.specs.Prelude.{◌≡◌, ◌<◌, length, [], slice_get, Some, MatchResult, IfOk};
+ghost use Rattle.off_defs.specs.Told.{one_exact};
+ghost use Rattle.off_defs.specs.declared.results.Sent.TheVariants as sent;
+ghost use Rattle.off_outside.specs.LinkCalls.{Took, NotTook, WasSent, NotSent};
+ghost use Rattle.off_outside.specs.InMemory.{link_seen, empty_outbox, MemTook, MemNotTook, MemSent, MemNotSent};
+ghost use Rattle.off_outside.specs.Outboxes.{lent_item};
+
+use crate::failing::{Calls, Failing, one_more};
+use crate::link::{Failed, Link, LinkErr};
+use crate::outbox::{Outbox, SentRef};
+use crate::queue::Events;
+use off_base::{Moment, NoMemory, Peer};
+use off_defs::{Event, Service, What};
+use std::alloc::Global;
+use std::marker::Model;
+
+/// A link whose events are given when it is made, and which keeps what is sent.
+#[derive(Drop)]
+pub struct MemLink {
+    events: Events,
+    outbox: Outbox,
+    failing: Failing,
+    missed: u64,
+    faults: u64,
+    unsent: u64,
+}
+
+impl Model for MemLink {
+    ghost use Rattle.off_outside.specs.InMemory.{MemLinkHeld};
+
+    ghost Value = { MemLinkHeld };
+
+    ghost view = { λ m. record { left = m.events; outbox = m.outbox; calls = m.failing; missed = m.missed; faults = m.faults; unsent = m.unsent } };
+}
+
+impl MemLink {
+    /// Takes room for `items` sent items of `octets` bytes in all. A send past that room fails, and is counted.
+    pub fn new(
+        alloc: Global,
+        events: Events,
+        items: usize,
+        octets: usize,
+        fails: Calls,
+    ) -> Result<MemLink, NoMemory>
+        ensures { IfOk result (λ link. link ≡ record {
+          left = events;
+          outbox = empty_outbox items octets;
+          calls = record { listed = fails; made = 0 };
+          missed = 0;
+          faults = 0;
+          unsent = 0;
+        }) }
+    {
+        let outbox = Outbox::new(alloc, items, octets)?;
+        Ok(MemLink {
+            events,
+            outbox,
+            failing: Failing::new(fails),
+            missed: 0,
+            faults: 0,
+            unsent: 0,
+        })
+    }
+
+    /// How many items were sent.
+    pub fn sent_len(&self) -> usize
+        ensures { result ≡ length self.now.outbox.sent }
+    {
+        self.outbox.len()
+    }
+
+    /// Sent item `i`, from 0.
+    pub fn sent(&self, i: usize) -> SentRef<'_>
+        requires { i < length self.now.outbox.sent }
+        ensures { slice_get self.now.outbox.sent i ≡ Some (lent_item result) }
+    {
+        self.outbox.get(i)
+    }
+}
+
+impl Link for MemLink {
+    ghost seen = { λ m. link_seen m };
+
+    fn next(&mut self, alloc: Global) -> Result<Event, LinkErr>
+        ensures told { MatchResult result (λ event. Took event (link_seen self.old) (link_seen self.new))
+            (λ err. NotTook err (link_seen self.old) (link_seen self.new)) }
+        ensures exact { MatchResult result (λ event. MemTook event self.old self.new)
+            (λ err. MemNotTook err self.old self.new) }
+    {
+        if self.failing.call() {
+            self.missed = one_more(self.missed);
+            self.faults = one_more(self.faults);
+            return Err(LinkErr::Failed);
+        }
+        self.missed = 0;
+        match self.events.take_first() {
+            Some(event) => Ok(event),
+            None => Ok(Event {
+                at: Moment(0),
+                what: What::End,
+            }),
+        }
+    }
+
+    fn send(&mut self, service: Service, to: Peer, bytes: &[u8]) -> Result<(), Failed>
+        ensures told { MatchResult result (λ _. WasSent (sent.Datagram service to bytes.now) (link_seen self.old) (link_seen self.new))
+            (λ _. NotSent (link_seen self.old) (link_seen self.new)) }
+        ensures exact { MatchResult result (λ _. MemSent (sent.Datagram service to bytes.now) (length bytes.now) self.old self.new)
+            (λ _. MemNotSent (length bytes.now) self.old self.new) }
+    {
+        let listed = self.failing.call();
+        if listed {
+            self.unsent = one_more(self.unsent);
+            return Err(Failed);
+        }
+        if !self.outbox.has_room(bytes.len()) {
+            self.unsent = one_more(self.unsent);
+            return Err(Failed);
+        }
+        self.outbox.datagram(service, to, bytes);
+        Ok(())
+    }
+
+    fn answer(&mut self, conn: u32, bytes: &[u8]) -> Result<(), Failed>
+        ensures told { MatchResult result (λ _. WasSent (sent.Answer conn bytes.now) (link_seen self.old) (link_seen self.new))
+            (λ _. NotSent (link_seen self.old) (link_seen self.new)) }
+        ensures exact { MatchResult result (λ _. MemSent (sent.Answer conn bytes.now) (length bytes.now) self.old self.new)
+            (λ _. MemNotSent (length bytes.now) self.old self.new) }
+    {
+        let listed = self.failing.call();
+        if listed {
+            self.unsent = one_more(self.unsent);
+            return Err(Failed);
+        }
+        if !self.outbox.has_room(bytes.len()) {
+            self.unsent = one_more(self.unsent);
+            return Err(Failed);
+        }
+        self.outbox.answer(conn, bytes);
+        Ok(())
+    }
+
+    fn close(&mut self, conn: u32) -> Result<(), Failed>
+        ensures told { MatchResult result (λ _. WasSent (sent.Close conn) (link_seen self.old) (link_seen self.new))
+            (λ _. NotSent (link_seen self.old) (link_seen self.new)) }
+        ensures exact { MatchResult result (λ _. MemSent (sent.Close conn) 0 self.old self.new)
+            (λ _. MemNotSent 0 self.old self.new) }
+    {
+        let listed = self.failing.call();
+        if listed {
+            self.unsent = one_more(self.unsent);
+            return Err(Failed);
+        }
+        if !self.outbox.has_room(0) {
+            self.unsent = one_more(self.unsent);
+            return Err(Failed);
+        }
+        self.outbox.close(conn);
+        Ok(())
+    }
+
+    ghost one_left = { λ m. one_exact m.left };
+
+    ghost one_sent = { λ m. one_exact m.outbox.sent };
+}
