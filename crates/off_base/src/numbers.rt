@@ -1,4 +1,4 @@
-ghost use Rattle.std.specs.Prelude.{◌≡◌, ◌+◌, ◌-◌, ◌*◌, ◌≤◌};
+ghost use Rattle.std.specs.Prelude.{◌≡◌, ◌+◌, ◌-◌, ◌*◌, ◌≤◌, IfSome};
 ghost use Rattle.std.specs.Option.{SomeIff};
 ghost use Rattle.off_base.specs.Number.{number_read};
 
@@ -6,7 +6,8 @@ ghost use Rattle.off_base.specs.Number.{number_read};
 ///
 /// `None` comes exactly where the text has another form, or the number is over `most`.
 pub fn read_number(text: &[u8], most: u64) -> Option<u64>
-    ensures { result ≡ number_read most text.now }
+    ensures value { result ≡ number_read most text.now }
+    ensures within { IfSome result (λ number. number ≤ most) }
 {
     if text.is_empty() {
         return None;

@@ -1,4 +1,5 @@
 pub mod ToldLemmas
 pub mod CountLemmas
 pub mod RunLemmas
+pub mod StepLemmas
 mod Examples

@@ -49,13 +49,14 @@ abbrev pub all_went : List Bool → Bool
 all_went [] = true
 all_went (mark ∷ marks) = cond mark (all_went marks) false
 
--- the words of a turn's line: `link` stands in place of any other word where an item was lost
-abbrev pub words_of : Turn → List ℕ
-words_of turn = cond (all_went turn.went) turn.said.line (service_word turn.event.what ++ codes " link")
+-- The line of the log for event number n, which says `words`: the number, a space, the service and its words, a line feed.
+-- `link` stands in place of any other word where an item was lost. What says nothing has no line.
+abbrev pub line_text : ℕ → What → List ℕ → Bool → List ℕ
+line_text n what words all =
+    cond (length words == 0) [] (decimal n ++ (32 ∷ cond all words (service_word what ++ codes " link") ++ 10 ∷ []))
 
--- the line of the log for turn number n: the number, a space, the words, a line feed. A turn that says nothing has none.
 abbrev pub line_of : ℕ → Turn → List ℕ
-line_of n turn = cond (length turn.said.line == 0) [] (((decimal n ++ 32 ∷ []) ++ words_of turn) ++ 10 ∷ [])
+line_of n turn = line_text n turn.event.what turn.said.line (all_went turn.went)
 
 -- the lines of turns that are numbered from n. Each turn counts, also one without a line.
 abbrev pub lines_from : ℕ → List Turn → List ℕ

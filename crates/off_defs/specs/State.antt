@@ -37,13 +37,16 @@ pub record State : Type 0 where
   pub tables : Tables
   pub held : Held
 
+abbrev pub state_of : Tables → Held → State
+state_of tables held = record { tables = tables; held = held }
+
 -- what an office holds that has just begun
 abbrev pub held_at_start : Held
 held_at_start = record { now = 0; transfers = map.empty; connections = map.empty }
 
 -- the state in which an office begins over tables
 abbrev pub start : Tables → State
-start tables = record { tables = tables; held = held_at_start }
+start tables = state_of tables held_at_start
 
 -- The moment never falls: an event from an earlier moment is taken at the latest one so far.
 abbrev pub held_at : Held → ℕ → Held

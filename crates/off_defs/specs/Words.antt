@@ -1,8 +1,9 @@
 -- The words of the command line behind the program's name, for `serve`:
 --     serve --store STORE --ports DHCP,TIME,TFTP,HTTP --turns N
 -- STORE is `memory` or a path that isn't empty and doesn't begin with `-`. Ports are numbers from 1 to 65535. N is 0 to 10^15.
-use Rattle.std.specs.Prelude.{ℕ, ◌==◌, Bool, true, false, not, ◌&&◌, nat_lt, List, [], ◌∷◌, length, codes, slice_index, Option, Some, None, option_and_then, if◌then◌else◌}
+use Rattle.std.specs.Prelude.{ℕ, ◌==◌, Bool, not, ◌&&◌, nat_lt, List, [], ◌∷◌, length, codes, slice_index, Option, Some, None, option_and_then, if◌then◌else◌}
 use Rattle.std.specs.List.{before_first, after_first}
+use Rattle.std.specs.Str.{bytes_eq}
 use Rattle.off_base.specs.Number.{number_read}
 
 -- what the words of `serve` ask for; `ports` in the order DHCP, time, TFTP, HTTP
@@ -10,13 +11,6 @@ pub record Serve : Type 0 where
   pub store : List ℕ
   pub ports : List ℕ
   pub turns : ℕ
-
--- two texts are the same
-abbrev pub same_text : List ℕ → List ℕ → Bool
-same_text [] [] = true
-same_text [] (b ∷ bs) = false
-same_text (a ∷ as') [] = false
-same_text (a ∷ as') (b ∷ bs) = (a == b) && same_text as' bs
 
 -- the greatest number of turns, 10^15
 abbrev pub most_turns : ℕ
@@ -60,7 +54,7 @@ serve_by store (Some ports) (Some turns) =
 -- the one form of `serve`, or None for every other list of words
 unfoldable pub serve_of : List (List ℕ) → Option Serve
 serve_of (command ∷ store_flag ∷ store ∷ ports_flag ∷ ports ∷ turns_flag ∷ turns ∷ []) =
-    if (same_text command (codes "serve")
-    && (same_text store_flag (codes "--store") && (same_text ports_flag (codes "--ports") && same_text turns_flag (codes "--turns"))))
+    if (bytes_eq command (codes "serve")
+    && (bytes_eq store_flag (codes "--store") && (bytes_eq ports_flag (codes "--ports") && bytes_eq turns_flag (codes "--turns"))))
     then serve_by store (ports_of ports) (number_read most_turns turns) else None
 serve_of words = None

@@ -86,7 +86,8 @@ impl Replies {
 
     /// The line, which is empty where nothing was said.
     pub fn line(&self) -> &[u8]
-        ensures { result.now ≡ self.now.line }
+        ensures text { result.now ≡ self.now.line }
+        ensures short { length result.now ≤ 80 }
     {
         self.line.as_slice()
     }

@@ -1,0 +1,7 @@
+//! One event of the office: whose it is, and nothing else. Each service decides for itself; here is only the way to it.
+#![tactic(auto)]
+
+mod clock;
+mod office;
+
+pub use office::Office;

@@ -1,0 +1,6 @@
+mod WordLemmas
+pub mod SendLemmas
+pub mod TakeLemmas
+pub mod TurnLemmas
+pub mod ServeLemmas
+pub mod HeadlineLemmas

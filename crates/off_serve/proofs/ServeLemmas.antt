@@ -1,0 +1,221 @@
+-- The loop over the events: what holds after each turn, and what each end of the loop comes to.
+use Rattle.std.proofs.Common.{◌≡◌, ℕ, ◌+◌, ◌-◌, ◌<◌, ◌≤◌, true, false, List, [], ◌∷◌, ◌++◌, length, take, drop, All, refl, sym, ap, ◌∙◌, subst, inl, inr, arith, append_assoc, append-nil, length-append}
+use Rattle.std.proofs.Math.Seq.{take-append_seam, drop-append_seam}
+use Rattle.std.proofs.lemmas.List.Elements.{All-same, All-push, All-take, All-head, All-tail, All-nil, All-cons}
+use Rattle.off_defs.specs.declared.events.Event.{Event}
+use Rattle.off_defs.specs.Told.{Stays}
+use Rattle.off_defs.specs.Counts.{Grew}
+use Rattle.off_defs.specs.State.{Held, held_at_start, state_of, start}
+use Rattle.off_defs.specs.Run.{Turn, sent_in, sent_by, lost_by, line_of, lines_from, events_of, first_events, end_event, is_end, IsNoEnd, EndsLast}
+use Rattle.off_defs.proofs.ToldLemmas.{told_then, told_self, then_stays}
+use Rattle.off_defs.proofs.CountLemmas.{grew_self, grew_then, later_grew}
+use Rattle.off_defs.proofs.RunLemmas.{run_push, sent_by_push, lost_by_push, lines_from_push}
+use Rattle.off_outside.specs.LinkSeen.{LinkSeen}
+use Rattle.off_outside.specs.LinkCalls.{first_event}
+use Rattle.off_outside.specs.Streams.{SinkSeen, Wrote, NotWritten}
+use Rattle.off_serve.specs.declared.serving.Stop.TheVariants as stop
+use Rattle.off_serve.specs.Serving.{TurnMade, TurnWritten, TurnCut, NoTurn, LacksMemory, Missed, SinkSame, most_missed}
+use Rattle.off_serve.specs.Headline.{World, WroteText, CutText, RanTurns, SoFar, Served}
+
+-- `n` turns so far
+pub record Going (n : ℕ) (held : Held) (old new : World) : Type 0 where
+  pub turns : List Turn
+  pub count : length turns ≡ n
+  pub so_far : SoFar turns held old new
+
+-- the events that were taken are the first of those to come, with one more
+next_events : (turns : List Turn) (turn : Turn) (events : List Event) → All IsNoEnd turns
+    → events_of turns ≡ first_events (length turns) events → turn.event ≡ first_event (drop (length turns) events)
+    → (events_of (turns ++ turn ∷ []) ≡ first_events (length (turns ++ turn ∷ [])) events) × (drop 1 (drop (length turns) events) ≡ drop (length (turns ++ turn ∷ [])) events)
+next_events [] turn [] no_end so_far next = (ap (λ v. v ∷ []) next, refl)
+next_events [] turn (event ∷ events) no_end so_far next = (ap (λ v. v ∷ []) next, refl)
+next_events (first ∷ turns) turn [] no_end so_far next =
+    let same : first.event ≡ end_event = cc in
+    let yes : is_end first.event.what ≡ true = ap (λ (e : Event). is_end e.what) same in
+    let no : is_end first.event.what ≡ false = All-head IsNoEnd first turns no_end in
+    absurd (let e : true ≡ false = sym yes ∙ no in cc)
+next_events (first ∷ turns) turn (event ∷ events) no_end so_far next =
+    let heads : first.event ≡ event = cc in
+    let tails : events_of turns ≡ first_events (length turns) events = cc in
+    let rest = next_events turns turn events (All-tail IsNoEnd first turns no_end) tails next in
+    (ap (λ v. v ∷ events_of (turns ++ turn ∷ [])) heads ∙ ap (λ v. event ∷ v) rest.0, rest.1)
+
+ran_push : {turns : List Turn} {turn : Turn} {held after : Held} {a b c : LinkSeen} → RanTurns turns held a b → All IsNoEnd turns → TurnMade turn held after b c → RanTurns (turns ++ turn ∷ []) after a c
+ran_push {turns} {turn} {held} {after} {a} {b} {c} ran no_end made = record {
+  left = told_then ran.left made.left (λ x y z before now.
+      let next = next_events turns turn x no_end before.0 (now.0 ∙ ap first_event before.1) in
+      (next.0, now.1 ∙ (ap (λ v. drop 1 v) before.1 ∙ next.1)));
+  run = λ tables. run_push (start tables) turns (state_of tables held) (state_of tables after) turn (ran.run tables) (made.step tables);
+  marks = All-push (λ (t : Turn). length t.said.items ≡ length t.went) turns turn ran.marks made.marks;
+  sent = told_then ran.sent made.sent (λ x y z before now.
+      now ∙ (ap (λ k. k ++ sent_in turn) before ∙ (append_assoc x (sent_by turns) (sent_in turn) ∙ ap (λ k. x ++ k) (sym (sent_by_push turns turn)))));
+  unsent = subst (λ n. Grew n a.unsent c.unsent) (sym (lost_by_push turns turn)) (grew_then ran.unsent made.unsent);
+}
+
+pub wrote_more : {x y : List ℕ} {a b c : SinkSeen} → WroteText x a b → Wrote y b c → WroteText (x ++ y) a c
+wrote_more {x} {y} p q = record {
+  written = told_then p.written q.written (λ u v w before now. now ∙ (ap (λ k. k ++ y) before ∙ append_assoc u x y));
+  faults = omega (arith, p.faults, q.faults);
+}
+
+pub wrote_same : {x : List ℕ} {a b c : SinkSeen} → WroteText x a b → SinkSame b c → WroteText x a c
+wrote_same p q = record { written = then_stays p.written q.written; faults = omega (arith, p.faults, q.faults) }
+
+pub going_none : (w : World) → w.link.missed ≡ 0 → Going 0 held_at_start w w
+going_none w none = record {
+  turns = [];
+  count = refl;
+  so_far = record {
+    ran = record {
+      left = told_self (λ x. (refl, refl));
+      run = λ tables. refl;
+      marks = All-nil _;
+      sent = told_self (λ x. sym (append-nil x));
+      unsent = grew_self w.link.unsent;
+    };
+    no_end = All-nil _;
+    missed = none;
+    faults = omega arith;
+    text = record { written = told_self (λ x. sym (append-nil x)); faults = omega arith };
+  };
+}
+
+-- the line of the turn behind n others
+line_number : (n : ℕ) (turns : List Turn) (turn : Turn) → length turns ≡ n → line_of (n + 1) turn ≡ line_of (1 + length turns) turn
+line_number n turns turn count = let e : n + 1 ≡ 1 + length turns = omega arith in ap (λ k. line_of k turn) e
+
+text_more : (n : ℕ) (turns : List Turn) (turn : Turn) {a b c : SinkSeen} → length turns ≡ n → WroteText (lines_from 1 turns) a b → Wrote (line_of (n + 1) turn) b c
+    → WroteText (lines_from 1 (turns ++ turn ∷ [])) a c
+text_more n turns turn {a} {b} {c} count text wrote =
+    subst (λ v. WroteText v a c) (sym (lines_from_push 1 turns turn)) (wrote_more text (subst (λ v. Wrote v b c) (line_number n turns turn count) wrote))
+
+pub going_more : {n : ℕ} {held after : Held} {a b c : World} → Going n held a b → TurnWritten false (n + 1) held after b.link c.link b.sink c.sink → Going (n + 1) after a c
+going_more {n} {held} {after} {a} {b} {c} going went = record {
+  turns = going.turns ++ went.turn ∷ [];
+  count = omega (arith, length-append going.turns (went.turn ∷ []), going.count);
+  so_far = record {
+    ran = ran_push going.so_far.ran going.so_far.no_end went.made;
+    no_end = All-push IsNoEnd going.turns went.turn going.so_far.no_end went.last;
+    missed = went.made.missed;
+    faults = omega (arith, going.so_far.faults, went.made.faults);
+    text = text_more _ _ _ going.count going.so_far.text went.wrote;
+  };
+}
+
+ends_last : (turns : List Turn) (turn : Turn) → All IsNoEnd turns → EndsLast (turns ++ turn ∷ [])
+ends_last turns turn no_end =
+    let e : length (turns ++ turn ∷ []) - 1 ≡ length turns = omega (arith, length-append turns (turn ∷ [])) in
+    All-same IsNoEnd _ turns (ap (λ k. take k (turns ++ turn ∷ [])) e ∙ take-append_seam turns (turn ∷ [])) no_end
+
+-- the last turn is the one behind the others
+last_is : (turns : List Turn) (turn : Turn) → is_end turn.event.what ≡ true → All (λ (t : Turn). is_end t.event.what ≡ true) (drop (length (turns ++ turn ∷ []) - 1) (turns ++ turn ∷ []))
+last_is turns turn is =
+    let e : length (turns ++ turn ∷ []) - 1 ≡ length turns = omega (arith, length-append turns (turn ∷ [])) in
+    All-same (λ (t : Turn). is_end t.event.what ≡ true) _ (turn ∷ []) (ap (λ k. drop k (turns ++ turn ∷ [])) e ∙ drop-append_seam turns (turn ∷ []))
+    (All-cons (λ (t : Turn). is_end t.event.what ≡ true) turn [] is (All-nil (λ (t : Turn). is_end t.event.what ≡ true)))
+
+-- a line that was cut behind the text so far
+pub cut_more : {x y : List ℕ} {a b c : SinkSeen} → WroteText x a b → NotWritten y b c → CutText x y a c
+cut_more {x} {y} p q = record {
+  written = told_then p.written q.written (λ u v w before front. record { count = front.count; front = front.front ∙ ap (λ k. k ++ take front.count y) before });
+  faults = later_grew p.faults q.faults;
+}
+
+pub cut_same : {x y : List ℕ} {a b c : SinkSeen} → CutText x y a b → SinkSame b c → CutText x y a c
+cut_same {x} {y} {a} {b} {c} p q = record { written = then_stays p.written q.written; faults = subst (λ v. Grew 1 a.faults v) (sym q.faults) p.faults }
+
+-- nothing was taken or sent
+ran_stays : {turns : List Turn} {held : Held} {a b c : LinkSeen} → RanTurns turns held a b → Stays b.left c.left → Stays b.sent c.sent → c.unsent ≡ b.unsent → RanTurns turns held a c
+ran_stays {turns} {held} {a} {b} {c} ran left sent unsent = record {
+  left = then_stays ran.left left;
+  run = ran.run;
+  marks = ran.marks;
+  sent = then_stays ran.sent sent;
+  unsent = subst (λ v. Grew (lost_by turns) a.unsent v) (sym unsent) ran.unsent;
+}
+
+no_end_ends : (turns : List Turn) → All IsNoEnd turns → EndsLast turns
+no_end_ends turns no_end = All-take IsNoEnd (length turns - 1) turns no_end
+
+pub served_end : {n budget : ℕ} {held after : Held} {a b c : World} → Going n held a b → n < budget → TurnWritten true (n + 1) held after b.link c.link b.sink c.sink → Served stop.Finished budget a c
+served_end {n} {budget} {held} {after} {a} {b} {c} going more ended = record {
+  turns = going.turns ++ ended.turn ∷ [];
+  held = after;
+  within = omega (arith, length-append going.turns (ended.turn ∷ []), going.count);
+  ends_last = ends_last going.turns ended.turn going.so_far.no_end;
+  ran = ran_push going.so_far.ran going.so_far.no_end ended.made;
+  stops = record {
+    cause = inr (omega (arith, length-append going.turns (ended.turn ∷ [])), last_is going.turns ended.turn ended.last);
+    missed = ended.made.missed;
+    faults = omega (arith, going.so_far.faults, ended.made.faults);
+    text = text_more _ _ _ going.count going.so_far.text ended.wrote;
+  };
+}
+
+pub served_cut : {n budget : ℕ} {held after : Held} {a b c : World} → Going n held a b → n < budget → TurnCut (n + 1) held after b.link c.link b.sink c.sink → Served stop.Sink budget a c
+served_cut {n} {budget} {held} {after} {a} {b} {c} going more cut = record {
+  turns = going.turns ++ cut.turn ∷ [];
+  held = after;
+  within = omega (arith, length-append going.turns (cut.turn ∷ []), going.count);
+  ends_last = ends_last going.turns cut.turn going.so_far.no_end;
+  ran = ran_push going.so_far.ran going.so_far.no_end cut.made;
+  stops = record {
+    front = going.turns;
+    last = cut.turn;
+    parts = refl;
+    missed = cut.made.missed;
+    faults = omega (arith, going.so_far.faults, cut.made.faults);
+    text = let e : n + 1 ≡ length going.turns + 1 = omega (arith, going.count) in cut_more going.so_far.text (subst (λ k. NotWritten (line_of k cut.turn) b.sink c.sink) e cut.cut);
+  };
+}
+
+pub served_memory : {n budget : ℕ} {held after : Held} {a b c : World} → Going n held a b → n < budget → NoTurn LacksMemory held after b.link c.link b.sink c.sink → Served stop.Memory budget a c
+served_memory {n} {budget} {held} {after} {a} {b} {c} going more lacks = record {
+  turns = going.turns;
+  held = held;
+  within = omega (arith, going.count);
+  ends_last = no_end_ends going.turns going.so_far.no_end;
+  ran = ran_stays going.so_far.ran lacks.link.missed.left lacks.link.missed.sent lacks.link.missed.unsent;
+  stops = (
+    record {
+      more = omega (arith, going.count);
+      no_end = going.so_far.no_end;
+      missed = omega (arith, lacks.link.missed.missed, lacks.link.few);
+      faults = omega (arith, going.so_far.faults, lacks.link.missed.faults.later);
+    },
+    wrote_same going.so_far.text lacks.sink_same,
+  );
+}
+
+pub served_missed : {n budget : ℕ} {held after : Held} {a b c : World} → Going n held a b → n < budget → NoTurn (Missed most_missed) held after b.link c.link b.sink c.sink → Served stop.Link budget a c
+served_missed {n} {budget} {held} {after} {a} {b} {c} going more missed = record {
+  turns = going.turns;
+  held = held;
+  within = omega (arith, going.count);
+  ends_last = no_end_ends going.turns going.so_far.no_end;
+  ran = ran_stays going.so_far.ran missed.link.left missed.link.sent missed.link.unsent;
+  stops = (
+    record {
+      more = omega (arith, going.count);
+      no_end = going.so_far.no_end;
+      missed = missed.link.missed;
+      faults = later_grew going.so_far.faults missed.link.faults;
+    },
+    wrote_same going.so_far.text missed.sink_same,
+  );
+}
+
+pub served_all : {n budget : ℕ} {held : Held} {a b : World} → Going n held a b → budget ≤ n → n ≤ budget → Served stop.Finished budget a b
+served_all {n} {budget} {held} {a} {b} going all within = record {
+  turns = going.turns;
+  held = held;
+  within = omega (arith, going.count);
+  ends_last = no_end_ends going.turns going.so_far.no_end;
+  ran = going.so_far.ran;
+  stops = record {
+    cause = inl (omega (arith, going.count), going.so_far.no_end);
+    missed = going.so_far.missed;
+    faults = going.so_far.faults;
+    text = going.so_far.text;
+  };
+}

@@ -1,0 +1,12 @@
+//! The top call: the words of the command line, the loop over events, and the lines of the log.
+#![tactic(auto)]
+
+mod lines;
+mod sending;
+mod serving;
+mod taking;
+mod turning;
+mod words;
+
+pub use serving::run;
+pub use words::{Wanted, place};
