@@ -1,1 +1,4 @@
+pub mod AddressExamples
+pub mod IpTextLemmas
+pub mod MacTextLemmas
 pub mod NumberLemmas

@@ -1,1 +1,2 @@
+pub mod AddressText
 pub mod Number

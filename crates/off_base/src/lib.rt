@@ -4,11 +4,17 @@
 #![tactic(auto)]
 
 mod addresses;
+mod dotted;
+mod macs;
 mod moments;
 mod numbers;
 mod octets;
+mod wording;
 
 pub use addresses::{Ip4, Peer};
+pub use dotted::{IpText, NotIp, ip_text, read_ip};
+pub use macs::{Mac, NotMac, mac_text, read_mac};
 pub use moments::Moment;
 pub use numbers::read_number;
 pub use octets::{Bytes, NoMemory};
+pub use wording::{NotShort, Short};
