@@ -1,1 +1,6 @@
+pub mod AddressExamples
+pub mod IpTextLemmas
+pub mod MacTextLemmas
 pub mod NumberLemmas
+pub mod PartExamples
+pub mod PartLemmas

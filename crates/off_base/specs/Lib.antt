@@ -1,1 +1,4 @@
+pub mod AddressText
 pub mod Number
+pub mod Parts
+pub mod Walk

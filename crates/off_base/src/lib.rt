@@ -4,11 +4,21 @@
 #![tactic(auto)]
 
 mod addresses;
+mod dotted;
+mod joined;
+mod macs;
 mod moments;
 mod numbers;
 mod octets;
+mod parts;
+mod wording;
 
 pub use addresses::{Ip4, Peer};
+pub use dotted::{IpText, NotIp, ip_text, read_ip};
+pub use joined::{Joined, first_cut};
+pub use macs::{Mac, NotMac, mac_text, read_mac};
 pub use moments::Moment;
 pub use numbers::read_number;
 pub use octets::{Bytes, NoMemory};
+pub use parts::Step;
+pub use wording::{NotShort, Short};

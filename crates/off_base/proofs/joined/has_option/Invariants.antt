@@ -1,0 +1,11 @@
+use Rattle.std.proofs.Common.{◌≡◌, ◌≤◌, ◌-◌, true, length}
+use Rattle.std.specs.Prelude.{IsOk}
+use Rattle.off_base.specs.Parts.{has, parts_in}
+use Rattle.off_base.specs.Walk.{left, all_parts}
+use Rattle.off_base.proofs.joined.has_option.Given as goal
+
+abbrev pub invariant-parts : goal.invariant-parts
+invariant-parts l = (l.at ≤ length l.options) × IsOk (left true l.at l.options) × (has l.wanted (all_parts (left true l.at l.options)) ≡ has l.wanted (all_parts (parts_in true l.options)))
+
+abbrev pub decreases-parts : goal.decreases-parts
+decreases-parts l = length l.options - l.at

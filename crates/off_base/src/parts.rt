@@ -1,0 +1,60 @@
+ghost use Rattle.std.specs.Prelude.{◌≡◌, ◌≢◌, ◌<◌, ◌≤◌, length, slice_index, false};
+ghost use Rattle.off_base.specs.Parts.{is_mark};
+ghost use Rattle.off_base.specs.Walk.{Finds};
+
+// A pad of one byte, and the end (RFC 2132, sections 3.1 and 3.2).
+const PAD: u8 = 0;
+
+const END: u8 = 255;
+
+/// What a walk over options or parts of an option finds next.
+#[derive(Clone, Copy, Debug)]
+pub enum Step {
+    /// A part: its code, the place of that code, and the length of its value.
+    Found(u8, usize, usize),
+    End,
+    /// The part whose code stands at this place passes the end.
+    Cut(usize),
+}
+
+/// The next part from a place on.
+pub(crate) fn next_part(bytes: &[u8], from: usize, marked: bool) -> Step
+    requires { from ≤ length bytes.now }
+    ensures { Finds marked bytes.now from result }
+{
+    let mut at = from;
+    while at < bytes.len() {
+        if !is_mark(marked, PAD, bytes[at]) {
+            return part_at(bytes, at, marked);
+        }
+        at += 1;
+    }
+    Step::End
+}
+
+// Whether the byte is this mark.
+fn is_mark(marked: bool, mark: u8, byte: u8) -> bool
+    ensures { result ≡ is_mark marked mark byte }
+{
+    marked && byte == mark
+}
+
+// The part whose code stands at a place, where that isn't a pad.
+fn part_at(bytes: &[u8], place: usize, marked: bool) -> Step
+    requires within { place < length bytes.now }
+    requires no_pad { is_mark marked 0 (slice_index bytes.now place) ≡ false }
+    ensures { Finds marked bytes.now place result }
+{
+    if is_mark(marked, END, bytes[place]) {
+        return Step::End;
+    }
+    let behind = bytes.len() - place - 1;
+    if behind == 0 {
+        return Step::Cut(place);
+    }
+    let len = usize::from(bytes[place + 1]);
+    if behind - 1 < len {
+        return Step::Cut(place);
+    }
+    Step::Found(bytes[place], place, len)
+}
