@@ -1,1 +1,5 @@
 pub mod Number
+pub mod Setting
+pub mod SettingFalls
+pub mod Tree
+pub mod TreeCode

@@ -7,8 +7,10 @@ mod addresses;
 mod moments;
 mod numbers;
 mod octets;
+mod trees;
 
 pub use addresses::{Ip4, Peer};
 pub use moments::Moment;
 pub use numbers::read_number;
 pub use octets::{Bytes, NoMemory};
+pub use trees::{Setting, Settings};
