@@ -4,3 +4,4 @@ pub mod MacTextLemmas
 pub mod NumberLemmas
 pub mod PartExamples
 pub mod PartLemmas
+pub mod TreeLemmas

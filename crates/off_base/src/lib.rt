@@ -12,6 +12,7 @@ mod numbers;
 mod octets;
 mod parts;
 mod wording;
+mod trees;
 
 pub use addresses::{Ip4, Peer};
 pub use dotted::{IpText, NotIp, ip_text, read_ip};
@@ -22,3 +23,4 @@ pub use numbers::read_number;
 pub use octets::{Bytes, NoMemory};
 pub use parts::Step;
 pub use wording::{NotShort, Short};
+pub use trees::{Setting, Settings};

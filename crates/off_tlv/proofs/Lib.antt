@@ -1,0 +1,6 @@
+mod Examples
+pub mod FrontLemmas
+pub mod GrammarLemmas
+pub mod ReadingLemmas
+pub mod WalkLemmas
+pub mod WritingLemmas
