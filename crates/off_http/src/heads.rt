@@ -80,13 +80,7 @@ fn one_head(text: &[u8], fields: &mut [HeaderSpan]) -> Option<RequestSpans>
     ensures none { IfNone result ((head : RequestHead) → ¬ (IsOneHead text.now head)) }
 {
     match parse_request(text, fields) {
-        Ok(Status::Complete(spans)) => {
-            if spans.len == text.len() {
-                Some(spans)
-            } else {
-                None
-            }
-        }
+        Ok(Status::Complete(spans)) if spans.len == text.len() => Some(spans),
         _ => None,
     }
 }

@@ -51,10 +51,7 @@ fn content_length(text: &[u8], fields: &[HeaderSpan]) -> Option<u64>
             declared = Some(number);
         }
     }
-    match declared {
-        Some(number) => Some(number),
-        None => Some(0),
-    }
+    Some(declared.unwrap_or(0))
 }
 
 // Whether two names are the same. Case doesn't count.

@@ -3,7 +3,7 @@ ghost use Rattle.off_http.specs.Request.{Waits, RequestIs, head_limit, body_limi
 ghost use Rattle.off_http.specs.Heard.{IsAsked, Answers, asked_method, asked_target, asked_body, IsPartOf};
 
 use crate::answers::Fed;
-use crate::stages::{Stage, fed, next_stage, parts_of};
+use crate::stages::{Stage, next_stage, parts_of, piece_answer};
 use off_base::{Bytes, NoMemory};
 use std::alloc::Global;
 use std::marker::Model;
@@ -41,7 +41,8 @@ impl Session {
 
     /// Takes the next piece of the connection's bytes. After `NoMemory` the session is as before.
     ///
-    /// A session that has answered `Whole` or `Bad` takes no more. One that waits holds fewer than 1,056,768 bytes.
+    /// A session that has answered `Whole` or `Bad` takes no more. One that waits holds fewer than 1,056,768 bytes, and
+    /// each byte of a body costs no more than its copy.
     pub fn feed(&mut self, piece: &[u8]) -> Result<Fed, NoMemory>
         requires { self.old.answer ≡ Waits }
         ensures joins { OnOk result (self.new.bytes ≡ self.old.bytes ++ piece.now) }
@@ -53,7 +54,7 @@ impl Session {
         let seen = self.bytes.len();
         self.bytes.push_all(piece)?;
         self.stage = next_stage(self.bytes.as_slice(), seen, self.stage);
-        Ok(fed(&self.stage))
+        Ok(piece_answer(&self.stage))
     }
 
     /// The method of the whole request, as it came (RFC 9110, section 9.1).

@@ -75,8 +75,8 @@ pub(crate) fn parts_of(stage: &Stage) -> Parts
     }
 }
 
-// What a session at this stage answers.
-pub(crate) fn fed(stage: &Stage) -> Fed
+// What a session at this stage answers to a piece.
+pub(crate) fn piece_answer(stage: &Stage) -> Fed
     ensures { result ≡ stage_fed stage.now }
 {
     match stage {

@@ -17,4 +17,4 @@ pub returns-clause-says : goal.returns-clause-says
 returns-clause-says c = stage_says _ _ (rw c.as_slice.ensures at c.next_stage-self-inside.ensures)
 
 pub returns-clause-answers : goal.returns-clause-answers
-returns-clause-answers c = rw c.fed.ensures (stage_answers _ c.next_stage-self-inside.result)
+returns-clause-answers c = rw c.piece_answer.ensures (stage_answers _ c.next_stage-self-inside.result)
