@@ -1,0 +1,5 @@
+pub mod Needles
+pub mod Meanings
+pub mod PartLemmas
+pub mod LengthLemmas
+pub mod Examples

@@ -1,0 +1,4 @@
+pub mod Request
+pub mod Heard
+pub mod Stages
+pub mod Reply
