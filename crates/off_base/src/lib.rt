@@ -11,8 +11,8 @@ mod moments;
 mod numbers;
 mod octets;
 mod parts;
-mod wording;
 mod trees;
+mod wording;
 
 pub use addresses::{Ip4, Peer};
 pub use dotted::{IpText, NotIp, ip_text, read_ip};
@@ -22,5 +22,5 @@ pub use moments::Moment;
 pub use numbers::read_number;
 pub use octets::{Bytes, NoMemory};
 pub use parts::Step;
-pub use wording::{NotShort, Short};
 pub use trees::{Setting, Settings};
+pub use wording::{NotShort, Short};
