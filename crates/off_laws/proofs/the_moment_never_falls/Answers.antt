@@ -1,0 +1,5 @@
+use Rattle.off_laws.proofs.StepLaws.{moment_never_falls}
+use Rattle.off_laws.proofs.the_moment_never_falls.Goals as goal
+
+pub returns : goal.returns
+returns c = moment_never_falls
