@@ -1,0 +1,87 @@
+//! `officed`: real sockets, the standard streams, and main. No rule of the office stands here.
+#![tactic(auto)]
+
+mod clerks;
+mod datagrams;
+mod reflecting;
+mod socket_link;
+mod standard;
+
+use crate::socket_link::{OpenErr, SocketLink};
+use crate::standard::{StandardInput, StandardOutput};
+use off_outside::{Calls, Events, MemLink, Sink};
+use off_serve::{Wanted, place, run};
+use std::env;
+use std::io::ErrorKind;
+use std::process::ExitCode;
+
+// A status that stands for want of memory outside of an event.
+const MEMORY: u8 = 6;
+
+// A status that stands for a socket that couldn't be opened.
+const NO_SOCKET: u8 = 10;
+
+// A status that stands for a store that couldn't be opened.
+const NO_STORE: u8 = 11;
+
+fn main(rt: HostRuntime) -> ExitCode {
+    let mut words = Vec::new(rt.alloc());
+    match env::args(&rt) {
+        Ok(args) => {
+            // The first is the program's name.
+            for word in args.skip(1) {
+                if words.push(word).is_err() {
+                    return ExitCode::from(no_memory(&rt));
+                }
+            }
+        }
+        Err(error) => {
+            if error.kind() == ErrorKind::OutOfMemory {
+                return ExitCode::from(no_memory(&rt));
+            }
+            // A word that isn't text fits no form, nor do no words at all.
+            words.clear();
+        }
+    }
+    ExitCode::from(serve(&rt, words.as_slice()))
+}
+
+// Makes the outside that the words ask for, and hands it to the top call.
+fn serve(rt: &HostRuntime, words: &[String]) -> u8 {
+    let mut input = StandardInput::new(rt);
+    let mut output = StandardOutput::new(rt);
+    match place(words) {
+        Some(wanted) => serve_sockets(rt, words, &wanted, &mut input, &mut output),
+        None => {
+            let events = Events::new(rt.alloc());
+            let fails = Calls::new(rt.alloc());
+            match MemLink::new(rt.alloc(), events, 0, 0, fails) {
+                Ok(mut link) => run(rt.alloc(), words, &mut link, &mut input, &mut output),
+                Err(_refused) => no_memory(rt),
+            }
+        }
+    }
+}
+
+fn serve_sockets(
+    rt: &HostRuntime,
+    words: &[String],
+    wanted: &Wanted<'_>,
+    input: &mut StandardInput,
+    output: &mut StandardOutput,
+) -> u8 {
+    if wanted.store != "memory" {
+        return NO_STORE;
+    }
+    match SocketLink::open(rt, &wanted.ports) {
+        Ok(mut link) => run(rt.alloc(), words, &mut link, input, output),
+        Err(OpenErr::Memory) => no_memory(rt),
+        Err(OpenErr::Socket) => NO_SOCKET,
+    }
+}
+
+// Says that memory was refused.
+fn no_memory(rt: &HostRuntime) -> u8 {
+    let _written = StandardOutput::new(rt).write(b"memory refused\n");
+    MEMORY
+}
