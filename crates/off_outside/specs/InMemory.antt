@@ -58,6 +58,14 @@ link_seen m = record {
   unsent = m.unsent;
 }
 
+-- what is seen of a link in memory is all that it holds
+pub record LinkTells (m : MemLinkHeld) (seen : LinkSeen) : Type 0 where
+  pub left : seen.left m.left
+  pub sent : seen.sent m.outbox.sent
+  pub missed : seen.missed ≡ m.missed
+  pub faults : seen.faults ≡ m.faults
+  pub unsent : seen.unsent ≡ m.unsent
+
 -- the call counted, and nothing else yet
 abbrev pub link_called : MemLinkHeld → MemLinkHeld
 link_called m = record m { calls = one_called m.calls }
@@ -92,6 +100,11 @@ pub record MemSourceHeld : Type 0 where
 abbrev pub source_seen : MemSourceHeld → SourceSeen
 source_seen m = record { left = λ bytes. bytes ≡ m.left; faults = m.faults }
 
+-- what is seen of a source in memory is all that it holds
+pub record SourceTells (m : MemSourceHeld) (seen : SourceSeen) : Type 0 where
+  pub left : seen.left m.left
+  pub faults : seen.faults ≡ m.faults
+
 -- `read` fills `out` as far as there are bytes, exactly where the call isn't listed
 pub record MemGave (n : ℕ) (before after : List ℕ) (old new : MemSourceHeld) : Type 0 where
   pub unlisted : ¬ (IsToFail old.calls)
@@ -114,6 +127,11 @@ pub record MemSinkHeld : Type 0 where
 
 abbrev pub sink_seen : MemSinkHeld → SinkSeen
 sink_seen m = record { written = λ bytes. bytes ≡ m.written; faults = m.faults }
+
+-- what is seen of a sink in memory is all that it holds
+pub record SinkTells (m : MemSinkHeld) (seen : SinkSeen) : Type 0 where
+  pub written : seen.written m.written
+  pub faults : seen.faults ≡ m.faults
 
 -- `write` takes the whole piece exactly where the call isn't listed and there is room
 pub record MemWrote (piece : List ℕ) (old new : MemSinkHeld) : Type 0 where

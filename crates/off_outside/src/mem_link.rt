@@ -2,7 +2,7 @@ ghost use Rattle.std.specs.Prelude.{◌≡◌, ◌<◌, length, [], slice_get, S
 ghost use Rattle.off_defs.specs.Told.{one_exact};
 ghost use Rattle.off_defs.specs.declared.results.Sent.TheVariants as sent;
 ghost use Rattle.off_outside.specs.LinkCalls.{Took, NotTook, WasSent, NotSent};
-ghost use Rattle.off_outside.specs.InMemory.{link_seen, empty_outbox, MemTook, MemNotTook, MemSent, MemNotSent};
+ghost use Rattle.off_outside.specs.InMemory.{link_seen, LinkTells, empty_outbox, MemTook, MemNotTook, MemSent, MemNotSent};
 ghost use Rattle.off_outside.specs.Outboxes.{lent_item};
 
 use crate::failing::{Calls, Failing, one_more};
@@ -64,7 +64,8 @@ impl MemLink {
 
     /// How many items were sent.
     pub fn sent_len(&self) -> usize
-        ensures { result ≡ length self.now.outbox.sent }
+        ensures count { result ≡ length self.now.outbox.sent }
+        ensures told { (⟦<MemLink as Link>⟧.seen self.now).sent self.now.outbox.sent }
     {
         self.outbox.len()
     }
@@ -72,7 +73,8 @@ impl MemLink {
     /// Sent item `i`, from 0.
     pub fn sent(&self, i: usize) -> SentRef<'_>
         requires { i < length self.now.outbox.sent }
-        ensures { slice_get self.now.outbox.sent i ≡ Some (lent_item result) }
+        ensures item { slice_get self.now.outbox.sent i ≡ Some (lent_item result) }
+        ensures told { (⟦<MemLink as Link>⟧.seen self.now).sent self.now.outbox.sent }
     {
         self.outbox.get(i)
     }

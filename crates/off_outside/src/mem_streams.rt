@@ -1,7 +1,7 @@
 ghost use Rattle.std.specs.Prelude.{◌≡◌, ◌≤◌, [], length, MatchResult, IfOk};
 ghost use Rattle.off_defs.specs.Told.{one_exact};
 ghost use Rattle.off_outside.specs.Streams.{Gave, NotGiven, Wrote, NotWritten};
-ghost use Rattle.off_outside.specs.InMemory.{source_seen, sink_seen, MemGave, MemNotGiven, MemWrote, MemNotWritten};
+ghost use Rattle.off_outside.specs.InMemory.{source_seen, sink_seen, SourceTells, SinkTells, MemGave, MemNotGiven, MemWrote, MemNotWritten};
 
 use crate::failing::{Calls, Failing, one_more};
 use crate::link::Failed;
@@ -33,7 +33,8 @@ impl Model for MemSource {
 impl MemSource {
     /// A source of these bytes. It takes no memory.
     pub fn new(_alloc: Global, bytes: Bytes, fails: Calls) -> MemSource
-        ensures { result ≡ record { left = bytes; calls = record { listed = fails; made = 0 }; faults = 0 } }
+        ensures holds { result ≡ record { left = bytes; calls = record { listed = fails; made = 0 }; faults = 0 } }
+        ensures tells { SourceTells result (⟦<MemSource as Source>⟧.seen result) }
     {
         MemSource {
             bytes,
@@ -103,7 +104,8 @@ impl Model for MemSink {
 impl MemSink {
     /// Takes room for `room` bytes. A write past it fills the room, fails, and is counted.
     pub fn new(alloc: Global, room: usize, fails: Calls) -> Result<MemSink, NoMemory>
-        ensures { IfOk result (λ sink. sink ≡ record { written = []; room = room; calls = record { listed = fails; made = 0 }; faults = 0 }) }
+        ensures holds { IfOk result (λ sink. sink ≡ record { written = []; room = room; calls = record { listed = fails; made = 0 }; faults = 0 }) }
+        ensures tells { IfOk result (λ sink. SinkTells sink (⟦<MemSink as Sink>⟧.seen sink)) }
     {
         let Ok(bytes) = Vec::with_capacity(alloc, room) else {
             return Err(NoMemory);
@@ -118,7 +120,8 @@ impl MemSink {
 
     /// What was written.
     pub fn written(&self) -> &[u8]
-        ensures { result.now ≡ self.now.written }
+        ensures bytes { result.now ≡ self.now.written }
+        ensures told { (⟦<MemSink as Sink>⟧.seen self.now).written self.now.written }
     {
         self.bytes.as_slice()
     }

@@ -1,0 +1,186 @@
+#!/usr/bin/env python3
+"""Starts officed on free loopback ports and asks it for the time, as a modem would (RFC 868 over UDP).
+
+It checks the four bytes against the clock, the lines of the log, and the statuses 1, 10 and 11. The
+figures for an idle program and for an answer's delay are printed and not judged. It ends what it
+started, and takes under a minute.
+"""
+import os
+import re
+import resource
+import signal
+import socket
+import statistics
+import struct
+import subprocess
+import sys
+import tempfile
+import time
+
+ROOT = os.path.dirname(os.path.dirname(os.path.dirname(os.path.abspath(__file__))))
+PROGRAM = os.path.join(ROOT, "crates", "officed", "out", "officed")
+SECONDS_BEFORE_1970 = 2_208_988_800
+failures = []
+
+
+def check(holds, what):
+    if not holds:
+        failures.append(what)
+        print("FAILED", what)
+
+
+def free_ports():
+    """Three UDP ports and a TCP port of this machine that nobody has."""
+    sockets = [socket.socket(socket.AF_INET, socket.SOCK_DGRAM) for _ in range(3)]
+    sockets.append(socket.socket(socket.AF_INET, socket.SOCK_STREAM))
+    for each in sockets:
+        each.bind(("0.0.0.0", 0))
+    ports = [each.getsockname()[1] for each in sockets]
+    for each in sockets:
+        each.close()
+    return ports
+
+
+def start(ports, turns, log):
+    words = ["serve", "--store", "memory", "--ports", ",".join(map(str, ports)), "--turns", str(turns)]
+    return subprocess.Popen([PROGRAM, *words], stdout=log, stderr=subprocess.DEVNULL)
+
+
+def ask(client, port, payload=b""):
+    """The delay of an answer, or None where none came within a second."""
+    before = time.time()
+    began = time.perf_counter()
+    client.sendto(payload, ("127.0.0.1", port))
+    try:
+        answer, _ = client.recvfrom(2048)
+    except socket.timeout:
+        return None
+    delay = time.perf_counter() - began
+    after = time.time()
+    check(len(answer) == 4, "an answer has four bytes")
+    told = struct.unpack(">I", answer[:4])[0]
+    low = (int(before) + SECONDS_BEFORE_1970) % 2**32
+    high = (int(after) + SECONDS_BEFORE_1970) % 2**32
+    check(low <= told <= high, f"the time {told} lies between {low} and {high}")
+    return delay
+
+
+def wait_until_ready(client, port):
+    client.settimeout(0.2)
+    for _ in range(50):
+        client.sendto(b"", ("127.0.0.1", port))
+        try:
+            client.recvfrom(2048)
+            client.settimeout(1.0)
+            return True
+        except (socket.timeout, ConnectionRefusedError):
+            time.sleep(0.05)
+    return False
+
+
+def processor_seconds(pid):
+    fields = open(f"/proc/{pid}/stat").read().rsplit(")", 1)[1].split()
+    return (int(fields[11]) + int(fields[12])) / os.sysconf("SC_CLK_TCK")
+
+
+def status_of(words):
+    done = subprocess.run([PROGRAM, *words], stdout=subprocess.PIPE, stderr=subprocess.DEVNULL, timeout=30)
+    return done.returncode, done.stdout
+
+
+def serve_and_ask():
+    ports = free_ports()
+    dhcp, clock, tftp, http = ports
+    with tempfile.TemporaryFile() as log:
+        program = start(ports, 10**9, log)
+        try:
+            clients = []
+            for _ in range(5):
+                client = socket.socket(socket.AF_INET, socket.SOCK_DGRAM)
+                client.bind(("127.0.0.1", 0))
+                client.settimeout(1.0)
+                clients.append(client)
+            check(wait_until_ready(clients[0], clock), "the program answers within some seconds")
+            for round_ in range(60):
+                for client in clients:
+                    payload = b"" if round_ % 2 == 0 else b"\x2a" * 1400
+                    check(ask(client, clock, payload) is not None, "each question has an answer")
+            # Datagrams for services that aren't built yet, and a clerk.
+            clients[0].sendto(b"", ("127.0.0.1", dhcp))
+            clients[0].sendto(b"\x00\x01name\x00octet\x00", ("127.0.0.1", tftp))
+            with socket.create_connection(("127.0.0.1", http), timeout=5) as clerk:
+                clerk.sendall(b"GET /site HTTP/1.1\r\n\r\n")
+                time.sleep(0.3)
+            time.sleep(0.3)
+            # A question from a port that answers by itself is dropped (where this machine lets us have one).
+            reflected = None
+            try:
+                reflector = socket.socket(socket.AF_INET, socket.SOCK_DGRAM)
+                reflector.bind(("127.0.0.1", 37))
+                reflector.settimeout(0.5)
+                reflector.sendto(b"", ("127.0.0.1", clock))
+                try:
+                    reflector.recvfrom(64)
+                    reflected = True
+                except socket.timeout:
+                    reflected = False
+                reflector.close()
+            except OSError:
+                pass
+            check(reflected is not True, "a datagram from the time port of another isn't answered")
+            # Idle.
+            before = processor_seconds(program.pid)
+            time.sleep(5)
+            idle = processor_seconds(program.pid) - before
+            delays = [ask(clients[0], clock) for _ in range(200)]
+            check(all(delay is not None for delay in delays), "answers come behind an idle time")
+            delays = [delay for delay in delays if delay is not None]
+            print(f"idle: {idle:.3f} s of processor in 5 s; delay: median {statistics.median(delays) * 1000:.2f} ms, "
+                  f"greatest {max(delays) * 1000:.2f} ms; reflected: {'not tried' if reflected is None else reflected}")
+        finally:
+            program.send_signal(signal.SIGTERM)
+            program.wait(timeout=10)
+        log.seek(0)
+        return log.read().decode().splitlines()
+
+
+def judge(lines):
+    numbers = []
+    for line in lines:
+        form = re.fullmatch(r"([0-9]+) (time sent|dhcp not-built|tftp not-built|http not-built)", line)
+        check(form is not None, f"a line has its form: {line!r}")
+        if form:
+            numbers.append(int(form.group(1)))
+    check(numbers == sorted(set(numbers)), "the numbers of the lines rise")
+    words = [line.split(" ", 1)[1] for line in lines if " " in line]
+    check(words.count("time sent") >= 500, "each answer has a line")
+    check(words.count("dhcp not-built") == 1, "the DHCP datagram has a line")
+    check(words.count("tftp not-built") == 1, "the TFTP datagram has a line")
+    check(words.count("http not-built") >= 2, "the clerk's piece and its end have lines")
+    print(f"{len(lines)} lines, the last number {numbers[-1] if numbers else 0}")
+
+
+def statuses():
+    check(status_of(["serve"]) == (1, b"words refused\n"), "words that fit no form: status 1")
+    ports = free_ports()
+    text = ",".join(map(str, ports))
+    check(status_of(["serve", "--store", "/nowhere", "--ports", text, "--turns", "0"]) == (11, b""), "another store: status 11")
+    check(status_of(["serve", "--store", "memory", "--ports", text, "--turns", "0"]) == (0, b""), "no turns: status 0")
+    taken = socket.socket(socket.AF_INET, socket.SOCK_DGRAM)
+    taken.bind(("0.0.0.0", ports[1]))
+    check(status_of(["serve", "--store", "memory", "--ports", text, "--turns", "0"]) == (10, b""), "a port that is taken: status 10")
+    taken.close()
+
+
+def main():
+    if not os.path.exists(PROGRAM):
+        print("officed isn't built: run bin/officed once")
+        return 1
+    statuses()
+    judge(serve_and_ask())
+    print(f"acceptance: {len(failures)} failed")
+    return 1 if failures else 0
+
+
+if __name__ == "__main__":
+    sys.exit(main())
