@@ -16,7 +16,7 @@ pub data Meaning : Type 0 where
   Refused : HttpFault → Meaning
   Asked : List ℕ → List ℕ → List ℕ → Meaning
 
--- a head has at most so many bytes, its blank line among them
+-- The limits are this office's own (RFC 9110, section 2.3, sets none). A head has at most so many bytes, its blank line among them
 unfoldable pub head_limit : ℕ
 head_limit = 8192
 
@@ -54,14 +54,15 @@ common_number [] = Some 0
 common_number (None ∷ numbers) = None
 common_number (Some n ∷ numbers) = if list_all (λ number. option_eq nat_eq number (Some n)) numbers then Some n else None
 
--- the length of the body that fields declare. None: the body is coded, or a length is no number, or two of them differ
+-- the length of the body that fields declare (RFC 9112, sections 6.1 to 6.3), 0 where none does. None: the body is chunked or
+-- coded (RFC 9110, section 8.4), which this office doesn't take, or a length is no number, or two of them differ
 abbrev pub declared_length : List FieldText → Option ℕ
 declared_length fields =
     if list_any (is_named (codes "transfer-encoding")) fields || list_any (is_named (codes "content-encoding")) fields
     then None
     else common_number (map length_read (values_of (codes "content-length") fields))
 
--- the bytes are one request head and nothing else, and it has no more fields than are taken
+-- the bytes are one request head (RFC 9112, sections 3 and 5) and nothing else, and it has no more fields than are taken
 abbrev pub IsOneHead : List ℕ → RequestHead → Type 0
 IsOneHead text head = ReadsRequest text head [] × (length head.fields ≤ field_limit)
 
