@@ -1,0 +1,10 @@
+use Rattle.std.proofs.Common.{false}
+use Rattle.off_base.specs.Parts.{bytes_of}
+use Rattle.off_base.proofs.PartLemmas.{is_reading}
+use Rattle.off_docsis.proofs.agent.relay.Goals as goal
+
+pub returns-in_err-circuit-clause-reading : goal.returns-in_err-circuit-clause-reading
+returns-in_err-circuit-clause-reading c = is_reading false (bytes_of c.args.option82.now)
+
+pub returns-clause-reading : goal.returns-clause-reading
+returns-clause-reading c = is_reading false (bytes_of c.args.option82.now)

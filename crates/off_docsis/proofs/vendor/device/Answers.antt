@@ -1,0 +1,10 @@
+use Rattle.std.proofs.Common.{true}
+use Rattle.off_base.specs.Parts.{bytes_of}
+use Rattle.off_base.proofs.PartLemmas.{is_reading}
+use Rattle.off_docsis.proofs.vendor.device.Goals as goal
+
+pub returns-in_err-kind-clause-reading : goal.returns-in_err-kind-clause-reading
+returns-in_err-kind-clause-reading c = is_reading true (bytes_of c.args.option43.now)
+
+pub returns-clause-reading : goal.returns-clause-reading
+returns-clause-reading c = is_reading true (bytes_of c.args.option43.now)
