@@ -14,7 +14,7 @@ use Rattle.off_tlv.specs.Walk.{TakesAt}
 use Rattle.off_tlv.proofs.GrammarLemmas.{same_parts, true_not_false, whole_not_short, one_reading}
 use Rattle.off_tlv.proofs.FrontLemmas.{AllStand-push, spelling-push, group_stands, group_spells}
 
-not_short_by : (level : Level) (rest : List ℕ) (ts : List Tree) → rest ≡ spelling ts → IsShort rest → ⊥
+pub not_short_by : (level : Level) (rest : List ℕ) (ts : List Tree) → rest ≡ spelling ts → IsShort rest → ⊥
 not_short_by level rest [] e short = subst IsShort e short
 not_short_by level rest (leaf c v ∷ ts) e short = whole_not_short rest c v (spelling ts) e short
 not_short_by level rest (group c r ∷ ts) e short = whole_not_short rest c (spelled_row r) (spelling ts) e short
@@ -23,7 +23,7 @@ pub spelled_not_short : (level : Level) (rest : List ℕ) → IsSpelled level re
 spelled_not_short level rest s short = not_short_by level rest s.trees s.whole short
 
 -- a setting that spells the same code and length as stands in front is in front
-front_is : (code : ℕ) (value more : List ℕ) (t : Tree) (others : List ℕ) → code ∷ length value ∷ value ++ more ≡ spelled t ++ others
+pub front_is : (code : ℕ) (value more : List ℕ) (t : Tree) (others : List ℕ) → code ∷ length value ∷ value ++ more ≡ spelled t ++ others
     → (spelled t ≡ code ∷ length value ∷ value) × (more ≡ others)
 front_is code value more (leaf c v) others e =
     let codes : c ≡ code = cc in
@@ -56,7 +56,7 @@ row_stands : (level : Level) (r : Row) → RowShaped level r → RowFits r → A
 row_stands level no_more s f = tt
 row_stands level (followed t r) s f = (record { shaped = s.0; fits = f.0 }, row_stands level r s.1 f.1)
 
-row_spelled : (r : Row) → spelling (row_items r) ≡ spelled_row r
+pub row_spelled : (r : Row) → spelling (row_items r) ≡ spelled_row r
 row_spelled no_more = refl
 row_spelled (followed t r) = ap (λ (x : List ℕ). spelled t ++ x) (row_spelled r)
 
@@ -115,7 +115,7 @@ built_more level bytes value place settings new t whole stand takes s e =
     )
 
 -- the bytes in front of the end marker are spelled by the settings
-front_is_spelling : (file : List ℕ) (end : ℕ) (e : EndsAt file end) → take end file ≡ spelling e.trees
+pub front_is_spelling : (file : List ℕ) (end : ℕ) (e : EndsAt file end) → take end file ≡ spelling e.trees
 front_is_spelling file end e = ap (take end) e.spells.whole ∙ take_at (spelling e.trees) (END ∷ replicate e.spells.pads PAD) end (sym e.here)
 
 pub front_spelled : (file : List ℕ) (end : ℕ) → EndsAt file end → IsSpelled in_file (take end file)

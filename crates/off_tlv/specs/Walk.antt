@@ -10,6 +10,7 @@ pub record Walk : Type 0 where
 pub record Takes (old : Walk) (code : ℕ) (value : List ℕ) (new : Walk) : Type 0 where
   pub spelled : old.rest ≡ code ∷ length value ∷ value ++ new.rest
   pub onward : new.place ≡ old.place + 2 + length value
+  pub byte : length value ≤ 255
 
 -- a whole setting stands at a place of the bytes
 pub record TakesAt (bytes : List ℕ) (place : ℕ) (value : List ℕ) : Type 0 where

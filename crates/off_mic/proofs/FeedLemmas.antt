@@ -1,0 +1,122 @@
+-- Taking in wanted settings one by one.
+use Rattle.std.proofs.Common.{◌≡◌, ℕ, ◌+◌, ◌<◌, ◌≤◌, Bool, true, false, cond, List, [], ◌∷◌, ◌++◌, length, get_or, take, refl, sym, ap, subst, ◌∙◌, append-nil, append_assoc}
+use Rattle.std.specs.List.{filter}
+use Rattle.std.proofs.lemmas.List.Elements.{filter-append}
+use Rattle.std.proofs.lemmas.List.Concat.{flat_map-append}
+use Rattle.md5.specs.Md5.{Holds}
+use Rattle.md5.specs.declared.Md5.{Md5}
+use Rattle.off_base.specs.Tree.{Tree, leaf, group, code_of, spelled, spelling}
+use Rattle.off_tlv.specs.Grammar.{in_file}
+use Rattle.off_tlv.specs.Fault.{IsShort}
+use Rattle.off_tlv.specs.Walk.{Walk, Takes}
+use Rattle.off_tlv.proofs.ReadingLemmas.{front_is, not_short_by}
+use Rattle.std.proofs.lemmas.List.{take_more, take_all}
+use Rattle.off_mic.specs.declared.feeding.Wanted.TheVariants.{OfCode}
+use Rattle.off_mic.specs.Mic.{of_code, text_of_codes, digest_order, digest_text}
+use Rattle.off_mic.specs.Feed.{Came, Fed, Copied, is_wanted, wanted_text}
+use Rattle.off_mic.specs.declared.feeding.Wanted.{Wanted}
+
+pub wanted_text-append : (wanted : Wanted) (ts us : List Tree) → wanted_text wanted (ts ++ us) ≡ wanted_text wanted ts ++ wanted_text wanted us
+wanted_text-append wanted ts us =
+    let test : Tree → Bool = λ t. is_wanted wanted (code_of t) in
+    ap spelling (filter-append (λ t. is_wanted wanted (code_of t)) ts us)
+    ∙ flat_map-append spelled (filter (λ t. is_wanted wanted (code_of t)) ts) (filter (λ t. is_wanted wanted (code_of t)) us)
+
+code_first : (t : Tree) (code : ℕ) (more : List ℕ) → spelled t ≡ code ∷ more → code_of t ≡ code
+code_first (leaf c v) code more e = cc
+code_first (group c r) code more e = cc
+
+one_text : (t : Tree) (b : Bool) → spelling (cond b (t ∷ []) []) ≡ cond b (spelled t) []
+one_text t true = append-nil (spelled t)
+one_text t false = refl
+
+wanted_one : (wanted : Wanted) (t : Tree) (code : ℕ) (text : List ℕ) → code_of t ≡ code → spelled t ≡ text → wanted_text wanted (t ∷ []) ≡ cond (is_wanted wanted code) text []
+wanted_one wanted t code text codes e =
+    one_text t (is_wanted wanted (code_of t)) ∙ ap (λ (x : ℕ). cond (is_wanted wanted x) (spelled t) []) codes ∙ ap (λ (x : List ℕ). cond (is_wanted wanted code) x []) e
+
+nothing_behind : (us : List Tree) → spelling us ≡ [] → us ≡ []
+nothing_behind [] e = refl
+nothing_behind (leaf c v ∷ us) e = cc
+nothing_behind (group c r ∷ us) e = cc
+
+-- at the end of the bytes all are passed
+pub came_all : (wanted : Wanted) (trees : List Tree) (rest text : List ℕ) → Came wanted trees rest text → rest ≡ [] → text ≡ wanted_text wanted trees
+came_all wanted trees rest text f e =
+    let none : f.behind ≡ [] = nothing_behind f.behind (sym f.left ∙ e) in
+    let whole : f.before ≡ trees = sym (f.split ∙ ap (λ (x : List Tree). f.before ++ x) none ∙ append-nil f.before) in
+    f.passed ∙ ap (wanted_text wanted) whole
+
+-- settings are never short
+pub came_short : (wanted : Wanted) (trees : List Tree) (rest text : List ℕ) → Came wanted trees rest text → IsShort rest → ⊥
+came_short wanted trees rest text f short = not_short_by in_file rest f.behind f.left short
+
+came_on : (wanted : Wanted) (trees before behind : List Tree) (old new : Walk) (code : ℕ) (value text : List ℕ)
+    → trees ≡ before ++ behind → old.rest ≡ spelling behind → text ≡ wanted_text wanted before → Takes old code value new
+    → Came wanted trees new.rest (text ++ cond (is_wanted wanted code) (code ∷ length value ∷ value) [])
+came_on wanted trees before [] old new code value text split left passed takes = let front = takes.spelled in cc
+came_on wanted trees before (t ∷ us) old new code value text split left passed takes =
+    let both = front_is code value new.rest t (spelling us) (sym takes.spelled ∙ left) in
+    let one : wanted_text wanted (t ∷ []) ≡ cond (is_wanted wanted code) (code ∷ length value ∷ value) [] =
+    wanted_one wanted t code (code ∷ length value ∷ value) (code_first t code (length value ∷ value) both.0) both.0 in
+    record {
+      before = before ++ t ∷ [];
+      behind = us;
+      split = split ∙ sym (append_assoc before (t ∷ []) us);
+      left = both.1;
+      passed = ap (λ (x : List ℕ). x ++ cond (is_wanted wanted code) (code ∷ length value ∷ value) []) passed
+          ∙ ap (λ (x : List ℕ). wanted_text wanted before ++ x) (sym one) ∙ sym (wanted_text-append wanted before (t ∷ []));
+    }
+
+-- one setting on
+pub came_more : (wanted : Wanted) (trees : List Tree) (old new : Walk) (code : ℕ) (value text : List ℕ)
+    → Came wanted trees old.rest text → Takes old code value new
+    → Came wanted trees new.rest (text ++ cond (is_wanted wanted code) (code ∷ length value ∷ value) [])
+came_more wanted trees old new code value text f takes = came_on wanted trees f.before f.behind old new code value text f.split f.left f.passed takes
+
+pub fed_all : (wanted : Wanted) (message : List ℕ) (trees : List Tree) (rest : List ℕ) (hasher : Md5) → Fed wanted message trees rest hasher → rest ≡ []
+    → Holds hasher (message ++ wanted_text wanted trees)
+fed_all wanted message trees rest hasher f e = subst (λ (x : List ℕ). Holds hasher (message ++ x)) (came_all wanted trees rest f.text f.came e) f.held
+
+pub fed_more : (wanted : Wanted) (message : List ℕ) (trees : List Tree) (old new : Walk) (code : ℕ) (value : List ℕ) (hasher after : Md5)
+    → Fed wanted message trees old.rest hasher → Takes old code value new
+    → ((m : List ℕ) → Holds hasher m → Holds after (m ++ cond (is_wanted wanted code) (code ∷ length value ∷ value) [])) → Fed wanted message trees new.rest after
+fed_more wanted message trees old new code value hasher after f takes step =
+    let one : List ℕ = cond (is_wanted wanted code) (code ∷ length value ∷ value) [] in
+    record {
+      text = f.text ++ cond (is_wanted wanted code) (code ∷ length value ∷ value) [];
+      came = came_more wanted trees old new code value f.text f.came takes;
+      held = subst (Holds after) (append_assoc message f.text (cond (is_wanted wanted code) (code ∷ length value ∷ value) [])) (step (message ++ f.text) f.held);
+    }
+
+pub copied_more : (wanted : Wanted) (trees : List Tree) (old new : Walk) (code : ℕ) (value before out after : List ℕ)
+    → Copied wanted trees old.rest before out → Takes old code value new
+    → after ≡ out ++ cond (is_wanted wanted code) (code ∷ length value ∷ value) [] → Copied wanted trees new.rest before after
+copied_more wanted trees old new code value before out after f takes e =
+    record {
+      text = f.text ++ cond (is_wanted wanted code) (code ∷ length value ∷ value) [];
+      came = came_more wanted trees old new code value f.text f.came takes;
+      appended = e ∙ ap (λ (x : List ℕ). x ++ cond (is_wanted wanted code) (code ∷ length value ∷ value) []) f.appended
+          ∙ append_assoc before f.text (cond (is_wanted wanted code) (code ∷ length value ∷ value) []);
+    }
+
+pub copied_all : (wanted : Wanted) (trees : List Tree) (rest before after : List ℕ) → Copied wanted trees rest before after → rest ≡ []
+    → after ≡ before ++ wanted_text wanted trees
+copied_all wanted trees rest before after f e = f.appended ∙ ap (λ (x : List ℕ). before ++ x) (came_all wanted trees rest f.text f.came e)
+
+-- the settings of one code more
+pub more_codes : (codes : List ℕ) (i : ℕ) (front back : List Tree) → i < length codes
+    → text_of_codes (take i codes) (front ++ back) ++ wanted_text (OfCode (get_or codes i 0)) front ++ wanted_text (OfCode (get_or codes i 0)) back
+    ≡ text_of_codes (take (i + 1) codes) (front ++ back)
+more_codes codes i front back at =
+    let text : ℕ → List ℕ = λ code. spelling (of_code code (front ++ back)) in
+    let last : text_of_codes (take (i + 1) codes) (front ++ back) ≡ text_of_codes (take i codes) (front ++ back) ++ wanted_text (OfCode (get_or codes i 0)) (front ++ back) =
+    ap (λ (x : List ℕ). text_of_codes x (front ++ back)) (take_more codes i 0 at)
+    ∙ flat_map-append (λ (code : ℕ). spelling (of_code code (front ++ back))) (take i codes) (get_or codes i 0 ∷ [])
+    ∙ ap (λ (x : List ℕ). text_of_codes (take i codes) (front ++ back) ++ x) (append-nil (wanted_text (OfCode (get_or codes i 0)) (front ++ back))) in
+    append_assoc (text_of_codes (take i codes) (front ++ back)) (wanted_text (OfCode (get_or codes i 0)) front) (wanted_text (OfCode (get_or codes i 0)) back)
+    ∙ ap (λ (x : List ℕ). text_of_codes (take i codes) (front ++ back) ++ x) (sym (wanted_text-append (OfCode (get_or codes i 0)) front back))
+    ∙ sym last
+
+pub all_codes : (i : ℕ) (trees : List Tree) → length digest_order ≤ i → text_of_codes (take i digest_order) trees ≡ digest_text trees
+unfolding digest_text
+all_codes i trees all = ap (λ (x : List ℕ). text_of_codes x trees) (take_all i digest_order all)

@@ -1,0 +1,4 @@
+pub mod CheckLemmas
+mod Examples
+pub mod FeedLemmas
+pub mod SealLemmas

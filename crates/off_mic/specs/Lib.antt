@@ -1,0 +1,6 @@
+pub mod Check
+pub mod Feed
+pub mod Hmac
+pub mod Laws
+pub mod Mic
+pub mod Seal
