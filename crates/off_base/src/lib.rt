@@ -11,6 +11,7 @@ mod moments;
 mod numbers;
 mod octets;
 mod parts;
+mod secrets;
 mod trees;
 mod wording;
 
@@ -22,5 +23,6 @@ pub use moments::Moment;
 pub use numbers::read_number;
 pub use octets::{Bytes, NoMemory};
 pub use parts::Step;
+pub use secrets::Secret;
 pub use trees::{Setting, Settings};
 pub use wording::{NotShort, Short};

@@ -6,3 +6,4 @@ pub mod Time
 pub mod Step
 pub mod Run
 pub mod Words
+pub mod Keys

@@ -5,7 +5,13 @@
 #![tactic(auto)]
 
 mod events;
+mod keys;
+mod orders;
 mod results;
+mod tables;
 
 pub use events::{Event, Service, What};
+pub use keys::Key;
+pub use orders::{Command, ImportRow, ImportRows, Kind, Reply, Write, Writes};
 pub use results::{Outcome, Sent};
+pub use tables::{Batch, Class, Hold, ImportKind, Lease, Modem, Pool, Row, Site, Subscriber};

@@ -1,0 +1,24 @@
+use off_base::{Ip4, Mac};
+
+/// The key of a row in the office's tables. Keys are ordered by kind, in this order, and then by their numbers.
+#[derive(Clone, Copy, Debug, PartialEq, Eq, PartialOrd, Ord)]
+pub enum Key {
+    /// The office's one site.
+    Site,
+    /// A subscriber, by number.
+    Subscriber(u32),
+    /// An add-on of a subscriber: the subscriber's number, and the add-on's own.
+    AddOn(u32, u8),
+    /// A cable modem, by its hardware address.
+    Modem(Mac),
+    /// A class of service, by number.
+    Class(u32),
+    /// A pool of addresses, by number.
+    Pool(u32),
+    /// The lease of an address.
+    Lease(Ip4),
+    /// The address that a modem holds.
+    Held(Mac),
+    /// An import of many rows, by number.
+    Batch(u64),
+}
