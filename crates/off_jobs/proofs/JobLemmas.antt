@@ -1,0 +1,108 @@
+-- Whether a job has its status with its cause.
+use Rattle.std.proofs.Common.{◌≡◌, ◌≢◌, ℕ, ◌≤◌, Bool, true, false, cond, ◌&&◌, List, length, Result, Ok, Err, refl, ap, ◌∙◌, subst, ◌⊎◌, inl, inr, arith, length-append}
+use Rattle.off_base.specs.Tree.{Tree}
+use Rattle.off_tlv.specs.declared.faults.ReadFault.{ReadFault}
+use Rattle.off_tlv.specs.declared.faults.FileErr.{FileErr}
+use Rattle.off_tlv.specs.declared.faults.FileErr.TheVariants.{Read, Memory}
+use Rattle.off_tlv.specs.Told.{WhyNotRead}
+use Rattle.off_tlv.specs.Grammar.{FileOf}
+use Rattle.off_tlv.specs.Fault.{IsFirstFault, Reads}
+use Rattle.off_tlv.proofs.GrammarLemmas.{one_reading}
+use Rattle.off_mic.specs.Check.{Verified}
+use Rattle.off_mic.specs.declared.checking.Verdict.{Verdict}
+use Rattle.off_mic.specs.declared.checking.MicFault.{MicFault}
+use Rattle.off_outside.specs.Streams.{SourceSeen, SinkSeen}
+use Rattle.off_jobs.specs.Input.{TookAll, TookTooMany, SourceFailed, NoInput}
+use Rattle.off_jobs.specs.declared.input.InputErr.{InputErr}
+use Rattle.off_jobs.specs.Jobs.{Tells, Unread, overlong, memoryless, sourceless, UnreadBy, Sealing, sealed_as, refused_by, unsealed, not_sealed, SealedBy, Checking, answered, refused_for, not_checked, CheckedBy, Verifies, NoFault, SealsInput, ChecksInput}
+
+-- where no count rose the text was written whole
+told_whole : {of status : ℕ} {text : List ℕ} {s s' : SourceSeen} {t t' : SinkSeen} → Tells of text status t t' → NoFault s s' t t' → status ≡ of
+told_whole (inl wrote) none = wrote.0
+told_whole (inr cut) none = absurd (omega (arith, cut.1.faults.grew, none.sink_same, none.sink_count))
+
+source_held : {s s' : SourceSeen} {t t' : SinkSeen} → SourceFailed s s' → NoFault s s' t t' → ⊥
+source_held failed none = omega (arith, failed.faults.grew, none.source_same, none.source_count)
+
+unread_status : (why : Unread) (of status : ℕ) (s s' : SourceSeen) (t t' : SinkSeen) → UnreadBy why of status s s' t t' → NoFault s s' t t' → (status ≡ 6) ⊎ (status ≡ of)
+unread_status overlong of status s s' t t' by none = inr (told_whole by.1 none)
+unread_status memoryless of status s s' t t' by none = inl (told_whole by.1 none)
+unread_status sourceless of status s s' t t' by none = absurd (source_held by.0 none)
+
+seal_statuses : (way : Sealing) (secret : List ℕ) (status : ℕ) (s s' : SourceSeen) (t t' : SinkSeen) → SealedBy way secret status s s' t t' → NoFault s s' t t'
+    → (status ≡ 0) ⊎ ((status ≡ 6) ⊎ (status ≡ 9))
+seal_statuses (sealed_as file made) secret status s s' t t' by none = inl (told_whole by.2 none)
+seal_statuses (refused_by file fault) secret status s s' t t' by none = inr (inr (told_whole by.2 none))
+seal_statuses (unsealed file) secret status s s' t t' by none = inr (inl (told_whole by.2 none))
+seal_statuses (not_sealed why) secret status s s' t t' by none = inr (unread_status why 9 status s s' t t' by none)
+
+-- what was taken to the end is what the source told
+told_file : {file held : List ℕ} {s s' : SourceSeen} → TookAll file s s' → s.left held → held ≡ file
+told_file took told = (took.left.each _ told).fits.0
+
+not_both : (file : List ℕ) (trees : List Tree) (fault : ReadFault) → FileOf file trees → IsFirstFault file fault → ⊥
+not_both file trees fault spells first = let e = one_reading file (Ok trees) (Err fault) spells first in cc
+
+too_many_of : {held : List ℕ} {s s' : SourceSeen} → TookTooMany s s' → s.left held → length held ≤ 65536 → ⊥
+too_many_of {held} took told short =
+    let g = took.took.left.each held told in
+    omega (arith, ap length g.fits, length-append took.bytes g.value, took.over)
+
+seal_complete : (way : Sealing) (secret : List ℕ) (status : ℕ) (s s' : SourceSeen) (t t' : SinkSeen) → SealedBy way secret status s s' t t'
+    → (file : List ℕ) (trees : List Tree) → s.left file → FileOf file trees → length file ≤ 65536 → NoFault s s' t t' → status ≢ 6 → status ≡ 0
+seal_complete (sealed_as read made) secret status s s' t t' by file trees told spells short none other = told_whole by.2 none
+seal_complete (refused_by read fault) secret status s s' t t' by file trees told spells short none other =
+    absurd (not_both read trees fault (subst (λ v. FileOf v trees) (told_file by.0 told) spells) by.1)
+seal_complete (unsealed read) secret status s s' t t' by file trees told spells short none other = absurd (other (told_whole by.2 none))
+seal_complete (not_sealed overlong) secret status s s' t t' by file trees told spells short none other = absurd (too_many_of by.0 told short)
+seal_complete (not_sealed memoryless) secret status s s' t t' by file trees told spells short none other = absurd (other (told_whole by.1 none))
+seal_complete (not_sealed sourceless) secret status s s' t t' by file trees told spells short none other = absurd (source_held by.0 none)
+
+pub seals_by : (way : Sealing) (secret : List ℕ) (status : ℕ) (s s' : SourceSeen) (t t' : SinkSeen) → SealedBy way secret status s s' t t' → SealsInput secret status s s' t t'
+seals_by way secret status s s' t t' by = record {
+  way = way;
+  done = by;
+  statuses = seal_statuses way secret status s s' t t' by;
+  complete = seal_complete way secret status s s' t t' by;
+}
+
+abbrev status_by : Bool → Bool → ℕ
+status_by cm cmts = cond (cm && cmts) 0 8
+
+verdict_is : (cm cmts : Bool) → (status_by cm cmts ≡ 0) ⊎ (status_by cm cmts ≡ 8)
+verdict_is true true = inl refl
+verdict_is true false = inr refl
+verdict_is false cmts = inr refl
+
+check_statuses : (way : Checking) (secret : List ℕ) (status : ℕ) (s s' : SourceSeen) (t t' : SinkSeen) → CheckedBy way secret status s s' t t' → NoFault s s' t t'
+    → (status ≡ 0) ⊎ ((status ≡ 6) ⊎ (status ≡ 8))
+check_statuses (answered file verdict) secret status s s' t t' by none =
+    let is = told_whole by.2 none in
+    elim (verdict_is verdict.cm verdict.cmts) [ inl e ↦ inl (is ∙ e) | inr e ↦ inr (inr (is ∙ e)) ]
+check_statuses (refused_for file fault) secret status s s' t t' by none = inr (inr (told_whole by.2 none))
+check_statuses (not_checked why) secret status s s' t t' by none = inr (unread_status why 8 status s s' t t' by none)
+
+pub checks_by : (way : Checking) (secret : List ℕ) (status : ℕ) (s s' : SourceSeen) (t t' : SinkSeen) → CheckedBy way secret status s s' t t' → ChecksInput secret status s s' t t'
+checks_by way secret status s s' t t' by = record { way = way; done = by; statuses = check_statuses way secret status s s' t t' by }
+
+-- the same text, and the same status, under other names
+pub tells_as : (of given : ℕ) (status : ℕ) (text wanted : List ℕ) (t t' : SinkSeen) → of ≡ given → text ≡ wanted → Tells of text status t t' → Tells given wanted status t t'
+tells_as of given status text wanted t t' is same tells =
+    subst (λ v. Tells v wanted status t t') is (subst (λ v. Tells of v status t t') same tells)
+
+pub no_input_is : (err given : InputErr) (s s' : SourceSeen) → err ≡ given → NoInput err s s' → NoInput given s s'
+no_input_is err given s s' is none = subst (λ v. NoInput v s s') is none
+
+-- what `seal` says of why it gave no file
+pub fault_of : (file held : List ℕ) (err : FileErr) (fault : ReadFault) → held ≡ file → err ≡ Read fault → WhyNotRead held err → IsFirstFault file fault
+fault_of file held err fault same is why = subst (λ v. IsFirstFault v fault) same (let w : WhyNotRead held (Read fault) = subst (λ v. WhyNotRead held v) is why in w)
+
+pub spelled_of : (file held : List ℕ) (err : FileErr) → held ≡ file → err ≡ Memory → WhyNotRead held err → (trees : List Tree) × FileOf file trees
+spelled_of file held err same is why =
+    let w : WhyNotRead held Memory = subst (λ v. WhyNotRead held v) is why in
+    (w.0, subst (λ v. FileOf v w.0) same w.1)
+
+pub verifies_of : {file held secret : List ℕ} {answer : Result Verdict MicFault} → held ≡ file
+    → (reading : Result (List Tree) ReadFault) × Reads held reading × Verified secret reading answer → Verifies file secret answer
+verifies_of {secret = secret} {answer = answer} same found =
+    record { reading = found.0; reads = subst (λ v. Reads v found.0) same found.1; verified = found.2 }

@@ -1,0 +1,63 @@
+-- What a job reads of its source: all bytes to the end, or one over the limit.
+use Rattle.std.specs.Prelude.{◌≡◌, ℕ, ◌+◌, ◌≤◌, List, [], ◌++◌, length, Result, Ok, Err}
+use Rattle.off_defs.specs.Told.{Told}
+use Rattle.off_defs.specs.Counts.{Grew}
+use Rattle.off_outside.specs.Streams.{SourceSeen}
+use Rattle.off_jobs.specs.declared.input.InputErr.{InputErr}
+use Rattle.off_jobs.specs.declared.input.InputErr.TheVariants.{TooLong, Failed, Memory}
+
+-- how many bytes a job takes at most
+abbrev pub most_bytes : ℕ
+most_bytes = 65536
+
+-- these bytes were taken, and no others
+pub record Took (bytes : List ℕ) (old new : SourceSeen) : Type 0 where
+  pub left : Told old.left new.left (λ before after. before ≡ bytes ++ after)
+  pub faults : old.faults ≤ new.faults
+
+-- all bytes of the source were taken, to its end
+pub record TookAll (bytes : List ℕ) (old new : SourceSeen) : Type 0 where
+  pub short : length bytes ≤ most_bytes
+  pub left : Told old.left new.left (λ before after. (before ≡ bytes) × (after ≡ []))
+  pub faults : old.faults ≤ new.faults
+
+-- the source holds more than a job takes: one byte over it was taken
+pub record TookTooMany (old new : SourceSeen) : Type 0 where
+  pub bytes : List ℕ
+  pub over : length bytes ≡ most_bytes + 1
+  pub took : Took bytes old new
+
+-- memory was wanted while the source was read
+pub record LackedMemory (old new : SourceSeen) : Type 0 where
+  pub bytes : List ℕ
+  pub took : Took bytes old new
+
+-- the source failed, and counted it
+pub record SourceFailed (old new : SourceSeen) : Type 0 where
+  pub bytes : List ℕ
+  pub left : Told old.left new.left (λ before after. before ≡ bytes ++ after)
+  pub faults : Grew 1 old.faults new.faults
+
+abbrev pub NoInput : InputErr → SourceSeen → SourceSeen → Type 0
+NoInput TooLong old new = TookTooMany old new
+NoInput Failed old new = SourceFailed old new
+NoInput Memory old new = LackedMemory old new
+
+abbrev pub ReadsInput : Result (List ℕ) InputErr → SourceSeen → SourceSeen → Type 0
+ReadsInput (Ok bytes) old new = TookAll bytes old new
+ReadsInput (Err err) old new = NoInput err old new
+
+-- one piece more; none comes exactly at the end
+pub record TookPiece (count room : ℕ) (bytes longer : List ℕ) (old new : SourceSeen) : Type 0 where
+  pub piece : List ℕ
+  pub long : length piece ≡ count
+  pub fits : count ≤ room
+  pub joined : longer ≡ bytes ++ piece
+  pub took : Took piece old new
+  pub end : count ≡ 0 → Told old.left new.left (λ before after. before ≡ [])
+
+-- no piece more
+abbrev pub NoPiece : InputErr → SourceSeen → SourceSeen → Type 0
+NoPiece TooLong old new = ⊥
+NoPiece Failed old new = SourceFailed old new
+NoPiece Memory old new = LackedMemory old new

@@ -1,0 +1,11 @@
+//! The jobs over a stream: `seal` signs a configuration file, `check` verifies one. Each reads its source to the end, writes
+//! one text to its sink, and answers the program's exit status.
+#![tactic(auto)]
+
+mod checking;
+mod input;
+mod sealing;
+mod telling;
+
+pub use checking::check_input;
+pub use sealing::seal_input;

@@ -1,0 +1,74 @@
+ghost use Rattle.std.specs.Prelude.{◌≡◌, ◌≤◌, ◌++◌, ◌∷◌, [], length, codes, decimal};
+ghost use Rattle.off_jobs.specs.Text.{refused, read_fault_words, mic_fault_words};
+ghost use Rattle.off_jobs.specs.Jobs.{Tells};
+
+use crate::input::InputErr;
+use arrayvec::ArrayVec;
+use itoa::Buffer;
+use off_mic::MicFault;
+use off_outside::{Failed, Sink};
+use off_tlv::ReadFault;
+
+/// Room for `refused`, a fault's word and a number.
+pub type Line = ArrayVec<u8, 64>;
+
+/// Writes a text, and answers its status, or 4 where the sink fails.
+pub fn tell<W: Sink>(out: &mut W, text: &[u8], status: u8) -> u8
+    ensures { Tells status text.now result (W.seen out.old) (W.seen out.new) }
+{
+    match out.write(text) {
+        Ok(()) => status,
+        Err(Failed) => 4,
+    }
+}
+
+/// The line for a file that the grammar refuses.
+pub fn read_fault_line(fault: ReadFault) -> ArrayVec<u8, 64>
+    ensures { result.items ≡ refused (read_fault_words fault) }
+{
+    match fault {
+        ReadFault::Cut(place) => numbered(b"cut ", place),
+        ReadFault::NoEnd => plain(b"no-end"),
+        ReadFault::AfterEnd(place) => numbered(b"after-end ", place),
+        ReadFault::EarlyPad(place) => numbered(b"early-pad ", place),
+    }
+}
+
+/// The line for a file whose values can't be checked.
+pub fn mic_fault_line(fault: MicFault) -> ArrayVec<u8, 64>
+    ensures { result.items ≡ refused (mic_fault_words fault) }
+{
+    match fault {
+        MicFault::Read(fault) => read_fault_line(fault),
+        MicFault::NoMic(code) => numbered(b"no-mic ", usize::from(code)),
+        MicFault::TwiceMic(code) => numbered(b"twice-mic ", usize::from(code)),
+        MicFault::MicLength(code) => numbered(b"mic-length ", usize::from(code)),
+    }
+}
+
+// A line with words alone.
+fn plain(words: &[u8]) -> ArrayVec<u8, 64>
+    requires { length words.now ≤ 20 }
+    ensures { result.items ≡ refused words.now }
+{
+    let mut line = ArrayVec::new();
+    let _refused = line.try_extend_from_slice(b"refused ");
+    let _words = line.try_extend_from_slice(words);
+    let _end = line.try_extend_from_slice(b"\n");
+    line
+}
+
+// A line with words and a number behind them.
+fn numbered(words: &[u8], number: usize) -> ArrayVec<u8, 64>
+    requires { length words.now ≤ 20 }
+    ensures { result.items ≡ refused (words.now ++ decimal number) }
+{
+    let mut buffer = Buffer::new();
+    let digits = buffer.format(number);
+    let mut line = ArrayVec::new();
+    let _refused = line.try_extend_from_slice(b"refused ");
+    let _words = line.try_extend_from_slice(words);
+    let _number = line.try_extend_from_slice(digits.as_bytes());
+    let _end = line.try_extend_from_slice(b"\n");
+    line
+}
