@@ -2,7 +2,8 @@
 use Rattle.std.proofs.Common.{◌≡◌, [], ◌∷◌, refl, codes, Some, None}
 use Rattle.off_base.specs.Number.{number_read}
 use Rattle.off_defs.specs.Time.{time_bytes}
-use Rattle.off_defs.specs.Words.{serve_of}
+use Rattle.hex.proofs.OnLiterals.{hex_on_literals}
+use Rattle.off_defs.specs.Words.{serve_of, secret_of, job_of, to_seal}
 
 -- 1 January 1970: 2,208,988,800 seconds
 time_at_zero : time_bytes 0 ≡ 0x83 ∷ 0xaa ∷ 0x7e ∷ 0x80 ∷ []
@@ -23,3 +24,11 @@ serve_words = refl
 no_port_zero : serve_of (codes "serve" ∷ codes "--store" ∷ codes "memory" ∷ codes "--ports" ∷ codes "67,0,69,8080" ∷ codes "--turns" ∷ codes "5" ∷ []) ≡ None
 unfolding serve_of number_read
 no_port_zero = refl
+
+seal_words : job_of (codes "seal" ∷ codes "73aBFf" ∷ []) ≡ Some (to_seal (0x73 ∷ 0xab ∷ 0xff ∷ []))
+unfolding serve_of secret_of hex_on_literals
+seal_words = refl
+
+odd_secret : job_of (codes "check" ∷ codes "73a" ∷ []) ≡ None
+unfolding serve_of secret_of hex_on_literals
+odd_secret = refl

@@ -1,9 +1,14 @@
--- The words of the command line behind the program's name, for `serve`:
+-- The words of the command line behind the program's name:
 --     serve --store STORE --ports DHCP,TIME,TFTP,HTTP --turns N
+--     seal HEX
+--     check HEX
 -- STORE is `memory` or a path that isn't empty and doesn't begin with `-`. Ports are numbers from 1 to 65535. N is 0 to 10^15.
-use Rattle.std.specs.Prelude.{ℕ, ◌==◌, Bool, not, ◌&&◌, nat_lt, List, [], ◌∷◌, length, codes, slice_index, Option, Some, None, option_and_then, if◌then◌else◌}
+-- HEX is a secret of 1 to 64 bytes in hexadecimal pairs of either case.
+use Rattle.std.specs.Prelude.{ℕ, ◌==◌, Bool, not, ◌&&◌, nat_lt, List, [], ◌∷◌, length, codes, slice_index, Option, Some, None, option_and_then, option_map, nat_le, if◌then◌else◌}
 use Rattle.std.specs.List.{before_first, after_first}
 use Rattle.std.specs.Str.{bytes_eq}
+use Rattle.std.specs.Result.{result_ok}
+use Rattle.hex.specs.Hex.{decode_of}
 use Rattle.off_base.specs.Number.{number_read}
 
 -- what the words of `serve` ask for; `ports` in the order DHCP, time, TFTP, HTTP
@@ -58,3 +63,27 @@ serve_of (command ∷ store_flag ∷ store ∷ ports_flag ∷ ports ∷ turns_fl
     && (bytes_eq store_flag (codes "--store") && (bytes_eq ports_flag (codes "--ports") && bytes_eq turns_flag (codes "--turns"))))
     then serve_by store (ports_of ports) (number_read most_turns turns) else None
 serve_of words = None
+
+-- a secret of 1 to 64 bytes, in hexadecimal pairs
+unfoldable pub secret_of : List ℕ → Option (List ℕ)
+secret_of text = if (nat_lt 0 (length text) && nat_le (length text) 128) then result_ok (decode_of text) else None
+
+-- what the words ask for
+pub data Job : Type 0 where
+  to_serve : Serve → Job
+  to_seal : List ℕ → Job
+  to_check : List ℕ → Job
+
+-- the words of a job with a secret: the command, and the secret
+abbrev pub keyed_of : List ℕ → (List ℕ → Job) → List (List ℕ) → Option Job
+keyed_of command job (word ∷ hex ∷ []) = if bytes_eq word command then option_map job (secret_of hex) else None
+keyed_of command job words = None
+
+abbrev pub or_else : Option Job → Option Job → Option Job
+or_else None other = other
+or_else (Some job) other = Some job
+
+-- the one form that the words have, or None where they have none
+abbrev pub job_of : List (List ℕ) → Option Job
+job_of words =
+    or_else (option_map to_serve (serve_of words)) (or_else (keyed_of (codes "seal") to_seal words) (keyed_of (codes "check") to_check words))

@@ -1,7 +1,7 @@
 -- From the loop and the run's own line to the headline.
 use Rattle.std.proofs.Common.{◌≡◌, ◌≢◌, ℕ, List, All, Option, Some, MatchOption, subst, inl, inr, arith}
 use Rattle.off_defs.specs.State.{Tables, Held, start, state_of}
-use Rattle.off_defs.specs.Words.{Serve}
+use Rattle.off_defs.specs.Words.{Job}
 use Rattle.off_defs.specs.Run.{Turn}
 use Rattle.off_defs.proofs.StepLemmas.{run_did}
 use Rattle.off_outside.specs.LinkSeen.{LinkSeen}
@@ -70,5 +70,5 @@ serves budget link link' a b c reason status served ended =
     }
 
 -- the words that were read are those of the book
-pub by_words : (P : Type 0) (Q : Serve → Type 0) (form : Serve) (words : Option Serve) → Some form ≡ words → Q form → MatchOption words P Q
+pub by_words : (P : Type 0) (Q : Job → Type 0) (form : Job) (words : Option Job) → Some form ≡ words → Q form → MatchOption words P Q
 by_words P Q form words is q = subst (λ w. MatchOption w P Q) is q

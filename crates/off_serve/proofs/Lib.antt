@@ -1,4 +1,5 @@
 mod WordLemmas
+mod SecretLemmas
 pub mod SendLemmas
 pub mod TakeLemmas
 pub mod TurnLemmas

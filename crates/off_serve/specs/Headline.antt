@@ -9,6 +9,8 @@ use Rattle.off_defs.specs.Step.{service_word}
 use Rattle.off_defs.specs.Run.{Turn, Run, sent_by, lost_by, lines_from, line_of, events_of, first_events, is_end, IsNoEnd, EndsLast}
 use Rattle.off_outside.specs.LinkSeen.{LinkSeen}
 use Rattle.off_outside.specs.Streams.{SourceSeen, SinkSeen, HasFront, Wrote, NotWritten}
+use Rattle.off_defs.specs.Words.{Job, to_serve, to_seal, to_check}
+use Rattle.off_jobs.specs.Jobs.{SealsInput, ChecksInput}
 use Rattle.off_serve.specs.Serving.{most_missed, SinkSame}
 use Rattle.off_serve.specs.declared.serving.Stop.{Stop}
 use Rattle.off_serve.specs.declared.serving.Stop.TheVariants as stop
@@ -182,3 +184,25 @@ pub record RefusesWords (old new : World) (status : ℕ) : Type 0 where
 pub record SourceSame (old new : SourceSeen) : Type 0 where
   pub left : Stays old.left new.left
   pub faults : new.faults ≡ old.faults
+
+-- what is seen of the whole outside
+pub record Outside : Type 1 where
+  pub link : LinkSeen
+  pub source : SourceSeen
+  pub sink : SinkSeen
+
+abbrev pub outside_of : LinkSeen → SourceSeen → SinkSeen → Outside
+outside_of link source sink = record { link = link; source = source; sink = sink }
+
+abbrev pub world_in : Outside → World
+world_in all = world_of all.link all.sink
+
+-- What a job does. Only `serve` takes events and sends, only the others take bytes of the source.
+abbrev pub DoesJob : Job → Outside → Outside → ℕ → Type 0
+DoesJob (to_serve serve) old new status = ServesAsOffice serve.turns (world_in old) (world_in new) status × SourceSame old.source new.source
+DoesJob (to_seal secret) old new status = SealsInput secret status old.source new.source old.sink new.sink × LinkSame old.link new.link
+DoesJob (to_check secret) old new status = ChecksInput secret status old.source new.source old.sink new.sink × LinkSame old.link new.link
+
+-- what words that fit no form do
+abbrev pub RefusesAll : Outside → Outside → ℕ → Type 0
+RefusesAll old new status = RefusesWords (world_in old) (world_in new) status × SourceSame old.source new.source

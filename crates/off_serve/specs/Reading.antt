@@ -1,7 +1,11 @@
 -- The words that were read, as the book has them.
-use Rattle.std.specs.Prelude.{ℕ, Bool, ◌&&◌, List, [], codes, slice_index_or}
+use Rattle.std.specs.Result.{result_ok}
+use Rattle.hex.specs.Hex.{decode_of}
+use Rattle.std.specs.Prelude.{◌≡◌, true, false, Ok, ℕ, Bool, ◌&&◌, List, [], codes, slice_index_or, Option, None, if◌then◌else◌, ◌∷◌}
 use Rattle.std.specs.Str.{bytes_eq}
-use Rattle.off_defs.specs.Words.{Serve}
+use Rattle.off_defs.specs.Words.{Serve, Job, to_serve, to_seal, to_check, secret_of}
+use Rattle.off_serve.specs.declared.jobs.Asked.{Asked}
+use Rattle.off_serve.specs.declared.jobs.Asked.TheVariants as asked
 use Rattle.off_serve.specs.declared.words.Form.{Form}
 use Rattle.off_serve.specs.declared.words.Wanted.{Wanted}
 
@@ -25,3 +29,19 @@ flags_stand words =
     bytes_eq (slice_index_or words 0 []) (codes "serve")
     && (bytes_eq (slice_index_or words 1 []) (codes "--store")
     && (bytes_eq (slice_index_or words 3 []) (codes "--ports") && bytes_eq (slice_index_or words 5 []) (codes "--turns")))
+
+-- the job that was read
+abbrev pub asked_for : Asked → Job
+asked_for (asked.Serve form) = to_serve (form_of form)
+asked_for (asked.Seal secret) = to_seal secret
+asked_for (asked.Check secret) = to_check secret
+
+-- the secret behind a command
+abbrev pub keyed_secret : List ℕ → List (List ℕ) → Option (List ℕ)
+keyed_secret command (word ∷ hex ∷ []) = if bytes_eq word command then secret_of hex else None
+keyed_secret command words = None
+
+-- the bytes that hexadecimal pairs stand for, if the text is such pairs
+abbrev pub IsDecoded : Bool → List ℕ → List ℕ → Type 0
+IsDecoded true text bytes = decode_of text ≡ Ok bytes
+IsDecoded false text bytes = result_ok (decode_of text) ≡ None

@@ -1,9 +1,11 @@
-use Rattle.off_serve.specs.Headline.{ServesAsOffice, world_of}
-use Rattle.off_serve.specs.Reading.{form_of}
-use Rattle.off_serve.proofs.HeadlineLemmas.{serves, by_words}
+use Rattle.off_serve.specs.Headline.{DoesJob, outside_of}
+use Rattle.off_serve.specs.Reading.{asked_for}
+use Rattle.off_serve.proofs.HeadlineLemmas.{by_words}
 use Rattle.off_serve.proofs.serving.run.Goals as goal
 
-pub returns-in-Some-clause-served : goal.returns-in-Some-clause-served
-returns-in-Some-clause-served g c =
-    by_words _ (λ serve. ServesAsOffice serve.turns (world_of (g.L.Link.seen c.args.link.now) (g.W.Sink.seen c.args.out.now)) (world_of (g.L.Link.seen c.serve_events-stop.new.link) (g.W.Sink.seen c.finish.new.out)) c.finish.result)
-    (form_of c.in-Some.form) _ c.in-Some.ensures (serves _ _ _ _ _ _ _ _ c.serve_events-stop.ensures c.finish.ensures)
+pub returns-in-Some : goal.returns-in-Some
+returns-in-Some g c =
+    by_words _
+    (λ job. DoesJob job (outside_of (g.L.Link.seen c.args.link.now) (g.S.Source.seen c.args.source.now) (g.W.Sink.seen c.args.out.now))
+    (outside_of (g.L.Link.seen c.do_job.new.link) (g.S.Source.seen c.do_job.new.source) (g.W.Sink.seen c.do_job.new.out)) c.do_job.result)
+    (asked_for c.in-Some.asked) _ c.in-Some.ensures c.do_job.ensures
