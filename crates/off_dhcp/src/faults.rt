@@ -1,0 +1,92 @@
+ghost use Rattle.std.specs.Prelude.{◌≡◌, ◌≤◌, ◌==◌, ◌&&◌, not, length, slice_index, None, IfNone};
+ghost use Rattle.off_dhcp.specs.Datagram.{first_there, fixed_faults, option_faults};
+
+use off_base::{Joined, first_cut};
+
+/// Why a datagram is no message that the office reads. The first fault in the order of `read` is told.
+#[derive(Clone, Copy, Debug, PartialEq, Eq)]
+pub enum DhcpFault {
+    /// Fewer than 240 bytes: the fixed part and the cookie.
+    Short,
+    /// The first byte, op, isn't 1 (BOOTREQUEST).
+    NotRequest,
+    /// The hardware type isn't 1 (Ethernet), or its length isn't 6.
+    Hardware,
+    /// The four bytes in front of the options aren't `63 82 53 63`.
+    Cookie,
+    /// An option passes the end. Its code stands at this place of the datagram.
+    OptionCut(usize),
+    /// The joined option 53 hasn't exactly one byte.
+    NoType,
+    /// Option 52 is there: further options in `sname` or `file` aren't read.
+    Overload,
+    /// More than 1,500 bytes.
+    Long,
+}
+
+/// The bytes in front of the options: the fixed part (RFC 2131, section 2) and the cookie.
+pub(crate) const OPTIONS: usize = 240;
+
+const COOKIE: usize = 236;
+
+const MOST_BYTES: usize = 1500;
+
+const BOOTREQUEST: u8 = 1;
+
+const ETHERNET: u8 = 1;
+
+const ETHERNET_LENGTH: u8 = 6;
+
+pub(crate) const MAGIC_COOKIE: [u8; 4] = [99, 130, 83, 99];
+
+/// Option 53 (RFC 2132, section 9.6).
+pub(crate) const MESSAGE_TYPE: u8 = 53;
+
+const OPTION_OVERLOAD: u8 = 52;
+
+/// The first fault of the fixed part.
+pub(crate) fn fixed_fault(bytes: &[u8]) -> Option<DhcpFault>
+    ensures first { result ≡ first_there (fixed_faults bytes.now) }
+    ensures long { IfNone result (240 ≤ length bytes.now) }
+    ensures short { IfNone result (length bytes.now ≤ 1500) }
+{
+    if bytes.len() < OPTIONS {
+        return Some(DhcpFault::Short);
+    }
+    if bytes.len() > MOST_BYTES {
+        return Some(DhcpFault::Long);
+    }
+    if bytes[0] != BOOTREQUEST {
+        return Some(DhcpFault::NotRequest);
+    }
+    if !is_ethernet(bytes[1], bytes[2]) {
+        return Some(DhcpFault::Hardware);
+    }
+    if &bytes[COOKIE..OPTIONS] != MAGIC_COOKIE.as_slice() {
+        return Some(DhcpFault::Cookie);
+    }
+    None
+}
+
+fn is_ethernet(kind: u8, length: u8) -> bool
+    ensures { result ≡ ((kind == 1) && (length == 6)) }
+{
+    kind == ETHERNET && length == ETHERNET_LENGTH
+}
+
+/// The first fault of the options, which begin at place 240 of the datagram.
+pub(crate) fn option_fault(options: &[u8]) -> Option<DhcpFault>
+    requires { length options.now ≤ 1260 }
+    ensures { result ≡ first_there (option_faults options.now) }
+{
+    if let Some(place) = first_cut(options) {
+        return Some(DhcpFault::OptionCut(place + OPTIONS));
+    }
+    if Joined::over(options, MESSAGE_TYPE).len() != 1 {
+        return Some(DhcpFault::NoType);
+    }
+    if Joined::over(options, OPTION_OVERLOAD).present() {
+        return Some(DhcpFault::Overload);
+    }
+    None
+}
