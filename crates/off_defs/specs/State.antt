@@ -5,9 +5,12 @@ use Rattle.std.specs.declared.cmp.Ordering.{Ordering}
 use Rattle.std.specs.FinMap as map
 use Rattle.off_base.specs.declared.addresses.Peer.{Peer}
 use Rattle.off_defs.specs.declared.results.Sent.{Sent}
+use Rattle.off_defs.specs.declared.tables.Row.{Row}
+use Rattle.off_defs.specs.Keys.{key_cmp}
 
--- The tables that clerks keep: sites, subscribers, modems, pools, leases. None is built yet.
-pub record Tables : Type 0 where
+-- The tables that clerks keep, by key: the site, subscribers, modems, pools, leases. No event reads or changes them yet.
+abbrev pub Tables : Type 0
+Tables = map.FinMap key_cmp Row
 
 -- A file on its way to a modem (RFC 1350). No service makes one yet.
 pub record Transfer : Type 0 where

@@ -1,5 +1,6 @@
 -- From the loop and the run's own line to the headline.
 use Rattle.std.proofs.Common.{◌≡◌, ◌≢◌, ℕ, List, All, Option, Some, MatchOption, subst, inl, inr, arith}
+use Rattle.std.specs.FinMap as map
 use Rattle.off_defs.specs.State.{Tables, Held, start, state_of}
 use Rattle.off_defs.specs.Words.{Job}
 use Rattle.off_defs.specs.Run.{Turn}
@@ -47,7 +48,7 @@ status_of stop.Sink budget turns old new status none other ends = absurd (cut_co
 complete_of : (reason : Stop) (budget : ℕ) (turns : List Turn) (held : Held) (old new : World) (status : ℕ) → RanTurns turns held old.link new.link → Ends reason budget turns old new status
     → NoFault old new → All (λ (turn : Turn). ¬ (SaysMemory turn)) turns → status ≢ 6 → Completed turns status
 complete_of reason budget turns held old new status ran ends none silent other =
-    let tables : Tables = record {} in
+    let tables : Tables = map.empty in
     record {
       did = run_did (start tables) turns (state_of tables held) (ran.run tables) silent;
       lost = omega (arith, none.unsent, none.unsent_count, ran.unsent.grew);
