@@ -5,6 +5,8 @@
 #![tactic(auto)]
 
 #[cfg(test)]
+mod job_examples;
+#[cfg(test)]
 mod serve_examples;
 #[cfg(test)]
 mod word_examples;
