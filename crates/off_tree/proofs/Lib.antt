@@ -1,0 +1,4 @@
+pub mod GoodLemmas
+pub mod LengthLemmas
+pub mod ReferenceLemmas
+pub mod ShapeLemmas

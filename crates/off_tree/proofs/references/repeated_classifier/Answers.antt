@@ -1,0 +1,10 @@
+use Rattle.std.proofs.Common.{arith}
+use Rattle.off_tree.specs.Fault.{classifier_number}
+use Rattle.off_tree.proofs.ReferenceLemmas.{repeat_found, repeat_none}
+use Rattle.off_tree.proofs.references.repeated_classifier.Goals as goal
+
+pub returns-in-Some : goal.returns-in-Some
+returns-in-Some c = repeat_found (classifier_number) c.args.settings.now c.loop-place.place c.in-Some.number (omega (arith, c.len-place-end.ensures)) c.loop-place.invariant c.in-Some.ensures
+
+pub loop-place-preserved : goal.loop-place-preserved
+loop-place-preserved c = repeat_none (classifier_number) c.args.settings.now c.loop-place.place (omega (arith, c.len-place-end.ensures)) c.loop-place.invariant c.in_default.ensures
