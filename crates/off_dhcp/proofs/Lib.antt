@@ -1,1 +1,3 @@
+pub mod DatagramExamples
 pub mod DatagramLemmas
+pub mod ReplyLemmas

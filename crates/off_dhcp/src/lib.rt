@@ -4,11 +4,16 @@
 #![tactic(auto)]
 
 mod faults;
+mod offers;
 mod reading;
+mod relayed;
+mod replies;
 
 pub use faults::DhcpFault;
 pub use off_base::Joined;
+pub use offers::Offer;
 pub use reading::Message;
+pub use replies::{write_nak, write_reply};
 
 #[cfg(test)]
 mod tests;

@@ -1,0 +1,21 @@
+use Rattle.std.proofs.Common.{ap, sym, ◌∙◌, ◌≡◌, arith}
+use Rattle.std.specs.Prelude.{is_some}
+use Rattle.std.proofs.lemmas.List.{append-nil}
+use Rattle.off_base.specs.Parts.{bytes_of}
+use Rattle.off_dhcp.specs.Datagram.{option_in}
+use Rattle.off_dhcp.proofs.ReplyLemmas.{relay_missing, relay_step, relay_done}
+use Rattle.off_dhcp.proofs.relayed.push_relay.Goals as goal
+
+pub returns-then-not-present : goal.returns-then-not-present
+returns-then-not-present c =
+    let none = relay_missing (option_in 82 c.args.m.now.options) (ap is_some (sym c.option-value.ensures) ∙ sym c.present.ensures ∙ c.if-not-present.true) in
+    rw none (sym (append-nil c.args.out.now))
+
+pub loop-k-preserved : goal.loop-k-preserved
+loop-k-preserved c =
+    relay_step _ _ _ (bytes_of c.option-value.result) _ _ c.loop-k.k c.in_ok-push_option.ensures c.as_slice.ensures.value c.piece_of.ensures c.loop-k.invariant
+
+pub returns : goal.returns
+returns c =
+    let last : c.loop-k.k ≡ c.pieces_of-k-end.result = omega arith in
+    relay_done _ _ (option_in 82 c.args.m.now.options) c.option-value.result _ _ _ c.loop-k.k c.option-value.ensures c.present.ensures c.if-not-present.false c.len.ensures c.pieces_of-k-end.ensures last c.loop-k.invariant

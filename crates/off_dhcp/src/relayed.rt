@@ -1,0 +1,51 @@
+ghost use Rattle.std.specs.Prelude.{◌≡◌, ◌≤◌, ◌+◌, ◌*◌, ◌++◌, length, OnOk};
+ghost use Rattle.std.specs.List.{slice_range};
+ghost use Rattle.off_base.specs.Parts.{bytes_of};
+ghost use Rattle.off_dhcp.specs.Datagram.{option_in};
+ghost use Rattle.off_dhcp.specs.Reply.{relay_options, pieces};
+
+use crate::Message;
+use crate::replies::push_option;
+use arrayvec::ArrayVec;
+use off_base::{Bytes, Joined, NoMemory};
+
+// Option 82 (RFC 3046).
+const RELAY_AGENT: u8 = 82;
+
+const MOST_OF_AN_OPTION: usize = 255;
+
+/// Appends option 82 of the request, where it has one: as several options if it is longer than
+/// one can be.
+pub(crate) fn push_relay(out: &mut Bytes, m: &Message<'_>) -> Result<(), NoMemory>
+    ensures { OnOk result (out.new ≡ out.old ++ relay_options (option_in 82 m.now.options)) }
+{
+    let value = m.option(RELAY_AGENT);
+    if !value.present() {
+        return Ok(());
+    }
+    for k in 0..pieces_of(value.len()) {
+        push_option(out, RELAY_AGENT, piece_of(&value, k).as_slice())?;
+    }
+    Ok(())
+}
+
+fn pieces_of(len: usize) -> usize
+    ensures { result ≡ pieces len }
+{
+    len.div_ceil(MOST_OF_AN_OPTION).max(1)
+}
+
+// The bytes of the value that its option with this number has.
+fn piece_of(value: &Joined<'_>, k: usize) -> ArrayVec<u8, 255>
+    requires { 255 * k ≤ length (bytes_of value.now) }
+    ensures { result.items ≡ slice_range (bytes_of value.now) (255 * k) (255 * k + 255) }
+{
+    let mut piece = ArrayVec::new();
+    let len = value.len();
+    let from = MOST_OF_AN_OPTION * k;
+    let to = len.min(from.saturating_add(MOST_OF_AN_OPTION));
+    for i in from..to {
+        piece.push(value.byte(i));
+    }
+    piece
+}

@@ -1,0 +1,181 @@
+ghost use Rattle.std.specs.Prelude.{◌≡◌, ◌≤◌, ◌+◌, ◌-◌, ◌*◌, ◌/◌, ◌==◌, ◌++◌, ◌⊎◌, bit_or, if◌then◌else◌, length, [], ◌∷◌, OnOk, IfOk};
+ghost use Rattle.off_dhcp.specs.Reply.{zeros, four, head, option, padded, relay_options, nak_flags, nak_bytes, reply_bytes, mask, confirmed, log_option};
+ghost use Rattle.off_dhcp.specs.Datagram.{option_in};
+
+use crate::faults::{MAGIC_COOKIE, MESSAGE_TYPE};
+use crate::relayed::push_relay;
+use crate::{Message, Offer};
+use off_base::{Bytes, Ip4, NoMemory};
+use std::alloc::Global;
+
+// Options of a reply (RFC 2132).
+const SUBNET_MASK: u8 = 1;
+
+const TIME_OFFSET: u8 = 2;
+
+const ROUTER: u8 = 3;
+
+const TIME_SERVER: u8 = 4;
+
+const LOG_SERVER: u8 = 7;
+
+const LEASE_TIME: u8 = 51;
+
+const SERVER_IDENTIFIER: u8 = 54;
+
+const RENEWAL_TIME: u8 = 58;
+
+const REBINDING_TIME: u8 = 59;
+
+const END: u8 = 255;
+
+const NAK: u8 = 6;
+
+const ACK: u8 = 5;
+
+const BROADCAST: u16 = 0x8000;
+
+const LEAST_BYTES: usize = 300;
+
+/// A NAK from a server: it has no address and no name, and option 82 of the request.
+#[tactic(auto, unfolding(crate::specs::Reply::nak_bytes))]
+pub fn write_nak(alloc: Global, m: &Message<'_>, server: Ip4) -> Result<Bytes, NoMemory>
+    ensures { IfOk result (λ bytes. bytes ≡ nak_bytes m.now server.0) }
+{
+    let none = Ip4(0);
+    let mut out = write_head(alloc, m, flags_of_nak(m), none, none, none, &[])?;
+    push_option(&mut out, MESSAGE_TYPE, &[NAK])?;
+    push_number(&mut out, SERVER_IDENTIFIER, server.0)?;
+    push_relay(&mut out, m)?;
+    finish(&mut out)?;
+    Ok(out)
+}
+
+/// An OFFER or an ACK: what the offer says, and option 82 of the request.
+#[tactic(auto, unfolding(crate::specs::Reply::reply_bytes))]
+pub fn write_reply(alloc: Global, m: &Message<'_>, r: &Offer) -> Result<Bytes, NoMemory>
+    requires kind { (r.now.kind ≡ 2) ⊎ (r.now.kind ≡ 5) }
+    requires prefix { (8 ≤ r.now.prefix) × (r.now.prefix ≤ 30) }
+    ensures { IfOk result (λ bytes. bytes ≡ reply_bytes m.now r.now) }
+{
+    let ciaddr = confirmed_address(m, r.kind);
+    let mut out = write_head(alloc, m, m.flags(), ciaddr, r.yiaddr, r.server, &r.name)?;
+    push_option(&mut out, MESSAGE_TYPE, &[r.kind])?;
+    push_number(&mut out, SERVER_IDENTIFIER, r.server.0)?;
+    push_number(&mut out, LEASE_TIME, r.lease)?;
+    push_number(&mut out, RENEWAL_TIME, r.lease / 2)?;
+    push_number(&mut out, REBINDING_TIME, seven_eighths(r.lease))?;
+    push_number(&mut out, SUBNET_MASK, mask_of(r.prefix))?;
+    push_number(&mut out, ROUTER, r.router.0)?;
+    push_number(&mut out, TIME_OFFSET, r.offset.cast_unsigned())?;
+    push_number(&mut out, TIME_SERVER, r.server.0)?;
+    push_log(&mut out, r.log)?;
+    push_relay(&mut out, m)?;
+    finish(&mut out)?;
+    Ok(out)
+}
+
+// The fixed part and the cookie, with a name in `file`.
+#[tactic(auto, unfolding(crate::specs::Reply::head))]
+fn write_head(
+    alloc: Global,
+    m: &Message<'_>,
+    flags: u16,
+    ciaddr: Ip4,
+    yiaddr: Ip4,
+    siaddr: Ip4,
+    name: &[u8],
+) -> Result<Bytes, NoMemory>
+    requires { length name.now ≤ 128 }
+    ensures { IfOk result (λ bytes. bytes ≡ head m.now flags ciaddr.0 yiaddr.0 siaddr.0 name.now) }
+{
+    let mut out = Bytes::new(alloc);
+    out.push_all(&[2, 1, 6, 0])?;
+    out.push_all(&m.xid().to_be_bytes())?;
+    out.push_all(&[0, 0])?;
+    out.push_all(&flags.to_be_bytes())?;
+    out.push_all(&ciaddr.0.to_be_bytes())?;
+    out.push_all(&yiaddr.0.to_be_bytes())?;
+    out.push_all(&siaddr.0.to_be_bytes())?;
+    out.push_all(&m.giaddr().0.to_be_bytes())?;
+    out.push_all(m.hardware())?;
+    push_zeros(&mut out, 64)?;
+    out.push_all(name)?;
+    push_zeros(&mut out, 128 - name.len())?;
+    out.push_all(&MAGIC_COOKIE)?;
+    Ok(out)
+}
+
+// The request's flags, and behind a relay the broadcast bit.
+fn flags_of_nak(m: &Message<'_>) -> u16
+    ensures { result ≡ nak_flags m.now }
+{
+    if m.giaddr().0 == 0 {
+        m.flags()
+    } else {
+        m.flags() | BROADCAST
+    }
+}
+
+// The client's own address, which an ACK alone repeats.
+fn confirmed_address(m: &Message<'_>, kind: u8) -> Ip4
+    ensures { result.0 ≡ (if kind == 5 then m.now.ciaddr else 0) }
+{
+    if kind == ACK { m.ciaddr() } else { Ip4(0) }
+}
+
+fn seven_eighths(lease: u32) -> u32
+    ensures { result ≡ 7 * lease / 8 }
+{
+    (7 * u64::from(lease) / 8) as u32
+}
+
+fn mask_of(prefix: u8) -> u32
+    requires { (8 ≤ prefix) × (prefix ≤ 30) }
+    ensures { result ≡ mask prefix }
+{
+    u32::MAX - ((1 << (32 - prefix)) - 1)
+}
+
+// The option of the log server, where there is one.
+fn push_log(out: &mut Bytes, log: Ip4) -> Result<(), NoMemory>
+    ensures { OnOk result (out.new ≡ out.old ++ log_option log.0) }
+{
+    if log.0 == 0 {
+        return Ok(());
+    }
+    push_number(out, LOG_SERVER, log.0)
+}
+
+// Appends an option of four bytes.
+fn push_number(out: &mut Bytes, code: u8, number: u32) -> Result<(), NoMemory>
+    ensures { OnOk result (out.new ≡ out.old ++ option code (four number)) }
+{
+    push_option(out, code, &number.to_be_bytes())
+}
+
+/// Appends an option.
+pub(crate) fn push_option(out: &mut Bytes, code: u8, value: &[u8]) -> Result<(), NoMemory>
+    requires { length value.now ≤ 255 }
+    ensures { OnOk result (out.new ≡ out.old ++ option code value.now) }
+{
+    out.push_all(&[code, value.len() as u8])?;
+    out.push_all(value)
+}
+
+// Appends the end of the options, and zeros up to 300 bytes.
+fn finish(out: &mut Bytes) -> Result<(), NoMemory>
+    ensures { OnOk result (out.new ≡ padded (out.old ++ (255 ∷ []))) }
+{
+    out.push_all(&[END])?;
+    let short = LEAST_BYTES.saturating_sub(out.len());
+    push_zeros(out, short)
+}
+
+fn push_zeros(out: &mut Bytes, count: usize) -> Result<(), NoMemory>
+    requires { count ≤ 300 }
+    ensures { OnOk result (out.new ≡ out.old ++ zeros count) }
+{
+    let zeros = [0; LEAST_BYTES];
+    out.push_all(&zeros[..count])
+}
