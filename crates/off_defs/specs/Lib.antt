@@ -7,3 +7,4 @@ pub mod Step
 pub mod Run
 pub mod Words
 pub mod Keys
+pub mod Tables
