@@ -6,6 +6,7 @@
 #![tactic(auto)]
 
 mod failing;
+mod keeper;
 mod link;
 mod mem_link;
 mod mem_streams;
@@ -15,6 +16,7 @@ mod saying;
 mod streams;
 
 pub use failing::Calls;
+pub use keeper::{KeepErr, Keeper};
 pub use link::{Failed, Link, LinkErr};
 pub use mem_link::MemLink;
 pub use mem_streams::{MemSink, MemSource};
