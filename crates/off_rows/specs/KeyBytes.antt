@@ -1,0 +1,44 @@
+-- The bytes of a key of the tables: its kind in one byte, and then its numbers, the most significant byte first.
+use Rattle.std.specs.Prelude.{◌≡◌, ℕ, ◌<◌, ◌^◌, List, [], ◌∷◌, ◌++◌, length}
+use Rattle.std.specs.Int.{to_be_bytes, w32, w64}
+use Rattle.off_defs.specs.declared.keys.Key.{Key}
+use Rattle.off_defs.specs.declared.keys.Key.TheVariants.{Site, Subscriber, AddOn, Modem, Class, Pool, Lease, Held, Batch}
+
+-- the number of a key's kind
+abbrev pub kind_of : Key → ℕ
+kind_of Site = 1
+kind_of (Subscriber number) = 2
+kind_of (AddOn subscriber number) = 3
+kind_of (Modem mac) = 4
+kind_of (Class number) = 5
+kind_of (Pool number) = 6
+kind_of (Lease address) = 7
+kind_of (Held mac) = 8
+kind_of (Batch number) = 9
+
+-- the bytes of a key's numbers
+abbrev pub numbers_of : Key → List ℕ
+numbers_of Site = []
+numbers_of (Subscriber number) = to_be_bytes w32 number
+numbers_of (AddOn subscriber number) = to_be_bytes w32 subscriber ++ number ∷ []
+numbers_of (Modem mac) = mac.0
+numbers_of (Class number) = to_be_bytes w32 number
+numbers_of (Pool number) = to_be_bytes w32 number
+numbers_of (Lease address) = to_be_bytes w32 address.0
+numbers_of (Held mac) = mac.0
+numbers_of (Batch number) = to_be_bytes w64 number
+
+abbrev pub key_bytes : Key → List ℕ
+key_bytes key = kind_of key ∷ numbers_of key
+
+-- The key's numbers are in the ranges of their types, and a hardware address has six bytes. Each key of the program is so.
+abbrev pub IsRanged : Key → Type 0
+IsRanged Site = Unit {0}
+IsRanged (Subscriber number) = number < 2 ^ 32
+IsRanged (AddOn subscriber number) = (subscriber < 2 ^ 32) × (number < 256)
+IsRanged (Modem mac) = length mac.0 ≡ 6
+IsRanged (Class number) = number < 2 ^ 32
+IsRanged (Pool number) = number < 2 ^ 32
+IsRanged (Lease address) = address.0 < 2 ^ 32
+IsRanged (Held mac) = length mac.0 ≡ 6
+IsRanged (Batch number) = number < 2 ^ 64

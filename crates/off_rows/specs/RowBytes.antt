@@ -1,0 +1,118 @@
+-- The bytes of a row of the tables: its fields in order, without gaps. Numbers have their most significant byte first.
+use Rattle.std.specs.Prelude.{◌≡◌, ℕ, ◌<◌, ◌≤◌, ◌^◌, Bool, true, false, List, [], ◌∷◌, ◌++◌, length, IsUtf8, FitsSigned}
+use Rattle.std.specs.Int.{to_be_bytes, cast_unsigned, w16, w32, w64}
+use Rattle.off_base.specs.Tree.{Tree, spelling, AllFit}
+use Rattle.off_tlv.specs.Grammar.{in_file, AllStand}
+use Rattle.off_defs.specs.declared.keys.Key.{Key}
+use Rattle.off_defs.specs.declared.tables.ImportKind.{ImportKind}
+use Rattle.off_defs.specs.declared.tables.ImportKind.TheVariants.{Subscribers, Modems}
+use Rattle.off_defs.specs.declared.tables.Hold.{Hold}
+use Rattle.off_defs.specs.declared.tables.Hold.TheVariants.{Offered, Bound, Declined}
+use Rattle.off_defs.specs.declared.tables.Row.{Row}
+use Rattle.off_defs.specs.declared.tables.Row.TheVariants.{Site, Subscriber, AddOn, Modem, Class, Pool, Lease, Held, Batch}
+use Rattle.off_rows.specs.KeyBytes.{kind_of}
+
+-- a text or a secret: its length in one byte, and its bytes
+abbrev pub counted : List ℕ → List ℕ
+counted bytes = length bytes ∷ bytes
+
+-- settings: the length of their spelling in two bytes, and the spelling (CM-SP-MULPIv3.1, annex D.1) without end marker and pads
+abbrev pub settings_bytes : List Tree → List ℕ
+settings_bytes settings = to_be_bytes w16 (length (spelling settings)) ++ spelling settings
+
+abbrev pub flag_bytes : Bool → List ℕ
+flag_bytes false = 0 ∷ []
+flag_bytes true = 1 ∷ []
+
+-- whether an address is offered, bound or declined, and its owner, whom a declined address hasn't
+abbrev pub hold_bytes : Hold → List ℕ
+hold_bytes (Offered owner) = 1 ∷ owner.0
+hold_bytes (Bound owner) = 2 ∷ owner.0
+hold_bytes Declined = 3 ∷ []
+
+abbrev pub import_kind_bytes : ImportKind → List ℕ
+import_kind_bytes Subscribers = 1 ∷ []
+import_kind_bytes Modems = 2 ∷ []
+
+abbrev pub row_bytes : Row → List ℕ
+-- the offset in two's complement
+row_bytes (Site site) =
+    to_be_bytes w32 site.server.0 ++ counted site.secret ++ to_be_bytes w32 (cast_unsigned w32 site.offset) ++ to_be_bytes w32 site.lease ++ to_be_bytes w32 site.log.0
+row_bytes (Subscriber subscriber) = flag_bytes subscriber.active ++ subscriber.cpes ∷ [] ++ counted subscriber.name
+row_bytes (AddOn settings) = settings_bytes settings
+row_bytes (Modem modem) = to_be_bytes w32 modem.subscriber ++ to_be_bytes w32 modem.class ++ counted modem.serial
+row_bytes (Class class) = counted class.name ++ settings_bytes class.settings
+row_bytes (Pool pool) =
+    to_be_bytes w32 pool.first.0 ++ to_be_bytes w32 pool.last.0 ++ pool.prefix ∷ [] ++ to_be_bytes w32 pool.router.0 ++ to_be_bytes w32 pool.relay.0
+row_bytes (Lease lease) = hold_bytes lease.hold ++ to_be_bytes w64 lease.expiry.0
+row_bytes (Held address) = to_be_bytes w32 address.0
+row_bytes (Batch batch) = import_kind_bytes batch.kind ++ batch.digest ++ to_be_bytes w32 batch.rows
+
+-- the number of the kind of keys that have such rows
+abbrev pub row_kind : Row → ℕ
+row_kind (Site site) = 1
+row_kind (Subscriber subscriber) = 2
+row_kind (AddOn settings) = 3
+row_kind (Modem modem) = 4
+row_kind (Class class) = 5
+row_kind (Pool pool) = 6
+row_kind (Lease lease) = 7
+row_kind (Held address) = 8
+row_kind (Batch batch) = 9
+
+-- a text of at most 64 bytes (UTF-8, RFC 3629)
+abbrev pub IsText : List ℕ → Type 0
+IsText bytes = (length bytes ≤ 64) × IsUtf8 bytes
+
+abbrev pub OwnerIsMac : Hold → Type 0
+OwnerIsMac (Offered owner) = length owner.0 ≡ 6
+OwnerIsMac (Bound owner) = length owner.0 ≡ 6
+OwnerIsMac Declined = Unit {0}
+
+-- The row's numbers and texts are in the ranges of their types. Each row of the program is so.
+abbrev pub RowRanged : Row → Type 0
+RowRanged (Site site) =
+    (site.server.0 < 2 ^ 32) × (length site.secret ≤ 64) × FitsSigned w32 site.offset × (site.lease < 2 ^ 32) × (site.log.0 < 2 ^ 32)
+RowRanged (Subscriber subscriber) = (subscriber.cpes < 256) × IsText subscriber.name
+RowRanged (AddOn settings) = Unit {0}
+RowRanged (Modem modem) = (modem.subscriber < 2 ^ 32) × (modem.class < 2 ^ 32) × IsText modem.serial
+RowRanged (Class class) = IsText class.name
+RowRanged (Pool pool) =
+    (pool.first.0 < 2 ^ 32) × (pool.last.0 < 2 ^ 32) × (pool.prefix < 256) × (pool.router.0 < 2 ^ 32) × (pool.relay.0 < 2 ^ 32)
+RowRanged (Lease lease) = OwnerIsMac lease.hold × (lease.expiry.0 < 2 ^ 64)
+RowRanged (Held address) = address.0 < 2 ^ 32
+RowRanged (Batch batch) = (length batch.digest ≡ 16) × (batch.rows < 2 ^ 32)
+
+-- two bytes can say the length of the spelling
+abbrev pub IsShortSpelling : List Tree → Type 0
+IsShortSpelling settings = length (spelling settings) ≤ 65535
+
+-- the row's settings have a spelling, whose length two bytes can say
+abbrev pub CanSpell : Row → Type 0
+CanSpell (Site site) = Unit {0}
+CanSpell (Subscriber subscriber) = Unit {0}
+CanSpell (AddOn settings) = AllFit settings × IsShortSpelling settings
+CanSpell (Modem modem) = Unit {0}
+CanSpell (Class class) = AllFit class.settings × IsShortSpelling class.settings
+CanSpell (Pool pool) = Unit {0}
+CanSpell (Lease lease) = Unit {0}
+CanSpell (Held address) = Unit {0}
+CanSpell (Batch batch) = Unit {0}
+
+-- the row's settings are as the grammar of a configuration file wants them, and two bytes can say the length of their spelling
+abbrev pub SettingsStand : Row → Type 0
+SettingsStand (Site site) = Unit {0}
+SettingsStand (Subscriber subscriber) = Unit {0}
+SettingsStand (AddOn settings) = AllStand in_file settings × IsShortSpelling settings
+SettingsStand (Modem modem) = Unit {0}
+SettingsStand (Class class) = AllStand in_file class.settings × IsShortSpelling class.settings
+SettingsStand (Pool pool) = Unit {0}
+SettingsStand (Lease lease) = Unit {0}
+SettingsStand (Held address) = Unit {0}
+SettingsStand (Batch batch) = Unit {0}
+
+-- a row of the key's kind
+pub record IsRowOf (key : Key) (row : Row) : Type 0 where
+  pub kind : row_kind row ≡ kind_of key
+  pub ranged : RowRanged row
+  pub stand : SettingsStand row

@@ -1,0 +1,99 @@
+ghost use Rattle.std.specs.Prelude.{◌≡◌};
+ghost use Rattle.std.specs.List.{list_all};
+ghost use Rattle.off_rows.specs.Sound.{is_sound, is_sound_subscriber, is_add_on_number, is_sound_pool, is_removable, is_shown, is_row_of};
+
+use off_defs::{Command, ImportKind, ImportRow, ImportRows, Key, Pool, Subscriber};
+
+// The greatest number of an add-on.
+const LAST_ADD_ON: u8 = 7;
+
+// How many rows an import may have.
+const MOST_ROWS: usize = 2_000;
+
+/// Whether a clerk may mean this command: its numbers are in their ranges, an import's rows are all of its kind and at most 2,000,
+/// and the removed or shown key is of a kind that can be removed or shown.
+pub fn sound(c: &Command) -> bool
+    ensures { result ≡ is_sound c.now }
+{
+    match c {
+        Command::SetSite(_) => true,
+        Command::PutSubscriber(_, subscriber) => has_devices(subscriber),
+        Command::PutAddOn(_, number, _) => is_add_on(*number),
+        Command::PutModem(_, _) => true,
+        Command::PutClass(_, _) => true,
+        Command::PutPool(_, pool) => has_network(pool),
+        Command::Remove(key) => can_remove(key),
+        Command::Show(key) => can_show(key),
+        Command::Import { kind, rows, .. } => rows.len() <= MOST_ROWS && are_all(*kind, rows),
+    }
+}
+
+fn has_devices(subscriber: &Subscriber) -> bool
+    ensures { result ≡ is_sound_subscriber subscriber.now }
+{
+    1 <= subscriber.cpes && subscriber.cpes <= 254
+}
+
+fn is_add_on(number: u8) -> bool
+    ensures { result ≡ is_add_on_number number }
+{
+    number <= LAST_ADD_ON
+}
+
+fn has_network(pool: &Pool) -> bool
+    ensures { result ≡ is_sound_pool pool.now }
+{
+    8 <= pool.prefix && pool.prefix <= 30 && pool.relay.0 != 0
+}
+
+fn can_remove(key: &Key) -> bool
+    ensures { result ≡ is_removable key.now }
+{
+    match key {
+        Key::Subscriber(_) => true,
+        Key::AddOn(_, number) => is_add_on(*number),
+        Key::Modem(_) => true,
+        Key::Class(_) => true,
+        Key::Pool(_) => true,
+        Key::Site => false,
+        Key::Lease(_) => false,
+        Key::Held(_) => false,
+        Key::Batch(_) => false,
+    }
+}
+
+fn can_show(key: &Key) -> bool
+    ensures { result ≡ is_shown key.now }
+{
+    match key {
+        Key::Site => true,
+        Key::Lease(_) => true,
+        _ => can_remove(key),
+    }
+}
+
+fn are_all(kind: ImportKind, rows: &ImportRows) -> bool
+    ensures { result ≡ list_all (is_row_of kind) rows.now }
+{
+    for place in 0..rows.len() {
+        if !is_of(kind, rows.get(place)) {
+            return false;
+        }
+    }
+    true
+}
+
+fn is_of(kind: ImportKind, row: &ImportRow) -> bool
+    ensures { result ≡ is_row_of kind row.now }
+{
+    match kind {
+        ImportKind::Subscribers => match row {
+            ImportRow::Subscriber(_, subscriber) => has_devices(subscriber),
+            ImportRow::Modem(_, _) => false,
+        },
+        ImportKind::Modems => match row {
+            ImportRow::Subscriber(_, _) => false,
+            ImportRow::Modem(_, _) => true,
+        },
+    }
+}
