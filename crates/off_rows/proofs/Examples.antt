@@ -1,5 +1,6 @@
 -- Worked examples, evaluated: the definitions say what was meant.
 use Rattle.std.proofs.Common.{◌≡◌, [], ◌∷◌, refl, codes, negsuc, true, false}
+use Rattle.std.specs.Fmt.{digits}
 use Rattle.off_base.specs.Tree.{leaf}
 use Rattle.off_defs.specs.declared.keys.Key.TheVariants as key
 use Rattle.off_defs.specs.declared.tables.Row.TheVariants as row
@@ -29,6 +30,7 @@ add_on_row : row_bytes (row.AddOn (leaf 3 (1 ∷ []) ∷ [])) ≡ 0 ∷ 3 ∷ 3 
 add_on_row = refl
 
 add_on_text : key_text_of (key.AddOn 7 0) ≡ codes "add-on 7 0"
+unfolding digits
 add_on_text = refl
 
 lease_stays : is_sound (Remove (key.Lease (record { 0 = 1 }))) ≡ false

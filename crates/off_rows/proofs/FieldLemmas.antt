@@ -1,15 +1,14 @@
 -- Fields at the front of bytes.
-use Rattle.std.proofs.Common.{◌≡◌, ◌≢◌, ℕ, ◌+◌, ◌<◌, ◌≤◌, ◌^◌, List, [], ◌∷◌, ◌++◌, length, drop, refl, sym, ap, ◌∙◌, arith, append-nil, append_assoc, length-append, length-drop, Bool, true, false, subst, Result, Ok, Err, MatchBool}
+use Rattle.std.proofs.Common.{◌≡◌, ◌≢◌, ℕ, ◌+◌, ◌<◌, ◌≤◌, ◌^◌, List, [], ◌++◌, length, drop, refl, sym, ap, ◌∙◌, arith, append-nil, append_assoc, length-append, length-drop, Bool, true, false, subst, Result, Err, MatchBool}
 use Rattle.std.specs.Int.{to_be_bytes, from_be_bytes, w16}
 use Rattle.std.proofs.lemmas.Nat.{from_be_bytes-to_be_bytes_2}
-use Rattle.off_base.specs.Tree.{Tree, spelling}
-use Rattle.off_tlv.specs.Grammar.{in_file, AllStand}
+use Rattle.off_base.specs.Tree.{spelling}
 use Rattle.off_tlv.specs.Fault.{IsFirstFault}
 use Rattle.off_tlv.specs.declared.faults.ReadFault.{ReadFault}
 use Rattle.off_tlv.specs.declared.faults.ReadFault.TheVariants.{NoEnd}
 use Rattle.off_tlv.proofs.GrammarLemmas.{same_parts}
 use Rattle.off_rows.specs.Left.{Left}
-use Rattle.off_rows.specs.BadRow.{bytes_of, settings}
+use Rattle.off_rows.specs.BadRow.{bytes_of}
 use Rattle.off_rows.specs.Reading.{Takes, Fails, FailsSpelled, IsSettings, TakesSpelled}
 use Rattle.off_rows.specs.declared.faults.RowErr.{RowErr}
 use Rattle.off_rows.specs.declared.faults.RowErr.TheVariants.{BadRow}

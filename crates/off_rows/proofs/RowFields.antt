@@ -1,13 +1,10 @@
 -- A row's bytes are its fields joined, and fields are read in one way alone: so a row with a bad place is no row's bytes, and rows of one
 -- kind with the same bytes are one row.
-use Rattle.std.proofs.Common.{◌≡◌, ◌≢◌, ℕ, ◌+◌, ◌<◌, ◌≤◌, ◌^◌, Bool, true, false, List, [], ◌∷◌, ◌++◌, length, refl, sym, ap, subst, ◌∙◌, arith, append-nil, append_assoc, length-append, Contains, FitsSigned, ℤ}
-use Rattle.std.specs.Int.{to_be_bytes, from_be_bytes, cast_unsigned, cast_signed, w16, w32, w64}
-use Rattle.std.proofs.lemmas.Nat.{from_be_bytes-to_be_bytes_4, from_be_bytes-to_be_bytes_8}
-use Rattle.std.proofs.lemmas.Int.{to_z-of_z}
-use Rattle.off_base.specs.Tree.{Tree, spelling}
-use Rattle.off_tlv.specs.Grammar.{in_file, AllStand}
+use Rattle.std.proofs.Common.{◌≡◌, ℕ, ◌≤◌, List, [], ◌∷◌, ◌++◌, length, refl, sym, ap, subst, ◌∙◌, arith}
+use Rattle.std.specs.Int.{to_be_bytes, w16}
+use Rattle.off_base.specs.Tree.{spelling}
 use Rattle.off_tlv.proofs.GrammarLemmas.{same_parts}
-use Rattle.off_rows.specs.RowBytes.{counted, settings_bytes}
+use Rattle.off_rows.specs.RowBytes.{counted}
 use Rattle.off_rows.specs.BadRow.{Field, bytes_of, one_of, text, secret, settings, IsField, BadFrom, unread, behind, left_over}
 use Rattle.off_rows.proofs.FieldLemmas.{same_length}
 

@@ -1,5 +1,5 @@
 -- Rows as lists of fields.
-use Rattle.std.proofs.Common.{◌≡◌, ◌≢◌, ℕ, ◌+◌, ◌<◌, ◌≤◌, ◌^◌, Bool, true, false, List, [], ◌∷◌, ◌++◌, length, refl, sym, ap, subst, ◌∙◌, arith, append_assoc, append-nil, Contains, FitsSigned, Result, Ok, Err, MatchResult, ℤ, pos, negsuc, inl, inr}
+use Rattle.std.proofs.Common.{◌≡◌, ◌≢◌, ℕ, ◌<◌, ◌^◌, Bool, true, false, List, [], ◌∷◌, ◌++◌, length, refl, sym, ap, subst, ◌∙◌, arith, append_assoc, append-nil, FitsSigned, Result, Ok, Err, MatchResult, ℤ, pos, negsuc, inl, inr}
 use Rattle.std.specs.Int.{to_be_bytes, from_be_bytes, cast_unsigned, cast_signed, w16, w32, w64}
 use Rattle.std.proofs.lemmas.Nat.{from_be_bytes-to_be_bytes_4, from_be_bytes-to_be_bytes_8}
 use Rattle.std.proofs.lemmas.Int.{to_z-of_z}
@@ -18,7 +18,7 @@ use Rattle.off_defs.specs.declared.tables.Row.{Row}
 use Rattle.off_defs.specs.declared.tables.Row.TheVariants.{Site, Subscriber, AddOn, Modem, Class, Pool, Lease, Held, Batch}
 use Rattle.off_rows.specs.RowBytes.{counted, settings_bytes, flag_bytes, hold_bytes, import_kind_bytes, row_bytes, row_kind, RowRanged, SettingsStand, CanSpell, OwnerIsMac, IsText, IsRowOf, IsShortSpelling}
 use Rattle.off_rows.specs.KeyBytes.{kind_of}
-use Rattle.off_rows.specs.BadRow.{Field, bytes_of, one_of, text, secret, settings, IsField, IsBadAt, fields_of, hold_fields}
+use Rattle.off_rows.specs.BadRow.{bytes_of, one_of, text, settings, IsField, IsBadAt, fields_of, hold_fields}
 use Rattle.off_rows.specs.Reading.{WhyNotRead, Gives, BadIn, WhyNoAddOn, WhyNoClass, from_start}
 use Rattle.off_rows.specs.Laws.{RowsReadBack, OneBadPlace}
 use Rattle.off_rows.specs.declared.faults.RowErr.{RowErr}

@@ -1,5 +1,5 @@
 -- What `decode` and the private functions that read single fields say.
-use Rattle.std.specs.Prelude.{◌≡◌, ◌≢◌, ℕ, ◌+◌, List, [], ◌∷◌, ◌++◌, ◌≤◌, ◌⊎◌, length, Result, Ok, Err}
+use Rattle.std.specs.Prelude.{◌≡◌, ◌≢◌, ℕ, ◌+◌, List, [], ◌++◌, ◌≤◌, ◌⊎◌, length, Result, Ok, Err}
 use Rattle.std.specs.Int.{to_be_bytes, w16}
 use Rattle.off_base.specs.Tree.{Tree, spelling}
 use Rattle.off_tlv.specs.Grammar.{in_file, AllStand}
@@ -8,7 +8,7 @@ use Rattle.off_defs.specs.declared.tables.Class.{Class}
 use Rattle.off_defs.specs.declared.tables.Row.{Row}
 use Rattle.off_defs.specs.declared.tables.Row.TheVariants as row
 use Rattle.off_rows.specs.RowBytes.{row_bytes, counted, RowRanged, SettingsStand, IsRowOf}
-use Rattle.off_rows.specs.BadRow.{Field, settings, CannotRead, IsField, BadFrom, IsBadAt, add_on_fields, class_fields}
+use Rattle.off_rows.specs.BadRow.{Field, CannotRead, IsField, BadFrom, IsBadAt, add_on_fields, class_fields}
 use Rattle.off_rows.specs.Left.{Left}
 use Rattle.off_rows.specs.declared.faults.RowErr.{RowErr}
 use Rattle.off_rows.specs.declared.faults.RowErr.TheVariants.{BadRow, Memory}

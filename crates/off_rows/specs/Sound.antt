@@ -1,6 +1,6 @@
 -- Which commands are sound: their numbers are in the ranges that a clerk's request may have, and what they remove or show is of a
 -- kind that can be removed or shown.
-use Rattle.std.specs.Prelude.{ℕ, ◌==◌, Bool, true, false, not, ◌&&◌, nat_le, List, length}
+use Rattle.std.specs.Prelude.{ℕ, ◌==◌, Bool, true, false, not, ◌&&◌, nat_le, length}
 use Rattle.std.specs.List.{list_all}
 use Rattle.std.specs.Int.{is_in_range}
 use Rattle.off_defs.specs.declared.keys.Key.{Key}
