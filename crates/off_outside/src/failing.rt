@@ -65,10 +65,18 @@ impl Model for Failing {
 }
 
 impl Failing {
+    /// No call has been made yet.
     pub fn new(listed: Calls) -> Failing
         ensures { result ≡ record { listed = listed; made = 0 } }
     {
         Failing { listed, made: 0 }
+    }
+
+    /// How many calls there have been.
+    pub fn made(&self) -> u64
+        ensures { result ≡ self.now.made }
+    {
+        self.made
     }
 
     /// Counts one more call, and tells whether it is to fail.

@@ -15,7 +15,7 @@ mod queue;
 mod saying;
 mod streams;
 
-pub use failing::Calls;
+pub use failing::{Calls, Failing, one_more};
 pub use keeper::{KeepErr, Keeper};
 pub use link::{Failed, Link, LinkErr};
 pub use mem_link::MemLink;
