@@ -1,0 +1,3 @@
+pub mod EntryTrees
+pub mod MemKeeperLemmas
+pub mod TreeLemmas

@@ -1,0 +1,106 @@
+-- Entries around one of them: where a key is put, dropped and found.
+use Rattle.std.proofs.Common.{◌≡◌, true, false, not, Option, Some, None, List, [], ◌∷◌, ◌++◌, refl, ap, ◌∙◌}
+use Rattle.std.specs.Option.{option_or}
+use Rattle.std.specs.Ordering.{eq_by_cmp}
+use Rattle.std.specs.FinMap.Entries as list
+use Rattle.std.specs.declared.cmp.Ordering.TheVariants.{Less, Equal, Greater}
+use Rattle.off_defs.specs.declared.keys.Key.{Key}
+use Rattle.off_defs.specs.declared.tables.Row.{Row}
+use Rattle.off_defs.specs.Keys.{key_cmp}
+use Rattle.off_defs.specs.Tables.{is_after}
+use Rattle.off_defs.proofs.KeyLemmas.{key_total}
+use Rattle.off_keepmem.specs.Trees.{Rises, row_in, put_entry, but_key, next_in, compared, key_after}
+use Rattle.off_keepmem.proofs.EntryTrees.{sorted_front, sorted_back, put_before, put_at, put_behind, but_before, but_at, but_behind, find_before, find_here, find_behind, next_behind, found_first}
+
+module _ (l : List (Key × Row)) (b : Key) (v : Row) (r : List (Key × Row)) where
+  pub left_rises : Rises (l ++ (b, v) ∷ r) → Rises l
+  unfolding Rises
+  left_rises h = sorted_front key_cmp l ((b, v) ∷ r) h
+
+  pub right_rises : Rises (l ++ (b, v) ∷ r) → Rises r
+  unfolding Rises
+  right_rises h = sorted_back key_cmp l (b, v) r h
+
+  pub row_left : (k : Key) → Rises (l ++ (b, v) ∷ r) → compared k b ≡ Less → row_in k (l ++ (b, v) ∷ r) ≡ row_in k l
+  unfolding Rises row_in compared
+  row_left k h is = find_before key_cmp key_total k l (b, v) r h is
+
+  pub row_here : (k : Key) → Rises (l ++ (b, v) ∷ r) → compared k b ≡ Equal → row_in k (l ++ (b, v) ∷ r) ≡ Some v
+  unfolding Rises row_in compared
+  row_here k h is = find_here key_cmp key_total k l (b, v) r h is
+
+  pub row_right : (k : Key) → Rises (l ++ (b, v) ∷ r) → compared k b ≡ Greater → row_in k (l ++ (b, v) ∷ r) ≡ row_in k r
+  unfolding Rises row_in compared
+  row_right k h is = find_behind key_cmp key_total k l (b, v) r h is
+
+  pub put_left : (k : Key) (w : Row) → compared k b ≡ Less → put_entry k w (l ++ (b, v) ∷ r) ≡ put_entry k w l ++ (b, v) ∷ r
+  unfolding put_entry compared
+  put_left k w is = put_before key_cmp key_total k w l (b, v) r is
+
+  pub put_here : (k : Key) (w : Row) → Rises (l ++ (b, v) ∷ r) → compared k b ≡ Equal → put_entry k w (l ++ (b, v) ∷ r) ≡ l ++ (b, w) ∷ r
+  unfolding Rises put_entry compared
+  put_here k w h is = put_at key_cmp key_total k w l (b, v) r h is
+
+  pub put_right : (k : Key) (w : Row) → Rises (l ++ (b, v) ∷ r) → compared k b ≡ Greater → put_entry k w (l ++ (b, v) ∷ r) ≡ l ++ (b, v) ∷ put_entry k w r
+  unfolding Rises put_entry compared
+  put_right k w h is = put_behind key_cmp key_total k w l (b, v) r h is
+
+  pub drop_left : (k : Key) → Rises (l ++ (b, v) ∷ r) → compared k b ≡ Less → but_key k (l ++ (b, v) ∷ r) ≡ but_key k l ++ (b, v) ∷ r
+  unfolding Rises but_key compared
+  drop_left k h is = but_before key_cmp key_total k l (b, v) r h is
+
+  pub drop_here : (k : Key) → Rises (l ++ (b, v) ∷ r) → compared k b ≡ Equal → but_key k (l ++ (b, v) ∷ r) ≡ l ++ r
+  unfolding Rises but_key compared
+  drop_here k h is = but_at key_cmp key_total k l (b, v) r h is
+
+  pub drop_right : (k : Key) → Rises (l ++ (b, v) ∷ r) → compared k b ≡ Greater → but_key k (l ++ (b, v) ∷ r) ≡ l ++ (b, v) ∷ but_key k r
+  unfolding Rises but_key compared
+  drop_right k h is = but_behind key_cmp key_total k l (b, v) r h is
+
+  first_behind : (p : Option Key) → key_after p b ≡ true → is_after p (b, v) ≡ true
+  unfolding key_after
+  first_behind None h = refl
+  first_behind (Some k) h = h
+
+  pub next_right : (p : Option Key) → Rises (l ++ (b, v) ∷ r) → key_after p b ≡ false → next_in p (l ++ (b, v) ∷ r) ≡ next_in p r
+  unfolding Rises next_in key_after
+  next_right None h is = cc
+  next_right (Some k) h is = next_behind key_cmp key_total (Some k) l (b, v) r h is
+
+  next_first : (p : Option Key) → key_after p b ≡ true → next_in p (l ++ (b, v) ∷ r) ≡ option_or (next_in p l) (Some (b, v))
+  unfolding next_in
+  next_first p is = found_first key_cmp (is_after p) l (b, v) r (first_behind p is)
+
+  pub next_left : (p : Option Key) (e : Key × Row) → key_after p b ≡ true → next_in p l ≡ Some e → next_in p (l ++ (b, v) ∷ r) ≡ Some e
+  next_left p e is found = next_first p is ∙ ap (λ (w : Option (Key × Row)). option_or w (Some (b, v))) found
+
+  pub next_here : (p : Option Key) → key_after p b ≡ true → next_in p l ≡ None → next_in p (l ++ (b, v) ∷ r) ≡ Some (b, v)
+  next_here p is found = next_first p is ∙ ap (λ (w : Option (Key × Row)). option_or w (Some (b, v))) found
+
+pub row_none : (k : Key) → row_in k [] ≡ None
+unfolding row_in
+row_none k = refl
+
+pub next_none : (p : Option Key) → next_in p [] ≡ None
+unfolding next_in
+next_none p = refl
+
+pub put_none : (k : Key) (w : Row) → put_entry k w [] ≡ (k, w) ∷ []
+unfolding put_entry
+put_none k w = refl
+
+pub drop_none : (k : Key) → but_key k [] ≡ []
+unfolding but_key
+drop_none k = refl
+
+pub rises_none : Rises []
+unfolding Rises
+rises_none = tt
+
+pub put_rises : (k : Key) (w : Row) (es : List (Key × Row)) → Rises es → Rises (put_entry k w es)
+unfolding Rises put_entry
+put_rises k w es h = list.is_sorted-put key_cmp key_total k w es h
+
+pub drop_rises : (k : Key) (es : List (Key × Row)) → Rises es → Rises (but_key k es)
+unfolding Rises but_key
+drop_rises k es h = list.is_sorted-where_key key_cmp (λ x. not (eq_by_cmp key_cmp k x)) es h

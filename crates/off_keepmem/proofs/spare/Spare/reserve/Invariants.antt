@@ -1,0 +1,8 @@
+use Rattle.std.proofs.Common.{◌≤◌, ◌-◌, vec_len}
+use Rattle.off_keepmem.proofs.spare.Spare.reserve.Given as goal
+
+abbrev pub invariant-loop-alloc : goal.invariant-loop-alloc
+invariant-loop-alloc l = vec_len l.initial.self-inside.boxes ≤ vec_len l.self-inside.boxes
+
+abbrev pub decreases-loop-alloc : goal.decreases-loop-alloc
+decreases-loop-alloc l = l.wanted - vec_len l.self-inside.boxes

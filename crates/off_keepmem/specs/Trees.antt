@@ -1,0 +1,61 @@
+-- The entries of a keeper in memory, in the order of their keys.
+use Rattle.std.specs.Prelude.{Bool, true, not, Option, Some, None, List, [], ◌∷◌, ◌++◌}
+use lib.Dec.{T}
+use Rattle.std.specs.List.{filter, find}
+use Rattle.std.specs.Ordering.{eq_by_cmp, is_lt}
+use Rattle.std.specs.declared.cmp.Ordering.{Ordering}
+use Rattle.std.specs.FinMap.Entries as list
+use Rattle.off_defs.specs.declared.keys.Key.{Key}
+use Rattle.off_defs.specs.declared.tables.Row.{Row}
+use Rattle.off_defs.specs.declared.orders.Write.{Write}
+use Rattle.off_defs.specs.declared.orders.Write.TheVariants.{Put, Drop}
+use Rattle.off_defs.specs.Keys.{key_cmp}
+use Rattle.off_defs.specs.Tables.{is_after}
+use Rattle.off_keepmem.specs.declared.tree.Parts.{Parts}
+use Rattle.off_keepmem.specs.declared.tree.First.{First}
+use Rattle.off_keepmem.specs.declared.tree.EntryRef.{EntryRef}
+
+-- the keys rise
+unfoldable pub Rises : List (Key × Row) → Type 0
+Rises entries = T (list.is_sorted key_cmp entries)
+
+-- the row of a key, the entries with it, and those without it
+unfoldable pub row_in : Key → List (Key × Row) → Option Row
+row_in key entries = list.find key_cmp key entries
+
+unfoldable pub put_entry : Key → Row → List (Key × Row) → List (Key × Row)
+put_entry key row entries = list.put key_cmp key row entries
+
+unfoldable pub but_key : Key → List (Key × Row) → List (Key × Row)
+but_key key entries = filter (λ e. not (eq_by_cmp key_cmp key e.0)) entries
+
+-- the first entry behind a place of a walk
+unfoldable pub next_in : Option Key → List (Key × Row) → Option (Key × Row)
+next_in place entries = find (is_after place) entries
+
+-- how two keys stand to each other, and whether a key lies behind a place of a walk
+unfoldable pub compared : Key → Key → Ordering
+compared a b = key_cmp a b
+
+unfoldable pub key_after : Option Key → Key → Bool
+key_after None key = true
+key_after (Some before) key = is_lt (key_cmp before key)
+
+-- the entries after one write, and after writes in order
+abbrev pub entries_written : List (Key × Row) → Write → List (Key × Row)
+entries_written entries (Put key row) = put_entry key row entries
+entries_written entries (Drop key) = but_key key entries
+
+abbrev pub rows_after : List (Key × Row) → List Write → List (Key × Row)
+rows_after entries [] = entries
+rows_after entries (write ∷ writes) = rows_after (entries_written entries write) writes
+
+-- the entries of a node that was taken apart, of one behind its first entry, and an entry that is lent
+abbrev pub parts_entries : Parts → List (Key × Row)
+parts_entries p = p.left ++ (p.key, p.row) ∷ p.right
+
+abbrev pub first_entries : First → List (Key × Row)
+first_entries f = (f.key, f.row) ∷ f.rest
+
+abbrev pub lent_entry : EntryRef → Key × Row
+lent_entry e = (e.key, e.row.now)
