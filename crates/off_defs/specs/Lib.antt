@@ -2,9 +2,5 @@ pub mod Told
 pub mod Counts
 pub mod State
 pub mod Codes
-pub mod Time
-pub mod Step
-pub mod Run
-pub mod Words
 pub mod Keys
 pub mod Tables

@@ -1,17 +1,20 @@
-//! The book: what the office does, in definitions alone (`specs/`), and the plain types that they speak of.
+//! What the office speaks of: events, keys, rows, writes, commands and the rules that refuse them, as plain types, with how the
+//! tables are read and written (`specs/`).
 //!
-//! There is no code here. Whoever has read `specs/` of this crate and of the format crates below it has read
-//! all that has to be believed of the office.
+//! What the office does stands in `off_rules`, when tables are good and what each command does, and in `off_book`, one event
+//! and a run of them.
 #![tactic(auto)]
 
 mod events;
 mod keys;
 mod orders;
 mod results;
+mod rules;
 mod tables;
 
 pub use events::{Event, Service, What};
 pub use keys::Key;
 pub use orders::{Command, ImportRow, ImportRows, Kind, Reply, Write, Writes};
 pub use results::{Outcome, Sent};
+pub use rules::{Rule, SiteField};
 pub use tables::{Batch, Class, Hold, ImportKind, Lease, Modem, Pool, Row, Site, Subscriber};

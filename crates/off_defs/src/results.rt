@@ -28,4 +28,6 @@ pub enum Outcome {
     Did,
     /// Memory was wanted, and refused.
     Memory,
+    /// The keeper of the tables failed.
+    Keeper,
 }

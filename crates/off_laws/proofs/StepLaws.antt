@@ -8,9 +8,9 @@ use Rattle.off_defs.specs.declared.events.Event.{Event}
 use Rattle.off_defs.specs.declared.results.Outcome.{Outcome}
 use Rattle.off_defs.specs.declared.results.Outcome.TheVariants.{Did, Memory}
 use Rattle.off_defs.specs.State.{State, Effect}
-use Rattle.off_defs.specs.Step.{Step, Does, service_word}
-use Rattle.off_defs.specs.Run.{Run}
-use Rattle.off_defs.proofs.StepLemmas.{memory_says}
+use Rattle.off_book.specs.Step.{Step, Does, service_word}
+use Rattle.off_book.specs.Run.{Run}
+use Rattle.off_book.proofs.StepLemmas.{memory_says}
 use Rattle.off_laws.specs.Laws.{OneResult, OneEnd, LineTellsOutcome, MomentIsGreatest, MomentNeverFalls}
 
 does_one : (s : State) (what : What) (outcome : Outcome) (one other : Effect) → Does s what outcome one → Does s what outcome other → one ≡ other

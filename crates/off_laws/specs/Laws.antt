@@ -4,8 +4,8 @@ use Rattle.off_defs.specs.declared.events.Event.{Event}
 use Rattle.off_defs.specs.declared.results.Outcome.{Outcome}
 use Rattle.off_defs.specs.declared.results.Outcome.TheVariants.{Memory}
 use Rattle.off_defs.specs.State.{State, Effect}
-use Rattle.off_defs.specs.Step.{Step, service_word}
-use Rattle.off_defs.specs.Run.{Turn, Run}
+use Rattle.off_book.specs.Step.{Step, service_word}
+use Rattle.off_book.specs.Run.{Turn, Run}
 
 -- an event with an outcome gives one thing
 abbrev pub OneResult : Type 0

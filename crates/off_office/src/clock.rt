@@ -1,5 +1,5 @@
 ghost use Rattle.std.specs.Prelude.{◌≡◌};
-ghost use Rattle.off_defs.specs.Time.{time_bytes};
+ghost use Rattle.off_book.specs.Time.{time_bytes};
 
 use off_base::Moment;
 

@@ -1,7 +1,7 @@
 ghost use Rattle.std.specs.Prelude.{◌≡◌, ◌≤◌, [], ◌∷◌, ◌++◌, length, max, OnOk, OnErr};
 ghost use Rattle.off_defs.specs.State.{Tables, held_at_start, state_of, says_nothing};
-ghost use Rattle.off_defs.specs.Step.{Step};
-ghost use Rattle.off_defs.specs.Time.{time_answer};
+ghost use Rattle.off_book.specs.Step.{Step};
+ghost use Rattle.off_book.specs.Time.{time_answer};
 ghost use Rattle.off_office.specs.Saying.{SaysTime};
 
 use crate::clock::time_of_day;

@@ -2,9 +2,9 @@
 use Rattle.std.proofs.Common.{◌≡◌, ◌≢◌, ℕ, List, All, Option, Some, MatchOption, subst, inl, inr, arith}
 use Rattle.std.specs.FinMap as map
 use Rattle.off_defs.specs.State.{Tables, Held, start, state_of}
-use Rattle.off_defs.specs.Words.{Job}
-use Rattle.off_defs.specs.Run.{Turn}
-use Rattle.off_defs.proofs.StepLemmas.{run_did}
+use Rattle.off_book.specs.Words.{Job}
+use Rattle.off_book.specs.Run.{Turn}
+use Rattle.off_book.proofs.StepLemmas.{run_did}
 use Rattle.off_outside.specs.LinkSeen.{LinkSeen}
 use Rattle.off_outside.specs.Streams.{SinkSeen}
 use Rattle.off_serve.specs.declared.serving.Stop.{Stop}

@@ -4,7 +4,7 @@ use Rattle.std.proofs.lemmas.Bool.Decides.{nat_tests}
 use Rattle.std.proofs.Math.Seq.{take-append_seam}
 use Rattle.std.specs.Result.{result_ok}
 use Rattle.hex.specs.Hex.{decode_of, decode_sized}
-use Rattle.off_defs.specs.Words.{secret_of}
+use Rattle.off_book.specs.Words.{secret_of}
 
 pub secret_empty : (text : List ℕ) → length text ≡ 0 → secret_of text ≡ None
 unfolding secret_of

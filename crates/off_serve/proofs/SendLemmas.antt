@@ -4,10 +4,10 @@ use Rattle.std.proofs.lemmas.List.{take_more}
 use Rattle.std.proofs.lemmas.Option.{get_or_from_slice_get}
 use Rattle.off_defs.specs.declared.results.Sent.{Sent}
 use Rattle.off_defs.specs.Counts.{Grew}
-use Rattle.off_defs.specs.Run.{all_went, marked}
+use Rattle.off_book.specs.Run.{all_went, marked}
 use Rattle.off_defs.proofs.ToldLemmas.{told_then, told_self, stays_self, then_stays}
 use Rattle.off_defs.proofs.CountLemmas.{grew_self, grew_then}
-use Rattle.off_defs.proofs.RunLemmas.{marked_push, all_went_push, lost_push}
+use Rattle.off_book.proofs.RunLemmas.{marked_push, all_went_push, lost_push}
 use Rattle.off_outside.specs.LinkSeen.{LinkSeen}
 use Rattle.off_serve.specs.Serving.{SentOne, SentAll}
 

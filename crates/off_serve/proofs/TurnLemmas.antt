@@ -4,8 +4,8 @@ use Rattle.off_defs.specs.declared.events.Event.{Event}
 use Rattle.off_defs.specs.declared.results.Outcome.{Outcome}
 use Rattle.off_defs.specs.Counts.{Grew}
 use Rattle.off_defs.specs.State.{Tables, Held, Said, state_of}
-use Rattle.off_defs.specs.Step.{Step}
-use Rattle.off_defs.specs.Run.{Turn, line_text, is_end, lost_in}
+use Rattle.off_book.specs.Step.{Step}
+use Rattle.off_book.specs.Run.{Turn, line_text, is_end, lost_in}
 use Rattle.off_defs.proofs.ToldLemmas.{stays_then, then_stays, told_weaker}
 use Rattle.off_outside.specs.declared.link.Failed.{Failed}
 use Rattle.off_outside.specs.LinkSeen.{LinkSeen}

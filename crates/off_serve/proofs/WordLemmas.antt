@@ -5,7 +5,7 @@ use Rattle.std.proofs.lemmas.Bool.Decides.{nat_tests}
 use Rattle.std.proofs.lemmas.List.{get_or-map}
 use Rattle.std.proofs.lemmas.List.Sums.{position_or_len_is}
 use Rattle.off_base.specs.Number.{number_read}
-use Rattle.off_defs.specs.Words.{serve_of, serve_by, ports_of, most_turns}
+use Rattle.off_book.specs.Words.{serve_of, serve_by, ports_of, most_turns}
 use Rattle.off_serve.specs.Reading.{flags_stand}
 
 abbrev pub is_comma : ℕ → Bool

@@ -5,11 +5,11 @@ use Rattle.off_defs.specs.Told.{Told, Stays}
 use Rattle.off_defs.specs.Counts.{Grew, most_count}
 use Rattle.off_defs.specs.State.{Tables, Held, state_of, start}
 use Rattle.off_defs.specs.declared.results.Outcome.TheVariants as outcome
-use Rattle.off_defs.specs.Step.{service_word}
-use Rattle.off_defs.specs.Run.{Turn, Run, sent_by, lost_by, lines_from, line_of, events_of, first_events, is_end, IsNoEnd, EndsLast}
+use Rattle.off_book.specs.Step.{service_word}
+use Rattle.off_book.specs.Run.{Turn, Run, sent_by, lost_by, lines_from, line_of, events_of, first_events, is_end, IsNoEnd, EndsLast}
 use Rattle.off_outside.specs.LinkSeen.{LinkSeen}
 use Rattle.off_outside.specs.Streams.{SourceSeen, SinkSeen, HasFront, Wrote, NotWritten}
-use Rattle.off_defs.specs.Words.{Job, to_serve, to_seal, to_check}
+use Rattle.off_book.specs.Words.{Job, to_serve, to_seal, to_check}
 use Rattle.off_jobs.specs.Jobs.{SealsInput, ChecksInput}
 use Rattle.off_serve.specs.Serving.{most_missed, SinkSame}
 use Rattle.off_serve.specs.declared.serving.Stop.{Stop}

@@ -3,7 +3,7 @@ use Rattle.std.specs.Result.{result_ok}
 use Rattle.hex.specs.Hex.{decode_of}
 use Rattle.std.specs.Prelude.{◌≡◌, true, false, Ok, ℕ, Bool, ◌&&◌, List, [], codes, slice_index_or, Option, None, if◌then◌else◌, ◌∷◌}
 use Rattle.std.specs.Str.{bytes_eq}
-use Rattle.off_defs.specs.Words.{Serve, Job, to_serve, to_seal, to_check, secret_of}
+use Rattle.off_book.specs.Words.{Serve, Job, to_serve, to_seal, to_check, secret_of}
 use Rattle.off_serve.specs.declared.jobs.Asked.{Asked}
 use Rattle.off_serve.specs.declared.jobs.Asked.TheVariants as asked
 use Rattle.off_serve.specs.declared.words.Form.{Form}

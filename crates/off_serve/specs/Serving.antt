@@ -5,8 +5,8 @@ use Rattle.off_defs.specs.declared.results.Sent.{Sent}
 use Rattle.off_defs.specs.Told.{Told, Stays}
 use Rattle.off_defs.specs.Counts.{Grew}
 use Rattle.off_defs.specs.State.{Tables, Held, state_of}
-use Rattle.off_defs.specs.Step.{Step}
-use Rattle.off_defs.specs.Run.{Turn, all_went, marked, sent_in, lost_in, line_of, is_end}
+use Rattle.off_book.specs.Step.{Step}
+use Rattle.off_book.specs.Run.{Turn, all_went, marked, sent_in, lost_in, line_of, is_end}
 use Rattle.off_outside.specs.LinkSeen.{LinkSeen}
 use Rattle.off_outside.specs.LinkCalls.{Took, WasSent, NotSent, first_event}
 use Rattle.off_outside.specs.Streams.{SinkSeen, Wrote, NotWritten}

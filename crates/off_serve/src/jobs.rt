@@ -1,5 +1,5 @@
 ghost use Rattle.std.specs.Prelude.{◌≡◌, ◌/◌, length, map, string_bytes, option_map};
-ghost use Rattle.off_defs.specs.Words.{job_of, secret_of};
+ghost use Rattle.off_book.specs.Words.{job_of, secret_of};
 ghost use Rattle.off_serve.specs.Reading.{asked_for, keyed_secret, IsDecoded};
 
 use crate::words::{Form, read_form};

@@ -1,6 +1,6 @@
 ghost use Rattle.std.specs.Prelude.{◌≡◌, ◌<◌, ◌≤◌, ◌++◌, ◌∷◌, [], length, decimal, codes, MatchResult};
-ghost use Rattle.off_defs.specs.Step.{service_word};
-ghost use Rattle.off_defs.specs.Run.{line_text};
+ghost use Rattle.off_book.specs.Step.{service_word};
+ghost use Rattle.off_book.specs.Run.{line_text};
 ghost use Rattle.off_outside.specs.Streams.{Wrote, NotWritten};
 
 use arrayvec::ArrayVec;

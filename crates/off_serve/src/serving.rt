@@ -1,5 +1,5 @@
 ghost use Rattle.std.specs.Prelude.{◌≡◌, map, string_bytes, MatchOption};
-ghost use Rattle.off_defs.specs.Words.{job_of};
+ghost use Rattle.off_book.specs.Words.{job_of};
 ghost use Rattle.off_serve.specs.Reading.{asked_for};
 ghost use Rattle.off_serve.specs.Headline.{Served, Ended, OwnWritten, ServesAsOffice, RefusesAll, DoesJob, outside_of, world_of};
 

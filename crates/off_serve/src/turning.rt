@@ -1,5 +1,5 @@
 ghost use Rattle.std.specs.Prelude.{◌≡◌, MatchResult};
-ghost use Rattle.off_defs.specs.Run.{is_end};
+ghost use Rattle.off_book.specs.Run.{is_end};
 ghost use Rattle.off_serve.specs.Serving.{Turns, ActWritten, ActCut};
 
 use crate::lines::write_line;

@@ -1,6 +1,6 @@
 ghost use Rattle.std.specs.Prelude.{◌≡◌, ◌==◌, ◌≤◌, length, map, string_bytes, option_map};
 ghost use Rattle.std.specs.List.{position_or_len};
-ghost use Rattle.off_defs.specs.Words.{serve_of, ports_of, port_of, is_store, before_comma, behind_comma};
+ghost use Rattle.off_book.specs.Words.{serve_of, ports_of, port_of, is_store, before_comma, behind_comma};
 ghost use Rattle.off_serve.specs.Reading.{form_of, places_of, places_in, flags_stand};
 
 use off_base::read_number;

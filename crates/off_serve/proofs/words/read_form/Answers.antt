@@ -1,7 +1,7 @@
 use Rattle.std.proofs.Common.{◌≡◌, true, false, cond, [], Option, Some, None, length, map, get_or, string_bytes, refl, sym, ap, ◌∙◌, arith}
 use Rattle.std.proofs.lemmas.List.{length-map}
 use Rattle.off_base.specs.Number.{number_read}
-use Rattle.off_defs.specs.Words.{Serve, serve_by, ports_of, is_store, most_turns}
+use Rattle.off_book.specs.Words.{Serve, serve_by, ports_of, is_store, most_turns}
 use Rattle.off_serve.specs.Reading.{flags_stand}
 use Rattle.off_serve.proofs.WordLemmas.{word_is, serve_of_short, serve_of_seven, serve_of_read}
 use Rattle.off_serve.proofs.words.read_form.Goals as goal

@@ -1,5 +1,5 @@
 use Rattle.std.proofs.Common.{rules}
-use Rattle.off_defs.specs.Step.{Step}
+use Rattle.off_book.specs.Step.{Step}
 use Rattle.off_office.proofs.office.Office.step.Goals.{in-Datagram+in-Dhcp, in-Datagram+in-Time, in-Datagram+in-Tftp, in-Piece, in-Closed, in-Tick, in-End}
 use Rattle.off_office.proofs.office.Office.step.Goals as goal
 

@@ -8,7 +8,7 @@ use Rattle.off_defs.specs.declared.events.Event.{Event}
 use Rattle.off_defs.specs.declared.results.Outcome.{Outcome}
 use Rattle.off_defs.specs.declared.results.Outcome.TheVariants.{Did, Memory}
 use Rattle.off_defs.specs.State.{State, Effect, at_moment, only_line, silence}
-use Rattle.off_defs.specs.Time.{TimeDid}
+use Rattle.off_book.specs.Time.{TimeDid}
 
 -- the service's name, with which each line of the log begins
 abbrev pub service_word : What → List ℕ

@@ -7,7 +7,7 @@ use Rattle.off_defs.specs.declared.events.What.TheVariants.{Datagram, Piece, Clo
 use Rattle.off_defs.specs.declared.results.Outcome.{Outcome}
 use Rattle.off_defs.specs.declared.results.Sent.{Sent}
 use Rattle.off_defs.specs.State.{State, Said}
-use Rattle.off_defs.specs.Step.{Step, service_word}
+use Rattle.off_book.specs.Step.{Step, service_word}
 
 -- One turn. `went` tells of each item whether it was sent.
 pub record Turn : Type 0 where

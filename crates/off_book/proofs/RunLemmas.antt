@@ -3,8 +3,8 @@ use Rattle.std.proofs.Common.{◌≡◌, ℕ, suc, ◌+◌, Bool, true, false, n
 use Rattle.std.proofs.lemmas.List.Sums.{sum_by-append}
 use Rattle.off_defs.specs.declared.results.Sent.{Sent}
 use Rattle.off_defs.specs.State.{State}
-use Rattle.off_defs.specs.Step.{Step}
-use Rattle.off_defs.specs.Run.{Turn, Run, marked, sent_in, sent_by, lost_in, lost_by, line_of, lines_from, events_of, all_went}
+use Rattle.off_book.specs.Step.{Step}
+use Rattle.off_book.specs.Run.{Turn, Run, marked, sent_in, sent_by, lost_in, lost_by, line_of, lines_from, events_of, all_went}
 
 pub run_push : (s : State) (turns : List Turn) (mid last : State) (turn : Turn) → Run s turns mid
     → Step mid turn.event turn.outcome (record { said = turn.said; after = last }) → Run s (turns ++ turn ∷ []) last

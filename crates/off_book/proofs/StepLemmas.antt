@@ -8,8 +8,8 @@ use Rattle.off_defs.specs.declared.events.Event.{Event}
 use Rattle.off_defs.specs.declared.results.Outcome.{Outcome}
 use Rattle.off_defs.specs.declared.results.Outcome.TheVariants.{Did, Memory}
 use Rattle.off_defs.specs.State.{State, Effect}
-use Rattle.off_defs.specs.Step.{Step, Does, service_word}
-use Rattle.off_defs.specs.Run.{Turn, Run}
+use Rattle.off_book.specs.Step.{Step, Does, service_word}
+use Rattle.off_book.specs.Run.{Turn, Run}
 
 does_memory : (s : State) (what : What) (effect : Effect) → Does s what Memory effect → effect.said.line ≡ service_word what ++ codes " memory"
 does_memory s (Datagram Dhcp from bytes) effect does = absurd does

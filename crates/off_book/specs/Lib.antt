@@ -1,0 +1,4 @@
+pub mod Time
+pub mod Step
+pub mod Run
+pub mod Words
