@@ -4,7 +4,7 @@ use Rattle.std.proofs.lemmas.List.Sums.{sum_by-append}
 use Rattle.off_defs.specs.declared.results.Sent.{Sent}
 use Rattle.off_defs.specs.State.{State}
 use Rattle.off_book.specs.Step.{Step}
-use Rattle.off_book.specs.Run.{Turn, Run, marked, sent_in, sent_by, lost_in, lost_by, line_of, lines_from, events_of, all_went}
+use Rattle.off_book.specs.Run.{Turn, Run, marked, sent_in, sent_by, lost_in, lost_by, keeper_failures, failures_by, line_of, lines_from, events_of, all_went}
 
 pub run_push : (s : State) (turns : List Turn) (mid last : State) (turn : Turn) → Run s turns mid
     → Step mid turn.event turn.outcome (record { said = turn.said; after = last }) → Run s (turns ++ turn ∷ []) last
@@ -19,6 +19,10 @@ sent_by_push (first ∷ turns) turn = ap (λ v. sent_in first ++ v) (sent_by_pus
 pub lost_by_push : (turns : List Turn) (turn : Turn) → lost_by (turns ++ turn ∷ []) ≡ lost_by turns + lost_in turn
 lost_by_push [] turn = omega arith
 lost_by_push (first ∷ turns) turn = omega (arith, lost_by_push turns turn)
+
+pub failures_by_push : (turns : List Turn) (turn : Turn) → failures_by (turns ++ turn ∷ []) ≡ failures_by turns + keeper_failures turn.outcome
+failures_by_push [] turn = omega arith
+failures_by_push (first ∷ turns) turn = omega (arith, failures_by_push turns turn)
 
 pub events_of_push : (turns : List Turn) (turn : Turn) → events_of (turns ++ turn ∷ []) ≡ events_of turns ++ turn.event ∷ []
 events_of_push [] turn = refl

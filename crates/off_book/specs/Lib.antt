@@ -1,4 +1,5 @@
 pub mod Time
+pub mod Http
 pub mod Step
 pub mod Run
 pub mod Words

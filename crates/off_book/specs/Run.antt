@@ -5,7 +5,9 @@ use Rattle.off_defs.specs.declared.events.Event.{Event}
 use Rattle.off_defs.specs.declared.events.What.{What}
 use Rattle.off_defs.specs.declared.events.What.TheVariants.{Datagram, Piece, Closed, Tick, End}
 use Rattle.off_defs.specs.declared.results.Outcome.{Outcome}
+use Rattle.off_defs.specs.declared.results.Outcome.TheVariants.{Did, Memory, Keeper}
 use Rattle.off_defs.specs.declared.results.Sent.{Sent}
+use Rattle.off_defs.specs.Events.{end_event}
 use Rattle.off_defs.specs.State.{State, Said}
 use Rattle.off_book.specs.Step.{Step, service_word}
 
@@ -45,6 +47,16 @@ abbrev pub lost_by : List Turn → ℕ
 lost_by [] = 0
 lost_by (turn ∷ turns) = lost_in turn + lost_by turns
 
+-- how many of the turns the keeper of the tables failed in
+abbrev pub keeper_failures : Outcome → ℕ
+keeper_failures Did = 0
+keeper_failures Memory = 0
+keeper_failures Keeper = 1
+
+abbrev pub failures_by : List Turn → ℕ
+failures_by [] = 0
+failures_by (turn ∷ turns) = keeper_failures turn.outcome + failures_by turns
+
 abbrev pub all_went : List Bool → Bool
 all_went [] = true
 all_went (mark ∷ marks) = cond mark (all_went marks) false
@@ -69,10 +81,6 @@ is_end (Piece conn bytes) = false
 is_end (Closed conn) = false
 is_end Tick = false
 is_end End = true
-
--- the event that a link gives where none is left
-abbrev pub end_event : Event
-end_event = record { at = record { 0 = 0 }; what = End }
 
 -- the first k of the events to come, with one End behind the last
 abbrev pub first_events : ℕ → List Event → List Event

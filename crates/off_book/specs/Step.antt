@@ -6,8 +6,10 @@ use Rattle.off_defs.specs.declared.events.What.{What}
 use Rattle.off_defs.specs.declared.events.What.TheVariants.{Datagram, Piece, Closed, Tick, End}
 use Rattle.off_defs.specs.declared.events.Event.{Event}
 use Rattle.off_defs.specs.declared.results.Outcome.{Outcome}
-use Rattle.off_defs.specs.declared.results.Outcome.TheVariants.{Did, Memory}
-use Rattle.off_defs.specs.State.{State, Effect, at_moment, only_line, silence}
+use Rattle.off_defs.specs.declared.results.Outcome.TheVariants.{Did, Memory, Keeper}
+use Rattle.off_defs.specs.declared.results.Sent.{Sent}
+use Rattle.off_defs.specs.State.{State, Said, Effect, at_moment, only_line, silence}
+use Rattle.off_book.specs.Http.{PieceFailed, answer_and_close, no_memory_reply, no_keeper_reply}
 use Rattle.off_book.specs.Time.{TimeDid}
 
 -- the service's name, with which each line of the log begins
@@ -24,26 +26,46 @@ service_word End = []
 abbrev pub NotBuilt : State → What → Effect → Type 0
 NotBuilt s what effect = effect ≡ only_line s (service_word what ++ codes " not-built")
 
--- Memory was wanted: nothing is sent and all is as before.
+-- Memory was wanted, or the keeper of the tables failed: nothing is sent and all is as before.
 abbrev pub WantedMemory : State → What → Effect → Type 0
 WantedMemory s what effect = effect ≡ only_line s (service_word what ++ codes " memory")
+
+abbrev pub KeeperFailed : State → What → Effect → Type 0
+KeeperFailed s what effect = effect ≡ only_line s (service_word what ++ codes " keeper")
 
 -- what an event makes of a state whose moment is the event's already
 abbrev pub Does : State → What → Outcome → Effect → Type 0
 Does s (Datagram Dhcp from bytes) Did effect = NotBuilt s (Datagram Dhcp from bytes) effect
 Does s (Datagram Dhcp from bytes) Memory effect = ⊥
+Does s (Datagram Dhcp from bytes) Keeper effect = ⊥
 Does s (Datagram Time from bytes) Did effect = TimeDid s from effect
 Does s (Datagram Time from bytes) Memory effect = WantedMemory s (Datagram Time from bytes) effect
+Does s (Datagram Time from bytes) Keeper effect = ⊥
 Does s (Datagram Tftp from bytes) Did effect = NotBuilt s (Datagram Tftp from bytes) effect
 Does s (Datagram Tftp from bytes) Memory effect = ⊥
+Does s (Datagram Tftp from bytes) Keeper effect = ⊥
 Does s (Piece conn bytes) Did effect = NotBuilt s (Piece conn bytes) effect
-Does s (Piece conn bytes) Memory effect = ⊥
+Does s (Piece conn bytes) Memory effect = PieceFailed s conn no_memory_reply (codes "http memory") effect
+Does s (Piece conn bytes) Keeper effect = PieceFailed s conn no_keeper_reply (codes "http keeper") effect
 Does s (Closed conn) Did effect = NotBuilt s (Closed conn) effect
 Does s (Closed conn) Memory effect = ⊥
+Does s (Closed conn) Keeper effect = ⊥
 Does s Tick Did effect = effect ≡ silence s
 Does s Tick Memory effect = ⊥
+Does s Tick Keeper effect = ⊥
 Does s End Did effect = effect ≡ silence s
 Does s End Memory effect = ⊥
+Does s End Keeper effect = ⊥
 
 unfoldable pub Step : State → Event → Outcome → Effect → Type 0
 Step s event outcome effect = Does (at_moment s event.at.0) event.what outcome effect
+
+-- What the office itself leaves to be said of a piece that it couldn't act on is the line alone; the answer and the end of the
+-- connection, which are the same bytes each time, are added behind it, since they take no memory.
+abbrev pub added_items : What → Outcome → List Sent
+added_items (Piece conn bytes) Memory = answer_and_close conn no_memory_reply
+added_items (Piece conn bytes) Keeper = answer_and_close conn no_keeper_reply
+added_items what outcome = []
+
+abbrev pub completed : What → Outcome → Said → Said
+completed what outcome said = record said { items = said.items ++ added_items what outcome }

@@ -4,3 +4,4 @@ pub mod State
 pub mod Codes
 pub mod Keys
 pub mod Tables
+pub mod Events

@@ -4,7 +4,7 @@ use Rattle.off_defs.specs.declared.events.Event.{Event}
 use Rattle.off_defs.specs.declared.results.Sent.{Sent}
 use Rattle.off_defs.specs.Told.{Told, Stays}
 use Rattle.off_defs.specs.Counts.{Grew, one_more}
-use Rattle.off_book.specs.Run.{end_event}
+use Rattle.off_defs.specs.Events.{end_event}
 use Rattle.off_outside.specs.LinkSeen.{LinkSeen}
 use Rattle.off_outside.specs.declared.link.LinkErr.{LinkErr}
 use Rattle.off_outside.specs.declared.link.LinkErr.TheVariants.{Memory, Failed}

@@ -6,7 +6,8 @@ use Rattle.off_defs.specs.declared.events.Event.{Event}
 use Rattle.off_defs.specs.Told.{Stays}
 use Rattle.off_defs.specs.Counts.{Grew}
 use Rattle.off_defs.specs.State.{Held, held_at_start, state_of, start}
-use Rattle.off_book.specs.Run.{Turn, sent_in, sent_by, lost_by, line_of, lines_from, events_of, first_events, end_event, is_end, IsNoEnd, EndsLast}
+use Rattle.off_defs.specs.Events.{end_event}
+use Rattle.off_book.specs.Run.{Turn, sent_in, sent_by, lost_by, line_of, lines_from, events_of, first_events, is_end, IsNoEnd, EndsLast}
 use Rattle.off_defs.proofs.ToldLemmas.{told_then, told_self, then_stays}
 use Rattle.off_defs.proofs.CountLemmas.{grew_self, grew_then, later_grew}
 use Rattle.off_book.proofs.RunLemmas.{run_push, sent_by_push, lost_by_push, lines_from_push}
