@@ -69,3 +69,9 @@ added_items what outcome = []
 
 abbrev pub completed : What → Outcome → Said → Said
 completed what outcome said = record said { items = said.items ++ added_items what outcome }
+
+-- an event that was acted on says so by its line, if by anything; want of memory and a failing keeper are always said
+abbrev pub TellsOutcome : What → Outcome → List ℕ → Type 0
+TellsOutcome what Did line = Unit {0}
+TellsOutcome what Memory line = line ≡ service_word what ++ codes " memory"
+TellsOutcome what Keeper line = line ≡ service_word what ++ codes " keeper"

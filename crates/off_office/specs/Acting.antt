@@ -8,7 +8,7 @@ use Rattle.off_defs.specs.Counts.{Grew}
 use Rattle.off_defs.specs.State.{Said, state_of}
 use Rattle.off_rules.specs.Rows.{counts_of}
 use Rattle.off_rules.specs.Good.{IsLeastBad}
-use Rattle.off_book.specs.Step.{Step, completed}
+use Rattle.off_book.specs.Step.{Step, TellsOutcome, completed}
 use Rattle.off_book.specs.Run.{keeper_failures}
 use Rattle.off_outside.specs.KeeperSeen.{KeeperSeen}
 use Rattle.off_outside.specs.KeeperCalls.{Reads, NotDone}
@@ -33,3 +33,4 @@ pub record Acts (event : Event) (outcome : Outcome) (said : Said) (before after 
   pub tables : Told old.tables new.tables (λ t u. before.counts ≡ counts_of t
       → Step (state_of t before.held) event outcome (record { said = completed event.what outcome said; after = state_of u after.held }) × (after.counts ≡ counts_of u))
   pub faults : Grew (keeper_failures outcome) old.faults new.faults
+  pub tells : TellsOutcome event.what outcome said.line
