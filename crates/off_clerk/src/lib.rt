@@ -1,0 +1,16 @@
+//! What clerks ask and are answered: one HTTP request read as a command, and the JSON text (RFC 8259) of a reply or a fault.
+//!
+//! It knows neither tables nor a keeper: whether a command's rules hold is decided elsewhere.
+#![tactic(auto)]
+
+mod details;
+mod faults;
+mod names;
+mod statuses;
+mod words;
+
+pub use details::fault_json;
+pub use faults::{ClerkErr, Fault};
+pub use names::Name;
+pub use statuses::fault_status;
+pub use words::fault_word;
