@@ -3,14 +3,18 @@
 //! It knows neither tables nor a keeper: whether a command's rules hold is decided elsewhere.
 #![tactic(auto)]
 
+mod arrays;
 mod details;
 mod faults;
 mod names;
+mod replies;
 mod statuses;
+mod texts;
 mod words;
 
 pub use details::fault_json;
 pub use faults::{ClerkErr, Fault};
 pub use names::Name;
+pub use replies::reply_json;
 pub use statuses::fault_status;
 pub use words::fault_word;
