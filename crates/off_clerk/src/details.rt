@@ -5,9 +5,9 @@ ghost use Rattle.off_clerk.specs.Details.{detail_text};
 
 use crate::faults::{ClerkErr, Fault};
 use crate::names::Name;
+use crate::texts::{push_address, push_number};
 use crate::words::fault_word;
-use itoa::Buffer;
-use off_base::{Bytes, Ip4, NoMemory, ip_text};
+use off_base::{Bytes, Ip4, NoMemory};
 use off_defs::{Rule, SiteField};
 use off_tree::TreeFault;
 use std::alloc::Global;
@@ -61,8 +61,8 @@ fn push_detail(text: &mut Bytes, detail: Detail) -> Result<(), NoMemory>
 {
     match detail {
         Detail::Field(name) => text.push_all(name.text().as_bytes()),
-        Detail::Number(number) => text.push_all(Buffer::new().format(number).as_bytes()),
-        Detail::Address(address) => text.push_all(ip_text(address).as_slice()),
+        Detail::Number(number) => push_number(text, number),
+        Detail::Address(address) => push_address(text, address),
     }
 }
 

@@ -7,6 +7,7 @@ mod arrays;
 mod details;
 mod faults;
 mod names;
+mod paths;
 mod replies;
 mod statuses;
 mod texts;
