@@ -1,2 +1,3 @@
 pub mod ArrayLemmas
 pub mod PathLemmas
+pub mod TreeLemmas

@@ -6,11 +6,14 @@
 mod arrays;
 mod details;
 mod faults;
+mod fields;
 mod names;
 mod paths;
 mod replies;
 mod statuses;
 mod texts;
+mod trees;
+mod values;
 mod words;
 
 pub use details::fault_json;
