@@ -73,8 +73,11 @@ abbrev pub object_if : Option Data → Result Data ClerkErr
 object_if None = Err NotJson
 object_if (Some d) = if is_some (as_object d) then Ok d else Err NotJson
 
+abbrev pub json_in : List ℕ → Option Data
+json_in body = if is_utf8 body then read body else None
+
 abbrev pub object_in : List ℕ → Result Data ClerkErr
-object_in body = object_if (if is_utf8 body then read body else None)
+object_in body = object_if (json_in body)
 
 -- what a PUT (RFC 9110, section 9.3.4) of a row means
 abbrev pub put_read : Key → List ℕ → Result Command ClerkErr

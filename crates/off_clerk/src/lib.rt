@@ -4,6 +4,8 @@
 #![tactic(auto)]
 
 mod arrays;
+mod bodies;
+mod commands;
 mod details;
 mod faults;
 mod fields;
@@ -16,6 +18,7 @@ mod trees;
 mod values;
 mod words;
 
+pub use commands::command_of;
 pub use details::fault_json;
 pub use faults::{ClerkErr, Fault};
 pub use names::Name;
