@@ -25,3 +25,6 @@ pub use names::Name;
 pub use replies::reply_json;
 pub use statuses::fault_status;
 pub use words::fault_word;
+
+#[cfg(test)]
+mod tests;

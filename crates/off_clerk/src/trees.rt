@@ -31,11 +31,7 @@ pub(crate) fn settings(alloc: Global, body: &Value, name: Name) -> Result<Settin
 
 // The settings of an array, or None where some element is none. They have at most so many settings within one another.
 #[cycle(trees)]
-fn settings_within(
-    alloc: Global,
-    depth: u8,
-    value: &Value,
-) -> Result<Option<Settings>, NoMemory>
+fn settings_within(alloc: Global, depth: u8, value: &Value) -> Result<Option<Settings>, NoMemory>
     ensures { IfOk result (λ read. read ≡ list_in (tree_in depth) (view value.now)) }
 {
     let Some(elements) = value.as_array() else {
