@@ -1,0 +1,3 @@
+pub mod HeightLemmas
+pub mod StepLemmas
+pub mod WalkLemmas

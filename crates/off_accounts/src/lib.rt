@@ -1,0 +1,4 @@
+//! Accounts over a keeper of the tables: walks, the opening test, and counting.
+#![tactic(auto)]
+
+mod walking;
