@@ -1,4 +1,5 @@
-//! Accounts over a keeper of the tables: walks, the opening test, and counting.
+//! What a clerk's commands do to the tables, and the test of the tables when the office opens.
 #![tactic(auto)]
 
+mod possible;
 mod walking;
