@@ -5,3 +5,4 @@ pub mod OrderLemmas
 pub mod OpeningLemmas
 pub mod GatherLemmas
 pub mod PoolLemmas
+pub mod CountingLemmas
