@@ -1,4 +1,4 @@
-ghost use Rattle.std.specs.Prelude.{◌≡◌, ◌≢◌};
+ghost use Rattle.std.specs.Prelude.{◌≡◌, ◌≢◌, ◌≤◌, length};
 ghost use Rattle.off_clerk.specs.Faults.{word_of, clerk_word, http_word, rule_word, IsTold};
 ghost use Rattle.off_clerk.specs.declared.faults.ClerkErr.TheVariants.{Memory as wanted};
 
@@ -11,7 +11,8 @@ use off_http::HttpFault;
 /// Want of memory has none.
 pub fn fault_word(f: &Fault) -> &'static [u8]
     requires { IsTold f.now }
-    ensures { result.now ≡ word_of f.now }
+    ensures word { result.now ≡ word_of f.now }
+    ensures short { length result.now ≤ 40 }
 {
     match *f {
         Fault::Clerk(err) => clerk_word(err),
@@ -22,7 +23,8 @@ pub fn fault_word(f: &Fault) -> &'static [u8]
 
 fn clerk_word(err: ClerkErr) -> &'static [u8]
     requires { err ≢ wanted }
-    ensures { result.now ≡ clerk_word err }
+    ensures word { result.now ≡ clerk_word err }
+    ensures short { length result.now ≤ 40 }
 {
     match err {
         ClerkErr::NoPath => b"no-path",
@@ -35,7 +37,8 @@ fn clerk_word(err: ClerkErr) -> &'static [u8]
 }
 
 fn http_word(fault: HttpFault) -> &'static [u8]
-    ensures { result.now ≡ http_word fault }
+    ensures word { result.now ≡ http_word fault }
+    ensures short { length result.now ≤ 40 }
 {
     match fault {
         HttpFault::Head => b"head",
@@ -45,7 +48,8 @@ fn http_word(fault: HttpFault) -> &'static [u8]
 }
 
 fn rule_word(rule: Rule) -> &'static [u8]
-    ensures { result.now ≡ rule_word rule }
+    ensures word { result.now ≡ rule_word rule }
+    ensures short { length result.now ≤ 40 }
 {
     match rule {
         Rule::NoSubscriber => b"no-subscriber",
