@@ -1,6 +1,7 @@
 -- Clerks' connections. A connection carries one request, in pieces; what it says is a matter of all its bytes so far. Once that is a
 -- request or can be none, the office answers it and closes the connection.
 use Rattle.std.specs.Prelude.{◌≡◌, Bool, true, false, ◌&&◌, nat_le, List, [], ◌∷◌, ◌++◌, ℕ, codes, decimal, Result, Ok, Err, is_none, unwrap_or}
+use Rattle.std.specs.Ordering.{nat_cmp}
 use Rattle.std.specs.FinMap as map
 use Rattle.off_http.specs.Request.{Meaning, Waits, Refused, Asked, RequestIs}
 use Rattle.off_http.specs.Reply.{reply}
@@ -80,8 +81,8 @@ by_meaning s conn bytes (Refused f) = answered s conn (answer_fault s.tables (fa
 by_meaning s conn bytes (Asked method target body) = answered s conn (answer_request s.tables s.held.now method target body)
 
 -- a connection that is new comes while as many are live as may be
-abbrev pub is_busy : Held → ℕ → Bool
-is_busy held conn = is_none (map.get held.connections conn) && nat_le most_connections (map.len held.connections)
+abbrev pub is_full : map.FinMap nat_cmp (List ℕ) → ℕ → Bool
+is_full connections conn = is_none (map.get connections conn) && nat_le most_connections (map.len connections)
 
 abbrev pub closed_as_busy : State → ℕ → Effect
 closed_as_busy s conn = record { said = record { items = Close conn ∷ []; line = codes "http busy" }; after = s }
@@ -98,7 +99,7 @@ TakesPiece false s conn piece effect = ByMeaning s conn (heard_of s.held conn ++
 
 -- a piece of a connection came
 abbrev pub PieceDid : State → ℕ → List ℕ → Effect → Type 0
-PieceDid s conn piece effect = TakesPiece (is_busy s.held conn) s conn piece effect
+PieceDid s conn piece effect = TakesPiece (is_full s.held.connections conn) s conn piece effect
 
 -- a connection ended by itself
 abbrev pub ClosedDid : State → ℕ → Effect → Type 0

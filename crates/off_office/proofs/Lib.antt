@@ -1,1 +1,6 @@
-pub mod ActLemmas
+pub mod StepLemmas
+pub mod ConnectionLemmas
+pub mod CommandLemmas
+pub mod AnswerLemmas
+pub mod RequestLemmas
+pub mod PieceLemmas

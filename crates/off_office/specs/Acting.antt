@@ -1,11 +1,11 @@
 -- What an office does at its start and at one event.
-use Rattle.std.specs.Prelude.{◌≡◌}
+use Rattle.std.specs.Prelude.{◌≡◌, ℕ}
 use Rattle.off_defs.specs.declared.keys.Key.{Key}
 use Rattle.off_defs.specs.declared.events.Event.{Event}
 use Rattle.off_defs.specs.declared.results.Outcome.{Outcome}
 use Rattle.off_defs.specs.Told.{Told}
 use Rattle.off_defs.specs.Counts.{Grew}
-use Rattle.off_defs.specs.State.{Said, state_of}
+use Rattle.off_defs.specs.State.{Said, state_of, held_at}
 use Rattle.off_rules.specs.Rows.{counts_of}
 use Rattle.off_rules.specs.Good.{IsLeastBad}
 use Rattle.off_book.specs.Step.{Step, TellsOutcome, completed}
@@ -34,3 +34,7 @@ pub record Acts (event : Event) (outcome : Outcome) (said : Said) (before after 
       → Step (state_of t before.held) event outcome (record { said = completed event.what outcome said; after = state_of u after.held }) × (after.counts ≡ counts_of u))
   pub faults : Grew (keeper_failures outcome) old.faults new.faults
   pub tells : TellsOutcome event.what outcome said.line
+
+-- an office that has come to a moment
+abbrev pub kept_at : Kept → ℕ → Kept
+kept_at kept at = record kept { held = held_at kept.held at }

@@ -1,3 +1,5 @@
+pub mod Answering
+pub mod Connections
 pub mod Saying
 pub mod Kept
 pub mod Acting

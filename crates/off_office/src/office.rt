@@ -6,10 +6,12 @@ ghost use Rattle.off_book.specs.Step.{Step, completed};
 ghost use Rattle.off_book.specs.Time.{time_answer};
 ghost use Rattle.off_book.specs.Run.{keeper_failures};
 ghost use Rattle.off_outside.specs.KeeperCalls.{Reads, NotDone};
-ghost use Rattle.off_office.specs.Acting.{Acts, NotStarted, start_err};
-ghost use Rattle.off_office.specs.Saying.{SaysTime};
+ghost use Rattle.off_office.specs.Acting.{Acts, NotStarted, start_err, kept_at};
+ghost use Rattle.off_office.specs.Answering.{forgets};
+ghost use Rattle.off_office.specs.Saying.{SaysTime, SaysDatagram};
 
 use crate::clock::time_of_day;
+use crate::connections::Connections;
 use off_accounts::{count_rows, first_bad};
 use off_base::{Bytes, Moment, NoMemory, Peer};
 use off_defs::Key;
@@ -29,12 +31,13 @@ pub enum StartErr {
     Memory,
 }
 
-/// The office between two events: the moment of its latest event, and how many rows the tables have.
-#[derive(Debug, Drop)]
+/// The office between two events: the moment of its latest event, how many rows the tables have, and the clerks' connections.
+#[derive(Drop)]
 pub struct Office {
-    alloc: Global,
-    now: Moment,
-    counts: Counts,
+    pub(crate) alloc: Global,
+    pub(crate) now: Moment,
+    pub(crate) counts: Counts,
+    pub(crate) connections: Connections,
 }
 
 impl Model for Office {
@@ -45,7 +48,7 @@ impl Model for Office {
 
     ghost coded = { kept_code };
 
-    ghost view = { λ o. record { held = record { now = o.now.0; transfers = map.empty; connections = map.empty }; counts = o.counts } };
+    ghost view = { λ o. record { held = record { now = o.now.0; transfers = map.empty; connections = o.connections }; counts = o.counts } };
 }
 
 impl Office {
@@ -77,6 +80,7 @@ impl Office {
                 alloc,
                 now: Moment(0),
                 counts,
+                connections: Connections::new(alloc),
             }),
             Err(err) => Err(not_started(err)),
         }
@@ -89,32 +93,48 @@ impl Office {
     pub fn step<K: Keeper>(&mut self, keeper: &mut K, event: &Event, out: &mut Replies) -> Outcome
         ensures { Acts event.now result out.new self.old self.new (K.seen keeper.old) (K.seen keeper.new) }
     {
-        self.act(event, out)
-    }
-
-    // Takes an event that needs no tables.
-    fn act(&mut self, event: &Event, out: &mut Replies) -> Outcome
-        ensures step { (tables : Tables) → Step (state_of tables self.old.held) event.now result
-            (record { said = completed event.now.what result out.new; after = state_of tables self.new.held }) }
-        ensures counts { self.new.counts ≡ self.old.counts }
-        ensures faults { keeper_failures result ≡ 0 }
-    {
         out.clear();
-        self.now = later(self.now, event.at);
+        self.reach(event.at);
         match &event.what {
+            What::Piece { conn, bytes } => self.take_piece(keeper, *conn, bytes.as_slice(), out),
             What::Datagram {
                 service,
                 from,
                 bytes: _,
-            } => match service {
-                Service::Dhcp => only_line(out, b"dhcp not-built"),
-                Service::Time => tell_time(self.alloc, self.now, *from, out),
-                Service::Tftp => only_line(out, b"tftp not-built"),
-            },
-            What::Piece { conn: _, bytes: _ } => only_line(out, b"http not-built"),
-            What::Closed { conn: _ } => only_line(out, b"http not-built"),
+            } => self.take_datagram(*service, *from, out),
+            What::Closed { conn } => {
+                self.forget(*conn);
+                only_line(out, b"http closed")
+            }
             What::Tick => Outcome::Did,
             What::End => Outcome::Did,
+        }
+    }
+
+    // Comes to the later of its moment and another.
+    pub(crate) fn reach(&mut self, at: Moment)
+        ensures { self.new ≡ kept_at self.old at.0 }
+    {
+        self.now = later(self.now, at);
+    }
+
+    // Forgets a connection, if it's live.
+    fn forget(&mut self, conn: u32)
+        ensures { self.new ≡ forgets self.old conn }
+    {
+        let _session = self.connections.take(conn);
+    }
+
+    // Takes a datagram. None needs the tables yet.
+    fn take_datagram(&mut self, service: Service, from: Peer, out: &mut Replies) -> Outcome
+        requires { out.old ≡ says_nothing }
+        ensures says { SaysDatagram service self.new.held.now from result out.new }
+        ensures same { self.new ≡ self.old }
+    {
+        match service {
+            Service::Dhcp => only_line(out, b"dhcp not-built"),
+            Service::Time => tell_time(self.alloc, self.now, from, out),
+            Service::Tftp => only_line(out, b"tftp not-built"),
         }
     }
 }
@@ -130,7 +150,7 @@ fn not_started(err: KeepErr) -> StartErr
 }
 
 // The later of two moments.
-fn later(a: Moment, b: Moment) -> Moment
+pub(crate) fn later(a: Moment, b: Moment) -> Moment
     ensures { result.0 ≡ max a.0 b.0 }
 {
     Moment(a.0.max(b.0))

@@ -263,3 +263,10 @@ stepped_by tables (Err refused) = record { tables = tables; answer = Err refused
 
 unfoldable pub clerk_step : Tables → ℕ → Command → Stepped
 clerk_step tables now command = stepped_by tables (decided tables now command)
+
+-- a step that was answered so, and left these tables; one that a rule refused, and that left the tables as they were
+abbrev pub IsAnswered : Tables → Reply → Stepped → Type 0
+IsAnswered tables done step = step ≡ record { tables = tables; answer = Ok done }
+
+abbrev pub IsRefused : Tables → ℕ → Rule → Stepped → Type 0
+IsRefused tables at broken step = step ≡ record { tables = tables; answer = Err (refusal at broken) }

@@ -1,0 +1,18 @@
+use Rattle.std.proofs.Common.{rules}
+use Rattle.off_office.proofs.RequestLemmas.{Parts, no_import, command_ends, fault_ends}
+use Rattle.off_office.proofs.office.Office.answer_request.Goals as goal
+
+pub answer_command-requires-clause-not_import : goal.answer_command-requires-clause-not_import
+answer_command-requires-clause-not_import g c = no_import c.method.result.now c.path.result.now c.body.result.now c.in-Ok.command c.in-Ok.ensures.exact
+
+pub returns-in-Ok : goal.returns-in-Ok
+returns-in-Ok g c =
+    command_ends c.method.result.now c.path.result.now c.body.result.now _ _ _ c.in-Ok.command _ _ _ _ _ _ _ c.answer_command.result
+    (record { method_is = c.method.ensures.value; target_is = c.path.ensures.value; body_is = c.body.ensures.value })
+    c.in-Ok.ensures.exact c.answer_command.ensures
+
+pub returns-in-Err : goal.returns-in-Err
+returns-in-Err g c =
+    fault_ends c.method.result.now c.path.result.now c.body.result.now _ _ _ c.in-Err.err _ _ _ _ _ c.answer_fault.result c.had_memory.result
+    (record { method_is = c.method.ensures.value; target_is = c.path.ensures.value; body_is = c.body.ensures.value })
+    (c.in-Err.ensures.exact (search rules)) c.answer_fault.ensures c.had_memory.ensures
