@@ -1,3 +1,5 @@
+pub mod ChangeLemmas
 pub mod HeightLemmas
+pub mod RuleLemmas
 pub mod StepLemmas
 pub mod WalkLemmas

@@ -1,4 +1,7 @@
 //! Accounts over a keeper of the tables: walks, the opening test, and counting.
 #![tactic(auto)]
 
+mod possible;
+mod reading;
+mod results;
 mod walking;
