@@ -1,3 +1,4 @@
 pub mod Changes
 pub mod Deciding
+pub mod Searches
 pub mod Walks

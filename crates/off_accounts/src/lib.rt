@@ -1,7 +1,10 @@
 //! Accounts over a keeper of the tables: walks, the opening test, and counting.
 #![tactic(auto)]
 
+mod lost;
 mod possible;
 mod reading;
 mod results;
+mod searching;
 mod walking;
+mod wanted;
