@@ -1,5 +1,7 @@
 pub mod ChangeLemmas
+pub mod DropLemmas
 pub mod FoldLemmas
+pub mod FoundLemmas
 pub mod HeightLemmas
 pub mod RuleLemmas
 pub mod SearchLemmas

@@ -9,6 +9,8 @@ use Rattle.off_defs.specs.declared.tables.Row.{Row}
 use Rattle.off_defs.specs.declared.tables.Pool.{Pool}
 use Rattle.off_defs.specs.declared.tables.Lease.{Lease}
 use Rattle.off_defs.specs.declared.orders.Write.{Write}
+use Rattle.off_defs.specs.declared.rules.Rule.{Rule}
+use Rattle.off_defs.specs.declared.rules.Rule.TheVariants as rule
 use Rattle.off_defs.specs.State.{Tables}
 use Rattle.off_rules.specs.Rows.{modem_of, pool_of, lease_of, leases}
 use Rattle.off_rules.specs.Clerk.{is_other_overlapping, is_other_with_relay, gives_up, is_live, lease_drops}
@@ -40,6 +42,10 @@ least_wanted sought t = option_map (λ (entry : Key × Row). entry.0) (find (is_
 abbrev pub lost_from : Option Pool → Option Pool → Tables → List (Ip4 × Lease)
 lost_from old new t = filter (λ entry. gives_up old new entry.0) (leases t)
 
+-- the rule that a pool may not lose leases that haven't expired, where the pool, or none, that was at the key before is known
+abbrev pub live_lost : ℕ → Option Pool → Option Pool → Tables → Option Rule
+live_lost now old new t = option_map (λ (entry : Ip4 × Lease). rule.PoolHasLeases entry.0) (find (is_live now) (lost_from old new t))
+
 -- the number of a pool, and the address of a lease
 abbrev pub pool_number : Option Key → Option ℕ
 pool_number (Some (PoolKey n)) = Some n
@@ -48,3 +54,11 @@ pool_number key = None
 abbrev pub lease_address : Option Key → Option Ip4
 lease_address (Some (LeaseKey address)) = Some address
 lease_address key = None
+
+-- what is dropped where an entry is a lease that is given up
+abbrev pub drops_of : Lost → Option (Ip4 × Lease) → List Write
+drops_of lost None = []
+drops_of lost (Some entry) = cond (is_given_up lost entry) (lease_drops entry) []
+
+abbrev pub drops_at : Lost → Key × Row → List Write
+drops_at lost entry = drops_of lost (lease_of entry)

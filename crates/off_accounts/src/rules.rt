@@ -1,0 +1,155 @@
+ghost use Rattle.std.specs.Prelude.{◌≡◌, None, Some, MatchResult};
+ghost use Rattle.off_rules.specs.Clerk.{no_subscriber, no_class, no_row, pool_overlap, relay_taken, has_modems, class_in_use};
+ghost use Rattle.off_outside.specs.KeeperCalls.{Reads};
+ghost use Rattle.off_accounts.specs.Deciding.{Refuses};
+ghost use Rattle.off_accounts.specs.Searches.{live_lost, pool_number, lease_address};
+
+use crate::lost::Lost;
+use crate::reading::is_there;
+use crate::results::AccountErr;
+use crate::searching::{Sought, search};
+use off_base::{Ip4, Moment};
+use off_defs::{Key, Pool, Rule};
+use off_outside::Keeper;
+use std::alloc::Global;
+
+/// Each of these tests one rule over the tables: it lets the command pass, or refuses it.
+pub(crate) fn no_row<K: Keeper>(alloc: Global, keeper: &mut K, key: &Key) -> Result<(), AccountErr>
+    ensures { MatchResult result (λ _. Reads (λ t. no_row t key.now ≡ None) (K.seen keeper.old) (K.seen keeper.new))
+        (λ err. Refuses (λ t rule. no_row t key.now ≡ rule) (K.seen keeper.old) (K.seen keeper.new) err) }
+{
+    if !is_there(alloc, keeper, key)? {
+        return Err(AccountErr::from(Rule::NoRow));
+    }
+    Ok(())
+}
+
+pub(crate) fn no_subscriber<K: Keeper>(
+    alloc: Global,
+    keeper: &mut K,
+    n: u32,
+) -> Result<(), AccountErr>
+    ensures { MatchResult result (λ _. Reads (λ t. no_subscriber t n ≡ None) (K.seen keeper.old) (K.seen keeper.new))
+        (λ err. Refuses (λ t rule. no_subscriber t n ≡ rule) (K.seen keeper.old) (K.seen keeper.new) err) }
+{
+    if !is_there(alloc, keeper, &Key::Subscriber(n))? {
+        return Err(AccountErr::from(Rule::NoSubscriber));
+    }
+    Ok(())
+}
+
+pub(crate) fn no_class<K: Keeper>(
+    alloc: Global,
+    keeper: &mut K,
+    n: u32,
+) -> Result<(), AccountErr>
+    ensures { MatchResult result (λ _. Reads (λ t. no_class t n ≡ None) (K.seen keeper.old) (K.seen keeper.new))
+        (λ err. Refuses (λ t rule. no_class t n ≡ rule) (K.seen keeper.old) (K.seen keeper.new) err) }
+{
+    if !is_there(alloc, keeper, &Key::Class(n))? {
+        return Err(AccountErr::from(Rule::NoClass));
+    }
+    Ok(())
+}
+
+pub(crate) fn has_modems<K: Keeper>(
+    alloc: Global,
+    keeper: &mut K,
+    n: u32,
+) -> Result<(), AccountErr>
+    ensures { MatchResult result (λ _. Reads (λ t. has_modems t n ≡ None) (K.seen keeper.old) (K.seen keeper.new))
+        (λ err. Refuses (λ t rule. has_modems t n ≡ rule) (K.seen keeper.old) (K.seen keeper.new) err) }
+{
+    if search(alloc, keeper, &Sought::OfSubscriber(n))?.is_some() {
+        return Err(AccountErr::from(Rule::HasModems));
+    }
+    Ok(())
+}
+
+pub(crate) fn class_in_use<K: Keeper>(
+    alloc: Global,
+    keeper: &mut K,
+    n: u32,
+) -> Result<(), AccountErr>
+    ensures { MatchResult result (λ _. Reads (λ t. class_in_use t n ≡ None) (K.seen keeper.old) (K.seen keeper.new))
+        (λ err. Refuses (λ t rule. class_in_use t n ≡ rule) (K.seen keeper.old) (K.seen keeper.new) err) }
+{
+    if search(alloc, keeper, &Sought::OfClass(n))?.is_some() {
+        return Err(AccountErr::from(Rule::ClassInUse));
+    }
+    Ok(())
+}
+
+pub(crate) fn pool_overlap<K: Keeper>(
+    alloc: Global,
+    keeper: &mut K,
+    n: u32,
+    pool: &Pool,
+) -> Result<(), AccountErr>
+    ensures { MatchResult result (λ _. Reads (λ t. pool_overlap t n pool.now ≡ None) (K.seen keeper.old) (K.seen keeper.new))
+        (λ err. Refuses (λ t rule. pool_overlap t n pool.now ≡ rule) (K.seen keeper.old) (K.seen keeper.new) err) }
+{
+    let found = search(alloc, keeper, &Sought::Overlapping(n, *pool))?;
+    let Some(other) = pool_number(found) else {
+        return Ok(());
+    };
+    Err(AccountErr::from(Rule::PoolOverlap(other)))
+}
+
+pub(crate) fn relay_taken<K: Keeper>(
+    alloc: Global,
+    keeper: &mut K,
+    n: u32,
+    pool: &Pool,
+) -> Result<(), AccountErr>
+    ensures { MatchResult result (λ _. Reads (λ t. relay_taken t n pool.now ≡ None) (K.seen keeper.old) (K.seen keeper.new))
+        (λ err. Refuses (λ t rule. relay_taken t n pool.now ≡ rule) (K.seen keeper.old) (K.seen keeper.new) err) }
+{
+    let found = search(alloc, keeper, &Sought::WithRelay(n, *pool))?;
+    let Some(other) = pool_number(found) else {
+        return Ok(());
+    };
+    Err(AccountErr::from(Rule::RelayTaken(other)))
+}
+
+/// Whether a lease that hasn't expired is lost where one pool, or none, takes another one's place.
+pub(crate) fn live_lost<K: Keeper>(
+    alloc: Global,
+    keeper: &mut K,
+    now: Moment,
+    old: Option<Pool>,
+    new: Option<Pool>,
+) -> Result<(), AccountErr>
+    ensures { MatchResult result (λ _. Reads (λ t. live_lost now.0 old new t ≡ None) (K.seen keeper.old) (K.seen keeper.new))
+        (λ err. Refuses (λ t rule. live_lost now.0 old new t ≡ rule) (K.seen keeper.old) (K.seen keeper.new) err) }
+{
+    let Some(old) = old else {
+        return Ok(());
+    };
+    let lost = Lost { old, new };
+    let found = search(alloc, keeper, &Sought::LiveLost(now, lost))?;
+    let Some(address) = lease_address(found) else {
+        return Ok(());
+    };
+    Err(AccountErr::from(Rule::PoolHasLeases(address)))
+}
+
+fn pool_number(found: Option<Key>) -> Option<u32>
+    ensures { result ≡ pool_number found }
+{
+    let Some(key) = found else { return None };
+    match key {
+        Key::Pool(n) => Some(n),
+        _ => None,
+    }
+}
+
+fn lease_address(found: Option<Key>) -> Option<Ip4>
+    ensures { result ≡ lease_address found }
+{
+    let Some(key) = found else { return None };
+    match key {
+        Key::Lease(address) => Some(address),
+        _ => None,
+    }
+}
