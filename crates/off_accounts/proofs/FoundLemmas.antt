@@ -94,3 +94,53 @@ relay_found n pool found t is =
 -- Without a pool before nothing is lost.
 pub none_lost : (now : ℕ) (new : Option Pool) (t : Tables) → live_lost now None new t ≡ None
 none_lost now new t = ap (option_map (λ (entry : Ip4 × Lease). rule.PoolHasLeases entry.0)) (find_in_none (is_live now) (leases t))
+
+kept_some : (found : Option (Key × Row)) → is_some (option_map (λ (entry : Key × Row). entry.0) found) ≡ is_some found
+kept_some None = refl
+kept_some (Some e) = refl
+
+-- The rules that search, where something was found and where nothing was.
+pub overlap_none : (n : ℕ) (pool : Pool) (found : Option Key) (t : Tables) → found ≡ least_wanted (Overlapping n pool) t → pool_number found ≡ None → pool_overlap t n pool ≡ None
+overlap_none n pool found t is none = overlap_found n pool found t is ∙ ap (option_map rule.PoolOverlap) none
+
+pub overlap_some : (n : ℕ) (pool : Pool) (found : Option Key) (other : ℕ) (t : Tables) → found ≡ least_wanted (Overlapping n pool) t → pool_number found ≡ Some other → pool_overlap t n pool ≡ Some (rule.PoolOverlap other)
+overlap_some n pool found other t is some = overlap_found n pool found t is ∙ ap (option_map rule.PoolOverlap) some
+
+pub relay_none : (n : ℕ) (pool : Pool) (found : Option Key) (t : Tables) → found ≡ least_wanted (WithRelay n pool) t → pool_number found ≡ None → relay_taken t n pool ≡ None
+relay_none n pool found t is none = relay_found n pool found t is ∙ ap (option_map rule.RelayTaken) none
+
+pub relay_some : (n : ℕ) (pool : Pool) (found : Option Key) (other : ℕ) (t : Tables) → found ≡ least_wanted (WithRelay n pool) t → pool_number found ≡ Some other → relay_taken t n pool ≡ Some (rule.RelayTaken other)
+relay_some n pool found other t is some = relay_found n pool found t is ∙ ap (option_map rule.RelayTaken) some
+
+modems_found : (n : ℕ) (found : Option Key) (t : Tables) → found ≡ least_wanted (OfSubscriber n) t → is_some found ≡ list_any (λ (modem : Mac × Modem). modem.1.subscriber == n) (modems t)
+modems_found n found t is = ap is_some is ∙ kept_some (find (is_wanted (OfSubscriber n)) (map.entries t)) ∙ any_found modem_of (λ (modem : Mac × Modem). modem.1.subscriber == n) (map.entries t)
+
+class_found : (n : ℕ) (found : Option Key) (t : Tables) → found ≡ least_wanted (OfClass n) t → is_some found ≡ list_any (λ (modem : Mac × Modem). modem.1.class == n) (modems t)
+class_found n found t is = ap is_some is ∙ kept_some (find (is_wanted (OfClass n)) (map.entries t)) ∙ any_found modem_of (λ (modem : Mac × Modem). modem.1.class == n) (map.entries t)
+
+pub modems_some : (n : ℕ) (found : Option Key) (t : Tables) → found ≡ least_wanted (OfSubscriber n) t → is_some found ≡ true → has_modems t n ≡ Some rule.HasModems
+modems_some n found t is some = ap (λ b. when b rule.HasModems) (sym (modems_found n found t is) ∙ some)
+
+pub modems_none : (n : ℕ) (found : Option Key) (t : Tables) → found ≡ least_wanted (OfSubscriber n) t → is_some found ≡ false → has_modems t n ≡ None
+modems_none n found t is none = ap (λ b. when b rule.HasModems) (sym (modems_found n found t is) ∙ none)
+
+pub class_some : (n : ℕ) (found : Option Key) (t : Tables) → found ≡ least_wanted (OfClass n) t → is_some found ≡ true → class_in_use t n ≡ Some rule.ClassInUse
+class_some n found t is some = ap (λ b. when b rule.ClassInUse) (sym (class_found n found t is) ∙ some)
+
+pub class_none : (n : ℕ) (found : Option Key) (t : Tables) → found ≡ least_wanted (OfClass n) t → is_some found ≡ false → class_in_use t n ≡ None
+class_none n found t is none = ap (λ b. when b rule.ClassInUse) (sym (class_found n found t is) ∙ none)
+
+lost_found : (now : ℕ) (lost : Lost) (found : Option Key) (t : Tables) → found ≡ least_wanted (LiveLost (record { 0 = now }) lost) t
+    → live_lost now (Some lost.old) lost.new t ≡ option_map rule.PoolHasLeases (lease_address found)
+lost_found now lost found t is =
+    ap (option_map (λ (entry : Ip4 × Lease). rule.PoolHasLeases entry.0)) (find_filter (is_given_up lost) (is_live now) (leases t))
+    ∙ said_found lease_of (λ lease. is_given_up lost lease && is_live now lease) (λ (entry : Ip4 × Lease). rule.PoolHasLeases entry.0) (λ key. option_map rule.PoolHasLeases (lease_address key)) lease_read refl (map.entries t)
+    ∙ ap (λ key. option_map rule.PoolHasLeases (lease_address key)) (sym is)
+
+pub lost_some : (now : ℕ) (lost : Lost) (found : Option Key) (address : Ip4) (t : Tables) → found ≡ least_wanted (LiveLost (record { 0 = now }) lost) t → lease_address found ≡ Some address
+    → live_lost now (Some lost.old) lost.new t ≡ Some (rule.PoolHasLeases address)
+lost_some now lost found address t is some = lost_found now lost found t is ∙ ap (option_map rule.PoolHasLeases) some
+
+pub lost_none : (now : ℕ) (lost : Lost) (found : Option Key) (t : Tables) → found ≡ least_wanted (LiveLost (record { 0 = now }) lost) t → lease_address found ≡ None
+    → live_lost now (Some lost.old) lost.new t ≡ None
+lost_none now lost found t is none = lost_found now lost found t is ∙ ap (option_map rule.PoolHasLeases) none

@@ -3,6 +3,7 @@ pub mod DropLemmas
 pub mod FoldLemmas
 pub mod FoundLemmas
 pub mod HeightLemmas
+pub mod PresentLemmas
 pub mod RuleLemmas
 pub mod SearchLemmas
 pub mod StepLemmas

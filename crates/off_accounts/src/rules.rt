@@ -19,7 +19,7 @@ pub(crate) fn no_row<K: Keeper>(alloc: Global, keeper: &mut K, key: &Key) -> Res
         (λ err. Refuses (λ t rule. no_row t key.now ≡ rule) (K.seen keeper.old) (K.seen keeper.new) err) }
 {
     if !is_there(alloc, keeper, key)? {
-        return Err(AccountErr::from(Rule::NoRow));
+        return Err(AccountErr::Refused { row: 0, rule: Rule::NoRow });
     }
     Ok(())
 }
@@ -33,7 +33,7 @@ pub(crate) fn no_subscriber<K: Keeper>(
         (λ err. Refuses (λ t rule. no_subscriber t n ≡ rule) (K.seen keeper.old) (K.seen keeper.new) err) }
 {
     if !is_there(alloc, keeper, &Key::Subscriber(n))? {
-        return Err(AccountErr::from(Rule::NoSubscriber));
+        return Err(AccountErr::Refused { row: 0, rule: Rule::NoSubscriber });
     }
     Ok(())
 }
@@ -47,7 +47,7 @@ pub(crate) fn no_class<K: Keeper>(
         (λ err. Refuses (λ t rule. no_class t n ≡ rule) (K.seen keeper.old) (K.seen keeper.new) err) }
 {
     if !is_there(alloc, keeper, &Key::Class(n))? {
-        return Err(AccountErr::from(Rule::NoClass));
+        return Err(AccountErr::Refused { row: 0, rule: Rule::NoClass });
     }
     Ok(())
 }
@@ -61,7 +61,7 @@ pub(crate) fn has_modems<K: Keeper>(
         (λ err. Refuses (λ t rule. has_modems t n ≡ rule) (K.seen keeper.old) (K.seen keeper.new) err) }
 {
     if search(alloc, keeper, &Sought::OfSubscriber(n))?.is_some() {
-        return Err(AccountErr::from(Rule::HasModems));
+        return Err(AccountErr::Refused { row: 0, rule: Rule::HasModems });
     }
     Ok(())
 }
@@ -75,7 +75,7 @@ pub(crate) fn class_in_use<K: Keeper>(
         (λ err. Refuses (λ t rule. class_in_use t n ≡ rule) (K.seen keeper.old) (K.seen keeper.new) err) }
 {
     if search(alloc, keeper, &Sought::OfClass(n))?.is_some() {
-        return Err(AccountErr::from(Rule::ClassInUse));
+        return Err(AccountErr::Refused { row: 0, rule: Rule::ClassInUse });
     }
     Ok(())
 }
@@ -93,7 +93,7 @@ pub(crate) fn pool_overlap<K: Keeper>(
     let Some(other) = pool_number(found) else {
         return Ok(());
     };
-    Err(AccountErr::from(Rule::PoolOverlap(other)))
+    Err(AccountErr::Refused { row: 0, rule: Rule::PoolOverlap(other) })
 }
 
 pub(crate) fn relay_taken<K: Keeper>(
@@ -109,7 +109,7 @@ pub(crate) fn relay_taken<K: Keeper>(
     let Some(other) = pool_number(found) else {
         return Ok(());
     };
-    Err(AccountErr::from(Rule::RelayTaken(other)))
+    Err(AccountErr::Refused { row: 0, rule: Rule::RelayTaken(other) })
 }
 
 /// Whether a lease that hasn't expired is lost where one pool, or none, takes another one's place.
@@ -131,7 +131,7 @@ pub(crate) fn live_lost<K: Keeper>(
     let Some(address) = lease_address(found) else {
         return Ok(());
     };
-    Err(AccountErr::from(Rule::PoolHasLeases(address)))
+    Err(AccountErr::Refused { row: 0, rule: Rule::PoolHasLeases(address) })
 }
 
 fn pool_number(found: Option<Key>) -> Option<u32>
