@@ -1,8 +1,11 @@
 pub mod ChangeLemmas
+pub mod CountsLemmas
 pub mod DropLemmas
 pub mod FoldLemmas
 pub mod FoundLemmas
 pub mod HeightLemmas
+pub mod LimitLemmas
+pub mod PlanLemmas
 pub mod PresentLemmas
 pub mod RuleLemmas
 pub mod SearchLemmas

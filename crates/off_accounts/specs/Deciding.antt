@@ -1,6 +1,8 @@
 -- What `decide` says of a command: what is to be written and answered, or which rule refuses it.
 use Rattle.std.specs.Prelude.{◌≡◌, ℕ, Bool, true, false, Option, Some, None, Result, Ok, Err, List, MatchResult}
 use Rattle.off_defs.specs.declared.rules.Rule.{Rule}
+use Rattle.off_defs.specs.declared.orders.Write.{Write}
+use Rattle.off_defs.specs.declared.orders.Reply.{Reply}
 use Rattle.off_defs.specs.declared.orders.Command.{Command}
 use Rattle.off_defs.specs.declared.orders.Command.TheVariants.{Import}
 use Rattle.off_defs.specs.State.{Tables}
@@ -12,6 +14,7 @@ use Rattle.off_outside.specs.declared.keeper.KeepErr.{KeepErr}
 use Rattle.off_outside.specs.declared.keeper.KeepErr.TheVariants as keeper
 use Rattle.off_outside.specs.KeeperSeen.{KeeperSeen}
 use Rattle.off_outside.specs.KeeperCalls.{Reads, NotDone}
+use Rattle.off_accounts.specs.declared.results.Asked.{Asked}
 use Rattle.off_accounts.specs.declared.results.Planned.{Planned}
 use Rattle.off_accounts.specs.declared.results.AccountErr.{AccountErr}
 use Rattle.off_accounts.specs.declared.results.AccountErr.TheVariants.{Refused, Failed, Memory}
@@ -32,13 +35,30 @@ pub data Refuses (Says : Tables → Option Rule → Type 0) (old new : KeeperSee
   by_failure : NotDone keeper.Failed old new → Refuses Says old new Failed
   by_memory : NotDone keeper.Memory old new → Refuses Says old new Memory
 
--- What was planned is what becomes of the command, and the counts are those of the tables once the writes are done, where the counts that
--- were handed in are those of the tables.
-pub record IsDecided (counts : Counts) (now : ℕ) (command : Command) (planned : Planned) (t : Tables) : Type 0 where
-  pub accepted : decided t now command ≡ Ok (accepted planned.writes planned.reply)
-  pub counted : planned.counts ≡ counts_of (write_all t planned.writes)
+-- a rule that is tested on the command alone, and is broken
+pub record IsBroken (tested : Option Rule) (err : AccountErr) : Type 0 where
+  pub broken : Rule
+  pub is : err ≡ Refused 0 broken
+  pub says : tested ≡ Some broken
 
+-- what is done and answered, with the counts of rows once it's done
+abbrev pub planned_of : List Write → Reply → Counts → Planned
+planned_of writes reply counts = record { writes = writes; reply = reply; counts = counts }
+
+-- What was planned is what becomes of the command, and its counts are those of the tables once the writes are done.
+abbrev pub IsDecided : ℕ → Command → Planned → Tables → Type 0
+IsDecided now command planned t = (decided t now command ≡ Ok (accepted planned.writes planned.reply)) × (planned.counts ≡ counts_of (write_all t planned.writes))
+
+-- The same where the counts that are known are those of the tables; and that the command is refused by a rule.
+abbrev pub Decides : Asked → Command → Planned → Tables → Type 0
+Decides asked command planned t = asked.counts ≡ counts_of t → IsDecided asked.at.0 command planned t
+
+abbrev pub Rejects : Asked → Command → Tables → Option Rule → Type 0
+Rejects asked command t None = ⊥
+Rejects asked command t (Some broken) = asked.counts ≡ counts_of t → decided t asked.at.0 command ≡ Err (refusal 0 broken)
+
+-- the command isn't to be done: a rule refuses it, or the keeper failed, or memory was wanted
 abbrev pub NotDecided : Counts → ℕ → Command → AccountErr → KeeperSeen → KeeperSeen → Type 0
-NotDecided counts now command (Refused row rule) old new = Reads (λ t. counts ≡ counts_of t → decided t now command ≡ Err (refusal row rule)) old new
+NotDecided counts now command (Refused row broken) old new = Reads (λ t. counts ≡ counts_of t → decided t now command ≡ Err (refusal row broken)) old new
 NotDecided counts now command Failed old new = NotDone keeper.Failed old new
 NotDecided counts now command Memory old new = NotDone keeper.Memory old new

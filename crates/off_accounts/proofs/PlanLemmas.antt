@@ -1,0 +1,74 @@
+-- From rules that were tested and a write to what becomes of a command.
+use Rattle.std.proofs.Common.{◌≡◌, ℕ, ◌+◌, Bool, true, false, Option, Some, None, is_some, option_map, Result, Ok, Err, MatchResult, List, [], ◌∷◌, refl, sym, ap, subst, ◌∙◌, arith}
+use Rattle.off_base.specs.Tree.{Tree}
+use Rattle.off_tree.specs.declared.paths.TreeFault.{TreeFault}
+use Rattle.off_defs.specs.declared.keys.Key.{Key}
+use Rattle.off_defs.specs.declared.tables.Row.{Row}
+use Rattle.off_defs.specs.declared.rules.Rule.{Rule}
+use Rattle.off_defs.specs.declared.rules.Rule.TheVariants as rule
+use Rattle.off_defs.specs.declared.orders.Kind.{Kind}
+use Rattle.off_defs.specs.declared.orders.Write.TheVariants.{Put, Drop}
+use Rattle.off_defs.specs.declared.orders.Reply.TheVariants.{Done}
+use Rattle.off_defs.specs.declared.orders.Command.{Command}
+use Rattle.off_defs.specs.State.{Tables}
+use Rattle.off_defs.specs.Tables.{write_all}
+use Rattle.off_defs.proofs.CountLemmas.{grew_self, later_grew}
+use Rattle.off_rules.specs.declared.counts.Counts.{Counts}
+use Rattle.off_rules.specs.Rows.{is_of_kind, is_possible, seen_at, counts_of}
+use Rattle.off_rules.specs.Clerk.{first_broken, rules_of, writes_of, decided, by_rule, accepted, refusal}
+use Rattle.off_outside.specs.declared.keeper.KeepErr.TheVariants as keeper
+use Rattle.off_outside.specs.KeeperSeen.{KeeperSeen}
+use Rattle.off_outside.specs.KeeperCalls.{Reads, NotDone}
+use Rattle.off_outside.proofs.KeeperLemmas.{reads_then, reads_as, reads_none, failed_then}
+use Rattle.off_accounts.specs.declared.results.Asked.{Asked}
+use Rattle.off_accounts.specs.declared.results.Planned.{Planned}
+use Rattle.off_accounts.specs.declared.results.AccountErr.{AccountErr}
+use Rattle.off_accounts.specs.declared.results.AccountErr.TheVariants.{Memory}
+use Rattle.off_accounts.specs.Changes.{counts_put}
+use Rattle.off_accounts.specs.Deciding.{Refuses, by_memory, IsBroken, planned_of, IsDecided, Decides, Rejects} -- by_rule is the book's here
+use Rattle.off_accounts.specs.Deciding as says
+use Rattle.off_accounts.proofs.CountsLemmas.{counts_with}
+
+-- memory was wanted behind a reading
+not_done : {P : Tables → Type 0} {a b : KeeperSeen} → Reads P a b → NotDone keeper.Memory a b
+not_done p = record { tables = λ t told. (p.tables t told).0; faults = later_grew p.faults (grew_self _) }
+
+pub memory_refuses : {P : Tables → Type 0} {Says : Tables → Option Rule → Type 0} {a b : KeeperSeen} {err : AccountErr} → Reads P a b → err ≡ Memory → Refuses Says a b err
+memory_refuses {Says = Says} {a = a} {b = b} p is = subst (λ e. Refuses Says a b e) (sym is) (by_memory (not_done p))
+
+-- a rule on a command's own values, behind a reading
+pub broken_refuses : {P : Tables → Type 0} {Says : Tables → Option Rule → Type 0} {tested : Option Rule} {a b : KeeperSeen} {err : AccountErr}
+    → Reads P a b → IsBroken tested err → ((t : Tables) (found : Rule) → P t → tested ≡ Some found → Says t (Some found)) → Refuses Says a b err
+broken_refuses {Says = Says} {a = a} {b = b} p broken join =
+    subst (λ e. Refuses Says a b e) (sym broken.is) (says.by_rule (reads_as p (λ t one. join t broken.broken one broken.says)))
+
+-- a command that the book decides by its list of rules
+abbrev pub IsByRules : Command → Type 0
+IsByRules c = (t : Tables) (now : ℕ) → decided t now c ≡ by_rule 0 (accepted (writes_of t c) Done) (first_broken (rules_of t now c))
+
+pub rejects : (asked : Asked) (c : Command) (t : Tables) (found : Rule) → IsByRules c → (asked.counts ≡ counts_of t → first_broken (rules_of t asked.at.0 c) ≡ Some found) → Rejects asked c t (Some found)
+rejects asked c t found by broken = λ agree. by t asked.at.0 ∙ ap (by_rule 0 (accepted (writes_of t c) Done)) (broken agree)
+
+-- The command passes its rules, and these are its writes.
+pub decides : (asked : Asked) (c : Command) (planned : Planned) (t : Tables) → IsByRules c
+    → planned.reply ≡ Done
+    → (asked.counts ≡ counts_of t → (first_broken (rules_of t asked.at.0 c) ≡ None) × (planned.writes ≡ writes_of t c) × (planned.counts ≡ counts_of (write_all t planned.writes)))
+    → Decides asked c planned t
+decides asked c planned t by done all = λ agree.
+    let facts = all agree in
+    (by t asked.at.0 ∙ ap (by_rule 0 (accepted (writes_of t c) Done)) facts.0 ∙ (λ i. Ok (accepted (sym facts.1 i) (sym done i))), facts.2)
+
+-- what a function ends with that plans one write
+pub ends : {asked : Asked} {c : Command} {wanted : Planned} {a b : KeeperSeen} (result : Result Planned AccountErr) → MatchResult result (λ planned. planned ≡ wanted) (λ err. err ≡ Memory)
+    → Reads (Decides asked c wanted) a b → MatchResult result (λ planned. Reads (Decides asked c planned) a b) (λ err. Refuses (Rejects asked c) a b err)
+ends {asked = asked} {c = c} {a = a} {b = b} (Ok planned) is p = subst (λ w. Reads (Decides asked c w) a b) (sym is) p
+ends (Err err) is p = memory_refuses p is
+
+-- a put of a row of which there is a count
+pub put_counts : (kind : Kind) (key : Key) (row : Row) (t : Tables) (after : Counts) → is_of_kind kind key ≡ true → is_possible key row ≡ true
+    → after ≡ counts_put kind (is_some (seen_at t key)) (counts_of t) → after ≡ counts_of (write_all t (Put key row ∷ []))
+put_counts kind key row t after is fits e = e ∙ sym (counts_with kind key row t is fits)
+
+pub no_fault : (fault : Option TreeFault) → option_map rule.Tree fault ≡ None → fault ≡ None
+no_fault None e = refl
+no_fault (Some f) e = cc

@@ -1,0 +1,82 @@
+ghost use Rattle.std.specs.Prelude.{◌≡◌, ℕ, None, MatchResult, option_map, not};
+ghost use Rattle.off_tree.specs.declared.tables.Kind.TheVariants as tree;
+ghost use Rattle.off_tree.specs.Fault.{first_fault};
+ghost use Rattle.off_defs.specs.declared.rules.Rule.TheVariants as rule;
+ghost use Rattle.off_defs.specs.declared.orders.Command.TheVariants.{SetSite};
+ghost use Rattle.off_defs.specs.State.{Tables};
+ghost use Rattle.off_rules.specs.Rows.{has_pool_size, is_lease_time, is_offset};
+ghost use Rattle.off_rules.specs.Clerk.{when, first_broken, rules_of};
+ghost use Rattle.off_accounts.specs.Deciding.{IsBroken};
+
+use crate::results::AccountErr;
+use off_base::Settings;
+use off_defs::{Pool, Rule, Site, SiteField};
+use off_tree::{TreeFault, check_addon, check_class};
+
+/// Each of these tests rules on a command's own values.
+pub(crate) fn site_fits(site: &Site) -> Result<(), AccountErr>
+    ensures { MatchResult result (λ _. (t : Tables) (now : ℕ) → first_broken (rules_of t now (SetSite site.now)) ≡ None)
+        (λ err. (t : Tables) (now : ℕ) → IsBroken (first_broken (rules_of t now (SetSite site.now))) err) }
+{
+    if site.server.0 == 0 {
+        return Err(AccountErr::Refused { row: 0, rule: Rule::Site(SiteField::Server) });
+    }
+    if site.secret.as_slice().is_empty() {
+        return Err(AccountErr::Refused { row: 0, rule: Rule::Site(SiteField::Secret) });
+    }
+    if !is_lease_time(site.lease) {
+        return Err(AccountErr::Refused { row: 0, rule: Rule::Site(SiteField::Lease) });
+    }
+    if !is_offset(site.offset) {
+        return Err(AccountErr::Refused { row: 0, rule: Rule::Site(SiteField::Offset) });
+    }
+    Ok(())
+}
+
+fn is_lease_time(seconds: u32) -> bool
+    ensures { result ≡ is_lease_time seconds }
+{
+    60 <= seconds && seconds <= 604_800
+}
+
+fn is_offset(seconds: i32) -> bool
+    ensures { result ≡ is_offset seconds }
+{
+    -86_400 <= seconds && seconds <= 86_400
+}
+
+pub(crate) fn pool_size(pool: &Pool) -> Result<(), AccountErr>
+    ensures { MatchResult result (λ _. when (not (has_pool_size pool.now)) rule.PoolSize ≡ None)
+        (λ err. IsBroken (when (not (has_pool_size pool.now)) rule.PoolSize) err) }
+{
+    if !has_pool_size(pool) {
+        return Err(AccountErr::Refused { row: 0, rule: Rule::PoolSize });
+    }
+    Ok(())
+}
+
+fn has_pool_size(pool: &Pool) -> bool
+    ensures { result ≡ has_pool_size pool.now }
+{
+    pool.first.0 <= pool.last.0 && pool.last.0 - pool.first.0 < 4_096
+}
+
+pub(crate) fn add_on_fits(settings: &Settings) -> Result<(), AccountErr>
+    ensures { MatchResult result (λ _. option_map rule.Tree (first_fault tree.AddOn settings.now) ≡ None)
+        (λ err. IsBroken (option_map rule.Tree (first_fault tree.AddOn settings.now)) err) }
+{
+    match check_addon(settings) {
+        Ok(()) => Ok(()),
+        Err(fault) => Err(AccountErr::Refused { row: 0, rule: Rule::Tree(fault) }),
+    }
+}
+
+pub(crate) fn class_fits(settings: &Settings) -> Result<(), AccountErr>
+    ensures { MatchResult result (λ _. option_map rule.Tree (first_fault tree.Class settings.now) ≡ None)
+        (λ err. IsBroken (option_map rule.Tree (first_fault tree.Class settings.now)) err) }
+{
+    match check_class(settings) {
+        Ok(()) => Ok(()),
+        Err(fault) => Err(AccountErr::Refused { row: 0, rule: Rule::Tree(fault) }),
+    }
+}
