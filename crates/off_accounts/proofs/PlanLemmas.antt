@@ -1,20 +1,29 @@
 -- From rules that were tested and a write to what becomes of a command.
-use Rattle.std.proofs.Common.{◌≡◌, ℕ, ◌+◌, Bool, true, false, Option, Some, None, is_some, option_map, Result, Ok, Err, MatchResult, List, [], ◌∷◌, refl, sym, ap, subst, ◌∙◌, arith}
+use Rattle.std.proofs.Common.{◌≡◌, ℕ, ◌+◌, Bool, true, false, Option, Some, None, is_some, is_none, ◌&&◌, option_map, Result, Ok, Err, MatchResult, List, [], ◌∷◌, refl, sym, ap, subst, ◌∙◌, arith}
 use Rattle.off_base.specs.Tree.{Tree}
+use Rattle.off_tree.specs.declared.tables.Kind.TheVariants as tree
+use Rattle.off_tree.specs.Fault.{first_fault}
 use Rattle.off_tree.specs.declared.paths.TreeFault.{TreeFault}
 use Rattle.off_defs.specs.declared.keys.Key.{Key}
+use Rattle.off_defs.specs.declared.keys.Key.TheVariants as key
 use Rattle.off_defs.specs.declared.tables.Row.{Row}
+use Rattle.off_defs.specs.declared.tables.Row.TheVariants as row
+use Rattle.off_defs.specs.declared.tables.Class.{Class}
+use Rattle.off_defs.specs.declared.tables.Site.{Site}
 use Rattle.off_defs.specs.declared.rules.Rule.{Rule}
 use Rattle.off_defs.specs.declared.rules.Rule.TheVariants as rule
 use Rattle.off_defs.specs.declared.orders.Kind.{Kind}
+use Rattle.off_defs.specs.declared.orders.Kind.TheVariants.{Subscribers, AddOns, Modems, Classes, Pools, Batches}
 use Rattle.off_defs.specs.declared.orders.Write.TheVariants.{Put, Drop}
 use Rattle.off_defs.specs.declared.orders.Reply.TheVariants.{Done}
 use Rattle.off_defs.specs.declared.orders.Command.{Command}
+use Rattle.off_defs.specs.declared.orders.Command.TheVariants.{SetSite}
 use Rattle.off_defs.specs.State.{Tables}
 use Rattle.off_defs.specs.Tables.{write_all}
 use Rattle.off_defs.proofs.CountLemmas.{grew_self, later_grew}
 use Rattle.off_rules.specs.declared.counts.Counts.{Counts}
-use Rattle.off_rules.specs.Rows.{is_of_kind, is_possible, seen_at, counts_of}
+use Rattle.off_rows.specs.Sound.{is_add_on_number}
+use Rattle.off_rules.specs.Rows.{class_is_good, add_on_is_good, is_of_kind, is_possible, seen_at, counts_of}
 use Rattle.off_rules.specs.Clerk.{first_broken, rules_of, writes_of, decided, by_rule, accepted, refusal}
 use Rattle.off_outside.specs.declared.keeper.KeepErr.TheVariants as keeper
 use Rattle.off_outside.specs.KeeperSeen.{KeeperSeen}
@@ -25,9 +34,16 @@ use Rattle.off_accounts.specs.declared.results.Planned.{Planned}
 use Rattle.off_accounts.specs.declared.results.AccountErr.{AccountErr}
 use Rattle.off_accounts.specs.declared.results.AccountErr.TheVariants.{Memory}
 use Rattle.off_accounts.specs.Changes.{counts_put}
-use Rattle.off_accounts.specs.Deciding.{Refuses, by_memory, IsBroken, planned_of, IsDecided, Decides, Rejects} -- by_rule is the book's here
+use Rattle.off_accounts.specs.Deciding.{Refuses, by_memory, IsBroken, site_rule, planned_of, IsDecided, Decides, Rejects}
 use Rattle.off_accounts.specs.Deciding as says
-use Rattle.off_accounts.proofs.CountsLemmas.{counts_with}
+use Rattle.off_accounts.proofs.CountsLemmas.{counts_with, counts_with_other}
+
+-- readings, one behind another
+pub reads_nothing : {a : KeeperSeen} → Reads (λ t. Unit {0}) a a
+reads_nothing = reads_none (λ t. tt)
+
+pub reads_both : {P Q : Tables → Type 0} {a b c : KeeperSeen} → Reads P a b → Reads Q b c → Reads (λ t. P t × Q t) a c
+reads_both {P = P} {Q = Q} p q = reads_then {R = λ t. P t × Q t} p q (λ t one other. (one, other))
 
 -- memory was wanted behind a reading
 not_done : {P : Tables → Type 0} {a b : KeeperSeen} → Reads P a b → NotDone keeper.Memory a b
@@ -59,16 +75,42 @@ decides asked c planned t by done all = λ agree.
     (by t asked.at.0 ∙ ap (by_rule 0 (accepted (writes_of t c) Done)) facts.0 ∙ (λ i. Ok (accepted (sym facts.1 i) (sym done i))), facts.2)
 
 -- what a function ends with that plans one write
-pub ends : {asked : Asked} {c : Command} {wanted : Planned} {a b : KeeperSeen} (result : Result Planned AccountErr) → MatchResult result (λ planned. planned ≡ wanted) (λ err. err ≡ Memory)
+pub ends : (asked : Asked) (c : Command) (wanted : Planned) {a b : KeeperSeen} (result : Result Planned AccountErr) → MatchResult result (λ planned. planned ≡ wanted) (λ err. err ≡ Memory)
     → Reads (Decides asked c wanted) a b → MatchResult result (λ planned. Reads (Decides asked c planned) a b) (λ err. Refuses (Rejects asked c) a b err)
-ends {asked = asked} {c = c} {a = a} {b = b} (Ok planned) is p = subst (λ w. Reads (Decides asked c w) a b) (sym is) p
-ends (Err err) is p = memory_refuses p is
+ends asked c wanted {a = a} {b = b} (Ok planned) is p = subst (λ w. Reads (Decides asked c w) a b) (sym is) p
+ends asked c wanted (Err err) is p = memory_refuses p is
 
 -- a put of a row of which there is a count
-pub put_counts : (kind : Kind) (key : Key) (row : Row) (t : Tables) (after : Counts) → is_of_kind kind key ≡ true → is_possible key row ≡ true
-    → after ≡ counts_put kind (is_some (seen_at t key)) (counts_of t) → after ≡ counts_of (write_all t (Put key row ∷ []))
-put_counts kind key row t after is fits e = e ∙ sym (counts_with kind key row t is fits)
+pub put_counts : (kind : Kind) (key : Key) (row made : Row) (t : Tables) (after : Counts) → is_of_kind kind key ≡ true → is_possible key row ≡ true → made ≡ row
+    → after ≡ counts_put kind (is_some (seen_at t key)) (counts_of t) → after ≡ counts_of (write_all t (Put key made ∷ []))
+put_counts kind key row made t after is fits same e = e ∙ sym (counts_with kind key row t is fits) ∙ sym (ap (λ r. counts_of (write_all t (Put key r ∷ []))) same)
+
+no_kind : (kind : Kind) → is_of_kind kind key.Site ≡ false
+no_kind Subscribers = refl
+no_kind AddOns = refl
+no_kind Modems = refl
+no_kind Classes = refl
+no_kind Pools = refl
+no_kind Batches = refl
+
+-- The rules of a site read no tables.
+pub site_refuses : (asked : Asked) (site : Site) {a : KeeperSeen} {err : AccountErr} → IsBroken (site_rule site) err → Refuses (Rejects asked (SetSite site)) a a err
+site_refuses asked site broken = broken_refuses reads_nothing broken (λ t found p is. rejects asked (SetSite site) t found (λ t now. refl) (λ agree. is))
+
+pub site_decides : (asked : Asked) (site : Site) (made : Row) (t : Tables) → site_rule site ≡ None → made ≡ row.Site site → Decides asked (SetSite site) (planned_of (Put key.Site made ∷ []) Done asked.counts) t
+site_decides asked site made t fits is =
+    decides asked (SetSite site) (planned_of (Put key.Site made ∷ []) Done asked.counts) t (λ t now. refl) refl (λ agree.
+    (fits, ap (λ r. Put key.Site r ∷ []) is, agree ∙ sym (counts_with_other key.Site made t no_kind)))
 
 pub no_fault : (fault : Option TreeFault) → option_map rule.Tree fault ≡ None → fault ≡ None
 no_fault None e = refl
 no_fault (Some f) e = cc
+
+-- settings whose rule isn't broken stand in a possible row
+pub good_add_on : (n number : ℕ) (settings : List Tree) → is_add_on_number number ≡ true → option_map rule.Tree (first_fault tree.AddOn settings) ≡ None → is_possible (key.AddOn n number) (row.AddOn settings) ≡ true
+unfolding add_on_is_good
+good_add_on n number settings low good = ap (λ b. b && is_none (first_fault tree.AddOn settings)) low ∙ ap is_none (no_fault (first_fault tree.AddOn settings) good)
+
+pub good_class : (n : ℕ) (class : Class) → option_map rule.Tree (first_fault tree.Class class.settings) ≡ None → is_possible (key.Class n) (row.Class class) ≡ true
+unfolding class_is_good
+good_class n class good = ap is_none (no_fault (first_fault tree.Class class.settings) good)

@@ -1,15 +1,17 @@
 -- What `decide` says of a command: what is to be written and answered, or which rule refuses it.
 use Rattle.std.specs.Prelude.{◌≡◌, ℕ, Bool, true, false, Option, Some, None, Result, Ok, Err, List, MatchResult}
+use Rattle.std.specs.FinMap as map
+use Rattle.off_defs.specs.declared.tables.Site.{Site}
 use Rattle.off_defs.specs.declared.rules.Rule.{Rule}
 use Rattle.off_defs.specs.declared.orders.Write.{Write}
 use Rattle.off_defs.specs.declared.orders.Reply.{Reply}
 use Rattle.off_defs.specs.declared.orders.Command.{Command}
-use Rattle.off_defs.specs.declared.orders.Command.TheVariants.{Import}
+use Rattle.off_defs.specs.declared.orders.Command.TheVariants.{SetSite, Import}
 use Rattle.off_defs.specs.State.{Tables}
 use Rattle.off_defs.specs.Tables.{write_all}
 use Rattle.off_rules.specs.declared.counts.Counts.{Counts}
 use Rattle.off_rules.specs.Rows.{counts_of}
-use Rattle.off_rules.specs.Clerk.{decided, accepted, refusal}
+use Rattle.off_rules.specs.Clerk.{first_broken, rules_of, decided, accepted, refusal}
 use Rattle.off_outside.specs.declared.keeper.KeepErr.{KeepErr}
 use Rattle.off_outside.specs.declared.keeper.KeepErr.TheVariants as keeper
 use Rattle.off_outside.specs.KeeperSeen.{KeeperSeen}
@@ -40,6 +42,10 @@ pub record IsBroken (tested : Option Rule) (err : AccountErr) : Type 0 where
   pub broken : Rule
   pub is : err ≡ Refused 0 broken
   pub says : tested ≡ Some broken
+
+-- The first broken rule of a site. Its rules read no tables and no moment, so it's that of any.
+abbrev pub site_rule : Site → Option Rule
+site_rule site = first_broken (rules_of map.empty 0 (SetSite site))
 
 -- what is done and answered, with the counts of rows once it's done
 abbrev pub planned_of : List Write → Reply → Counts → Planned

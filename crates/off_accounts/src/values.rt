@@ -1,22 +1,19 @@
-ghost use Rattle.std.specs.Prelude.{◌≡◌, ℕ, None, MatchResult, option_map, not};
+ghost use Rattle.std.specs.Prelude.{◌≡◌, None, MatchResult, option_map, not};
 ghost use Rattle.off_tree.specs.declared.tables.Kind.TheVariants as tree;
 ghost use Rattle.off_tree.specs.Fault.{first_fault};
 ghost use Rattle.off_defs.specs.declared.rules.Rule.TheVariants as rule;
-ghost use Rattle.off_defs.specs.declared.orders.Command.TheVariants.{SetSite};
-ghost use Rattle.off_defs.specs.State.{Tables};
 ghost use Rattle.off_rules.specs.Rows.{has_pool_size, is_lease_time, is_offset};
-ghost use Rattle.off_rules.specs.Clerk.{when, first_broken, rules_of};
-ghost use Rattle.off_accounts.specs.Deciding.{IsBroken};
+ghost use Rattle.off_rules.specs.Clerk.{when};
+ghost use Rattle.off_accounts.specs.Deciding.{IsBroken, site_rule};
 
 use crate::results::AccountErr;
 use off_base::Settings;
 use off_defs::{Pool, Rule, Site, SiteField};
-use off_tree::{TreeFault, check_addon, check_class};
+use off_tree::{check_addon, check_class};
 
 /// Each of these tests rules on a command's own values.
 pub(crate) fn site_fits(site: &Site) -> Result<(), AccountErr>
-    ensures { MatchResult result (λ _. (t : Tables) (now : ℕ) → first_broken (rules_of t now (SetSite site.now)) ≡ None)
-        (λ err. (t : Tables) (now : ℕ) → IsBroken (first_broken (rules_of t now (SetSite site.now))) err) }
+    ensures { MatchResult result (λ _. site_rule site.now ≡ None) (λ err. IsBroken (site_rule site.now) err) }
 {
     if site.server.0 == 0 {
         return Err(AccountErr::Refused { row: 0, rule: Rule::Site(SiteField::Server) });
