@@ -7,6 +7,7 @@ pub mod HeightLemmas
 pub mod LimitLemmas
 pub mod PlanLemmas
 pub mod PresentLemmas
+pub mod RemovalLemmas
 pub mod RuleLemmas
 pub mod SearchLemmas
 pub mod StepLemmas

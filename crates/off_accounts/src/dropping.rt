@@ -1,14 +1,16 @@
-ghost use Rattle.std.specs.Prelude.{◌≡◌, ◌++◌, Some, MatchResult, OnOk};
+ghost use Rattle.std.specs.Prelude.{◌≡◌, ◌∷◌, ◌++◌, Some, MatchResult, OnOk};
 ghost use Rattle.std.specs.List.{flat_map};
 ghost use Rattle.off_rules.specs.Clerk.{lease_drops, held_drop};
 ghost use Rattle.off_rules.specs.Good.{owner_of};
 ghost use Rattle.off_outside.specs.KeeperCalls.{Reads, NotDone};
+ghost use Rattle.off_accounts.specs.Deciding.{Refuses};
 ghost use Rattle.off_accounts.specs.Searches.{lost_from, drops_of, drops_at};
 
 use crate::lost::{Lost, before_lost, gives_up, is_past_lost};
+use crate::results::AccountErr;
 use crate::walking::next_behind;
 use off_base::{Ip4, NoMemory};
-use off_defs::{Hold, Key, Lease, Row, Write, Writes};
+use off_defs::{Hold, Key, Lease, Pool, Row, Write, Writes};
 use off_outside::{KeepErr, Keeper};
 use std::alloc::Global;
 
@@ -36,6 +38,29 @@ pub(crate) fn drop_lost<K: Keeper>(
         };
         place = key;
     }
+}
+
+/// A write, and behind it the drops of the leases that are lost where one pool, or none, takes the place of another one, or none.
+pub(crate) fn with_drops<K: Keeper>(
+    alloc: Global,
+    keeper: &mut K,
+    write: Write,
+    old: Option<Pool>,
+    new: Option<Pool>,
+) -> Result<Writes, AccountErr>
+    ensures { MatchResult result
+        (λ writes. Reads (λ t. writes ≡ write ∷ flat_map lease_drops (lost_from old new t)) (K.seen keeper.old) (K.seen keeper.new))
+        (λ err. Refuses (λ t rule. ⊥) (K.seen keeper.old) (K.seen keeper.new) err) }
+{
+    let mut writes = Writes::new(alloc);
+    let Ok(()) = writes.push(write) else {
+        return Err(AccountErr::Memory);
+    };
+    let Some(old) = old else {
+        return Ok(writes);
+    };
+    drop_lost(alloc, keeper, &Lost { old, new }, &mut writes)?;
+    Ok(writes)
 }
 
 // Appends what is dropped of an entry.

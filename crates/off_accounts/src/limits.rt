@@ -1,4 +1,5 @@
 ghost use Rattle.std.specs.Prelude.{◌≡◌, ◌<◌, ◌^◌, ◌-◌, None, true, is_some, MatchResult};
+ghost use Rattle.off_defs.specs.declared.orders.Kind.TheVariants.{AddOns};
 ghost use Rattle.off_rules.specs.Rows.{seen_at, counts_of};
 ghost use Rattle.off_rules.specs.Clerk.{limit, limit_of};
 ghost use Rattle.off_outside.specs.KeeperCalls.{Reads};
@@ -43,6 +44,17 @@ pub(crate) fn one_less(counts: &Counts, kind: Kind) -> Counts
     ensures { result ≡ counts_drop kind true counts.now }
 {
     with_count(counts, kind, counted(counts, kind).saturating_sub(1))
+}
+
+/// The counts after so many add-ons lose their rows.
+pub(crate) fn fewer_add_ons(counts: &Counts, lost: u64) -> Counts
+    ensures { result ≡ with_count AddOns (counted AddOns counts.now - lost) counts.now }
+{
+    with_count(
+        counts,
+        Kind::AddOns,
+        counted(counts, Kind::AddOns).saturating_sub(lost),
+    )
 }
 
 /// How many rows of a kind there may be.

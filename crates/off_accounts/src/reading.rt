@@ -1,9 +1,9 @@
-ghost use Rattle.std.specs.Prelude.{◌≡◌, MatchResult, is_some};
-ghost use Rattle.off_rules.specs.Rows.{seen_at, possible};
+ghost use Rattle.std.specs.Prelude.{◌≡◌, MatchResult, is_some, option_and_then};
+ghost use Rattle.off_rules.specs.Rows.{seen_at, possible, pool_in, as_pool};
 ghost use Rattle.off_outside.specs.KeeperCalls.{Reads, NotDone};
 
 use crate::possible::is_possible;
-use off_defs::{Key, Row};
+use off_defs::{Key, Pool, Row};
 use off_outside::{KeepErr, Keeper};
 use std::alloc::Global;
 
@@ -38,4 +38,26 @@ pub(crate) fn is_there<K: Keeper>(
         (λ err. NotDone err (K.seen keeper.old) (K.seen keeper.new)) }
 {
     Ok(read(alloc, keeper, key)?.is_some())
+}
+
+/// The pool of a number, or `None` where there is none.
+pub(crate) fn pool_at<K: Keeper>(
+    alloc: Global,
+    keeper: &mut K,
+    n: u32,
+) -> Result<Option<Pool>, KeepErr>
+    ensures { MatchResult result (λ pool. Reads (λ t. pool ≡ pool_in t n) (K.seen keeper.old) (K.seen keeper.new))
+        (λ err. NotDone err (K.seen keeper.old) (K.seen keeper.new)) }
+{
+    Ok(as_pool(read(alloc, keeper, &Key::Pool(n))?))
+}
+
+fn as_pool(row: Option<Row>) -> Option<Pool>
+    ensures { result ≡ option_and_then as_pool row }
+{
+    let Some(row) = row else { return None };
+    match row {
+        Row::Pool(pool) => Some(pool),
+        _ => None,
+    }
 }

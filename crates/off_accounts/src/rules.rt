@@ -1,11 +1,12 @@
 ghost use Rattle.std.specs.Prelude.{◌≡◌, None, Some, MatchResult};
-ghost use Rattle.off_rules.specs.Clerk.{no_subscriber, no_class, no_row, pool_overlap, relay_taken, has_modems, class_in_use};
+ghost use Rattle.off_rules.specs.Rows.{pool_in};
+ghost use Rattle.off_rules.specs.Clerk.{no_subscriber, no_class, no_row, pool_overlap, relay_taken, pool_has_leases, has_modems, class_in_use};
 ghost use Rattle.off_outside.specs.KeeperCalls.{Reads};
 ghost use Rattle.off_accounts.specs.Deciding.{Refuses};
 ghost use Rattle.off_accounts.specs.Searches.{live_lost, pool_number, lease_address};
 
 use crate::lost::Lost;
-use crate::reading::is_there;
+use crate::reading::{is_there, pool_at};
 use crate::results::AccountErr;
 use crate::searching::{Sought, search};
 use off_base::{Ip4, Moment};
@@ -112,8 +113,24 @@ pub(crate) fn relay_taken<K: Keeper>(
     Err(AccountErr::Refused { row: 0, rule: Rule::RelayTaken(other) })
 }
 
-/// Whether a lease that hasn't expired is lost where one pool, or none, takes another one's place.
-pub(crate) fn live_lost<K: Keeper>(
+/// The pool that was at the number, or `None`, where no lease of it that hasn't expired is lost.
+pub(crate) fn pool_has_leases<K: Keeper>(
+    alloc: Global,
+    keeper: &mut K,
+    now: Moment,
+    n: u32,
+    new: Option<Pool>,
+) -> Result<Option<Pool>, AccountErr>
+    ensures { MatchResult result (λ old. Reads (λ t. (old ≡ pool_in t n) × (pool_has_leases t now.0 n new ≡ None)) (K.seen keeper.old) (K.seen keeper.new))
+        (λ err. Refuses (λ t rule. pool_has_leases t now.0 n new ≡ rule) (K.seen keeper.old) (K.seen keeper.new) err) }
+{
+    let old = pool_at(alloc, keeper, n)?;
+    live_lost(alloc, keeper, now, old, new)?;
+    Ok(old)
+}
+
+// Whether a lease that hasn't expired is lost where one pool, or none, takes another one's place.
+fn live_lost<K: Keeper>(
     alloc: Global,
     keeper: &mut K,
     now: Moment,
