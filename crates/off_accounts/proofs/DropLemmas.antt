@@ -5,11 +5,12 @@ use Rattle.std.specs.FinMap as map
 use Rattle.off_base.specs.declared.addresses.Ip4.{Ip4}
 use Rattle.off_defs.specs.declared.keys.Key.{Key}
 use Rattle.off_defs.specs.declared.tables.Row.{Row}
+use Rattle.off_defs.specs.declared.tables.Pool.{Pool}
 use Rattle.off_defs.specs.declared.tables.Lease.{Lease}
 use Rattle.off_defs.specs.declared.orders.Write.{Write}
 use Rattle.off_defs.specs.State.{Tables}
 use Rattle.off_defs.specs.Tables.{is_after, behind, next_entry}
-use Rattle.off_rules.specs.Rows.{lease_of}
+use Rattle.off_rules.specs.Rows.{lease_of, leases}
 use Rattle.off_rules.specs.Clerk.{lease_drops}
 use Rattle.off_accounts.specs.declared.lost.Lost.{Lost}
 use Rattle.off_accounts.specs.Searches.{passes, is_given_up, drops_of, drops_at, lost_from}
@@ -76,3 +77,14 @@ module _ (lost : Lost) (before : List Write) where
       left ∙ ap (λ (v : List Write). now ++ v) (fold_next (flat_map (drops_at lost)) add_drops (λ e es. refl) (Some place) e t next)
       ∙ sym (append_assoc now (drops_at lost e) (flat_map (drops_at lost) (behind (Some e.0) (map.entries t))))
       ∙ ap (λ (v : List Write). v ++ flat_map (drops_at lost) (behind (Some e.0) (map.entries t))) (sym is)
+
+none_kept : {X : Type 0} (xs : List X) → filter (λ x. false) xs ≡ []
+none_kept [] = refl
+none_kept (x ∷ xs) = none_kept xs
+
+-- without a pool before nothing is lost
+pub nothing_lost : (old new : Option Pool) (write : Write) (start writes : List Write) (t : Tables) → old ≡ None → start ≡ [] → writes ≡ start ++ write ∷ []
+    → writes ≡ write ∷ flat_map lease_drops (lost_from old new t)
+nothing_lost old new write start writes t none empty is =
+    is ∙ ap (λ (v : List Write). v ++ write ∷ []) empty
+    ∙ sym (ap (λ o. write ∷ flat_map lease_drops (lost_from o new t)) none ∙ ap (λ (v : List (Ip4 × Lease)). write ∷ flat_map lease_drops v) (none_kept (leases t)))

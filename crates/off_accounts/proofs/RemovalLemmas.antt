@@ -78,8 +78,7 @@ add_on_number (AddOn n number) = number
 add_on_number key = 0
 
 not_true : (b : Bool) → (b ≡ true → ⊥) → b ≡ false
-not_true true no = absurd (no refl)
-not_true false no = refl
+not_true b = elim b as (λ v. (v ≡ true → ⊥) → v ≡ false) [ true ↦ λ no. absurd (no refl) | false ↦ λ no. refl ]
 
 apart : (n a b : ℕ) → b < a → eq_by_cmp key_cmp (AddOn n a) (AddOn n b) ≡ false
 unfolding add_on_number
