@@ -12,3 +12,8 @@ pub mod RuleLemmas
 pub mod SearchLemmas
 pub mod StepLemmas
 pub mod WalkLemmas
+pub mod OrderLemmas
+pub mod OpeningLemmas
+pub mod GatherLemmas
+pub mod PoolLemmas
+pub mod CountingLemmas

@@ -7,7 +7,7 @@ use Rattle.off_defs.specs.Keys.{key_cmp}
 use Rattle.off_defs.specs.declared.keys.Key.{Key}
 use Rattle.off_defs.specs.declared.tables.Row.{Row}
 use Rattle.off_defs.specs.State.{Tables}
-use Rattle.off_defs.specs.Tables.{is_after, next_entry}
+use Rattle.off_defs.specs.Tables.{is_after, behind, next_entry}
 use Rattle.off_accounts.specs.Walks.{IsAKey, IsBehind}
 use Rattle.off_accounts.proofs.HeightLemmas.{all_behind, one_behind}
 
@@ -34,3 +34,8 @@ behind_none place entry is = subst (λ (p : Option Key). IsBehind p entry) (sym 
 pub behind_key : (place : Option Key) (before : Key) (entry : Key × Row) (after : Bool) → place ≡ Some before → IsAKey before → IsAKey entry.0
     → after ≡ is_lt (key_cmp before entry.0) → after ≡ true → IsBehind place entry
 behind_key place before entry after is p q test holds = subst (λ (v : Option Key). IsBehind v entry) (sym is) (one_behind before entry p q (sym test ∙ holds))
+
+-- all entries lie behind the first place
+pub all_left : (es : List (Key × Row)) → behind None es ≡ es
+all_left [] = refl
+all_left (e ∷ es) = ap (λ (v : List (Key × Row)). e ∷ v) (all_left es)

@@ -1,35 +1,140 @@
-ghost use Rattle.std.specs.Prelude.{◌≡◌};
-ghost use Rattle.off_rules.specs.Rows.{is_possible, site_fits, pool_fits};
+ghost use Rattle.std.specs.Prelude.{◌≡◌, ◌&&◌, nat_le, ℕ};
+ghost use Rattle.off_defs.specs.declared.keys.Key.TheVariants as key;
+ghost use Rattle.off_rules.specs.Rows.{is_possible, site_fits, is_offset, is_lease_time, subscriber_fits, class_is_good, add_on_is_good, has_pool_size, pool_fits};
 
-use off_defs::{Key, Pool, Row, Site};
+use off_base::Settings;
+use off_defs::{Key, Pool, Row, Site, Subscriber};
 use off_tree::{check_addon, check_class};
 
-/// Whether a row is possible at a key: it's of the key's kind and its own values are in their ranges.
-#[tactic(auto, unfolding(off_rules::specs::Rows::class_is_good, off_rules::specs::Rows::add_on_is_good))]
+// The greatest number of an add-on.
+const LAST_ADD_ON: u8 = 7;
+
+// How many seconds the local time may differ from UTC: a day.
+const MOST_OFFSET: i32 = 86_400;
+
+// The shortest and the longest time of a lease, in seconds: a minute and a week.
+const LEAST_LEASE: u32 = 60;
+
+const MOST_LEASE: u32 = 604_800;
+
+// How many addresses a pool may have.
+const MOST_ADDRESSES: u32 = 4_096;
+
+/// Whether the row may stand at the key: it's of the key's kind, and its own values are in their ranges, whatever the other rows are.
 pub(crate) fn is_possible(key: &Key, row: &Row) -> bool
     ensures { result ≡ is_possible key.now row.now }
 {
-    match key {
-        Key::Site => match row { Row::Site(site) => site_fits(site), _ => false },
-        Key::Subscriber(_) => match row { Row::Subscriber(subscriber) => 1 <= subscriber.cpes && subscriber.cpes <= 254, _ => false },
-        Key::AddOn(_, number) => match row { Row::AddOn(settings) => *number <= 7 && check_addon(settings).is_ok(), _ => false },
-        Key::Modem(_) => match row { Row::Modem(_) => true, _ => false },
-        Key::Class(_) => match row { Row::Class(class) => check_class(&class.settings).is_ok(), _ => false },
-        Key::Pool(_) => match row { Row::Pool(pool) => pool_fits(pool), _ => false },
-        Key::Lease(_) => match row { Row::Lease(_) => true, _ => false },
-        Key::Held(_) => match row { Row::Held(_) => true, _ => false },
-        Key::Batch(_) => match row { Row::Batch(_) => true, _ => false },
+    match *key {
+        Key::Site => is_possible_site(row),
+        Key::Subscriber(_) => is_possible_subscriber(row),
+        Key::AddOn(_, number) => number <= LAST_ADD_ON && is_possible_add_on(row),
+        Key::Modem(_) => matches!(row, Row::Modem(_)),
+        Key::Class(_) => is_possible_class(row),
+        Key::Pool(_) => is_possible_pool(row),
+        Key::Lease(_) => matches!(row, Row::Lease(_)),
+        Key::Held(_) => matches!(row, Row::Held(_)),
+        Key::Batch(_) => matches!(row, Row::Batch(_)),
+    }
+}
+
+fn is_possible_site(row: &Row) -> bool
+    ensures { result ≡ is_possible key.Site row.now }
+{
+    match row {
+        Row::Site(site) => site_fits(site),
+        _ => false,
+    }
+}
+
+fn is_possible_subscriber(row: &Row) -> bool
+    ensures { (n : ℕ) → result ≡ is_possible (key.Subscriber n) row.now }
+{
+    match row {
+        Row::Subscriber(subscriber) => subscriber_fits(subscriber),
+        _ => false,
+    }
+}
+
+fn is_possible_add_on(row: &Row) -> bool
+    ensures { (n number : ℕ) → (nat_le number 7 && result) ≡ is_possible (key.AddOn n number) row.now }
+{
+    match row {
+        Row::AddOn(settings) => add_on_is_good(settings),
+        _ => false,
+    }
+}
+
+fn is_possible_class(row: &Row) -> bool
+    ensures { (n : ℕ) → result ≡ is_possible (key.Class n) row.now }
+{
+    match row {
+        Row::Class(class) => class_is_good(&class.settings),
+        _ => false,
+    }
+}
+
+fn is_possible_pool(row: &Row) -> bool
+    ensures { (n : ℕ) → result ≡ is_possible (key.Pool n) row.now }
+{
+    match row {
+        Row::Pool(pool) => pool_fits(pool),
+        _ => false,
     }
 }
 
 fn site_fits(site: &Site) -> bool
     ensures { result ≡ site_fits site.now }
 {
-    site.server.0 != 0 && 1 <= site.secret.as_slice().len() && site.secret.as_slice().len() <= 64 && -86_400 <= site.offset && site.offset <= 86_400 && 60 <= site.lease && site.lease <= 604_800
+    let secret = site.secret.as_slice().len();
+    site.server.0 != 0
+        && 1 <= secret
+        && secret <= 64
+        && is_offset(site.offset)
+        && is_lease_time(site.lease)
+}
+
+fn is_offset(offset: i32) -> bool
+    ensures { result ≡ is_offset offset }
+{
+    -MOST_OFFSET <= offset && offset <= MOST_OFFSET
+}
+
+fn is_lease_time(seconds: u32) -> bool
+    ensures { result ≡ is_lease_time seconds }
+{
+    LEAST_LEASE <= seconds && seconds <= MOST_LEASE
+}
+
+fn subscriber_fits(subscriber: &Subscriber) -> bool
+    ensures { result ≡ subscriber_fits subscriber.now }
+{
+    1 <= subscriber.cpes && subscriber.cpes <= 254
+}
+
+#[tactic(auto, unfolding(off_rules::specs::Rows::class_is_good))]
+fn class_is_good(settings: &Settings) -> bool
+    ensures { result ≡ class_is_good settings.now }
+{
+    check_class(settings).is_ok()
+}
+
+#[tactic(auto, unfolding(off_rules::specs::Rows::add_on_is_good))]
+fn add_on_is_good(settings: &Settings) -> bool
+    ensures { result ≡ add_on_is_good settings.now }
+{
+    check_addon(settings).is_ok()
 }
 
 fn pool_fits(pool: &Pool) -> bool
     ensures { result ≡ pool_fits pool.now }
 {
-    pool.first.0 <= pool.last.0 && pool.last.0 - pool.first.0 < 4096 && 8 <= pool.prefix && pool.prefix <= 30 && pool.relay.0 != 0
+    has_pool_size(pool) && 8 <= pool.prefix && pool.prefix <= 30 && pool.relay.0 != 0
+}
+
+fn has_pool_size(pool: &Pool) -> bool
+    ensures { result ≡ has_pool_size pool.now }
+{
+    let first = pool.first.0;
+    let last = pool.last.0;
+    first <= last && last - first < MOST_ADDRESSES
 }
