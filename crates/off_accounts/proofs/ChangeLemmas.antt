@@ -43,14 +43,14 @@ module _ {K X : Type 0} (R : K → K → Ordering) (p : K × X → Bool) where
         → count_by p (list.by_order r ((key, x) ∷ e ∷ es) ((e.0, x) ∷ es) (e ∷ list.put R key x es)) + counted_at key (cond (is_eq r) (Some e.1) (list.find R key es))
         ≡ count_by p (e ∷ es) + counts_it (key, x)) [
           | Less ↦ λ less.
-            let none : list.find R key es ≡ None = not_below key es (below_less key e.0 es less (first _ _ h)) in
-            let n : counted_at key (list.find R key es) ≡ 0 = ap (counted_at key) none in
-            omega (arith, n, count_first (key, x) (e ∷ es))
+              let none : list.find R key es ≡ None = not_below key es (below_less key e.0 es less (first _ _ h)) in
+              let n : counted_at key (list.find R key es) ≡ 0 = ap (counted_at key) none in
+              omega (arith, n, count_first (key, x) (e ∷ es))
           | Equal ↦ λ same.
-            let is : key ≡ e.0 = exact key e.0 same in
-            let a : counts_it (key, e.1) ≡ counts_it e = ap (λ k. counts_it (k, e.1)) is in
-            let b : counts_it (key, x) ≡ counts_it (e.0, x) = ap (λ k. counts_it (k, x)) is in
-            omega (arith, a, b, count_first (e.0, x) es, count_first e es)
+              let is : key ≡ e.0 = exact key e.0 same in
+              let a : counts_it (key, e.1) ≡ counts_it e = ap (λ k. counts_it (k, e.1)) is in
+              let b : counts_it (key, x) ≡ counts_it (e.0, x) = ap (λ k. counts_it (k, x)) is in
+              omega (arith, a, b, count_first (e.0, x) es, count_first e es)
           | Greater ↦ λ more. omega (arith, count-put key x es (second _ _ h), count_first e (list.put R key x es), count_first e es)
         ] refl
 
@@ -64,10 +64,10 @@ module _ {K X : Type 0} (R : K → K → Ordering) (p : K × X → Bool) where
         → count_by p (cond (not (is_eq r)) (e ∷ left) left) + counted_at key (cond (is_eq r) (Some e.1) (list.find R key es)) ≡ count_by p (e ∷ es)) [
           | Less ↦ λ less. omega (arith, rest, count_first e left, count_first e es)
           | Equal ↦ λ same.
-            let is : key ≡ e.0 = exact key e.0 same in
-            let a : counts_it (key, e.1) ≡ counts_it e = ap (λ k. counts_it (k, e.1)) is in
-            let none : list.find R key es ≡ None = not_below key es (subst (λ k. T (list.below_all R k es)) (sym is) (first _ _ h)) in
-            let n : counted_at key (list.find R key es) ≡ 0 = ap (counted_at key) none in
-            omega (arith, rest, a, n, count_first e es)
+              let is : key ≡ e.0 = exact key e.0 same in
+              let a : counts_it (key, e.1) ≡ counts_it e = ap (λ k. counts_it (k, e.1)) is in
+              let none : list.find R key es ≡ None = not_below key es (subst (λ k. T (list.below_all R k es)) (sym is) (first _ _ h)) in
+              let n : counted_at key (list.find R key es) ≡ 0 = ap (counted_at key) none in
+              omega (arith, rest, a, n, count_first e es)
           | Greater ↦ λ more. omega (arith, rest, count_first e left, count_first e es)
         ] refl

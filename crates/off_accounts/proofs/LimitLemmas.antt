@@ -24,9 +24,10 @@ at_limit (Some x) full broken e = cc
 
 module _ (key : Key) (kind : Kind) (counts : Counts) (t : Tables) (there : Bool) (says : there ≡ is_some (seen_at t key)) where
   pub limit_there : there ≡ true → counts ≡ counts_of t → (limit t key kind ≡ None) × (counts ≡ counts_put kind (is_some (seen_at t key)) (counts_of t))
-  limit_there is agree =
-      (no_limit (seen_at t key) (nat_le (limit_of kind) (count_of kind t)) (rule.Limit kind (limit_of kind)) (sym says ∙ is),
-      subst (λ b. counts ≡ counts_put kind b (counts_of t)) (sym is ∙ says) agree)
+  limit_there is agree = (
+    no_limit (seen_at t key) (nat_le (limit_of kind) (count_of kind t)) (rule.Limit kind (limit_of kind)) (sym says ∙ is),
+    subst (λ b. counts ≡ counts_put kind b (counts_of t)) (sym is ∙ says) agree,
+  )
 
   same_count : (count : ℕ) → count ≡ counted kind counts → counts ≡ counts_of t → count ≡ count_of kind t
   same_count count is agree = is ∙ ap (counted kind) agree ∙ counted_of kind t
@@ -40,9 +41,10 @@ module _ (key : Key) (kind : Kind) (counts : Counts) (t : Tables) (there : Bool)
 
   pub limit_room : (most count : ℕ) (after : Counts) → there ≡ false → most ≡ limit_of kind → count ≡ counted kind counts → count < most → after ≡ with_count kind (count + 1) counts → counts ≡ counts_of t
       → (limit t key kind ≡ None) × (after ≡ counts_put kind (is_some (seen_at t key)) (counts_of t))
-  limit_room most count after is limit_is count_is room after_is agree =
-      (at_limit (seen_at t key) (nat_le (limit_of kind) (count_of kind t)) (rule.Limit kind (limit_of kind)) (sym says ∙ is)
-      ∙ sym (ap (λ m. when (nat_le m (count_of kind t)) (rule.Limit kind m)) limit_is)
-      ∙ sym (ap (λ n. when (nat_le most n) (rule.Limit kind most)) (same_count count count_is agree))
-      ∙ ap (λ b. when b (rule.Limit kind most)) (lt-leb most count room),
-      after_is ∙ ap (λ n. with_count kind (n + 1) counts) count_is ∙ ap (counts_put kind false) agree ∙ ap (λ b. counts_put kind b (counts_of t)) (sym is ∙ says))
+  limit_room most count after is limit_is count_is room after_is agree = (
+    at_limit (seen_at t key) (nat_le (limit_of kind) (count_of kind t)) (rule.Limit kind (limit_of kind)) (sym says ∙ is)
+        ∙ sym (ap (λ m. when (nat_le m (count_of kind t)) (rule.Limit kind m)) limit_is)
+        ∙ sym (ap (λ n. when (nat_le most n) (rule.Limit kind most)) (same_count count count_is agree))
+        ∙ ap (λ b. when b (rule.Limit kind most)) (lt-leb most count room),
+    after_is ∙ ap (λ n. with_count kind (n + 1) counts) count_is ∙ ap (counts_put kind false) agree ∙ ap (λ b. counts_put kind b (counts_of t)) (sym is ∙ says),
+  )

@@ -33,7 +33,10 @@ pub fn decide<K: Keeper>(
         (λ planned. Reads (λ t. counts.now ≡ counts_of t → IsDecided now.0 c.now planned t) (K.seen keeper.old) (K.seen keeper.new))
         (λ err. NotDecided counts.now now.0 c.now err (K.seen keeper.old) (K.seen keeper.new)) }
 {
-    let asked = Asked { counts: *counts, at: now };
+    let asked = Asked {
+        counts: *counts,
+        at: now,
+    };
     decide_asked(alloc, keeper, &asked, c)
 }
 
@@ -50,8 +53,12 @@ fn decide_asked<K: Keeper>(
 {
     match c {
         Command::SetSite(site) => set_site(alloc, keeper, asked, site),
-        Command::PutSubscriber(n, subscriber) => put_subscriber(alloc, keeper, asked, *n, subscriber),
-        Command::PutAddOn(n, number, settings) => put_add_on(alloc, keeper, asked, *n, *number, settings),
+        Command::PutSubscriber(n, subscriber) => put_subscriber(
+            alloc, keeper, asked, *n, subscriber,
+        ),
+        Command::PutAddOn(n, number, settings) => put_add_on(
+            alloc, keeper, asked, *n, *number, settings,
+        ),
         Command::PutModem(mac, modem) => put_modem(alloc, keeper, asked, *mac, modem),
         Command::PutClass(n, class) => put_class(alloc, keeper, asked, *n, class),
         Command::PutPool(n, pool) => put_pool(alloc, keeper, asked, *n, pool),
@@ -72,7 +79,10 @@ fn show<K: Keeper>(
         (λ err. Refuses (Rejects asked.now (Show key.now)) (K.seen keeper.old) (K.seen keeper.new) err) }
 {
     let Some(row) = read(alloc, keeper, key)? else {
-        return Err(AccountErr::Refused { row: 0, rule: Rule::NoRow });
+        return Err(AccountErr::Refused {
+            row: 0,
+            rule: Rule::NoRow,
+        });
     };
     Ok(Planned {
         writes: Writes::new(alloc),

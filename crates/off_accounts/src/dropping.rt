@@ -8,6 +8,7 @@ ghost use Rattle.off_accounts.specs.Searches.{lost_from, drops_of, drops_at};
 
 use crate::lost::{Lost, before_lost, gives_up, is_past_lost};
 use crate::results::AccountErr;
+use crate::standing::owner_of;
 use crate::walking::next_behind;
 use off_base::{Ip4, NoMemory};
 use off_defs::{Hold, Key, Lease, Pool, Row, Write, Writes};
@@ -88,16 +89,15 @@ fn push_given_up(
         return Ok(());
     }
     writes.push(Write::Drop(Key::Lease(address)))?;
-    push_held(&lease.hold, writes)
+    push_held(lease.hold, writes)
 }
 
 // Appends the drop of the row of who holds an address.
-fn push_held(hold: &Hold, writes: &mut Writes) -> Result<(), NoMemory>
-    ensures { OnOk result (writes.new ≡ writes.old ++ held_drop (owner_of hold.now)) }
+fn push_held(hold: Hold, writes: &mut Writes) -> Result<(), NoMemory>
+    ensures { OnOk result (writes.new ≡ writes.old ++ held_drop (owner_of hold)) }
 {
-    match hold {
-        Hold::Offered(mac) => writes.push(Write::Drop(Key::Held(*mac))),
-        Hold::Bound(mac) => writes.push(Write::Drop(Key::Held(*mac))),
-        Hold::Declined => Ok(()),
+    match owner_of(hold) {
+        Some(mac) => writes.push(Write::Drop(Key::Held(mac))),
+        None => Ok(()),
     }
 }

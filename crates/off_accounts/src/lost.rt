@@ -2,10 +2,11 @@ ghost use Rattle.std.specs.Prelude.{◌≡◌, true, false};
 ghost use Rattle.off_defs.specs.declared.keys.Key.{Key};
 ghost use Rattle.off_defs.specs.declared.tables.Row.{Row};
 ghost use Rattle.off_defs.specs.Tables.{is_after};
-ghost use Rattle.off_rules.specs.Rows.{has_address, lease_of};
+ghost use Rattle.off_rules.specs.Rows.{lease_of};
 ghost use Rattle.off_rules.specs.Clerk.{gives_up};
 ghost use Rattle.off_accounts.specs.Searches.{passes, is_given_up};
 
+use crate::standing::has_address;
 use off_base::Ip4;
 use off_defs::{Key, Pool};
 
@@ -14,12 +15,6 @@ use off_defs::{Key, Pool};
 pub(crate) struct Lost {
     pub old: Pool,
     pub new: Option<Pool>,
-}
-
-pub(crate) fn has_address(pool: &Pool, address: Ip4) -> bool
-    ensures { result ≡ has_address pool.now address }
-{
-    pool.first.0 <= address.0 && address.0 <= pool.last.0
 }
 
 /// Whether the address is in no pool any more.

@@ -11,16 +11,16 @@ use off_rules::Counts;
 use std::alloc::Global;
 
 /// One write, answered by `Done`.
-pub(crate) fn one_write(
-    alloc: Global,
-    write: Write,
-    counts: Counts,
-) -> Result<Planned, AccountErr>
+pub(crate) fn one_write(alloc: Global, write: Write, counts: Counts) -> Result<Planned, AccountErr>
     ensures { MatchResult result (λ planned. planned ≡ planned_of (write ∷ []) Done counts) (λ err. err ≡ Memory) }
 {
     let mut writes = Writes::new(alloc);
     match writes.push(write) {
-        Ok(()) => Ok(Planned { writes, reply: Reply::Done, counts }),
+        Ok(()) => Ok(Planned {
+            writes,
+            reply: Reply::Done,
+            counts,
+        }),
         Err(_refused) => Err(AccountErr::Memory),
     }
 }
@@ -71,7 +71,10 @@ pub(crate) fn class_row(class: &Class) -> Result<Row, AccountErr>
     ensures { MatchResult result (λ made. made ≡ row.Class class.now) (λ err. err ≡ Memory) }
 {
     match class.settings.copy() {
-        Ok(settings) => Ok(Row::Class(Class { name: class.name.copy(), settings })),
+        Ok(settings) => Ok(Row::Class(Class {
+            name: class.name.copy(),
+            settings,
+        })),
         Err(_refused) => Err(AccountErr::Memory),
     }
 }

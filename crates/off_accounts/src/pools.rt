@@ -32,8 +32,18 @@ pub(crate) fn put_pool<K: Keeper>(
     relay_taken(alloc, keeper, n, pool)?;
     let old = pool_has_leases(alloc, keeper, asked.at, n, Some(*pool))?;
     let after = within_limit(alloc, keeper, &asked.counts, &key, Kind::Pools)?;
-    let writes = with_drops(alloc, keeper, Write::Put(key, Row::Pool(*pool)), old, Some(*pool))?;
-    Ok(Planned { writes, reply: Reply::Done, counts: after })
+    let writes = with_drops(
+        alloc,
+        keeper,
+        Write::Put(key, Row::Pool(*pool)),
+        old,
+        Some(*pool),
+    )?;
+    Ok(Planned {
+        writes,
+        reply: Reply::Done,
+        counts: after,
+    })
 }
 
 /// Decides to remove a pool. Its leases are dropped.
@@ -51,5 +61,9 @@ pub(crate) fn remove_pool<K: Keeper>(
     let old = pool_has_leases(alloc, keeper, asked.at, n, None)?;
     let writes = with_drops(alloc, keeper, Write::Drop(key), old, None)?;
     let after = one_less(&asked.counts, Kind::Pools);
-    Ok(Planned { writes, reply: Reply::Done, counts: after })
+    Ok(Planned {
+        writes,
+        reply: Reply::Done,
+        counts: after,
+    })
 }

@@ -25,15 +25,15 @@ fn only_possible(key: &Key, row: Option<Row>) -> Option<Row>
     ensures { result ≡ possible key.now row }
 {
     let Some(row) = row else { return None };
-    if is_possible(key, &row) { Some(row) } else { None }
+    if is_possible(key, &row) {
+        Some(row)
+    } else {
+        None
+    }
 }
 
 /// Whether a key has a row.
-pub(crate) fn is_there<K: Keeper>(
-    alloc: Global,
-    keeper: &mut K,
-    key: &Key,
-) -> Result<bool, KeepErr>
+pub(crate) fn is_there<K: Keeper>(alloc: Global, keeper: &mut K, key: &Key) -> Result<bool, KeepErr>
     ensures { MatchResult result (λ there. Reads (λ t. there ≡ is_some (seen_at t key.now)) (K.seen keeper.old) (K.seen keeper.new))
         (λ err. NotDone err (K.seen keeper.old) (K.seen keeper.new)) }
 {

@@ -11,8 +11,8 @@ ghost use Rattle.off_accounts.specs.Deciding.{Refuses, Decides, Rejects};
 
 use crate::limits::{fewer_add_ons, one_less};
 use crate::planning::one_write;
-use crate::reading::is_there;
 use crate::pools::remove_pool;
+use crate::reading::is_there;
 use crate::results::{AccountErr, Asked, Planned};
 use crate::rules::{class_in_use, has_modems, no_row};
 use off_base::Mac;
@@ -60,7 +60,11 @@ fn remove_add_on<K: Keeper>(
 {
     let key = Key::AddOn(n, number);
     no_row(alloc, keeper, &key)?;
-    one_write(alloc, Write::Drop(key), one_less(&asked.counts, Kind::AddOns))
+    one_write(
+        alloc,
+        Write::Drop(key),
+        one_less(&asked.counts, Kind::AddOns),
+    )
 }
 
 /// The rows of a modem's lease stay.
@@ -75,7 +79,11 @@ fn remove_modem<K: Keeper>(
 {
     let key = Key::Modem(mac);
     no_row(alloc, keeper, &key)?;
-    one_write(alloc, Write::Drop(key), one_less(&asked.counts, Kind::Modems))
+    one_write(
+        alloc,
+        Write::Drop(key),
+        one_less(&asked.counts, Kind::Modems),
+    )
 }
 
 fn remove_class<K: Keeper>(
@@ -90,7 +98,11 @@ fn remove_class<K: Keeper>(
     let key = Key::Class(n);
     no_row(alloc, keeper, &key)?;
     class_in_use(alloc, keeper, n)?;
-    one_write(alloc, Write::Drop(key), one_less(&asked.counts, Kind::Classes))
+    one_write(
+        alloc,
+        Write::Drop(key),
+        one_less(&asked.counts, Kind::Classes),
+    )
 }
 
 /// The subscriber's add-ons are removed too.
@@ -108,7 +120,11 @@ fn remove_subscriber<K: Keeper>(
     let lost = count_add_ons(alloc, keeper, n)?;
     let writes = subscriber_drops(alloc, n)?;
     let counts = fewer_add_ons(&one_less(&asked.counts, Kind::Subscribers), lost);
-    Ok(Planned { writes, reply: Reply::Done, counts })
+    Ok(Planned {
+        writes,
+        reply: Reply::Done,
+        counts,
+    })
 }
 
 // How many add-ons the subscriber has.

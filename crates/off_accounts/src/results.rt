@@ -25,10 +25,7 @@ pub(crate) struct Asked {
 #[derive(Clone, Copy, Debug, PartialEq, Eq)]
 pub enum AccountErr {
     /// A rule is broken. In an import the rows count from 1, and row 0 means none of them.
-    Refused {
-        row: u32,
-        rule: Rule,
-    },
+    Refused { row: u32, rule: Rule },
     /// The keeper failed, and counted a fault.
     Failed,
     /// Memory was wanted, and refused.

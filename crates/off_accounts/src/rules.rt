@@ -20,7 +20,10 @@ pub(crate) fn no_row<K: Keeper>(alloc: Global, keeper: &mut K, key: &Key) -> Res
         (λ err. Refuses (λ t rule. no_row t key.now ≡ rule) (K.seen keeper.old) (K.seen keeper.new) err) }
 {
     if !is_there(alloc, keeper, key)? {
-        return Err(AccountErr::Refused { row: 0, rule: Rule::NoRow });
+        return Err(AccountErr::Refused {
+            row: 0,
+            rule: Rule::NoRow,
+        });
     }
     Ok(())
 }
@@ -34,35 +37,36 @@ pub(crate) fn no_subscriber<K: Keeper>(
         (λ err. Refuses (λ t rule. no_subscriber t n ≡ rule) (K.seen keeper.old) (K.seen keeper.new) err) }
 {
     if !is_there(alloc, keeper, &Key::Subscriber(n))? {
-        return Err(AccountErr::Refused { row: 0, rule: Rule::NoSubscriber });
+        return Err(AccountErr::Refused {
+            row: 0,
+            rule: Rule::NoSubscriber,
+        });
     }
     Ok(())
 }
 
-pub(crate) fn no_class<K: Keeper>(
-    alloc: Global,
-    keeper: &mut K,
-    n: u32,
-) -> Result<(), AccountErr>
+pub(crate) fn no_class<K: Keeper>(alloc: Global, keeper: &mut K, n: u32) -> Result<(), AccountErr>
     ensures { MatchResult result (λ _. Reads (λ t. no_class t n ≡ None) (K.seen keeper.old) (K.seen keeper.new))
         (λ err. Refuses (λ t rule. no_class t n ≡ rule) (K.seen keeper.old) (K.seen keeper.new) err) }
 {
     if !is_there(alloc, keeper, &Key::Class(n))? {
-        return Err(AccountErr::Refused { row: 0, rule: Rule::NoClass });
+        return Err(AccountErr::Refused {
+            row: 0,
+            rule: Rule::NoClass,
+        });
     }
     Ok(())
 }
 
-pub(crate) fn has_modems<K: Keeper>(
-    alloc: Global,
-    keeper: &mut K,
-    n: u32,
-) -> Result<(), AccountErr>
+pub(crate) fn has_modems<K: Keeper>(alloc: Global, keeper: &mut K, n: u32) -> Result<(), AccountErr>
     ensures { MatchResult result (λ _. Reads (λ t. has_modems t n ≡ None) (K.seen keeper.old) (K.seen keeper.new))
         (λ err. Refuses (λ t rule. has_modems t n ≡ rule) (K.seen keeper.old) (K.seen keeper.new) err) }
 {
     if search(alloc, keeper, &Sought::OfSubscriber(n))?.is_some() {
-        return Err(AccountErr::Refused { row: 0, rule: Rule::HasModems });
+        return Err(AccountErr::Refused {
+            row: 0,
+            rule: Rule::HasModems,
+        });
     }
     Ok(())
 }
@@ -76,7 +80,10 @@ pub(crate) fn class_in_use<K: Keeper>(
         (λ err. Refuses (λ t rule. class_in_use t n ≡ rule) (K.seen keeper.old) (K.seen keeper.new) err) }
 {
     if search(alloc, keeper, &Sought::OfClass(n))?.is_some() {
-        return Err(AccountErr::Refused { row: 0, rule: Rule::ClassInUse });
+        return Err(AccountErr::Refused {
+            row: 0,
+            rule: Rule::ClassInUse,
+        });
     }
     Ok(())
 }
@@ -94,7 +101,10 @@ pub(crate) fn pool_overlap<K: Keeper>(
     let Some(other) = pool_number(found) else {
         return Ok(());
     };
-    Err(AccountErr::Refused { row: 0, rule: Rule::PoolOverlap(other) })
+    Err(AccountErr::Refused {
+        row: 0,
+        rule: Rule::PoolOverlap(other),
+    })
 }
 
 pub(crate) fn relay_taken<K: Keeper>(
@@ -110,7 +120,10 @@ pub(crate) fn relay_taken<K: Keeper>(
     let Some(other) = pool_number(found) else {
         return Ok(());
     };
-    Err(AccountErr::Refused { row: 0, rule: Rule::RelayTaken(other) })
+    Err(AccountErr::Refused {
+        row: 0,
+        rule: Rule::RelayTaken(other),
+    })
 }
 
 /// The pool that was at the number, or `None`, where no lease of it that hasn't expired is lost.
@@ -148,7 +161,10 @@ fn live_lost<K: Keeper>(
     let Some(address) = lease_address(found) else {
         return Ok(());
     };
-    Err(AccountErr::Refused { row: 0, rule: Rule::PoolHasLeases(address) })
+    Err(AccountErr::Refused {
+        row: 0,
+        rule: Rule::PoolHasLeases(address),
+    })
 }
 
 fn pool_number(found: Option<Key>) -> Option<u32>

@@ -6,6 +6,7 @@ ghost use Rattle.off_rows.specs.KeyBytes.{kind_of};
 ghost use Rattle.off_outside.specs.KeeperCalls.{Reads, NotDone};
 ghost use Rattle.off_accounts.specs.Searches.{is_wanted, least_wanted};
 
+use crate::gathering::is_past_pools;
 use crate::lost::{Lost, before_lost, is_past_lost};
 use crate::walking::next_behind;
 use crate::wanted::is_wanted;
@@ -72,22 +73,11 @@ fn is_past(sought: &Sought, key: &Key) -> bool
     ensures later { (entry : Key × Row) → result ≡ true → is_after (Some key.now) entry ≡ true → is_wanted sought.now entry ≡ false }
 {
     match sought {
-        Sought::Overlapping(_, _) => is_past_pools(key),
-        Sought::WithRelay(_, _) => is_past_pools(key),
+        Sought::Overlapping(_, _) => is_past_pools(*key),
+        Sought::WithRelay(_, _) => is_past_pools(*key),
         Sought::LiveLost(_, lost) => is_past_lost(lost, key),
         Sought::OfSubscriber(_) => is_past_modems(key),
         Sought::OfClass(_) => is_past_modems(key),
-    }
-}
-
-fn is_past_pools(key: &Key) -> bool
-    ensures { result ≡ nat_lt 6 (kind_of key.now) }
-{
-    match key {
-        Key::Lease(_) => true,
-        Key::Held(_) => true,
-        Key::Batch(_) => true,
-        _ => false,
     }
 }
 
@@ -97,6 +87,6 @@ fn is_past_modems(key: &Key) -> bool
     match key {
         Key::Class(_) => true,
         Key::Pool(_) => true,
-        _ => is_past_pools(key),
+        _ => is_past_pools(*key),
     }
 }

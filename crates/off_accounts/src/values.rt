@@ -2,10 +2,11 @@ ghost use Rattle.std.specs.Prelude.{◌≡◌, None, MatchResult, option_map, no
 ghost use Rattle.off_tree.specs.declared.tables.Kind.TheVariants as tree;
 ghost use Rattle.off_tree.specs.Fault.{first_fault};
 ghost use Rattle.off_defs.specs.declared.rules.Rule.TheVariants as rule;
-ghost use Rattle.off_rules.specs.Rows.{has_pool_size, is_lease_time, is_offset};
+ghost use Rattle.off_rules.specs.Rows.{has_pool_size};
 ghost use Rattle.off_rules.specs.Clerk.{when};
 ghost use Rattle.off_accounts.specs.Deciding.{IsBroken, site_rule};
 
+use crate::possible::{has_pool_size, is_lease_time, is_offset};
 use crate::results::AccountErr;
 use off_base::Settings;
 use off_defs::{Pool, Rule, Site, SiteField};
@@ -16,30 +17,30 @@ pub(crate) fn site_fits(site: &Site) -> Result<(), AccountErr>
     ensures { MatchResult result (λ _. site_rule site.now ≡ None) (λ err. IsBroken (site_rule site.now) err) }
 {
     if site.server.0 == 0 {
-        return Err(AccountErr::Refused { row: 0, rule: Rule::Site(SiteField::Server) });
+        return Err(AccountErr::Refused {
+            row: 0,
+            rule: Rule::Site(SiteField::Server),
+        });
     }
     if site.secret.as_slice().is_empty() {
-        return Err(AccountErr::Refused { row: 0, rule: Rule::Site(SiteField::Secret) });
+        return Err(AccountErr::Refused {
+            row: 0,
+            rule: Rule::Site(SiteField::Secret),
+        });
     }
     if !is_lease_time(site.lease) {
-        return Err(AccountErr::Refused { row: 0, rule: Rule::Site(SiteField::Lease) });
+        return Err(AccountErr::Refused {
+            row: 0,
+            rule: Rule::Site(SiteField::Lease),
+        });
     }
     if !is_offset(site.offset) {
-        return Err(AccountErr::Refused { row: 0, rule: Rule::Site(SiteField::Offset) });
+        return Err(AccountErr::Refused {
+            row: 0,
+            rule: Rule::Site(SiteField::Offset),
+        });
     }
     Ok(())
-}
-
-fn is_lease_time(seconds: u32) -> bool
-    ensures { result ≡ is_lease_time seconds }
-{
-    60 <= seconds && seconds <= 604_800
-}
-
-fn is_offset(seconds: i32) -> bool
-    ensures { result ≡ is_offset seconds }
-{
-    -86_400 <= seconds && seconds <= 86_400
 }
 
 pub(crate) fn pool_size(pool: &Pool) -> Result<(), AccountErr>
@@ -47,15 +48,12 @@ pub(crate) fn pool_size(pool: &Pool) -> Result<(), AccountErr>
         (λ err. IsBroken (when (not (has_pool_size pool.now)) rule.PoolSize) err) }
 {
     if !has_pool_size(pool) {
-        return Err(AccountErr::Refused { row: 0, rule: Rule::PoolSize });
+        return Err(AccountErr::Refused {
+            row: 0,
+            rule: Rule::PoolSize,
+        });
     }
     Ok(())
-}
-
-fn has_pool_size(pool: &Pool) -> bool
-    ensures { result ≡ has_pool_size pool.now }
-{
-    pool.first.0 <= pool.last.0 && pool.last.0 - pool.first.0 < 4_096
 }
 
 pub(crate) fn add_on_fits(settings: &Settings) -> Result<(), AccountErr>
@@ -64,7 +62,10 @@ pub(crate) fn add_on_fits(settings: &Settings) -> Result<(), AccountErr>
 {
     match check_addon(settings) {
         Ok(()) => Ok(()),
-        Err(fault) => Err(AccountErr::Refused { row: 0, rule: Rule::Tree(fault) }),
+        Err(fault) => Err(AccountErr::Refused {
+            row: 0,
+            rule: Rule::Tree(fault),
+        }),
     }
 }
 
@@ -74,6 +75,9 @@ pub(crate) fn class_fits(settings: &Settings) -> Result<(), AccountErr>
 {
     match check_class(settings) {
         Ok(()) => Ok(()),
-        Err(fault) => Err(AccountErr::Refused { row: 0, rule: Rule::Tree(fault) }),
+        Err(fault) => Err(AccountErr::Refused {
+            row: 0,
+            rule: Rule::Tree(fault),
+        }),
     }
 }

@@ -1,11 +1,12 @@
 ghost use Rattle.std.specs.Prelude.{◌≡◌, ◌==◌, ◌&&◌, not};
-ghost use Rattle.off_rules.specs.Rows.{overlaps, pool_of, lease_of, modem_of};
+ghost use Rattle.off_rules.specs.Rows.{pool_of, lease_of, modem_of};
 ghost use Rattle.off_rules.specs.Clerk.{is_other_overlapping, is_other_with_relay, is_live};
 ghost use Rattle.off_accounts.specs.Searches.{passes, is_wanted, is_given_up};
 
 use crate::lost::{Lost, gives_up};
 use crate::possible::is_possible;
 use crate::searching::Sought;
+use crate::standing::overlaps;
 use off_base::Moment;
 use off_defs::{Key, Pool, Row};
 
@@ -82,11 +83,4 @@ fn is_of_class(n: u32, key: &Key, row: &Row) -> bool
         },
         _ => false,
     }
-}
-
-/// Whether the pools have an address in common.
-fn overlaps(pool: &Pool, other: &Pool) -> bool
-    ensures { result ≡ overlaps pool.now other.now }
-{
-    pool.first.0.max(other.first.0) <= pool.last.0.min(other.last.0)
 }

@@ -55,7 +55,8 @@ returns-in_err-writes g c =
 pub returns : goal.returns
 returns g c =
     reads_as (reads_both (reads_both (reads_both (reads_both (reads_both reads_nothing c.in_ok-pool_overlap.ensures) c.in_ok-relay_taken.ensures) c.in_ok-old.ensures) c.in_ok-after.ensures) c.in_ok-writes.ensures) (λ t p.
-    decides c.args.asked.now (PutPool c.args.n c.args.pool.now) (planned_of c.in_ok-writes.writes Done c.in_ok-after.after) t (λ t now. refl) refl (λ agree.
-    (passed (when (not (has_pool_size c.args.pool.now)) rule.PoolSize) (pool_overlap t c.args.n c.args.pool.now ∷ relay_taken t c.args.n c.args.pool.now ∷ pool_has_leases t c.args.asked.now.at.0 c.args.n (Some c.args.pool.now) ∷ limit t (key.Pool c.args.n) Pools ∷ []) c.in_ok-pool_size.ensures ∙ passed (pool_overlap t c.args.n c.args.pool.now) (relay_taken t c.args.n c.args.pool.now ∷ pool_has_leases t c.args.asked.now.at.0 c.args.n (Some c.args.pool.now) ∷ limit t (key.Pool c.args.n) Pools ∷ []) p.0.0.0.0.1 ∙ passed (relay_taken t c.args.n c.args.pool.now) (pool_has_leases t c.args.asked.now.at.0 c.args.n (Some c.args.pool.now) ∷ limit t (key.Pool c.args.n) Pools ∷ []) p.0.0.0.1 ∙ passed (pool_has_leases t c.args.asked.now.at.0 c.args.n (Some c.args.pool.now)) (limit t (key.Pool c.args.n) Pools ∷ []) p.0.0.1.1 ∙ passed (limit t (key.Pool c.args.n) Pools) ([]) (p.0.1 agree).0,
-    pool_writes (Put (key.Pool c.args.n) (row.Pool c.args.pool.now)) c.in_ok-old.old (Some c.args.pool.now) c.args.n t c.in_ok-writes.writes p.0.0.1.0 p.1,
-    put_pool_counts c.args.n c.args.pool.now c.in_ok-old.old t c.in_ok-after.after c.in_ok-writes.writes c.requires c.in_ok-pool_size.ensures (p.0.1 agree).1 p.1)))
+    decides c.args.asked.now (PutPool c.args.n c.args.pool.now) (planned_of c.in_ok-writes.writes Done c.in_ok-after.after) t (λ t now. refl) refl (λ agree. (
+      passed (when (not (has_pool_size c.args.pool.now)) rule.PoolSize) (pool_overlap t c.args.n c.args.pool.now ∷ relay_taken t c.args.n c.args.pool.now ∷ pool_has_leases t c.args.asked.now.at.0 c.args.n (Some c.args.pool.now) ∷ limit t (key.Pool c.args.n) Pools ∷ []) c.in_ok-pool_size.ensures ∙ passed (pool_overlap t c.args.n c.args.pool.now) (relay_taken t c.args.n c.args.pool.now ∷ pool_has_leases t c.args.asked.now.at.0 c.args.n (Some c.args.pool.now) ∷ limit t (key.Pool c.args.n) Pools ∷ []) p.0.0.0.0.1 ∙ passed (relay_taken t c.args.n c.args.pool.now) (pool_has_leases t c.args.asked.now.at.0 c.args.n (Some c.args.pool.now) ∷ limit t (key.Pool c.args.n) Pools ∷ []) p.0.0.0.1 ∙ passed (pool_has_leases t c.args.asked.now.at.0 c.args.n (Some c.args.pool.now)) (limit t (key.Pool c.args.n) Pools ∷ []) p.0.0.1.1 ∙ passed (limit t (key.Pool c.args.n) Pools) ([]) (p.0.1 agree).0,
+      pool_writes (Put (key.Pool c.args.n) (row.Pool c.args.pool.now)) c.in_ok-old.old (Some c.args.pool.now) c.args.n t c.in_ok-writes.writes p.0.0.1.0 p.1,
+      put_pool_counts c.args.n c.args.pool.now c.in_ok-old.old t c.in_ok-after.after c.in_ok-writes.writes c.requires c.in_ok-pool_size.ensures (p.0.1 agree).1 p.1,
+    )))

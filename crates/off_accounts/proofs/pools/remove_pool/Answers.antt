@@ -37,7 +37,8 @@ returns-in_err-writes g c =
 pub returns : goal.returns
 returns g c =
     reads_as (reads_both (reads_both (reads_both reads_nothing c.in_ok-no_row.ensures) c.in_ok-old.ensures) c.in_ok-writes.ensures) (λ t p.
-    decides c.args.asked.now (Remove (key.Pool c.args.n)) (planned_of c.in_ok-writes.writes Done c.one_less-after.result) t (λ t now. refl) refl (λ agree.
-    (passed (no_row t (key.Pool c.args.n)) (pool_has_leases t c.args.asked.now.at.0 c.args.n None ∷ []) p.0.0.1 ∙ passed (pool_has_leases t c.args.asked.now.at.0 c.args.n None) ([]) p.0.1.1,
-    pool_writes (Drop (key.Pool c.args.n)) c.in_ok-old.old None c.args.n t c.in_ok-writes.writes p.0.1.0 p.1,
-    drop_pool_counts c.args.n c.in_ok-old.old None t c.args.asked.now.counts c.one_less-after.result c.in_ok-writes.writes p.0.0.1 c.one_less-after.ensures p.1 agree)))
+    decides c.args.asked.now (Remove (key.Pool c.args.n)) (planned_of c.in_ok-writes.writes Done c.one_less-after.result) t (λ t now. refl) refl (λ agree. (
+      passed (no_row t (key.Pool c.args.n)) (pool_has_leases t c.args.asked.now.at.0 c.args.n None ∷ []) p.0.0.1 ∙ passed (pool_has_leases t c.args.asked.now.at.0 c.args.n None) ([]) p.0.1.1,
+      pool_writes (Drop (key.Pool c.args.n)) c.in_ok-old.old None c.args.n t c.in_ok-writes.writes p.0.1.0 p.1,
+      drop_pool_counts c.args.n c.in_ok-old.old None t c.args.asked.now.counts c.one_less-after.result c.in_ok-writes.writes p.0.0.1 c.one_less-after.ensures p.1 agree,
+    )))

@@ -37,7 +37,8 @@ returns-in_err-after g c =
 pub returns : goal.returns
 returns g c =
     ends c.args.asked.now (PutModem c.args.mac c.args.modem.now) (planned_of (Put (key.Modem c.args.mac) c.modem_row.result ∷ []) Done c.in_ok-after.after) c.one_write.result c.one_write.ensures (reads_as (reads_both (reads_both (reads_both reads_nothing c.in_ok-no_subscriber.ensures) c.in_ok-no_class.ensures) c.in_ok-after.ensures) (λ t p.
-    decides c.args.asked.now (PutModem c.args.mac c.args.modem.now) (planned_of (Put (key.Modem c.args.mac) c.modem_row.result ∷ []) Done c.in_ok-after.after) t (λ t now. refl) refl (λ agree.
-    (passed (no_subscriber t c.args.modem.now.subscriber) (no_class t c.args.modem.now.class ∷ limit t (key.Modem c.args.mac) Modems ∷ []) p.0.0.1 ∙ passed (no_class t c.args.modem.now.class) (limit t (key.Modem c.args.mac) Modems ∷ []) p.0.1 ∙ passed (limit t (key.Modem c.args.mac) Modems) ([]) (p.1 agree).0,
-    ap (λ r. Put (key.Modem c.args.mac) r ∷ []) c.modem_row.ensures,
-    put_counts Modems (key.Modem c.args.mac) (row.Modem c.args.modem.now) c.modem_row.result t c.in_ok-after.after refl refl c.modem_row.ensures (p.1 agree).1))))
+    decides c.args.asked.now (PutModem c.args.mac c.args.modem.now) (planned_of (Put (key.Modem c.args.mac) c.modem_row.result ∷ []) Done c.in_ok-after.after) t (λ t now. refl) refl (λ agree. (
+      passed (no_subscriber t c.args.modem.now.subscriber) (no_class t c.args.modem.now.class ∷ limit t (key.Modem c.args.mac) Modems ∷ []) p.0.0.1 ∙ passed (no_class t c.args.modem.now.class) (limit t (key.Modem c.args.mac) Modems ∷ []) p.0.1 ∙ passed (limit t (key.Modem c.args.mac) Modems) ([]) (p.1 agree).0,
+      ap (λ r. Put (key.Modem c.args.mac) r ∷ []) c.modem_row.ensures,
+      put_counts Modems (key.Modem c.args.mac) (row.Modem c.args.modem.now) c.modem_row.result t c.in_ok-after.after refl refl c.modem_row.ensures (p.1 agree).1,
+    ))))

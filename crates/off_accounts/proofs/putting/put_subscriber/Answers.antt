@@ -25,7 +25,8 @@ returns-in_err-after g c =
 pub returns : goal.returns
 returns g c =
     ends c.args.asked.now (PutSubscriber c.args.n c.args.subscriber.now) (planned_of (Put (key.Subscriber c.args.n) c.subscriber_row.result ∷ []) Done c.in_ok-after.after) c.one_write.result c.one_write.ensures (reads_as (reads_both reads_nothing c.in_ok-after.ensures) (λ t p.
-    decides c.args.asked.now (PutSubscriber c.args.n c.args.subscriber.now) (planned_of (Put (key.Subscriber c.args.n) c.subscriber_row.result ∷ []) Done c.in_ok-after.after) t (λ t now. refl) refl (λ agree.
-    (passed (limit t (key.Subscriber c.args.n) Subscribers) ([]) (p.1 agree).0,
-    ap (λ r. Put (key.Subscriber c.args.n) r ∷ []) c.subscriber_row.ensures,
-    put_counts Subscribers (key.Subscriber c.args.n) (row.Subscriber c.args.subscriber.now) c.subscriber_row.result t c.in_ok-after.after refl c.requires c.subscriber_row.ensures (p.1 agree).1))))
+    decides c.args.asked.now (PutSubscriber c.args.n c.args.subscriber.now) (planned_of (Put (key.Subscriber c.args.n) c.subscriber_row.result ∷ []) Done c.in_ok-after.after) t (λ t now. refl) refl (λ agree. (
+      passed (limit t (key.Subscriber c.args.n) Subscribers) ([]) (p.1 agree).0,
+      ap (λ r. Put (key.Subscriber c.args.n) r ∷ []) c.subscriber_row.ensures,
+      put_counts Subscribers (key.Subscriber c.args.n) (row.Subscriber c.args.subscriber.now) c.subscriber_row.result t c.in_ok-after.after refl c.requires c.subscriber_row.ensures (p.1 agree).1,
+    ))))

@@ -45,7 +45,9 @@ returns-in_err-writes g c =
 pub returns : goal.returns
 returns g c =
     reads_as (reads_both (reads_both (reads_both reads_nothing c.in_ok-no_row.ensures) c.in_ok-has_modems.ensures) c.in_ok-lost.ensures) (λ t p.
-    decides c.args.asked.now (Remove (key.Subscriber c.args.n)) (planned_of c.in_ok-writes.writes Done c.fewer_add_ons-counts.result) t (λ t now. refl) refl (λ agree.
-    (passed (no_row t (key.Subscriber c.args.n)) (has_modems t c.args.n ∷ []) p.0.0.1 ∙ passed (has_modems t c.args.n) ([]) p.0.1, c.in_ok-writes.ensures,
-    subscriber_counts c.args.n c.in_ok-lost.lost t c.args.asked.now.counts c.one_less.result c.fewer_add_ons-counts.result p.0.0.1 p.1 c.one_less.ensures c.fewer_add_ons-counts.ensures agree
-    ∙ ap (λ (w : List Write). counts_of (write_all t w)) (sym c.in_ok-writes.ensures))))
+    decides c.args.asked.now (Remove (key.Subscriber c.args.n)) (planned_of c.in_ok-writes.writes Done c.fewer_add_ons-counts.result) t (λ t now. refl) refl (λ agree. (
+      passed (no_row t (key.Subscriber c.args.n)) (has_modems t c.args.n ∷ []) p.0.0.1 ∙ passed (has_modems t c.args.n) ([]) p.0.1,
+      c.in_ok-writes.ensures,
+      subscriber_counts c.args.n c.in_ok-lost.lost t c.args.asked.now.counts c.one_less.result c.fewer_add_ons-counts.result p.0.0.1 p.1 c.one_less.ensures c.fewer_add_ons-counts.ensures agree
+          ∙ ap (λ (w : List Write). counts_of (write_all t w)) (sym c.in_ok-writes.ensures),
+    )))
