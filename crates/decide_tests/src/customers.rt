@@ -54,13 +54,37 @@ fn the_rules_of_modems(rt: HostRuntime) -> Result<(), Fail> {
 fn a_new_row_is_counted(rt: HostRuntime) -> Result<(), Fail> {
     let alloc = rt.alloc();
     let key = Key::Subscriber(8);
-    is_done(&rt, alloc, &[], Ask::Put(Put::Subscriber(8)), &[(key, true)])?;
+    is_done(
+        &rt,
+        alloc,
+        &[],
+        Ask::Put(Put::Subscriber(8)),
+        &[(key, true)],
+    )?;
     let key = Key::AddOn(7, 3);
-    is_done(&rt, alloc, &[], Ask::Put(Put::AddOn(7, 3, Tree::Boost)), &[(key, true)])?;
+    is_done(
+        &rt,
+        alloc,
+        &[],
+        Ask::Put(Put::AddOn(7, 3, Tree::Boost)),
+        &[(key, true)],
+    )?;
     let key = Key::Modem(mac(1));
-    is_done(&rt, alloc, &[], Ask::Put(Put::Modem(1, 7, 1)), &[(key, true)])?;
+    is_done(
+        &rt,
+        alloc,
+        &[],
+        Ask::Put(Put::Modem(1, 7, 1)),
+        &[(key, true)],
+    )?;
     let key = Key::Class(2);
-    is_done(&rt, alloc, &[], Ask::Put(Put::Class(2, Tree::Gold)), &[(key, true)])
+    is_done(
+        &rt,
+        alloc,
+        &[],
+        Ask::Put(Put::Class(2, Tree::Gold)),
+        &[(key, true)],
+    )
 }
 
 #[test]
@@ -84,7 +108,13 @@ fn an_impossible_row_is_none(rt: HostRuntime) -> Result<(), Fail> {
             (Ask::Show(Key::Class(1)), Answer::Refused(Rule::NoRow)),
         ],
     )?;
-    is_done(&rt, rt.alloc(), &bad, Ask::Put(Put::Class(1, Tree::Gold)), &[])
+    is_done(
+        &rt,
+        rt.alloc(),
+        &bad,
+        Ask::Put(Put::Class(1, Tree::Gold)),
+        &[],
+    )
 }
 
 #[test]

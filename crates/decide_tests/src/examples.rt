@@ -206,9 +206,7 @@ fn entry(alloc: Global, put: Put) -> Result<(Key, Row), NoMemory> {
         Put::Pool(n, first, last, relay) => {
             Ok((Key::Pool(n), Row::Pool(pool(first, last, relay))))
         }
-        Put::Lease(address, hold, expiry) => {
-            Ok((Key::Lease(Ip4(address)), lease(hold, expiry)))
-        }
+        Put::Lease(address, hold, expiry) => { Ok((Key::Lease(Ip4(address)), lease(hold, expiry))) }
         Put::Held(last, address) => Ok((Key::Held(mac(last)), Row::Held(Ip4(address)))),
     }
 }
@@ -224,9 +222,7 @@ fn put_command(alloc: Global, put: Put) -> Result<Command, NoMemory>
             lease,
         } => Ok(Command::SetSite(site(server, secret, offset, lease)?)),
         Put::Subscriber(n) => Ok(Command::PutSubscriber(n, subscriber()?)),
-        Put::AddOn(n, number, tree) => {
-            Ok(Command::PutAddOn(n, number, settings(alloc, tree)?))
-        }
+        Put::AddOn(n, number, tree) => { Ok(Command::PutAddOn(n, number, settings(alloc, tree)?)) }
         Put::Modem(last, n, class) => Ok(Command::PutModem(mac(last), modem(n, class)?)),
         Put::Class(n, tree) => Ok(Command::PutClass(n, class(alloc, tree)?)),
         Put::Pool(n, first, last, relay) => Ok(Command::PutPool(n, pool(first, last, relay))),
@@ -292,12 +288,7 @@ fn answer(planned: &Result<Planned, AccountErr>) -> Answer {
 }
 
 /// What a command is answered where the counts are these.
-pub(crate) fn answered(
-    alloc: Global,
-    keeper: &mut MemKeeper,
-    counts: &Counts,
-    ask: Ask,
-) -> Answer {
+pub(crate) fn answered(alloc: Global, keeper: &mut MemKeeper, counts: &Counts, ask: Ask) -> Answer {
     answer(&planned(alloc, keeper, counts, ask))
 }
 

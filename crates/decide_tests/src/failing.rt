@@ -14,7 +14,12 @@ const MORE: [Put; 3] = [
 ];
 
 // A command fails at each of its calls of the keeper. The first call makes the tables.
-fn fails_at_each_call(rt: &impl Abort, alloc: Global, ask: Ask, wanted: Answer) -> Result<(), Fail> {
+fn fails_at_each_call(
+    rt: &impl Abort,
+    alloc: Global,
+    ask: Ask,
+    wanted: Answer,
+) -> Result<(), Fail> {
     let mut whole = keeper(alloc, &MORE, Calls::new(alloc))?;
     let counts = count_rows(alloc, &mut whole)?;
     let mut whole = keeper(alloc, &MORE, Calls::new(alloc))?;
@@ -42,6 +47,11 @@ fn a_removal_fails_with_the_keeper(rt: HostRuntime) -> Result<(), Fail> {
     let alloc = rt.alloc();
     fails_at_each_call(&rt, alloc, Ask::Remove(Key::Subscriber(8)), Answer::Done(9))?;
     fails_at_each_call(&rt, alloc, Ask::Remove(Key::Pool(1)), Answer::Done(2))?;
-    fails_at_each_call(&rt, alloc, Ask::Remove(Key::Modem(mac(0xee))), Answer::Done(1))?;
+    fails_at_each_call(
+        &rt,
+        alloc,
+        Ask::Remove(Key::Modem(mac(0xee))),
+        Answer::Done(1),
+    )?;
     fails_at_each_call(&rt, alloc, Ask::Show(Key::Site), Answer::Shown)
 }

@@ -117,8 +117,14 @@ fn leases_at_either_end_of_all_addresses_are_found(rt: HostRuntime) -> Result<()
             Put::Lease(most, Hold::Bound(mac(2)), NOW + 1),
         ],
         &[
-            (Ask::Remove(Key::Pool(2)), Answer::Refused(Rule::PoolHasLeases(Ip4(0)))),
-            (Ask::Remove(Key::Pool(3)), Answer::Refused(Rule::PoolHasLeases(Ip4(most)))),
+            (
+                Ask::Remove(Key::Pool(2)),
+                Answer::Refused(Rule::PoolHasLeases(Ip4(0))),
+            ),
+            (
+                Ask::Remove(Key::Pool(3)),
+                Answer::Refused(Rule::PoolHasLeases(Ip4(most))),
+            ),
             (REMOVE, Answer::Done(1)),
         ],
     )

@@ -30,14 +30,21 @@ fn there_may_be_only_so_many_rows_of_a_kind(rt: HostRuntime) -> Result<(), Fail>
     let add_on = Put::AddOn(7, 0, Tree::Boost);
     for (put, rows, wanted) in [
         (Put::Subscriber(8), 199_999, Answer::Done(1)),
-        (Put::Subscriber(8), 200_000, limit(Kind::Subscribers, 200_000)),
+        (
+            Put::Subscriber(8),
+            200_000,
+            limit(Kind::Subscribers, 200_000),
+        ),
         (add_on, 99_999, Answer::Done(1)),
         (add_on, 100_000, limit(Kind::AddOns, 100_000)),
         (Put::Modem(1, 7, 1), 199_999, Answer::Done(1)),
         (Put::Modem(1, 7, 1), 200_000, limit(Kind::Modems, 200_000)),
         (Put::Modem(1, 7, 1), u64::MAX, limit(Kind::Modems, 200_000)),
     ] {
-        assert_eq!(rt; answered(rt.alloc(), &mut keeper, &all(rows), Ask::Put(put)), wanted);
+        assert_eq!(rt;
+            answered(rt.alloc(), &mut keeper, &all(rows), Ask::Put(put)),
+            wanted
+        );
     }
     Ok(())
 }
@@ -52,7 +59,10 @@ fn a_limit_is_for_new_rows(rt: HostRuntime) -> Result<(), Fail> {
         (Ask::Put(Put::Class(1, Tree::Gold)), Answer::Done(1)),
         (Ask::Remove(Key::Modem(mac(0xee))), Answer::Done(1)),
     ] {
-        assert_eq!(rt; answered(rt.alloc(), &mut keeper, &all(200_000), ask), wanted);
+        assert_eq!(rt;
+            answered(rt.alloc(), &mut keeper, &all(200_000), ask),
+            wanted
+        );
     }
     Ok(())
 }

@@ -101,5 +101,11 @@ fn an_impossible_pool_stands_in_no_way(rt: HostRuntime) -> Result<(), Fail> {
         &[Put::Pool(2, 0, 9, 0)],
         &[(pool(3, 0, 9, 3), Answer::Done(1))],
     )?;
-    is_done(&rt, rt.alloc(), &[], pool(2, 0, 9, 2), &[(Key::Pool(2), true)])
+    is_done(
+        &rt,
+        rt.alloc(),
+        &[],
+        pool(2, 0, 9, 2),
+        &[(Key::Pool(2), true)],
+    )
 }

@@ -34,11 +34,23 @@ fn what_a_modem_stands_on_is_not_removed(rt: HostRuntime) -> Result<(), Fail> {
             Put::Modem(0xff, 8, 3),
         ],
         &[
-            (Ask::Remove(Key::Subscriber(7)), Answer::Refused(Rule::HasModems)),
-            (Ask::Remove(Key::Subscriber(8)), Answer::Refused(Rule::HasModems)),
+            (
+                Ask::Remove(Key::Subscriber(7)),
+                Answer::Refused(Rule::HasModems),
+            ),
+            (
+                Ask::Remove(Key::Subscriber(8)),
+                Answer::Refused(Rule::HasModems),
+            ),
             (Ask::Remove(Key::Subscriber(6)), Answer::Done(9)),
-            (Ask::Remove(Key::Class(1)), Answer::Refused(Rule::ClassInUse)),
-            (Ask::Remove(Key::Class(3)), Answer::Refused(Rule::ClassInUse)),
+            (
+                Ask::Remove(Key::Class(1)),
+                Answer::Refused(Rule::ClassInUse),
+            ),
+            (
+                Ask::Remove(Key::Class(3)),
+                Answer::Refused(Rule::ClassInUse),
+            ),
             (Ask::Remove(Key::Class(2)), Answer::Done(1)),
         ],
     )

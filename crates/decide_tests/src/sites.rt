@@ -51,5 +51,11 @@ fn the_first_broken_rule_of_a_site_is_named(rt: HostRuntime) -> Result<(), Fail>
 
 #[test]
 fn a_site_is_set(rt: HostRuntime) -> Result<(), Fail> {
-    is_done(&rt, rt.alloc(), &[], site(9, 3, 0, 60), &[(Key::Site, true)])
+    is_done(
+        &rt,
+        rt.alloc(),
+        &[],
+        site(9, 3, 0, 60),
+        &[(Key::Site, true)],
+    )
 }
