@@ -6,3 +6,4 @@ pub mod OpeningLemmas
 pub mod GatherLemmas
 pub mod PoolLemmas
 pub mod CountingLemmas
+pub mod Examples
