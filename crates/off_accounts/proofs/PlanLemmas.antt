@@ -38,8 +38,9 @@ use Rattle.off_accounts.specs.declared.results.AccountErr.{AccountErr}
 use Rattle.off_accounts.specs.declared.results.AccountErr.TheVariants.{Memory}
 use Rattle.off_accounts.specs.Changes.{counts_put, counts_drop}
 use Rattle.off_accounts.specs.Searches.{lost_from}
-use Rattle.off_accounts.specs.Deciding.{Refuses, by_memory, IsBroken, site_rule, planned_of, IsDecided, Decides, Rejects, NotDecided}
-use Rattle.off_accounts.specs.Deciding as says
+use Rattle.off_accounts.specs.Deciding.{IsDecided, NotDecided}
+use Rattle.off_accounts.specs.Refusing.{Refuses, by_memory, IsBroken, site_rule, planned_of, Decides, Rejects}
+use Rattle.off_accounts.specs.Refusing as says
 use Rattle.off_accounts.proofs.RemovalLemmas.{drop_counts, lease_counts}
 use Rattle.off_accounts.proofs.CountsLemmas.{counts_with, counts_with_other}
 
@@ -77,7 +78,10 @@ pub decides : (asked : Asked) (c : Command) (planned : Planned) (t : Tables) →
     → Decides asked c planned t
 decides asked c planned t by done all = λ agree.
     let facts = all agree in
-    (by t asked.at.0 ∙ ap (by_rule 0 (accepted (writes_of t c) Done)) facts.0 ∙ (λ i. Ok (accepted (sym facts.1 i) (sym done i))), facts.2)
+    record {
+      accepted = by t asked.at.0 ∙ ap (by_rule 0 (accepted (writes_of t c) Done)) facts.0 ∙ (λ i. Ok (accepted (sym facts.1 i) (sym done i)));
+      counted = facts.2;
+    }
 
 -- what a function ends with that plans one write
 pub ends : (asked : Asked) (c : Command) (wanted : Planned) {a b : KeeperSeen} (result : Result Planned AccountErr) → MatchResult result (λ planned. planned ≡ wanted) (λ err. err ≡ Memory)
@@ -153,6 +157,6 @@ at_last counts now c err (says.by_memory n) = n
 
 pub all_last : (counts : Counts) (now : ℕ) (c : Command) (a b : KeeperSeen) (result : Result Planned AccountErr)
     → MatchResult result (λ planned. Reads (Decides (record { counts = counts; at = record { 0 = now } }) c planned) a b) (λ err. Refuses (Rejects (record { counts = counts; at = record { 0 = now } }) c) a b err)
-    → MatchResult result (λ planned. Reads (λ t. counts ≡ counts_of t → IsDecided now c planned t) a b) (λ err. NotDecided counts now c err a b)
+    → MatchResult result (λ planned. Reads (λ t. counts ≡ counts_of t → IsDecided counts now c planned t) a b) (λ err. NotDecided counts now c err a b)
 all_last counts now c a b (Ok planned) p = p
 all_last counts now c a b (Err err) p = at_last counts now c err p

@@ -10,7 +10,7 @@ use Rattle.off_outside.specs.KeeperCalls.{Reads, NotDone}
 use Rattle.off_outside.proofs.KeeperLemmas.{reads_then, reads_as, failed_then}
 use Rattle.off_defs.proofs.CountLemmas.{later_grew}
 use Rattle.off_accounts.specs.declared.results.AccountErr.{AccountErr}
-use Rattle.off_accounts.specs.Deciding.{Refuses, by_rule, by_failure, by_memory, not_kept}
+use Rattle.off_accounts.specs.Refusing.{Refuses, by_rule, by_failure, by_memory, not_kept}
 
 -- a rule that isn't broken is passed over
 pub passed : (rule : Option Rule) (rules : List (Option Rule)) → rule ≡ None → first_broken (rule ∷ rules) ≡ first_broken rules

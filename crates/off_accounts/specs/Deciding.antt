@@ -1,70 +1,40 @@
 -- What `decide` says of a command: what is to be written and answered, or which rule refuses it.
-use Rattle.std.specs.Prelude.{◌≡◌, ℕ, Bool, true, false, Option, Some, None, Result, Ok, Err, List, MatchResult}
-use Rattle.std.specs.FinMap as map
-use Rattle.off_defs.specs.declared.tables.Site.{Site}
-use Rattle.off_defs.specs.declared.rules.Rule.{Rule}
-use Rattle.off_defs.specs.declared.orders.Write.{Write}
-use Rattle.off_defs.specs.declared.orders.Reply.{Reply}
+use Rattle.std.specs.Prelude.{◌≡◌, ℕ, Bool, true, false, IsTrue, [], Ok, Err}
 use Rattle.off_defs.specs.declared.orders.Command.{Command}
-use Rattle.off_defs.specs.declared.orders.Command.TheVariants.{SetSite, Import}
+use Rattle.off_defs.specs.declared.orders.Command.TheVariants.{Show, Import}
+use Rattle.off_defs.specs.declared.orders.Reply.TheVariants.{Done, Shown}
+use Rattle.off_defs.specs.declared.tables.Row.{Row}
 use Rattle.off_defs.specs.State.{Tables}
 use Rattle.off_defs.specs.Tables.{write_all}
 use Rattle.off_rules.specs.declared.counts.Counts.{Counts}
-use Rattle.off_rules.specs.Rows.{counts_of}
-use Rattle.off_rules.specs.Clerk.{first_broken, rules_of, decided, accepted, refusal}
-use Rattle.off_outside.specs.declared.keeper.KeepErr.{KeepErr}
+use Rattle.off_rules.specs.Rows.{is_possible, counts_of}
+use Rattle.off_rules.specs.Clerk.{decided, accepted, refusal}
 use Rattle.off_outside.specs.declared.keeper.KeepErr.TheVariants as keeper
 use Rattle.off_outside.specs.KeeperSeen.{KeeperSeen}
 use Rattle.off_outside.specs.KeeperCalls.{Reads, NotDone}
-use Rattle.off_accounts.specs.declared.results.Asked.{Asked}
 use Rattle.off_accounts.specs.declared.results.Planned.{Planned}
 use Rattle.off_accounts.specs.declared.results.AccountErr.{AccountErr}
 use Rattle.off_accounts.specs.declared.results.AccountErr.TheVariants.{Refused, Failed, Memory}
-
--- the error where the keeper didn't do a call
-abbrev pub not_kept : KeepErr → AccountErr
-not_kept keeper.Memory = Memory
-not_kept keeper.Failed = Failed
 
 -- imports are decided elsewhere
 abbrev pub is_import : Command → Bool
 is_import (Import kind batch digest rows) = true
 is_import command = false
 
--- A rule that was tested, and didn't let the command pass: it's broken, or the tables couldn't be read, or memory was wanted.
-pub data Refuses (Says : Tables → Option Rule → Type 0) (old new : KeeperSeen) : AccountErr → Type 0 where
-  by_rule : {broken : Rule} → Reads (λ t. Says t (Some broken)) old new → Refuses Says old new (Refused 0 broken)
-  by_failure : NotDone keeper.Failed old new → Refuses Says old new Failed
-  by_memory : NotDone keeper.Memory old new → Refuses Says old new Memory
-
--- a rule that is tested on the command alone, and is broken
-pub record IsBroken (tested : Option Rule) (err : AccountErr) : Type 0 where
-  pub broken : Rule
-  pub is : err ≡ Refused 0 broken
-  pub says : tested ≡ Some broken
-
--- The first broken rule of a site. Its rules read no tables and no moment, so it's that of any.
-abbrev pub site_rule : Site → Option Rule
-site_rule site = first_broken (rules_of map.empty 0 (SetSite site))
-
--- what is done and answered, with the counts of rows once it's done
-abbrev pub planned_of : List Write → Reply → Counts → Planned
-planned_of writes reply counts = record { writes = writes; reply = reply; counts = counts }
-
 -- What was planned is what becomes of the command, and its counts are those of the tables once the writes are done.
-abbrev pub IsDecided : ℕ → Command → Planned → Tables → Type 0
-IsDecided now command planned t = (decided t now command ≡ Ok (accepted planned.writes planned.reply)) × (planned.counts ≡ counts_of (write_all t planned.writes))
-
--- The same where the counts that are known are those of the tables; and that the command is refused by a rule.
-abbrev pub Decides : Asked → Command → Planned → Tables → Type 0
-Decides asked command planned t = asked.counts ≡ counts_of t → IsDecided asked.at.0 command planned t
-
-abbrev pub Rejects : Asked → Command → Tables → Option Rule → Type 0
-Rejects asked command t None = ⊥
-Rejects asked command t (Some broken) = asked.counts ≡ counts_of t → decided t asked.at.0 command ≡ Err (refusal 0 broken)
+pub record IsDecided (counts : Counts) (now : ℕ) (command : Command) (planned : Planned) (t : Tables) : Type 0 where
+  pub accepted : decided t now command ≡ Ok (accepted planned.writes planned.reply)
+  pub counted : planned.counts ≡ counts_of (write_all t planned.writes)
 
 -- the command isn't to be done: a rule refuses it, or the keeper failed, or memory was wanted
 abbrev pub NotDecided : Counts → ℕ → Command → AccountErr → KeeperSeen → KeeperSeen → Type 0
 NotDecided counts now command (Refused row broken) old new = Reads (λ t. counts ≡ counts_of t → decided t now command ≡ Err (refusal row broken)) old new
 NotDecided counts now command Failed old new = NotDone keeper.Failed old new
 NotDecided counts now command Memory old new = NotDone keeper.Memory old new
+
+-- What a command is answered that is done, whatever the tables: a row of the key's kind where it shows one, and then nothing is written;
+-- for any other command just that it was done.
+abbrev pub AnswersCommand : Command → Planned → Type 0
+AnswersCommand (Show key) planned = ((held : Row) × (planned.reply ≡ Shown key held) × IsTrue (is_possible key held)) × (planned.writes ≡ [])
+AnswersCommand (Import kind batch digest rows) planned = Unit {0}
+AnswersCommand command planned = planned.reply ≡ Done

@@ -1,9 +1,10 @@
-ghost use Rattle.std.specs.Prelude.{◌≡◌, false, IsTrue, MatchResult};
+ghost use Rattle.std.specs.Prelude.{◌≡◌, false, IsTrue, MatchResult, IfOk};
 ghost use Rattle.off_defs.specs.declared.orders.Command.TheVariants.{Show};
 ghost use Rattle.off_rows.specs.Sound.{is_sound};
 ghost use Rattle.off_rules.specs.Rows.{counts_of};
 ghost use Rattle.off_outside.specs.KeeperCalls.{Reads};
-ghost use Rattle.off_accounts.specs.Deciding.{is_import, Refuses, IsDecided, NotDecided, Decides, Rejects};
+ghost use Rattle.off_accounts.specs.Deciding.{is_import, IsDecided, NotDecided, AnswersCommand};
+ghost use Rattle.off_accounts.specs.Refusing.{Refuses, Decides, Rejects};
 
 use crate::pools::put_pool;
 use crate::putting::{put_add_on, put_class, put_modem, put_subscriber, set_site};
@@ -29,9 +30,10 @@ pub fn decide<K: Keeper>(
 ) -> Result<Planned, AccountErr>
     requires sound { IsTrue (is_sound c.now) }
     requires not_import { is_import c.now ≡ false }
-    ensures { MatchResult result
-        (λ planned. Reads (λ t. counts.now ≡ counts_of t → IsDecided now.0 c.now planned t) (K.seen keeper.old) (K.seen keeper.new))
+    ensures told { MatchResult result
+        (λ planned. Reads (λ t. counts.now ≡ counts_of t → IsDecided counts.now now.0 c.now planned t) (K.seen keeper.old) (K.seen keeper.new))
         (λ err. NotDecided counts.now now.0 c.now err (K.seen keeper.old) (K.seen keeper.new)) }
+    ensures answers { IfOk result (λ planned. AnswersCommand c.now planned) }
 {
     let asked = Asked {
         counts: *counts,
@@ -48,8 +50,9 @@ fn decide_asked<K: Keeper>(
 ) -> Result<Planned, AccountErr>
     requires sound { IsTrue (is_sound c.now) }
     requires not_import { is_import c.now ≡ false }
-    ensures { MatchResult result (λ planned. Reads (Decides asked.now c.now planned) (K.seen keeper.old) (K.seen keeper.new))
+    ensures told { MatchResult result (λ planned. Reads (Decides asked.now c.now planned) (K.seen keeper.old) (K.seen keeper.new))
         (λ err. Refuses (Rejects asked.now c.now) (K.seen keeper.old) (K.seen keeper.new) err) }
+    ensures answers { IfOk result (λ planned. AnswersCommand c.now planned) }
 {
     match c {
         Command::SetSite(site) => set_site(alloc, keeper, asked, site),
@@ -75,8 +78,9 @@ fn show<K: Keeper>(
     asked: &Asked,
     key: &Key,
 ) -> Result<Planned, AccountErr>
-    ensures { MatchResult result (λ planned. Reads (Decides asked.now (Show key.now) planned) (K.seen keeper.old) (K.seen keeper.new))
+    ensures told { MatchResult result (λ planned. Reads (Decides asked.now (Show key.now) planned) (K.seen keeper.old) (K.seen keeper.new))
         (λ err. Refuses (Rejects asked.now (Show key.now)) (K.seen keeper.old) (K.seen keeper.new) err) }
+    ensures answers { IfOk result (λ planned. AnswersCommand (Show key.now) planned) }
 {
     let Some(row) = read(alloc, keeper, key)? else {
         return Err(AccountErr::Refused {

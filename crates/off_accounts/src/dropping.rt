@@ -3,7 +3,7 @@ ghost use Rattle.std.specs.List.{flat_map};
 ghost use Rattle.off_rules.specs.Clerk.{lease_drops, held_drop};
 ghost use Rattle.off_rules.specs.Good.{owner_of};
 ghost use Rattle.off_outside.specs.KeeperCalls.{Reads, NotDone};
-ghost use Rattle.off_accounts.specs.Deciding.{Refuses};
+ghost use Rattle.off_accounts.specs.Refusing.{Refuses};
 ghost use Rattle.off_accounts.specs.Searches.{lost_from, drops_of, drops_at};
 
 use crate::lost::{Lost, before_lost, gives_up, is_past_lost};

@@ -4,7 +4,7 @@ ghost use Rattle.off_rules.specs.Rows.{seen_at, counts_of};
 ghost use Rattle.off_rules.specs.Clerk.{limit, limit_of};
 ghost use Rattle.off_outside.specs.KeeperCalls.{Reads};
 ghost use Rattle.off_accounts.specs.Changes.{counted, with_count, counts_put, counts_drop};
-ghost use Rattle.off_accounts.specs.Deciding.{Refuses};
+ghost use Rattle.off_accounts.specs.Refusing.{Refuses};
 
 use crate::reading::is_there;
 use crate::results::AccountErr;

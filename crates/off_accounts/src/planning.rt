@@ -1,8 +1,8 @@
-ghost use Rattle.std.specs.Prelude.{◌≡◌, [], ◌∷◌, MatchResult};
+ghost use Rattle.std.specs.Prelude.{◌≡◌, [], ◌∷◌, MatchResult, IfOk};
 ghost use Rattle.off_defs.specs.declared.tables.Row.TheVariants as row;
 ghost use Rattle.off_defs.specs.declared.orders.Reply.TheVariants.{Done};
 ghost use Rattle.off_accounts.specs.declared.results.AccountErr.TheVariants.{Memory};
-ghost use Rattle.off_accounts.specs.Deciding.{planned_of};
+ghost use Rattle.off_accounts.specs.Refusing.{planned_of};
 
 use crate::results::{AccountErr, Planned};
 use off_base::Settings;
@@ -12,7 +12,8 @@ use std::alloc::Global;
 
 /// One write, answered by `Done`.
 pub(crate) fn one_write(alloc: Global, write: Write, counts: Counts) -> Result<Planned, AccountErr>
-    ensures { MatchResult result (λ planned. planned ≡ planned_of (write ∷ []) Done counts) (λ err. err ≡ Memory) }
+    ensures told { MatchResult result (λ planned. planned ≡ planned_of (write ∷ []) Done counts) (λ err. err ≡ Memory) }
+    ensures answers { IfOk result (λ planned. planned.reply ≡ Done) }
 {
     let mut writes = Writes::new(alloc);
     match writes.push(write) {

@@ -1,9 +1,10 @@
-ghost use Rattle.std.specs.Prelude.{◌≡◌, true, MatchResult};
+ghost use Rattle.std.specs.Prelude.{◌≡◌, true, MatchResult, IfOk};
 ghost use Rattle.off_defs.specs.declared.keys.Key.TheVariants as key;
 ghost use Rattle.off_defs.specs.declared.orders.Command.TheVariants.{PutPool, Remove};
+ghost use Rattle.off_defs.specs.declared.orders.Reply.TheVariants.{Done};
 ghost use Rattle.off_rows.specs.Sound.{is_sound_pool};
 ghost use Rattle.off_outside.specs.KeeperCalls.{Reads};
-ghost use Rattle.off_accounts.specs.Deciding.{Refuses, Decides, Rejects};
+ghost use Rattle.off_accounts.specs.Refusing.{Refuses, Decides, Rejects};
 
 use crate::dropping::with_drops;
 use crate::limits::{one_less, within_limit};
@@ -23,8 +24,9 @@ pub(crate) fn put_pool<K: Keeper>(
     pool: &Pool,
 ) -> Result<Planned, AccountErr>
     requires { is_sound_pool pool.now ≡ true }
-    ensures { MatchResult result (λ planned. Reads (Decides asked.now (PutPool n pool.now) planned) (K.seen keeper.old) (K.seen keeper.new))
+    ensures told { MatchResult result (λ planned. Reads (Decides asked.now (PutPool n pool.now) planned) (K.seen keeper.old) (K.seen keeper.new))
         (λ err. Refuses (Rejects asked.now (PutPool n pool.now)) (K.seen keeper.old) (K.seen keeper.new) err) }
+    ensures answers { IfOk result (λ planned. planned.reply ≡ Done) }
 {
     let key = Key::Pool(n);
     pool_size(pool)?;
@@ -53,8 +55,9 @@ pub(crate) fn remove_pool<K: Keeper>(
     asked: &Asked,
     n: u32,
 ) -> Result<Planned, AccountErr>
-    ensures { MatchResult result (λ planned. Reads (Decides asked.now (Remove (key.Pool n)) planned) (K.seen keeper.old) (K.seen keeper.new))
+    ensures told { MatchResult result (λ planned. Reads (Decides asked.now (Remove (key.Pool n)) planned) (K.seen keeper.old) (K.seen keeper.new))
         (λ err. Refuses (Rejects asked.now (Remove (key.Pool n))) (K.seen keeper.old) (K.seen keeper.new) err) }
+    ensures answers { IfOk result (λ planned. planned.reply ≡ Done) }
 {
     let key = Key::Pool(n);
     no_row(alloc, keeper, &key)?;

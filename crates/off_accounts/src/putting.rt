@@ -1,8 +1,9 @@
-ghost use Rattle.std.specs.Prelude.{◌≡◌, true, MatchResult};
+ghost use Rattle.std.specs.Prelude.{◌≡◌, true, MatchResult, IfOk};
 ghost use Rattle.off_defs.specs.declared.orders.Command.TheVariants.{SetSite, PutSubscriber, PutAddOn, PutModem, PutClass};
+ghost use Rattle.off_defs.specs.declared.orders.Reply.TheVariants.{Done};
 ghost use Rattle.off_rows.specs.Sound.{is_sound_subscriber, is_add_on_number};
 ghost use Rattle.off_outside.specs.KeeperCalls.{Reads};
-ghost use Rattle.off_accounts.specs.Deciding.{Refuses, Decides, Rejects};
+ghost use Rattle.off_accounts.specs.Refusing.{Refuses, Decides, Rejects};
 
 use crate::limits::within_limit;
 use crate::planning::{add_on_row, class_row, modem_row, one_write, site_row, subscriber_row};
@@ -21,8 +22,9 @@ pub(crate) fn set_site<K: Keeper>(
     asked: &Asked,
     site: &Site,
 ) -> Result<Planned, AccountErr>
-    ensures { MatchResult result (λ planned. Reads (Decides asked.now (SetSite site.now) planned) (K.seen keeper.old) (K.seen keeper.new))
+    ensures told { MatchResult result (λ planned. Reads (Decides asked.now (SetSite site.now) planned) (K.seen keeper.old) (K.seen keeper.new))
         (λ err. Refuses (Rejects asked.now (SetSite site.now)) (K.seen keeper.old) (K.seen keeper.new) err) }
+    ensures answers { IfOk result (λ planned. planned.reply ≡ Done) }
 {
     site_fits(site)?;
     one_write(alloc, Write::Put(Key::Site, site_row(site)), asked.counts)
@@ -36,8 +38,9 @@ pub(crate) fn put_subscriber<K: Keeper>(
     subscriber: &Subscriber,
 ) -> Result<Planned, AccountErr>
     requires { is_sound_subscriber subscriber.now ≡ true }
-    ensures { MatchResult result (λ planned. Reads (Decides asked.now (PutSubscriber n subscriber.now) planned) (K.seen keeper.old) (K.seen keeper.new))
+    ensures told { MatchResult result (λ planned. Reads (Decides asked.now (PutSubscriber n subscriber.now) planned) (K.seen keeper.old) (K.seen keeper.new))
         (λ err. Refuses (Rejects asked.now (PutSubscriber n subscriber.now)) (K.seen keeper.old) (K.seen keeper.new) err) }
+    ensures answers { IfOk result (λ planned. planned.reply ≡ Done) }
 {
     let key = Key::Subscriber(n);
     let after = within_limit(alloc, keeper, &asked.counts, &key, Kind::Subscribers)?;
@@ -53,8 +56,9 @@ pub(crate) fn put_add_on<K: Keeper>(
     settings: &Settings,
 ) -> Result<Planned, AccountErr>
     requires { is_add_on_number number ≡ true }
-    ensures { MatchResult result (λ planned. Reads (Decides asked.now (PutAddOn n number settings.now) planned) (K.seen keeper.old) (K.seen keeper.new))
+    ensures told { MatchResult result (λ planned. Reads (Decides asked.now (PutAddOn n number settings.now) planned) (K.seen keeper.old) (K.seen keeper.new))
         (λ err. Refuses (Rejects asked.now (PutAddOn n number settings.now)) (K.seen keeper.old) (K.seen keeper.new) err) }
+    ensures answers { IfOk result (λ planned. planned.reply ≡ Done) }
 {
     let key = Key::AddOn(n, number);
     no_subscriber(alloc, keeper, n)?;
@@ -71,8 +75,9 @@ pub(crate) fn put_modem<K: Keeper>(
     mac: Mac,
     modem: &Modem,
 ) -> Result<Planned, AccountErr>
-    ensures { MatchResult result (λ planned. Reads (Decides asked.now (PutModem mac modem.now) planned) (K.seen keeper.old) (K.seen keeper.new))
+    ensures told { MatchResult result (λ planned. Reads (Decides asked.now (PutModem mac modem.now) planned) (K.seen keeper.old) (K.seen keeper.new))
         (λ err. Refuses (Rejects asked.now (PutModem mac modem.now)) (K.seen keeper.old) (K.seen keeper.new) err) }
+    ensures answers { IfOk result (λ planned. planned.reply ≡ Done) }
 {
     let key = Key::Modem(mac);
     no_subscriber(alloc, keeper, modem.subscriber)?;
@@ -88,8 +93,9 @@ pub(crate) fn put_class<K: Keeper>(
     n: u32,
     class: &Class,
 ) -> Result<Planned, AccountErr>
-    ensures { MatchResult result (λ planned. Reads (Decides asked.now (PutClass n class.now) planned) (K.seen keeper.old) (K.seen keeper.new))
+    ensures told { MatchResult result (λ planned. Reads (Decides asked.now (PutClass n class.now) planned) (K.seen keeper.old) (K.seen keeper.new))
         (λ err. Refuses (Rejects asked.now (PutClass n class.now)) (K.seen keeper.old) (K.seen keeper.new) err) }
+    ensures answers { IfOk result (λ planned. planned.reply ≡ Done) }
 {
     let key = Key::Class(n);
     class_fits(&class.settings)?;

@@ -1,5 +1,5 @@
-ghost use Rattle.std.specs.Prelude.{◌≡◌, MatchResult, is_some, option_and_then};
-ghost use Rattle.off_rules.specs.Rows.{seen_at, possible, pool_in, as_pool};
+ghost use Rattle.std.specs.Prelude.{◌≡◌, MatchResult, is_some, option_and_then, IfOk, IfSome, IsTrue};
+ghost use Rattle.off_rules.specs.Rows.{seen_at, possible, is_possible, pool_in, as_pool};
 ghost use Rattle.off_outside.specs.KeeperCalls.{Reads, NotDone};
 
 use crate::possible::is_possible;
@@ -14,15 +14,17 @@ pub(crate) fn read<K: Keeper>(
     keeper: &mut K,
     key: &Key,
 ) -> Result<Option<Row>, KeepErr>
-    ensures { MatchResult result (λ row. Reads (λ t. row ≡ seen_at t key.now) (K.seen keeper.old) (K.seen keeper.new))
+    ensures told { MatchResult result (λ row. Reads (λ t. row ≡ seen_at t key.now) (K.seen keeper.old) (K.seen keeper.new))
         (λ err. NotDone err (K.seen keeper.old) (K.seen keeper.new)) }
+    ensures possible { IfOk result (λ row. IfSome row (λ held. IsTrue (is_possible key.now held))) }
 {
     Ok(only_possible(key, keeper.get(alloc, key)?))
 }
 
 /// A row that is possible at its key, or `None`.
 fn only_possible(key: &Key, row: Option<Row>) -> Option<Row>
-    ensures { result ≡ possible key.now row }
+    ensures seen { result ≡ possible key.now row }
+    ensures possible { IfSome result (λ held. IsTrue (is_possible key.now held)) }
 {
     let Some(row) = row else { return None };
     if is_possible(key, &row) {

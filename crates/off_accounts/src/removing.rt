@@ -1,13 +1,14 @@
-ghost use Rattle.std.specs.Prelude.{◌≡◌, ◌∷◌, ◌≤◌, true, map, is_some, count_by, MatchResult};
+ghost use Rattle.std.specs.Prelude.{◌≡◌, ◌∷◌, ◌≤◌, true, map, is_some, count_by, MatchResult, IfOk};
 ghost use Rattle.off_defs.specs.declared.keys.Key.TheVariants as key;
 ghost use Rattle.off_defs.specs.declared.orders.Command.TheVariants.{Remove};
 ghost use Rattle.off_defs.specs.declared.orders.Write.TheVariants.{Drop};
+ghost use Rattle.off_defs.specs.declared.orders.Reply.TheVariants.{Done};
 ghost use Rattle.off_rows.specs.Sound.{is_removable};
 ghost use Rattle.off_rules.specs.Rows.{seen_at};
 ghost use Rattle.off_rules.specs.Clerk.{add_on_keys};
 ghost use Rattle.off_outside.specs.KeeperCalls.{Reads, NotDone};
 ghost use Rattle.off_accounts.specs.declared.results.AccountErr.TheVariants.{Memory};
-ghost use Rattle.off_accounts.specs.Deciding.{Refuses, Decides, Rejects};
+ghost use Rattle.off_accounts.specs.Refusing.{Refuses, Decides, Rejects};
 
 use crate::limits::{fewer_add_ons, one_less};
 use crate::planning::one_write;
@@ -31,8 +32,9 @@ pub(crate) fn remove<K: Keeper>(
     key: &Key,
 ) -> Result<Planned, AccountErr>
     requires { is_removable key.now ≡ true }
-    ensures { MatchResult result (λ planned. Reads (Decides asked.now (Remove key.now) planned) (K.seen keeper.old) (K.seen keeper.new))
+    ensures told { MatchResult result (λ planned. Reads (Decides asked.now (Remove key.now) planned) (K.seen keeper.old) (K.seen keeper.new))
         (λ err. Refuses (Rejects asked.now (Remove key.now)) (K.seen keeper.old) (K.seen keeper.new) err) }
+    ensures answers { IfOk result (λ planned. planned.reply ≡ Done) }
 {
     match *key {
         Key::Subscriber(n) => remove_subscriber(alloc, keeper, asked, n),
@@ -55,8 +57,9 @@ fn remove_add_on<K: Keeper>(
     n: u32,
     number: u8,
 ) -> Result<Planned, AccountErr>
-    ensures { MatchResult result (λ planned. Reads (Decides asked.now (Remove (key.AddOn n number)) planned) (K.seen keeper.old) (K.seen keeper.new))
+    ensures told { MatchResult result (λ planned. Reads (Decides asked.now (Remove (key.AddOn n number)) planned) (K.seen keeper.old) (K.seen keeper.new))
         (λ err. Refuses (Rejects asked.now (Remove (key.AddOn n number))) (K.seen keeper.old) (K.seen keeper.new) err) }
+    ensures answers { IfOk result (λ planned. planned.reply ≡ Done) }
 {
     let key = Key::AddOn(n, number);
     no_row(alloc, keeper, &key)?;
@@ -74,8 +77,9 @@ fn remove_modem<K: Keeper>(
     asked: &Asked,
     mac: Mac,
 ) -> Result<Planned, AccountErr>
-    ensures { MatchResult result (λ planned. Reads (Decides asked.now (Remove (key.Modem mac)) planned) (K.seen keeper.old) (K.seen keeper.new))
+    ensures told { MatchResult result (λ planned. Reads (Decides asked.now (Remove (key.Modem mac)) planned) (K.seen keeper.old) (K.seen keeper.new))
         (λ err. Refuses (Rejects asked.now (Remove (key.Modem mac))) (K.seen keeper.old) (K.seen keeper.new) err) }
+    ensures answers { IfOk result (λ planned. planned.reply ≡ Done) }
 {
     let key = Key::Modem(mac);
     no_row(alloc, keeper, &key)?;
@@ -92,8 +96,9 @@ fn remove_class<K: Keeper>(
     asked: &Asked,
     n: u32,
 ) -> Result<Planned, AccountErr>
-    ensures { MatchResult result (λ planned. Reads (Decides asked.now (Remove (key.Class n)) planned) (K.seen keeper.old) (K.seen keeper.new))
+    ensures told { MatchResult result (λ planned. Reads (Decides asked.now (Remove (key.Class n)) planned) (K.seen keeper.old) (K.seen keeper.new))
         (λ err. Refuses (Rejects asked.now (Remove (key.Class n))) (K.seen keeper.old) (K.seen keeper.new) err) }
+    ensures answers { IfOk result (λ planned. planned.reply ≡ Done) }
 {
     let key = Key::Class(n);
     no_row(alloc, keeper, &key)?;
@@ -112,8 +117,9 @@ fn remove_subscriber<K: Keeper>(
     asked: &Asked,
     n: u32,
 ) -> Result<Planned, AccountErr>
-    ensures { MatchResult result (λ planned. Reads (Decides asked.now (Remove (key.Subscriber n)) planned) (K.seen keeper.old) (K.seen keeper.new))
+    ensures told { MatchResult result (λ planned. Reads (Decides asked.now (Remove (key.Subscriber n)) planned) (K.seen keeper.old) (K.seen keeper.new))
         (λ err. Refuses (Rejects asked.now (Remove (key.Subscriber n))) (K.seen keeper.old) (K.seen keeper.new) err) }
+    ensures answers { IfOk result (λ planned. planned.reply ≡ Done) }
 {
     no_row(alloc, keeper, &Key::Subscriber(n))?;
     has_modems(alloc, keeper, n)?;

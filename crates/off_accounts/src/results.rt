@@ -34,7 +34,7 @@ pub enum AccountErr {
 
 impl From<KeepErr> for AccountErr {
     ghost use Rattle.std.specs.Prelude.{◌≡◌};
-    ghost use Rattle.off_accounts.specs.Deciding.{not_kept};
+    ghost use Rattle.off_accounts.specs.Refusing.{not_kept};
 
     ghost from_gives = { λ kept err. err ≡ not_kept kept };
 

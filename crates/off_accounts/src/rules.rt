@@ -2,7 +2,7 @@ ghost use Rattle.std.specs.Prelude.{◌≡◌, None, Some, MatchResult};
 ghost use Rattle.off_rules.specs.Rows.{pool_in};
 ghost use Rattle.off_rules.specs.Clerk.{no_subscriber, no_class, no_row, pool_overlap, relay_taken, pool_has_leases, has_modems, class_in_use};
 ghost use Rattle.off_outside.specs.KeeperCalls.{Reads};
-ghost use Rattle.off_accounts.specs.Deciding.{Refuses};
+ghost use Rattle.off_accounts.specs.Refusing.{Refuses};
 ghost use Rattle.off_accounts.specs.Searches.{live_lost, pool_number, lease_address};
 
 use crate::lost::Lost;

@@ -4,7 +4,7 @@ ghost use Rattle.off_tree.specs.Fault.{first_fault};
 ghost use Rattle.off_defs.specs.declared.rules.Rule.TheVariants as rule;
 ghost use Rattle.off_rules.specs.Rows.{has_pool_size};
 ghost use Rattle.off_rules.specs.Clerk.{when};
-ghost use Rattle.off_accounts.specs.Deciding.{IsBroken, site_rule};
+ghost use Rattle.off_accounts.specs.Refusing.{IsBroken, site_rule};
 
 use crate::possible::{has_pool_size, is_lease_time, is_offset};
 use crate::results::AccountErr;

@@ -1,5 +1,5 @@
 -- What the line of an event says of its outcome.
-use Rattle.std.proofs.Common.{◌≡◌, List, [], ◌∷◌, ◌++◌, codes, All, refl, ap, subst, arith}
+use Rattle.std.proofs.Common.{◌≡◌, ℕ, List, [], ◌∷◌, ◌++◌, codes, All, refl, ap, subst, arith}
 use Rattle.std.proofs.lemmas.List.Elements.{All-nil, All-cons, All-head, All-tail}
 use Rattle.off_defs.specs.declared.events.Service.TheVariants.{Dhcp, Time, Tftp}
 use Rattle.off_defs.specs.declared.events.What.{What}
@@ -8,8 +8,8 @@ use Rattle.off_defs.specs.declared.events.Event.{Event}
 use Rattle.off_defs.specs.declared.results.Outcome.{Outcome}
 use Rattle.off_defs.specs.declared.results.Outcome.TheVariants.{Did, Memory, Keeper}
 use Rattle.off_defs.specs.State.{State, Effect}
-use Rattle.off_book.specs.Step.{Step, Does, service_word}
-use Rattle.off_book.specs.Run.{Turn, Run, keeper_failures, failures_by}
+use Rattle.off_book.specs.Step.{Step, Does, TellsOutcome, service_word}
+use Rattle.off_book.specs.Run.{Turn, SaysMemory, TellsItsOutcome, keeper_failures, failures_by}
 
 does_memory : (s : State) (what : What) (effect : Effect) → Does s what Memory effect → effect.said.line ≡ service_word what ++ codes " memory"
 does_memory s (Datagram Dhcp from bytes) effect does = absurd does
@@ -25,8 +25,20 @@ pub memory_says : (s : State) (event : Event) (effect : Effect) → Step s event
 unfolding Step
 memory_says s event effect step = does_memory _ event.what effect step
 
-abbrev pub SaysMemory : Turn → Type 0
-SaysMemory turn = turn.said.line ≡ service_word turn.event.what ++ codes " memory"
+does_keeper : (s : State) (what : What) (effect : Effect) → Does s what Keeper effect → effect.said.line ≡ service_word what ++ codes " keeper"
+does_keeper s (Datagram Dhcp from bytes) effect does = absurd does
+does_keeper s (Datagram Time from bytes) effect does = absurd does
+does_keeper s (Datagram Tftp from bytes) effect does = absurd does
+does_keeper s (Piece conn bytes) effect does = ap (λ (e : Effect). e.said.line) does
+does_keeper s (Closed conn) effect does = absurd does
+does_keeper s Tick effect does = absurd does
+does_keeper s End effect does = absurd does
+
+pub step_tells : (s : State) (event : Event) (outcome : Outcome) (effect : Effect) → Step s event outcome effect → TellsOutcome event.what outcome effect.said.line
+unfolding Step
+step_tells s event Did effect step = tt
+step_tells s event Memory effect step = does_memory _ event.what effect step
+step_tells s event Keeper effect step = does_keeper _ event.what effect step
 
 -- an outcome that is no failure of the keeper and no want of memory
 did_of : (o : Outcome) → keeper_failures o ≡ 0 → ¬ (o ≡ Memory) → o ≡ Did
@@ -34,12 +46,18 @@ did_of Did f m = refl
 did_of Memory f m = absurd (m refl)
 did_of Keeper f m = absurd (omega (arith, f))
 
+not_memory : (what : What) (o : Outcome) (line : List ℕ) → TellsOutcome what o line → ¬ (line ≡ service_word what ++ codes " memory") → ¬ (o ≡ Memory)
+not_memory what Did line tells silent is = cc
+not_memory what Memory line tells silent is = silent tells
+not_memory what Keeper line tells silent is = cc
+
 -- where no line says `memory` and the keeper failed in no turn, each event did what its service does
-pub run_did : (s : State) (turns : List Turn) (last : State) → Run s turns last → failures_by turns ≡ 0 → All (λ (turn : Turn). ¬ (SaysMemory turn)) turns
+pub turns_did : (turns : List Turn) → All TellsItsOutcome turns → failures_by turns ≡ 0 → All (λ (turn : Turn). ¬ (SaysMemory turn)) turns
     → All (λ (turn : Turn). turn.outcome ≡ Did) turns
-run_did s [] last run none silent = All-nil (λ (turn : Turn). turn.outcome ≡ Did)
-run_did s (turn ∷ turns) last run none silent =
-    let head : ¬ (SaysMemory turn) = All-head (λ (t : Turn). ¬ (SaysMemory t)) turn turns silent in
-    let did : turn.outcome ≡ Did = did_of turn.outcome (omega (arith, none)) (λ is. head (memory_says s turn.event (record { said = turn.said; after = run.0 })
-    (subst (λ o. Step s turn.event o (record { said = turn.said; after = run.0 })) is run.1.0))) in
-    All-cons (λ (t : Turn). t.outcome ≡ Did) turn turns did (run_did run.0 turns last run.1.1 (omega (arith, none)) (All-tail (λ (t : Turn). ¬ (SaysMemory t)) turn turns silent))
+turns_did [] tell none silent = All-nil (λ (turn : Turn). turn.outcome ≡ Did)
+turns_did (turn ∷ turns) tell none silent =
+    let mute : ¬ (SaysMemory turn) = All-head (λ (t : Turn). ¬ (SaysMemory t)) turn turns silent in
+    let says : TellsItsOutcome turn = All-head TellsItsOutcome turn turns tell in
+    let did : turn.outcome ≡ Did = did_of turn.outcome (omega (arith, none)) (not_memory turn.event.what turn.outcome turn.said.line says mute) in
+    All-cons (λ (t : Turn). t.outcome ≡ Did) turn turns did
+    (turns_did turns (All-tail TellsItsOutcome turn turns tell) (omega (arith, none)) (All-tail (λ (t : Turn). ¬ (SaysMemory t)) turn turns silent))

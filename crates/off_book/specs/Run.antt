@@ -9,7 +9,7 @@ use Rattle.off_defs.specs.declared.results.Outcome.TheVariants.{Did, Memory, Kee
 use Rattle.off_defs.specs.declared.results.Sent.{Sent}
 use Rattle.off_defs.specs.Events.{end_event}
 use Rattle.off_defs.specs.State.{State, Said}
-use Rattle.off_book.specs.Step.{Step, service_word}
+use Rattle.off_book.specs.Step.{Step, TellsOutcome, service_word}
 
 -- One turn. `went` tells of each item whether it was sent.
 pub record Turn : Type 0 where
@@ -46,6 +46,13 @@ sent_by (turn ∷ turns) = sent_in turn ++ sent_by turns
 abbrev pub lost_by : List Turn → ℕ
 lost_by [] = 0
 lost_by (turn ∷ turns) = lost_in turn + lost_by turns
+
+-- the line of a turn says that memory was wanted, and it says so where it was
+abbrev pub SaysMemory : Turn → Type 0
+SaysMemory turn = turn.said.line ≡ service_word turn.event.what ++ codes " memory"
+
+abbrev pub TellsItsOutcome : Turn → Type 0
+TellsItsOutcome turn = TellsOutcome turn.event.what turn.outcome turn.said.line
 
 -- how many of the turns the keeper of the tables failed in
 abbrev pub keeper_failures : Outcome → ℕ

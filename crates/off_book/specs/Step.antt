@@ -9,7 +9,7 @@ use Rattle.off_defs.specs.declared.results.Outcome.{Outcome}
 use Rattle.off_defs.specs.declared.results.Outcome.TheVariants.{Did, Memory, Keeper}
 use Rattle.off_defs.specs.declared.results.Sent.{Sent}
 use Rattle.off_defs.specs.State.{State, Said, Effect, at_moment, only_line, silence}
-use Rattle.off_book.specs.Http.{PieceFailed, answer_and_close, no_memory_reply, no_keeper_reply}
+use Rattle.off_book.specs.Http.{PieceDid, ClosedDid, PieceFailed, answer_and_close, no_memory_reply, no_keeper_reply}
 use Rattle.off_book.specs.Time.{TimeDid}
 
 -- the service's name, with which each line of the log begins
@@ -44,10 +44,10 @@ Does s (Datagram Time from bytes) Keeper effect = ⊥
 Does s (Datagram Tftp from bytes) Did effect = NotBuilt s (Datagram Tftp from bytes) effect
 Does s (Datagram Tftp from bytes) Memory effect = ⊥
 Does s (Datagram Tftp from bytes) Keeper effect = ⊥
-Does s (Piece conn bytes) Did effect = NotBuilt s (Piece conn bytes) effect
+Does s (Piece conn bytes) Did effect = PieceDid s conn bytes effect
 Does s (Piece conn bytes) Memory effect = PieceFailed s conn no_memory_reply (codes "http memory") effect
 Does s (Piece conn bytes) Keeper effect = PieceFailed s conn no_keeper_reply (codes "http keeper") effect
-Does s (Closed conn) Did effect = NotBuilt s (Closed conn) effect
+Does s (Closed conn) Did effect = ClosedDid s conn effect
 Does s (Closed conn) Memory effect = ⊥
 Does s (Closed conn) Keeper effect = ⊥
 Does s Tick Did effect = effect ≡ silence s
@@ -69,3 +69,9 @@ added_items what outcome = []
 
 abbrev pub completed : What → Outcome → Said → Said
 completed what outcome said = record said { items = said.items ++ added_items what outcome }
+
+-- an event that was acted on says so by its line, if by anything; want of memory and a failing keeper are always said
+abbrev pub TellsOutcome : What → Outcome → List ℕ → Type 0
+TellsOutcome what Did line = Unit {0}
+TellsOutcome what Memory line = line ≡ service_word what ++ codes " memory"
+TellsOutcome what Keeper line = line ≡ service_word what ++ codes " keeper"

@@ -4,4 +4,4 @@
 mod clock;
 mod office;
 
-pub use office::Office;
+pub use office::{Office, StartErr};

@@ -1,50 +1,103 @@
-ghost use Rattle.std.specs.Prelude.{◌≡◌, ◌≤◌, [], ◌∷◌, ◌++◌, length, max, OnOk, OnErr};
+ghost use Rattle.std.specs.Prelude.{◌≡◌, ◌≤◌, [], ◌∷◌, ◌++◌, length, max, OnOk, OnErr, IfOk, MatchResult};
 ghost use Rattle.off_defs.specs.State.{Tables, held_at_start, state_of, says_nothing};
-ghost use Rattle.off_book.specs.Step.{Step};
+ghost use Rattle.off_rules.specs.Good.{Judged, Good};
+ghost use Rattle.off_rules.specs.Rows.{counts_of};
+ghost use Rattle.off_book.specs.Step.{Step, completed};
 ghost use Rattle.off_book.specs.Time.{time_answer};
+ghost use Rattle.off_book.specs.Run.{keeper_failures};
+ghost use Rattle.off_outside.specs.KeeperCalls.{Reads, NotDone};
+ghost use Rattle.off_office.specs.Acting.{Acts, NotStarted, start_err};
 ghost use Rattle.off_office.specs.Saying.{SaysTime};
 
 use crate::clock::time_of_day;
+use off_accounts::{count_rows, first_bad};
 use off_base::{Bytes, Moment, NoMemory, Peer};
-use off_outside::{Event, Outcome, Replies, Sent, Service, What};
+use off_defs::Key;
+use off_outside::{Event, KeepErr, Keeper, Outcome, Replies, Sent, Service, What};
+use off_rules::Counts;
 use std::alloc::Global;
 use std::marker::Model;
 
-/// The office between two events: the moment of its latest event.
+/// Why an office doesn't start.
+#[derive(Clone, Copy, Debug, PartialEq, Eq)]
+pub enum StartErr {
+    /// The tables aren't good, and this is the least key whose row is bad.
+    Bad(Key),
+    /// The keeper of the tables failed.
+    Failed,
+    /// Memory was wanted, and refused.
+    Memory,
+}
+
+/// The office between two events: the moment of its latest event, and how many rows the tables have.
 #[derive(Debug, Drop)]
 pub struct Office {
     alloc: Global,
     now: Moment,
+    counts: Counts,
 }
 
 impl Model for Office {
     ghost use Rattle.std.specs.FinMap as map;
-    ghost use Rattle.off_defs.specs.State.{Held};
+    ghost use Rattle.off_office.specs.Kept.{Kept, kept_code};
 
-    ghost Value = { Held };
+    ghost Value = { Kept };
 
-    ghost use Rattle.off_defs.specs.Codes.{held_code};
+    ghost coded = { kept_code };
 
-    ghost coded = { held_code };
-
-    ghost view = { λ o. record { now = o.now.0; transfers = map.empty; connections = map.empty } };
+    ghost view = { λ o. record { held = record { now = o.now.0; transfers = map.empty; connections = map.empty }; counts = o.counts } };
 }
 
 impl Office {
-    /// An office that has just begun: no transfers, no connections, moment 0.
-    pub fn start(alloc: Global) -> Office
-        ensures { result ≡ held_at_start }
+    /// Opens the tables: an office that has just begun, with no transfers, no connections and moment 0, over tables that are good.
+    ///
+    /// `Bad` comes exactly where they aren't, with the least bad key. The tables stay as they are.
+    pub fn start<K: Keeper>(alloc: Global, keeper: &mut K) -> Result<Office, StartErr>
+        ensures told { MatchResult result
+            (λ office. Reads (λ tables. Good tables × (office.counts ≡ counts_of tables)) (K.seen keeper.old) (K.seen keeper.new))
+            (λ err. NotStarted err (K.seen keeper.old) (K.seen keeper.new)) }
+        ensures held { IfOk result (λ office. office.held ≡ held_at_start) }
     {
-        Office {
-            alloc,
-            now: Moment(0),
+        match first_bad(alloc, keeper) {
+            Ok(None) => Office::counted(alloc, keeper),
+            Ok(Some(key)) => Err(StartErr::Bad(key)),
+            Err(err) => Err(not_started(err)),
+        }
+    }
+
+    // An office whose counts are those of the tables.
+    fn counted<K: Keeper>(alloc: Global, keeper: &mut K) -> Result<Office, StartErr>
+        ensures told { MatchResult result
+            (λ office. Reads (λ tables. office.counts ≡ counts_of tables) (K.seen keeper.old) (K.seen keeper.new))
+            (λ err. NotStarted err (K.seen keeper.old) (K.seen keeper.new)) }
+        ensures held { IfOk result (λ office. office.held ≡ held_at_start) }
+    {
+        match count_rows(alloc, keeper) {
+            Ok(counts) => Ok(Office {
+                alloc,
+                now: Moment(0),
+                counts,
+            }),
+            Err(err) => Err(not_started(err)),
         }
     }
 
     /// Takes one event: leaves in `out` what the office says of it, and nothing of what `out` said before.
-    pub fn step(&mut self, event: &Event, out: &mut Replies) -> Outcome
-        ensures { (tables : Tables) → Step (state_of tables self.old) event.now result
-            (record { said = out.new; after = state_of tables self.new }) }
+    ///
+    /// A piece that the office couldn't act on has its line alone in `out`; the answer and the end of its connection are the same bytes
+    /// each time, and are left to the caller. `Outcome::Keeper` comes only where the keeper counted a fault in this call.
+    pub fn step<K: Keeper>(&mut self, keeper: &mut K, event: &Event, out: &mut Replies) -> Outcome
+        ensures { Acts event.now result out.new self.old self.new (K.seen keeper.old) (K.seen keeper.new) }
+    {
+        self.act(event, out)
+    }
+
+    // Takes an event that needs no tables.
+    fn act(&mut self, event: &Event, out: &mut Replies) -> Outcome
+        ensures step { (tables : Tables) → Step (state_of tables self.old.held) event.now result
+            (record { said = completed event.now.what result out.new; after = state_of tables self.new.held }) }
+        ensures counts { self.new.counts ≡ self.old.counts }
+        ensures faults { keeper_failures result ≡ 0 }
     {
         out.clear();
         self.now = later(self.now, event.at);
@@ -63,6 +116,16 @@ impl Office {
             What::Tick => Outcome::Did,
             What::End => Outcome::Did,
         }
+    }
+}
+
+// The keeper's error, as why an office doesn't start.
+fn not_started(err: KeepErr) -> StartErr
+    ensures { result ≡ start_err err }
+{
+    match err {
+        KeepErr::Memory => StartErr::Memory,
+        KeepErr::Failed => StartErr::Failed,
     }
 }
 

@@ -22,9 +22,10 @@ impl Model for KeyText {
 }
 
 impl KeyText {
-    /// The text's bytes.
+    /// The text's bytes, 64 at most.
     pub fn as_slice(&self) -> &[u8]
-        ensures { result.now ≡ self.now }
+        ensures text { result.now ≡ self.now }
+        ensures short { length result.now ≤ 64 }
     {
         self.held.as_slice()
     }

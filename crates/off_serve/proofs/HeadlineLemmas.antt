@@ -1,28 +1,38 @@
 -- From the loop and the run's own line to the headline.
-use Rattle.std.proofs.Common.{◌≡◌, ◌≢◌, ℕ, List, All, Option, Some, MatchOption, subst, inl, inr, arith}
-use Rattle.std.specs.FinMap as map
-use Rattle.off_defs.specs.State.{Tables, Held, start, state_of}
+use Rattle.std.proofs.Common.{◌≡◌, ◌≢◌, ℕ, List, [], All, Option, Some, MatchOption, refl, sym, ap, ◌∙◌, subst, inl, inr, arith}
+use Rattle.off_defs.specs.State.{Tables, Held, held_at_start, start, state_of}
+use Rattle.off_defs.specs.Counts.{Grew}
 use Rattle.off_book.specs.Words.{Job}
-use Rattle.off_book.specs.Run.{Turn}
-use Rattle.off_book.proofs.StepLemmas.{run_did}
+use Rattle.off_book.specs.Run.{Turn, Run, SaysMemory, failures_by}
+use Rattle.off_book.proofs.StepLemmas.{turns_did}
+use Rattle.off_defs.proofs.CountLemmas.{later_grew}
+use Rattle.off_rules.specs.Good.{Good}
+use Rattle.off_rules.specs.Rows.{counts_of}
 use Rattle.off_outside.specs.LinkSeen.{LinkSeen}
-use Rattle.off_outside.specs.Streams.{SinkSeen}
+use Rattle.off_outside.specs.KeeperSeen.{KeeperSeen}
+use Rattle.off_outside.specs.KeeperCalls.{Reads}
+use Rattle.off_outside.specs.Streams.{SinkSeen, Wrote, NotWritten}
+use Rattle.off_office.specs.Kept.{Kept}
+use Rattle.off_office.specs.Acting.{NotStarted}
+use Rattle.off_office.specs.declared.office.StartErr.{StartErr}
+use Rattle.off_office.specs.declared.office.StartErr.TheVariants as start_err
 use Rattle.off_serve.specs.declared.serving.Stop.{Stop}
 use Rattle.off_serve.specs.declared.serving.Stop.TheVariants as stop
-use Rattle.off_serve.specs.Headline.{World, world_of, WroteText, CutText, RanTurns, Stops, Served, OwnLine, OwnWritten, Ended, Ends, NoFault, SaysMemory, Completed, ServesAsOffice}
-use Rattle.off_serve.proofs.ServeLemmas.{wrote_more, wrote_same, cut_more, cut_same}
+use Rattle.off_serve.specs.Serving.{World, world_of}
+use Rattle.off_serve.specs.Headline.{WroteText, CutText, RanTurns, RanFrom, RanOffice, Stops, Served, OwnLine, OwnWritten, Ended, Ends, NoFault, Completed, LinkSame, StaysClosed, RunsAsOffice, ServesAsOffice, closed_status, closed_line}
+use Rattle.off_serve.proofs.ServeLemmas.{wrote_more, wrote_same, wrote_none, cut_more, cut_same}
 
 own_line : (of : ℕ) (own text : List ℕ) (status : ℕ) (a b c : SinkSeen) → WroteText text a b → OwnWritten of own status b c → OwnLine of own text status a c
 own_line of own text status a b c wrote (inl w) = inl (w.0, wrote_more wrote w.1)
 own_line of own text status a b c wrote (inr w) = inr (w.0, cut_more wrote w.1)
 
-ends_of : (reason : Stop) (budget : ℕ) (turns : List Turn) (link link' : LinkSeen) (a b c : SinkSeen) (status : ℕ)
-    → Stops reason budget turns (world_of link a) (world_of link' b) → Ended reason status b c → Ends reason budget turns (world_of link a) (world_of link' c) status
-ends_of stop.Finished budget turns link link' a b c status stops ended =
+ends_of : (reason : Stop) (budget : ℕ) (turns : List Turn) (link link' : LinkSeen) (j k k' : KeeperSeen) (a b c : SinkSeen) (status : ℕ)
+    → Stops reason budget turns (world_of link j a) (world_of link' k' b) → Ended reason status b c → Ends reason budget turns (world_of link k a) (world_of link' k' c) status
+ends_of stop.Finished budget turns link link' j k k' a b c status stops ended =
     (ended.0, record { cause = stops.cause; missed = stops.missed; faults = stops.faults; text = wrote_same stops.text ended.1 })
-ends_of stop.Memory budget turns link link' a b c status stops ended = (stops.0, own_line _ _ _ status a b c stops.1 ended)
-ends_of stop.Link budget turns link link' a b c status stops ended = (stops.0, own_line _ _ _ status a b c stops.1 ended)
-ends_of stop.Sink budget turns link link' a b c status stops ended = (
+ends_of stop.Memory budget turns link link' j k k' a b c status stops ended = (stops.0, own_line _ _ _ status a b c stops.1 ended)
+ends_of stop.Link budget turns link link' j k k' a b c status stops ended = (stops.0, own_line _ _ _ status a b c stops.1 ended)
+ends_of stop.Sink budget turns link link' j k k' a b c status stops ended = (
   ended.0,
   record {
     front = stops.front;
@@ -45,30 +55,75 @@ status_of stop.Memory budget turns old new status none other ends =
 status_of stop.Link budget turns old new status none other ends = absurd (omega (arith, none.faults, none.faults_count, ends.0.faults.grew))
 status_of stop.Sink budget turns old new status none other ends = absurd (cut_counts none ends.1.text)
 
-complete_of : (reason : Stop) (budget : ℕ) (turns : List Turn) (held : Held) (old new : World) (status : ℕ) → RanTurns turns held old.link new.link → Ends reason budget turns old new status
+complete_of : (reason : Stop) (budget : ℕ) (turns : List Turn) (held : Held) (old new : World) (status : ℕ) → RanTurns turns old.link new.link
+    → RanOffice turns held old.keeper new.keeper → Ends reason budget turns old new status
     → NoFault old new → All (λ (turn : Turn). ¬ (SaysMemory turn)) turns → status ≢ 6 → Completed turns status
-complete_of reason budget turns held old new status ran ends none silent other =
-    let tables : Tables = map.empty in
-    record {
-      did = run_did (start tables) turns (state_of tables held) (ran.run tables) silent;
-      lost = omega (arith, none.unsent, none.unsent_count, ran.unsent.grew);
-      status_is = status_of reason budget turns old new status none other ends;
-    }
+complete_of reason budget turns held old new status ran office ends none silent other = record {
+  did = turns_did turns office.tell (omega (arith, none.keeper, none.keeper_count, office.faults.grew)) silent;
+  lost = omega (arith, none.unsent, none.unsent_count, ran.unsent.grew);
+  status_is = status_of reason budget turns old new status none other ends;
+}
 
-pub serves : (budget : ℕ) (link link' : LinkSeen) (a b c : SinkSeen) (reason : Stop) (status : ℕ)
-    → Served reason budget (world_of link a) (world_of link' b) → Ended reason status b c → ServesAsOffice budget (world_of link a) (world_of link' c) status
-serves budget link link' a b c reason status served ended =
-    let ends = ends_of reason budget served.turns link link' a b c status served.stops ended in
-    record {
+-- an office that opened, and its turns
+ran_office : {turns : List Turn} {first last : Kept} {a b c : KeeperSeen} → Reads (λ t. Good t × (first.counts ≡ counts_of t)) a b → first.held ≡ held_at_start
+    → RanFrom turns first last b c → RanOffice turns last.held a c
+ran_office {turns} {first} {last} {a} {b} {c} opened fresh ran = record {
+  run = record {
+    each = λ t told.
+        let before = opened.tables t told in
+        let g = ran.run.each t before.0 in
+        record {
+          value = g.value;
+          told = g.told;
+          fits = subst (λ (h : Held). Run (state_of t h) turns (state_of g.value last.held)) fresh (g.fits before.1.1).0;
+        };
+  };
+  faults = later_grew opened.faults ran.faults;
+  tell = ran.tell;
+}
+
+pub serves : (budget : ℕ) (link link' : LinkSeen) (k l m : KeeperSeen) (a b c : SinkSeen) (reason : Stop) (first last : Kept) (status : ℕ)
+    → Reads (λ t. Good t × (first.counts ≡ counts_of t)) k l → first.held ≡ held_at_start
+    → Served reason budget first last (world_of link l a) (world_of link' m b) → Ended reason status b c → ServesAsOffice budget (world_of link k a) (world_of link' m c) status
+serves budget link link' k l m a b c reason first last status opened fresh served ended =
+    let ends = ends_of reason budget served.turns link link' l k m a b c status served.stops ended in
+    let office = ran_office opened fresh served.office in
+    inr (record {
       reason = reason;
       turns = served.turns;
-      held = served.held;
+      held = last.held;
+      good = λ t told. (opened.tables t told).1.0;
       within = served.within;
       ends_last = served.ends_last;
       ran = served.ran;
+      office = office;
       ends = ends;
-      complete = complete_of reason budget served.turns served.held (world_of link a) (world_of link' c) status served.ran ends;
-    }
+      complete = complete_of reason budget served.turns last.held (world_of link k a) (world_of link' m c) status served.ran office ends;
+    })
+
+closed_complete : (why : StartErr) (old new : World) (status : ℕ) → NotStarted why old.keeper new.keeper
+    → OwnLine (closed_status why) (closed_line why) [] status old.sink new.sink → NoFault old new → status ≢ 6 → status ≡ 2
+closed_complete why old new status tables (inr w) none other = absurd (cut_counts none w.1)
+closed_complete (start_err.Bad key) old new status tables (inl w) none other = w.0
+closed_complete start_err.Failed old new status tables (inl w) none other = absurd (omega (arith, none.keeper, none.keeper_count, tables.faults.grew))
+closed_complete start_err.Memory old new status tables (inl w) none other = absurd (other w.0)
+
+pub stays_closed : (budget : ℕ) (link : LinkSeen) (k l : KeeperSeen) (a b : SinkSeen) (why : StartErr) (status : ℕ)
+    → LinkSame link link → NotStarted why k l → OwnWritten (closed_status why) (closed_line why) status a b → ServesAsOffice budget (world_of link k a) (world_of link l b) status
+stays_closed budget link k l a b why status same tables wrote =
+    let text = own_line (closed_status why) (closed_line why) [] status a a b (wrote_none a) wrote in
+    inl (record {
+      why = why;
+      tables = tables;
+      link = same;
+      text = text;
+      complete = closed_complete why (world_of link k a) (world_of link l b) status tables text;
+    })
+
+-- the own line of an office that didn't open, by why it didn't
+pub closed_by : (why other : StartErr) (status : ℕ) (a b : SinkSeen) → why ≡ other → OwnWritten (closed_status other) (closed_line other) status a b
+    → OwnWritten (closed_status why) (closed_line why) status a b
+closed_by why other status a b is wrote = subst (λ w. OwnWritten (closed_status w) (closed_line w) status a b) (sym is) wrote
 
 -- the words that were read are those of the book
 pub by_words : (P : Type 0) (Q : Job → Type 0) (form : Job) (words : Option Job) → Some form ≡ words → Q form → MatchOption words P Q

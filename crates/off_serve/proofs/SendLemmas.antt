@@ -1,6 +1,7 @@
 -- The items of an event, one after another.
-use Rattle.std.proofs.Common.{◌≡◌, ℕ, ◌+◌, Bool, true, false, ◌&&◌, cond, List, [], ◌∷◌, ◌++◌, length, take, slice_get, Some, ◌<◌, refl, sym, ap, ◌∙◌, subst, arith, append_assoc, append-nil, length-append}
+use Rattle.std.proofs.Common.{◌≡◌, ℕ, ◌+◌, Bool, true, false, not, ◌&&◌, cond, List, [], ◌∷◌, ◌++◌, length, take, slice_get, Some, ◌<◌, refl, sym, ap, ◌∙◌, subst, arith, append_assoc, append-nil, length-append}
 use Rattle.std.proofs.lemmas.List.{take_more}
+use Rattle.std.proofs.lemmas.List.Sums.{sum_by-append}
 use Rattle.std.proofs.lemmas.Option.{get_or_from_slice_get}
 use Rattle.off_defs.specs.declared.results.Sent.{Sent}
 use Rattle.off_defs.specs.Counts.{Grew}
@@ -61,3 +62,37 @@ sent_more items item all false {a} {b} {c} p q = record {
 -- the items up to i, and item i
 pub one_more_item : (items : List Sent) (i : ℕ) (item : Sent) → i < length items → slice_get items i ≡ Some item → take (i + 1) items ≡ take i items ++ item ∷ []
 one_more_item items i item within is = take_more items i item within ∙ ap (λ v. take i items ++ v ∷ []) (get_or_from_slice_get items i item item is)
+
+-- items, and items behind them
+marked_then : (items more : List Sent) (marks others : List Bool) → length items ≡ length marks → marked (items ++ more) (marks ++ others) ≡ marked items marks ++ marked more others
+marked_then [] more [] others same = refl
+marked_then [] more (m ∷ marks) others same = absurd (omega arith)
+marked_then (i ∷ items) more [] others same = absurd (omega arith)
+marked_then (i ∷ items) more (true ∷ marks) others same = ap (λ v. i ∷ v) (marked_then items more marks others (omega arith))
+marked_then (i ∷ items) more (false ∷ marks) others same = marked_then items more marks others (omega arith)
+
+all_then : (marks others : List Bool) → all_went (marks ++ others) ≡ cond (all_went marks) (all_went others) false
+all_then [] others = refl
+all_then (true ∷ marks) others = all_then marks others
+all_then (false ∷ marks) others = refl
+
+both_went : (all more : Bool) (marks others : List Bool) → all ≡ all_went marks → more ≡ all_went others → (all && more) ≡ all_went (marks ++ others)
+both_went all more marks others p q =
+    and_cond all more ∙ (ap (λ v. cond v more false) p ∙ (ap (λ v. cond (all_went marks) v false) q ∙ sym (all_then marks others)))
+
+pub sent_then : (items more : List Sent) (all other : Bool) {a b c : LinkSeen} → SentAll items all a b → SentAll more other b c
+    → SentAll (items ++ more) (all && other) a c
+sent_then items more all other {a} {b} {c} p q = record {
+  marks = p.marks ++ q.marks;
+  each = omega (arith, length-append items more, length-append p.marks q.marks, p.each, q.each);
+  all_is = both_went all other p.marks q.marks p.all_is q.all_is;
+  left = then_stays p.left q.left;
+  sent = told_then p.sent q.sent (λ x y z before after.
+      after ∙ (ap (λ v. v ++ marked more q.marks) before ∙ (append_assoc x (marked items p.marks) (marked more q.marks) ∙ ap (λ v. x ++ v) (sym (marked_then items more p.marks q.marks p.each)))));
+  missed = q.missed ∙ p.missed;
+  faults = q.faults ∙ p.faults;
+  unsent = subst (λ n. Grew n a.unsent c.unsent) (sym (sum_by-append (λ m. cond (not m) 1 0) p.marks q.marks)) (grew_then p.unsent q.unsent);
+}
+
+pub sent_two : (one other : Sent) (first second : Bool) (a b c : LinkSeen) → SentOne one first a b → SentOne other second b c → SentAll (one ∷ other ∷ []) (first && second) a c
+sent_two one other first second a b c p q = sent_more (one ∷ []) other first second (sent_more [] one true first (sent_none a) p) q

@@ -5,24 +5,27 @@ use Rattle.std.proofs.lemmas.List.Elements.{All-same, All-push, All-take, All-he
 use Rattle.off_defs.specs.declared.events.Event.{Event}
 use Rattle.off_defs.specs.Told.{Stays}
 use Rattle.off_defs.specs.Counts.{Grew}
-use Rattle.off_defs.specs.State.{Held, held_at_start, state_of, start}
+use Rattle.off_defs.specs.State.{state_of}
+use Rattle.off_rules.specs.Rows.{counts_of}
 use Rattle.off_defs.specs.Events.{end_event}
-use Rattle.off_book.specs.Run.{Turn, sent_in, sent_by, lost_by, line_of, lines_from, events_of, first_events, is_end, IsNoEnd, EndsLast}
+use Rattle.off_book.specs.Run.{Turn, Run, TellsItsOutcome, failures_by, sent_in, sent_by, lost_by, line_of, lines_from, events_of, first_events, is_end, IsNoEnd, EndsLast}
 use Rattle.off_defs.proofs.ToldLemmas.{told_then, told_self, then_stays}
 use Rattle.off_defs.proofs.CountLemmas.{grew_self, grew_then, later_grew}
-use Rattle.off_book.proofs.RunLemmas.{run_push, sent_by_push, lost_by_push, lines_from_push}
+use Rattle.off_book.proofs.RunLemmas.{run_push, failures_by_push, sent_by_push, lost_by_push, lines_from_push}
 use Rattle.off_outside.specs.LinkSeen.{LinkSeen}
+use Rattle.off_outside.specs.KeeperSeen.{KeeperSeen}
+use Rattle.off_office.specs.Kept.{Kept}
 use Rattle.off_outside.specs.LinkCalls.{first_event}
 use Rattle.off_outside.specs.Streams.{SinkSeen, Wrote, NotWritten}
 use Rattle.off_serve.specs.declared.serving.Stop.TheVariants as stop
-use Rattle.off_serve.specs.Serving.{TurnMade, TurnWritten, TurnCut, NoTurn, LacksMemory, Missed, SinkSame, most_missed}
-use Rattle.off_serve.specs.Headline.{World, WroteText, CutText, RanTurns, SoFar, Served}
+use Rattle.off_serve.specs.Serving.{World, OfficeTurn, KeeperSame, TurnMade, TurnWritten, TurnCut, NoTurn, LacksMemory, Missed, SinkSame, most_missed}
+use Rattle.off_serve.specs.Headline.{WroteText, CutText, RanTurns, RanFrom, SoFar, Served}
 
 -- `n` turns so far
-pub record Going (n : ℕ) (held : Held) (old new : World) : Type 0 where
+pub record Going (n : ℕ) (first last : Kept) (old new : World) : Type 0 where
   pub turns : List Turn
   pub count : length turns ≡ n
-  pub so_far : SoFar turns held old new
+  pub so_far : SoFar turns first last old new
 
 -- the events that were taken are the first of those to come, with one more
 next_events : (turns : List Turn) (turn : Turn) (events : List Event) → All IsNoEnd turns
@@ -41,16 +44,45 @@ next_events (first ∷ turns) turn (event ∷ events) no_end so_far next =
     let rest = next_events turns turn events (All-tail IsNoEnd first turns no_end) tails next in
     (ap (λ v. v ∷ events_of (turns ++ turn ∷ [])) heads ∙ ap (λ v. event ∷ v) rest.0, rest.1)
 
-ran_push : {turns : List Turn} {turn : Turn} {held after : Held} {a b c : LinkSeen} → RanTurns turns held a b → All IsNoEnd turns → TurnMade turn held after b c → RanTurns (turns ++ turn ∷ []) after a c
-ran_push {turns} {turn} {held} {after} {a} {b} {c} ran no_end made = record {
+ran_push : {turns : List Turn} {turn : Turn} {before after : Kept} {a : LinkSeen} {b c : World} → RanTurns turns a b.link → All IsNoEnd turns
+    → TurnMade turn before after b c → RanTurns (turns ++ turn ∷ []) a c.link
+ran_push {turns} {turn} {before} {after} {a} {b} {c} ran no_end made = record {
   left = told_then ran.left made.left (λ x y z before now.
       let next = next_events turns turn x no_end before.0 (now.0 ∙ ap first_event before.1) in
       (next.0, now.1 ∙ (ap (λ v. drop 1 v) before.1 ∙ next.1)));
-  run = λ tables. run_push (start tables) turns (state_of tables held) (state_of tables after) turn (ran.run tables) (made.step tables);
   marks = All-push (λ (t : Turn). length t.said.items ≡ length t.went) turns turn ran.marks made.marks;
   sent = told_then ran.sent made.sent (λ x y z before now.
       now ∙ (ap (λ k. k ++ sent_in turn) before ∙ (append_assoc x (sent_by turns) (sent_in turn) ∙ ap (λ k. x ++ k) (sym (sent_by_push turns turn)))));
-  unsent = subst (λ n. Grew n a.unsent c.unsent) (sym (lost_by_push turns turn)) (grew_then ran.unsent made.unsent);
+  unsent = subst (λ n. Grew n a.unsent c.link.unsent) (sym (lost_by_push turns turn)) (grew_then ran.unsent made.unsent);
+}
+
+-- the office goes on by one turn
+from_push : {turns : List Turn} {turn : Turn} {first before after : Kept} {a b c : KeeperSeen} → RanFrom turns first before a b → OfficeTurn turn before after b c
+    → RanFrom (turns ++ turn ∷ []) first after a c
+from_push {turns} {turn} {first} {before} {after} {a} {b} {c} ran made = record {
+  run = told_then ran.run made.tables (λ x y z so_far next agree.
+      let half = so_far agree in
+      let whole = next half.1 in
+      (run_push (state_of x first.held) turns (state_of y before.held) (state_of z after.held) turn half.0 whole.0, whole.1));
+  faults = subst (λ n. Grew n a.faults c.faults) (sym (failures_by_push turns turn)) (grew_then ran.faults made.faults);
+  tell = All-push TellsItsOutcome turns turn ran.tell made.tells;
+}
+
+from_same : {turns : List Turn} {first before after : Kept} {a b c : KeeperSeen} → RanFrom turns first before a b → after ≡ before → KeeperSame b c
+    → RanFrom turns first after a c
+from_same {turns} {first} {before} {after} {a} {b} {c} ran same keeper = record {
+  run = record {
+    each = λ x t.
+        let g = ran.run.each x t in
+        record {
+          value = g.value;
+          told = keeper.tables g.value g.told;
+          fits = λ agree. let half = g.fits agree in
+              (subst (λ (v : Kept). Run (state_of x first.held) turns (state_of g.value v.held)) (sym same) half.0, subst (λ (v : Kept). v.counts ≡ counts_of g.value) (sym same) half.1);
+        };
+  };
+  faults = subst (λ v. Grew (failures_by turns) a.faults v) (sym keeper.faults) ran.faults;
+  tell = ran.tell;
 }
 
 pub wrote_more : {x y : List ℕ} {a b c : SinkSeen} → WroteText x a b → Wrote y b c → WroteText (x ++ y) a c
@@ -59,21 +91,24 @@ wrote_more {x} {y} p q = record {
   faults = omega (arith, p.faults, q.faults);
 }
 
+pub wrote_none : (a : SinkSeen) → WroteText [] a a
+wrote_none a = record { written = told_self (λ x. sym (append-nil x)); faults = omega arith }
+
 pub wrote_same : {x : List ℕ} {a b c : SinkSeen} → WroteText x a b → SinkSame b c → WroteText x a c
 wrote_same p q = record { written = then_stays p.written q.written; faults = omega (arith, p.faults, q.faults) }
 
-pub going_none : (w : World) → w.link.missed ≡ 0 → Going 0 held_at_start w w
-going_none w none = record {
+pub going_none : (first : Kept) (w : World) → w.link.missed ≡ 0 → Going 0 first first w w
+going_none first w none = record {
   turns = [];
   count = refl;
   so_far = record {
     ran = record {
       left = told_self (λ x. (refl, refl));
-      run = λ tables. refl;
       marks = All-nil _;
       sent = told_self (λ x. sym (append-nil x));
       unsent = grew_self w.link.unsent;
     };
+    office = record { run = told_self (λ x agree. (refl, agree)); faults = grew_self w.keeper.faults; tell = All-nil _ };
     no_end = All-nil _;
     missed = none;
     faults = omega arith;
@@ -90,12 +125,13 @@ text_more : (n : ℕ) (turns : List Turn) (turn : Turn) {a b c : SinkSeen} → l
 text_more n turns turn {a} {b} {c} count text wrote =
     subst (λ v. WroteText v a c) (sym (lines_from_push 1 turns turn)) (wrote_more text (subst (λ v. Wrote v b c) (line_number n turns turn count) wrote))
 
-pub going_more : {n : ℕ} {held after : Held} {a b c : World} → Going n held a b → TurnWritten false (n + 1) held after b.link c.link b.sink c.sink → Going (n + 1) after a c
-going_more {n} {held} {after} {a} {b} {c} going went = record {
+pub going_more : {n : ℕ} {first before after : Kept} {a b c : World} → Going n first before a b → TurnWritten false (n + 1) before after b c → Going (n + 1) first after a c
+going_more {n} {first} {before} {after} {a} {b} {c} going went = record {
   turns = going.turns ++ went.turn ∷ [];
   count = omega (arith, length-append going.turns (went.turn ∷ []), going.count);
   so_far = record {
     ran = ran_push going.so_far.ran going.so_far.no_end went.made;
+    office = from_push going.so_far.office went.made.office;
     no_end = All-push IsNoEnd going.turns went.turn going.so_far.no_end went.last;
     missed = went.made.missed;
     faults = omega (arith, going.so_far.faults, went.made.faults);
@@ -126,10 +162,9 @@ pub cut_same : {x y : List ℕ} {a b c : SinkSeen} → CutText x y a b → SinkS
 cut_same {x} {y} {a} {b} {c} p q = record { written = then_stays p.written q.written; faults = subst (λ v. Grew 1 a.faults v) (sym q.faults) p.faults }
 
 -- nothing was taken or sent
-ran_stays : {turns : List Turn} {held : Held} {a b c : LinkSeen} → RanTurns turns held a b → Stays b.left c.left → Stays b.sent c.sent → c.unsent ≡ b.unsent → RanTurns turns held a c
-ran_stays {turns} {held} {a} {b} {c} ran left sent unsent = record {
+ran_stays : {turns : List Turn} {a b c : LinkSeen} → RanTurns turns a b → Stays b.left c.left → Stays b.sent c.sent → c.unsent ≡ b.unsent → RanTurns turns a c
+ran_stays {turns} {a} {b} {c} ran left sent unsent = record {
   left = then_stays ran.left left;
-  run = ran.run;
   marks = ran.marks;
   sent = then_stays ran.sent sent;
   unsent = subst (λ v. Grew (lost_by turns) a.unsent v) (sym unsent) ran.unsent;
@@ -138,13 +173,13 @@ ran_stays {turns} {held} {a} {b} {c} ran left sent unsent = record {
 no_end_ends : (turns : List Turn) → All IsNoEnd turns → EndsLast turns
 no_end_ends turns no_end = All-take IsNoEnd (length turns - 1) turns no_end
 
-pub served_end : {n budget : ℕ} {held after : Held} {a b c : World} → Going n held a b → n < budget → TurnWritten true (n + 1) held after b.link c.link b.sink c.sink → Served stop.Finished budget a c
-served_end {n} {budget} {held} {after} {a} {b} {c} going more ended = record {
+pub served_end : {n budget : ℕ} {first before after : Kept} {a b c : World} → Going n first before a b → n < budget → TurnWritten true (n + 1) before after b c → Served stop.Finished budget first after a c
+served_end {n} {budget} {first} {before} {after} {a} {b} {c} going more ended = record {
   turns = going.turns ++ ended.turn ∷ [];
-  held = after;
   within = omega (arith, length-append going.turns (ended.turn ∷ []), going.count);
   ends_last = ends_last going.turns ended.turn going.so_far.no_end;
   ran = ran_push going.so_far.ran going.so_far.no_end ended.made;
+  office = from_push going.so_far.office ended.made.office;
   stops = record {
     cause = inr (omega (arith, length-append going.turns (ended.turn ∷ [])), last_is going.turns ended.turn ended.last);
     missed = ended.made.missed;
@@ -153,13 +188,13 @@ served_end {n} {budget} {held} {after} {a} {b} {c} going more ended = record {
   };
 }
 
-pub served_cut : {n budget : ℕ} {held after : Held} {a b c : World} → Going n held a b → n < budget → TurnCut (n + 1) held after b.link c.link b.sink c.sink → Served stop.Sink budget a c
-served_cut {n} {budget} {held} {after} {a} {b} {c} going more cut = record {
+pub served_cut : {n budget : ℕ} {first before after : Kept} {a b c : World} → Going n first before a b → n < budget → TurnCut (n + 1) before after b c → Served stop.Sink budget first after a c
+served_cut {n} {budget} {first} {before} {after} {a} {b} {c} going more cut = record {
   turns = going.turns ++ cut.turn ∷ [];
-  held = after;
   within = omega (arith, length-append going.turns (cut.turn ∷ []), going.count);
   ends_last = ends_last going.turns cut.turn going.so_far.no_end;
   ran = ran_push going.so_far.ran going.so_far.no_end cut.made;
+  office = from_push going.so_far.office cut.made.office;
   stops = record {
     front = going.turns;
     last = cut.turn;
@@ -170,13 +205,13 @@ served_cut {n} {budget} {held} {after} {a} {b} {c} going more cut = record {
   };
 }
 
-pub served_memory : {n budget : ℕ} {held after : Held} {a b c : World} → Going n held a b → n < budget → NoTurn LacksMemory held after b.link c.link b.sink c.sink → Served stop.Memory budget a c
-served_memory {n} {budget} {held} {after} {a} {b} {c} going more lacks = record {
+pub served_memory : {n budget : ℕ} {first before after : Kept} {a b c : World} → Going n first before a b → n < budget → NoTurn LacksMemory before after b c → Served stop.Memory budget first after a c
+served_memory {n} {budget} {first} {before} {after} {a} {b} {c} going more lacks = record {
   turns = going.turns;
-  held = held;
   within = omega (arith, going.count);
   ends_last = no_end_ends going.turns going.so_far.no_end;
   ran = ran_stays going.so_far.ran lacks.link.missed.left lacks.link.missed.sent lacks.link.missed.unsent;
+  office = from_same going.so_far.office lacks.same lacks.keeper;
   stops = (
     record {
       more = omega (arith, going.count);
@@ -184,17 +219,17 @@ served_memory {n} {budget} {held} {after} {a} {b} {c} going more lacks = record 
       missed = omega (arith, lacks.link.missed.missed, lacks.link.few);
       faults = omega (arith, going.so_far.faults, lacks.link.missed.faults.later);
     },
-    wrote_same going.so_far.text lacks.sink_same,
+    wrote_same going.so_far.text lacks.sink,
   );
 }
 
-pub served_missed : {n budget : ℕ} {held after : Held} {a b c : World} → Going n held a b → n < budget → NoTurn (Missed most_missed) held after b.link c.link b.sink c.sink → Served stop.Link budget a c
-served_missed {n} {budget} {held} {after} {a} {b} {c} going more missed = record {
+pub served_missed : {n budget : ℕ} {first before after : Kept} {a b c : World} → Going n first before a b → n < budget → NoTurn (Missed most_missed) before after b c → Served stop.Link budget first after a c
+served_missed {n} {budget} {first} {before} {after} {a} {b} {c} going more missed = record {
   turns = going.turns;
-  held = held;
   within = omega (arith, going.count);
   ends_last = no_end_ends going.turns going.so_far.no_end;
   ran = ran_stays going.so_far.ran missed.link.left missed.link.sent missed.link.unsent;
+  office = from_same going.so_far.office missed.same missed.keeper;
   stops = (
     record {
       more = omega (arith, going.count);
@@ -202,17 +237,17 @@ served_missed {n} {budget} {held} {after} {a} {b} {c} going more missed = record
       missed = missed.link.missed;
       faults = later_grew going.so_far.faults missed.link.faults;
     },
-    wrote_same going.so_far.text missed.sink_same,
+    wrote_same going.so_far.text missed.sink,
   );
 }
 
-pub served_all : {n budget : ℕ} {held : Held} {a b : World} → Going n held a b → budget ≤ n → n ≤ budget → Served stop.Finished budget a b
-served_all {n} {budget} {held} {a} {b} going all within = record {
+pub served_all : {n budget : ℕ} {first last : Kept} {a b : World} → Going n first last a b → budget ≤ n → n ≤ budget → Served stop.Finished budget first last a b
+served_all {n} {budget} {first} {last} {a} {b} going all within = record {
   turns = going.turns;
-  held = held;
   within = omega (arith, going.count);
   ends_last = no_end_ends going.turns going.so_far.no_end;
   ran = going.so_far.ran;
+  office = going.so_far.office;
   stops = record {
     cause = inl (omega (arith, going.count), going.so_far.no_end);
     missed = going.so_far.missed;

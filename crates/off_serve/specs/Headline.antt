@@ -2,26 +2,26 @@
 -- abstract office does, and only want of memory or a counted fault departs from it.
 use Rattle.std.specs.Prelude.{◌≡◌, ℕ, ◌+◌, ◌-◌, ◌<◌, ◌≤◌, true, List, [], ◌∷◌, ◌++◌, length, drop, All, codes, ◌⊎◌, ◌≢◌}
 use Rattle.off_defs.specs.Told.{Told, Stays}
+use Rattle.off_defs.specs.declared.keys.Key.{Key}
 use Rattle.off_defs.specs.Counts.{Grew, most_count}
 use Rattle.off_defs.specs.State.{Tables, Held, state_of, start}
 use Rattle.off_defs.specs.declared.results.Outcome.TheVariants as outcome
-use Rattle.off_book.specs.Step.{service_word}
-use Rattle.off_book.specs.Run.{Turn, Run, sent_by, lost_by, lines_from, line_of, events_of, first_events, is_end, IsNoEnd, EndsLast}
+use Rattle.off_book.specs.Run.{Turn, Run, SaysMemory, TellsItsOutcome, failures_by, sent_by, lost_by, lines_from, line_of, events_of, first_events, is_end, IsNoEnd, EndsLast}
+use Rattle.off_rows.specs.KeyText.{key_text_of}
+use Rattle.off_rules.specs.Rows.{counts_of}
+use Rattle.off_rules.specs.Good.{Good}
 use Rattle.off_outside.specs.LinkSeen.{LinkSeen}
+use Rattle.off_outside.specs.KeeperSeen.{KeeperSeen}
+use Rattle.off_office.specs.Kept.{Kept}
+use Rattle.off_office.specs.Acting.{NotStarted}
+use Rattle.off_office.specs.declared.office.StartErr.{StartErr}
+use Rattle.off_office.specs.declared.office.StartErr.TheVariants as start_err
 use Rattle.off_outside.specs.Streams.{SourceSeen, SinkSeen, HasFront, Wrote, NotWritten}
 use Rattle.off_book.specs.Words.{Job, to_serve, to_seal, to_check}
 use Rattle.off_jobs.specs.Jobs.{SealsInput, ChecksInput}
-use Rattle.off_serve.specs.Serving.{most_missed, SinkSame}
+use Rattle.off_serve.specs.Serving.{World, world_of, KeeperSame, most_missed, SinkSame}
 use Rattle.off_serve.specs.declared.serving.Stop.{Stop}
 use Rattle.off_serve.specs.declared.serving.Stop.TheVariants as stop
-
--- what is seen of the outside
-pub record World : Type 1 where
-  pub link : LinkSeen
-  pub sink : SinkSeen
-
-abbrev pub world_of : LinkSeen → SinkSeen → World
-world_of link sink = record { link = link; sink = sink }
 
 -- the whole text was written
 pub record WroteText (text : List ℕ) (old new : SinkSeen) : Type 0 where
@@ -33,20 +33,33 @@ pub record CutText (text last : List ℕ) (old new : SinkSeen) : Type 0 where
   pub written : Told old.written new.written (λ before after. HasFront last (before ++ text) after)
   pub faults : Grew 1 old.faults new.faults
 
--- what the turns did to the link, and that they are a run of the office
-pub record RanTurns (turns : List Turn) (held : Held) (old new : LinkSeen) : Type 0 where
+-- what the turns did to the link
+pub record RanTurns (turns : List Turn) (old new : LinkSeen) : Type 0 where
   -- the events are the first of those to come, with one End behind the last
   pub left : Told old.left new.left (λ before after. (events_of turns ≡ first_events (length turns) before) × (after ≡ drop (length turns) before))
-  -- they are a run of the office, from its start, whatever the tables
-  pub run : (tables : Tables) → Run (start tables) turns (state_of tables held)
   -- each item of a turn was sent or is counted
   pub marks : All (λ turn. length turn.said.items ≡ length turn.went) turns
   pub sent : Told old.sent new.sent (λ before after. after ≡ before ++ sent_by turns)
   pub unsent : Grew (lost_by turns) old.unsent new.unsent
 
+-- the turns are a run of the office, from its start over the tables that were told to what it held at the end over those that are told
+-- then; and each turn in which the keeper failed is counted
+pub record RanOffice (turns : List Turn) (held : Held) (old new : KeeperSeen) : Type 0 where
+  pub run : Told old.tables new.tables (λ t u. Run (start t) turns (state_of u held))
+  pub faults : Grew (failures_by turns) old.faults new.faults
+  pub tell : All TellsItsOutcome turns
+
+-- the same from any state on, as far as the office's counts are those of its tables
+pub record RanFrom (turns : List Turn) (first last : Kept) (old new : KeeperSeen) : Type 0 where
+  pub run : Told old.tables new.tables (λ t u. first.counts ≡ counts_of t
+      → Run (state_of t first.held) turns (state_of u last.held) × (last.counts ≡ counts_of u))
+  pub faults : Grew (failures_by turns) old.faults new.faults
+  pub tell : All TellsItsOutcome turns
+
 -- `serve` has taken these turns, none an End, and goes on
-pub record SoFar (turns : List Turn) (held : Held) (old new : World) : Type 0 where
-  pub ran : RanTurns turns held old.link new.link
+pub record SoFar (turns : List Turn) (first last : Kept) (old new : World) : Type 0 where
+  pub ran : RanTurns turns old.link new.link
+  pub office : RanFrom turns first last old.keeper new.keeper
   pub no_end : All IsNoEnd turns
   pub missed : new.link.missed ≡ 0
   pub faults : old.link.faults ≤ new.link.faults
@@ -90,12 +103,12 @@ Stops stop.Link budget turns old new = LostLink budget turns old.link new.link �
 Stops stop.Sink budget turns old new = SinkRefused turns old new
 
 -- the loop over the events
-pub record Served (reason : Stop) (budget : ℕ) (old new : World) : Type 0 where
+pub record Served (reason : Stop) (budget : ℕ) (first last : Kept) (old new : World) : Type 0 where
   pub turns : List Turn
-  pub held : Held
   pub within : length turns ≤ budget
   pub ends_last : EndsLast turns
-  pub ran : RanTurns turns held old.link new.link
+  pub ran : RanTurns turns old.link new.link
+  pub office : RanFrom turns first last old.keeper new.keeper
   pub stops : Stops reason budget turns old new
 
 -- the run's own line was written behind the text, and the status is the line's; or it was cut off, and the status is 4
@@ -112,6 +125,12 @@ words_refused = codes "words refused" ++ 10 ∷ []
 
 abbrev pub link_refused : List ℕ
 link_refused = codes "link refused" ++ 10 ∷ []
+
+abbrev pub keeper_refused : List ℕ
+keeper_refused = codes "keeper refused" ++ 10 ∷ []
+
+abbrev pub tables_refused : Key → List ℕ
+tables_refused key = codes "tables refused " ++ key_text_of key ++ 10 ∷ []
 
 abbrev pub memory_refused : List ℕ
 memory_refused = codes "memory refused" ++ 10 ∷ []
@@ -139,33 +158,16 @@ pub record NoFault (old new : World) : Type 0 where
   pub faults_count : old.link.faults < most_count
   pub unsent : new.link.unsent ≡ old.link.unsent
   pub unsent_count : old.link.unsent < most_count
+  pub keeper : new.keeper.faults ≡ old.keeper.faults
+  pub keeper_count : old.keeper.faults < most_count
   pub sink : new.sink.faults ≡ old.sink.faults
   pub sink_count : old.sink.faults < most_count
-
--- the line of a turn says that memory was wanted
-abbrev pub SaysMemory : Turn → Type 0
-SaysMemory turn = turn.said.line ≡ service_word turn.event.what ++ codes " memory"
 
 -- every event had its outcome, every item went out, and the status is 0
 pub record Completed (turns : List Turn) (status : ℕ) : Type 0 where
   pub did : All (λ turn. turn.outcome ≡ outcome.Did) turns
   pub lost : lost_by turns ≡ 0
   pub status_is : status ≡ 0
-
--- The headline. `turns` are the events that were taken, with what the office said of each.
-pub record ServesAsOffice (budget : ℕ) (old new : World) (status : ℕ) : Type 0 where
-  pub reason : Stop
-  pub turns : List Turn
-  pub held : Held
-  -- at most `budget` events, and no End but the last
-  pub within : length turns ≤ budget
-  pub ends_last : EndsLast turns
-  -- they are the first of the link's, a run of the abstract office, and what it says is what was sent
-  pub ran : RanTurns turns held old.link new.link
-  -- what was written, and the status
-  pub ends : Ends reason budget turns old new status
-  -- where no count rose and no line says `memory`, nothing departs from the run
-  pub complete : NoFault old new → All (λ turn. ¬ (SaysMemory turn)) turns → status ≢ 6 → Completed turns status
 
 -- the link as it was
 pub record LinkSame (old new : LinkSeen) : Type 0 where
@@ -175,9 +177,53 @@ pub record LinkSame (old new : LinkSeen) : Type 0 where
   pub faults : new.faults ≡ old.faults
   pub unsent : new.unsent ≡ old.unsent
 
+-- the status and the own line of an office that didn't open
+abbrev pub closed_status : StartErr → ℕ
+closed_status (start_err.Bad key) = 2
+closed_status start_err.Failed = 3
+closed_status start_err.Memory = 6
+
+abbrev pub closed_line : StartErr → List ℕ
+closed_line (start_err.Bad key) = tables_refused key
+closed_line start_err.Failed = keeper_refused
+closed_line start_err.Memory = memory_refused
+
+-- The office didn't open: 2, the tables aren't good, and the line names their least bad key; 3, the keeper failed; 6, memory was wanted.
+-- No event is taken, nothing is sent, and the tables stay.
+pub record StaysClosed (old new : World) (status : ℕ) : Type 0 where
+  pub why : StartErr
+  pub tables : NotStarted why old.keeper new.keeper
+  pub link : LinkSame old.link new.link
+  pub text : OwnLine (closed_status why) (closed_line why) [] status old.sink new.sink
+  -- where no count rose and memory wasn't wanted, the tables aren't good
+  pub complete : NoFault old new → status ≢ 6 → status ≡ 2
+
+-- The headline. The tables are good, and `turns` are the events that were taken, with what the office said of each.
+pub record RunsAsOffice (budget : ℕ) (old new : World) (status : ℕ) : Type 0 where
+  pub reason : Stop
+  pub turns : List Turn
+  pub held : Held
+  -- the tables were good when the office opened
+  pub good : (t : Tables) → old.keeper.tables t → Good t
+  -- at most `budget` events, and no End but the last
+  pub within : length turns ≤ budget
+  pub ends_last : EndsLast turns
+  -- they are the first of the link's, and what the office says is what was sent
+  pub ran : RanTurns turns old.link new.link
+  -- they are a run of the abstract office, and leave its tables
+  pub office : RanOffice turns held old.keeper new.keeper
+  -- what was written, and the status
+  pub ends : Ends reason budget turns old new status
+  -- where no count rose and no line says `memory`, nothing departs from the run
+  pub complete : NoFault old new → All (λ turn. ¬ (SaysMemory turn)) turns → status ≢ 6 → Completed turns status
+
+abbrev pub ServesAsOffice : ℕ → World → World → ℕ → Type 0
+ServesAsOffice budget old new status = StaysClosed old new status ⊎ RunsAsOffice budget old new status
+
 -- words that fit no form: nothing but the one line
 pub record RefusesWords (old new : World) (status : ℕ) : Type 0 where
   pub link : LinkSame old.link new.link
+  pub keeper : KeeperSame old.keeper new.keeper
   pub text : OwnLine 1 words_refused [] status old.sink new.sink
 
 -- the source as it was
@@ -188,20 +234,26 @@ pub record SourceSame (old new : SourceSeen) : Type 0 where
 -- what is seen of the whole outside
 pub record Outside : Type 1 where
   pub link : LinkSeen
+  pub keeper : KeeperSeen
   pub source : SourceSeen
   pub sink : SinkSeen
 
-abbrev pub outside_of : LinkSeen → SourceSeen → SinkSeen → Outside
-outside_of link source sink = record { link = link; source = source; sink = sink }
+abbrev pub outside_of : LinkSeen → KeeperSeen → SourceSeen → SinkSeen → Outside
+outside_of link keeper source sink = record { link = link; keeper = keeper; source = source; sink = sink }
 
 abbrev pub world_in : Outside → World
-world_in all = world_of all.link all.sink
+world_in all = world_of all.link all.keeper all.sink
 
--- What a job does. Only `serve` takes events and sends, only the others take bytes of the source.
+-- neither an event was taken nor anything sent, and the tables are as they were
+pub record OfficeSame (old new : Outside) : Type 0 where
+  pub link : LinkSame old.link new.link
+  pub keeper : KeeperSame old.keeper new.keeper
+
+-- What a job does. Only `serve` opens the tables, takes events and sends, and only the others take bytes of the source.
 abbrev pub DoesJob : Job → Outside → Outside → ℕ → Type 0
 DoesJob (to_serve serve) old new status = ServesAsOffice serve.turns (world_in old) (world_in new) status × SourceSame old.source new.source
-DoesJob (to_seal secret) old new status = SealsInput secret status old.source new.source old.sink new.sink × LinkSame old.link new.link
-DoesJob (to_check secret) old new status = ChecksInput secret status old.source new.source old.sink new.sink × LinkSame old.link new.link
+DoesJob (to_seal secret) old new status = SealsInput secret status old.source new.source old.sink new.sink × OfficeSame old new
+DoesJob (to_check secret) old new status = ChecksInput secret status old.source new.source old.sink new.sink × OfficeSame old new
 
 -- what words that fit no form do
 abbrev pub RefusesAll : Outside → Outside → ℕ → Type 0

@@ -4,10 +4,13 @@ use Rattle.off_defs.specs.declared.events.Event.{Event}
 use Rattle.off_defs.specs.declared.results.Sent.{Sent}
 use Rattle.off_defs.specs.Told.{Told, Stays}
 use Rattle.off_defs.specs.Counts.{Grew}
-use Rattle.off_defs.specs.State.{Tables, Held, state_of}
+use Rattle.off_defs.specs.State.{Tables, state_of}
+use Rattle.off_rules.specs.Rows.{counts_of}
 use Rattle.off_book.specs.Step.{Step}
-use Rattle.off_book.specs.Run.{Turn, all_went, marked, sent_in, lost_in, line_of, is_end}
+use Rattle.off_book.specs.Run.{Turn, TellsItsOutcome, keeper_failures, all_went, marked, sent_in, lost_in, line_of, is_end}
 use Rattle.off_outside.specs.LinkSeen.{LinkSeen}
+use Rattle.off_outside.specs.KeeperSeen.{KeeperSeen}
+use Rattle.off_office.specs.Kept.{Kept}
 use Rattle.off_outside.specs.LinkCalls.{Took, WasSent, NotSent, first_event}
 use Rattle.off_outside.specs.Streams.{SinkSeen, Wrote, NotWritten}
 use Rattle.off_serve.specs.declared.taking.Taken.{Taken}
@@ -55,67 +58,90 @@ Takes (taken.Took event) old new = Took event old new
 Takes taken.Memory old new = LacksMemory old new
 Takes taken.Missed old new = Missed most_missed old new
 
+-- what is seen of the outside while the office serves
+pub record World : Type 1 where
+  pub link : LinkSeen
+  pub keeper : KeeperSeen
+  pub sink : SinkSeen
+
+abbrev pub world_of : LinkSeen → KeeperSeen → SinkSeen → World
+world_of link keeper sink = record { link = link; keeper = keeper; sink = sink }
+
+-- the keeper and its tables as they were
+pub record KeeperSame (old new : KeeperSeen) : Type 0 where
+  pub tables : (t : Tables) → old.tables t → new.tables t
+  pub faults : new.faults ≡ old.faults
+
+-- what a turn makes of the office and its tables: where the office's counts were those of the tables, it's the step of the book, and
+-- they are those of the tables again
+pub record OfficeTurn (turn : Turn) (before after : Kept) (old new : KeeperSeen) : Type 0 where
+  pub tables : Told old.tables new.tables (λ t u. before.counts ≡ counts_of t
+      → Step (state_of t before.held) turn.event turn.outcome (record { said = turn.said; after = state_of u after.held }) × (after.counts ≡ counts_of u))
+  pub faults : Grew (keeper_failures turn.outcome) old.faults new.faults
+  pub tells : TellsItsOutcome turn
+
 -- the sink as it was
 pub record SinkSame (old new : SinkSeen) : Type 0 where
   pub written : Stays old.written new.written
   pub faults : new.faults ≡ old.faults
 
 -- the office acted on an event that was taken, and what it said was sent or is counted
-pub record Acted (event : Event) (turn : Turn) (held after : Held) (old new : LinkSeen) : Type 0 where
+pub record Acted (event : Event) (turn : Turn) (before after : Kept) (old new : World) : Type 0 where
   pub taken : turn.event ≡ event
-  pub step : (tables : Tables) → Step (state_of tables held) turn.event turn.outcome (record { said = turn.said; after = state_of tables after })
+  pub office : OfficeTurn turn before after old.keeper new.keeper
   pub marks : length turn.said.items ≡ length turn.went
-  pub left : Stays old.left new.left
-  pub sent : Told old.sent new.sent (λ before now. now ≡ before ++ sent_in turn)
-  pub missed : new.missed ≡ old.missed
-  pub faults : new.faults ≡ old.faults
-  pub unsent : Grew (lost_in turn) old.unsent new.unsent
+  pub left : Stays old.link.left new.link.left
+  pub sent : Told old.link.sent new.link.sent (λ before now. now ≡ before ++ sent_in turn)
+  pub missed : new.link.missed ≡ old.link.missed
+  pub faults : new.link.faults ≡ old.link.faults
+  pub unsent : Grew (lost_in turn) old.link.unsent new.link.unsent
 
 -- one turn, as far as the link and the office go
-pub record TurnMade (turn : Turn) (held after : Held) (old new : LinkSeen) : Type 0 where
-  pub left : Told old.left new.left (λ before rest. (turn.event ≡ first_event before) × (rest ≡ drop 1 before))
-  pub step : (tables : Tables) → Step (state_of tables held) turn.event turn.outcome (record { said = turn.said; after = state_of tables after })
+pub record TurnMade (turn : Turn) (before after : Kept) (old new : World) : Type 0 where
+  pub left : Told old.link.left new.link.left (λ before rest. (turn.event ≡ first_event before) × (rest ≡ drop 1 before))
+  pub office : OfficeTurn turn before after old.keeper new.keeper
   pub marks : length turn.said.items ≡ length turn.went
-  pub sent : Told old.sent new.sent (λ before now. now ≡ before ++ sent_in turn)
-  pub missed : new.missed ≡ 0
-  pub faults : old.faults ≤ new.faults
-  pub unsent : Grew (lost_in turn) old.unsent new.unsent
+  pub sent : Told old.link.sent new.link.sent (λ before now. now ≡ before ++ sent_in turn)
+  pub missed : new.link.missed ≡ 0
+  pub faults : old.link.faults ≤ new.link.faults
+  pub unsent : Grew (lost_in turn) old.link.unsent new.link.unsent
 
 -- an event was acted on, and its line written
-pub record ActWritten (event : Event) (n : ℕ) (held after : Held) (old new : LinkSeen) (sink sink' : SinkSeen) : Type 0 where
+pub record ActWritten (event : Event) (n : ℕ) (before after : Kept) (old new : World) : Type 0 where
   pub turn : Turn
-  pub acted : Acted event turn held after old new
-  pub wrote : Wrote (line_of n turn) sink sink'
+  pub acted : Acted event turn before after old new
+  pub wrote : Wrote (line_of n turn) old.sink new.sink
 
 -- an event was acted on, and its line cut off
-pub record ActCut (event : Event) (n : ℕ) (held after : Held) (old new : LinkSeen) (sink sink' : SinkSeen) : Type 0 where
+pub record ActCut (event : Event) (n : ℕ) (before after : Kept) (old new : World) : Type 0 where
   pub turn : Turn
-  pub acted : Acted event turn held after old new
-  pub cut : NotWritten (line_of n turn) sink sink'
+  pub acted : Acted event turn before after old new
+  pub cut : NotWritten (line_of n turn) old.sink new.sink
 
 -- a turn was made, and its line written
-pub record TurnWritten (is_last : Bool) (n : ℕ) (held after : Held) (old new : LinkSeen) (sink sink' : SinkSeen) : Type 0 where
+pub record TurnWritten (is_last : Bool) (n : ℕ) (before after : Kept) (old new : World) : Type 0 where
   pub turn : Turn
-  pub made : TurnMade turn held after old new
+  pub made : TurnMade turn before after old new
   pub last : is_end turn.event.what ≡ is_last
-  pub wrote : Wrote (line_of n turn) sink sink'
+  pub wrote : Wrote (line_of n turn) old.sink new.sink
 
 -- a turn was made, and its line cut off
-pub record TurnCut (n : ℕ) (held after : Held) (old new : LinkSeen) (sink sink' : SinkSeen) : Type 0 where
+pub record TurnCut (n : ℕ) (before after : Kept) (old new : World) : Type 0 where
   pub turn : Turn
-  pub made : TurnMade turn held after old new
-  pub cut : NotWritten (line_of n turn) sink sink'
+  pub made : TurnMade turn before after old new
+  pub cut : NotWritten (line_of n turn) old.sink new.sink
 
 -- no event came
-pub record NoTurn (P : LinkSeen → LinkSeen → Type 0) (held after : Held) (old new : LinkSeen) (sink sink' : SinkSeen) : Type 0 where
-  pub link : P old new
-  pub same : after ≡ held
-  pub sink_same : SinkSame sink sink'
+pub record NoTurn (P : LinkSeen → LinkSeen → Type 0) (before after : Kept) (old new : World) : Type 0 where
+  pub link : P old.link new.link
+  pub same : after ≡ before
+  pub keeper : KeeperSame old.keeper new.keeper
+  pub sink : SinkSame old.sink new.sink
 
 -- what came of one turn, number n
-abbrev pub Turns : Turned → ℕ → Held → Held → LinkSeen → LinkSeen → SinkSeen → SinkSeen → Type 0
-Turns turned.Went n held after old new sink sink' = TurnWritten false n held after old new sink sink'
-Turns turned.Ended n held after old new sink sink' = TurnWritten true n held after old new sink sink'
-Turns turned.Cut n held after old new sink sink' = TurnCut n held after old new sink sink'
-Turns turned.Memory n held after old new sink sink' = NoTurn LacksMemory held after old new sink sink'
-Turns turned.Missed n held after old new sink sink' = NoTurn (Missed most_missed) held after old new sink sink'
+abbrev pub Turns : Turned → ℕ → Kept → Kept → World → World → Type 0
+Turns turned.Went n before after old new = TurnWritten false n before after old new
+Turns turned.Ended n before after old new = TurnWritten true n before after old new
+Turns turned.Cut n before after old new = TurnCut n before after old new
+Turns turned.Memory n before after old new = NoTurn LacksMemory before after old new
+Turns turned.Missed n before after old new = NoTurn (Missed most_missed) before after old new

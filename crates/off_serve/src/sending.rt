@@ -1,6 +1,14 @@
+ghost use Rattle.std.specs.Prelude.{◌≡◌};
+ghost use Rattle.off_defs.specs.declared.results.Sent.TheVariants as sent;
+ghost use Rattle.off_book.specs.Step.{added_items};
+ghost use Rattle.off_book.specs.Http.{answer_and_close, no_memory_reply, no_keeper_reply};
 ghost use Rattle.off_serve.specs.Serving.{SentOne, SentAll};
 
-use off_outside::{Link, Replies, Sent};
+use off_outside::{Link, Outcome, Replies, Sent, What};
+
+// What a clerk is answered where memory was wanted, and where the keeper of the tables failed (RFC 9110, section 15.6).
+const NO_MEMORY: &[u8] = b"HTTP/1.1 503 Service Unavailable\r\nContent-Length: 0\r\nConnection: close\r\n\r\n";
+const NO_KEEPER: &[u8] = b"HTTP/1.1 500 Internal Server Error\r\nContent-Length: 0\r\nConnection: close\r\n\r\n";
 
 // Hands one item to the link, and tells whether it went out.
 fn send_one<L: Link>(link: &mut L, item: &Sent) -> bool
@@ -24,4 +32,47 @@ pub fn send_all<L: Link>(link: &mut L, replies: &Replies) -> bool
         all &= went;
     }
     all
+}
+
+/// Hands to the link what stands behind the items of an event: of a piece that the office couldn't act on the answer, which is the same
+/// bytes each time, and the end of the connection. It takes no memory.
+pub fn send_added<L: Link>(link: &mut L, what: &What, outcome: Outcome) -> bool
+    ensures { SentAll (added_items what.now outcome) result (L.seen link.old) (L.seen link.new) }
+{
+    match what {
+        What::Piece { conn, bytes: _ } => match outcome {
+            Outcome::Did => true,
+            Outcome::Memory => answer_and_close(link, *conn, NO_MEMORY),
+            Outcome::Keeper => answer_and_close(link, *conn, NO_KEEPER),
+        },
+        What::Datagram {
+            service: _,
+            from: _,
+            bytes: _,
+        } => true,
+        What::Closed { conn: _ } => true,
+        What::Tick => true,
+        What::End => true,
+    }
+}
+
+// Answers a connection and closes it.
+fn answer_and_close<L: Link>(link: &mut L, conn: u32, bytes: &[u8]) -> bool
+    ensures { SentAll (answer_and_close conn bytes.now) result (L.seen link.old) (L.seen link.new) }
+{
+    let answered = give_answer(link, conn, bytes);
+    let closed = give_close(link, conn);
+    answered & closed
+}
+
+fn give_answer<L: Link>(link: &mut L, conn: u32, bytes: &[u8]) -> bool
+    ensures { SentOne (sent.Answer conn bytes.now) result (L.seen link.old) (L.seen link.new) }
+{
+    link.answer(conn, bytes).is_ok()
+}
+
+fn give_close<L: Link>(link: &mut L, conn: u32) -> bool
+    ensures { SentOne (sent.Close conn) result (L.seen link.old) (L.seen link.new) }
+{
+    link.close(conn).is_ok()
 }

@@ -1,13 +1,17 @@
-ghost use Rattle.std.specs.Prelude.{◌≡◌, map, string_bytes, MatchOption};
+ghost use Rattle.std.specs.Prelude.{◌≡◌, ◌++◌, ◌≤◌, length, map, string_bytes, MatchOption};
 ghost use Rattle.off_book.specs.Words.{job_of};
 ghost use Rattle.off_serve.specs.Reading.{asked_for};
-ghost use Rattle.off_serve.specs.Headline.{Served, Ended, OwnWritten, ServesAsOffice, RefusesAll, DoesJob, outside_of, world_of};
+ghost use Rattle.off_serve.specs.Headline.{Served, Ended, OwnWritten, ServesAsOffice, RefusesAll, DoesJob, outside_of, closed_status, closed_line, tables_refused};
+ghost use Rattle.off_serve.specs.Serving.{world_of};
 
+use arrayvec::ArrayVec;
 use crate::jobs::{Asked, read_words};
 use crate::turning::{Turned, take_turn};
 use off_jobs::{check_input, seal_input};
-use off_office::Office;
-use off_outside::{Failed, Link, Sink, Source};
+use off_defs::Key;
+use off_office::{Office, StartErr};
+use off_outside::{Failed, Keeper, Link, Sink, Source};
+use off_rows::key_text;
 use std::alloc::Global;
 
 /// Why `serve` stopped.
@@ -25,57 +29,98 @@ pub enum Stop {
 
 /// The top call: does what the words ask, and answers the program's exit status.
 ///
-/// `serve --store STORE --ports DHCP,TIME,TFTP,HTTP --turns N` takes events from the link until an End, N of them at most,
-/// sends what the office says of each and writes its line. `seal HEX` seals the configuration file that the source holds under
-/// the secret HEX and writes it; `check HEX` verifies one. Other words are refused.
+/// `serve --store STORE --ports DHCP,TIME,TFTP,HTTP --turns N` opens the keeper's tables, takes events from the link until an End, N of
+/// them at most, sends what the office says of each and writes its line. `seal HEX` seals the configuration file that the source holds
+/// under the secret HEX and writes it; `check HEX` verifies one. Other words are refused.
 ///
 /// Status 0: an End was read, or N events were taken, or the job is done (for `check`: both values are good). 1: the words
-/// fit no form. 4: the sink failed in the last write. 5: the link failed sixteen times in a row. 6: memory was wanted outside
-/// of an event. 7: the source failed. 8: `check` finds a bad value or refuses the file. 9: `seal` refuses the file.
-pub fn run<L: Link, S: Source, W: Sink>(
+/// fit no form. 2: the tables aren't good, and the line names their least bad key. 3: the keeper failed when the tables were opened.
+/// 4: the sink failed in the last write. 5: the link failed sixteen times in a row. 6: memory was wanted outside of an event.
+/// 7: the source failed. 8: `check` finds a bad value or refuses the file. 9: `seal` refuses the file.
+pub fn run<L: Link, K: Keeper, S: Source, W: Sink>(
     alloc: Global,
     words: &[String],
     link: &mut L,
+    keeper: &mut K,
     source: &mut S,
     out: &mut W,
 ) -> u8
     requires { (L.seen link.old).missed ≡ 0 }
-    ensures { let old = outside_of (L.seen link.old) (S.seen source.old) (W.seen out.old) in
-        let new = outside_of (L.seen link.new) (S.seen source.new) (W.seen out.new) in
+    ensures { let old = outside_of (L.seen link.old) (K.seen keeper.old) (S.seen source.old) (W.seen out.old) in
+        let new = outside_of (L.seen link.new) (K.seen keeper.new) (S.seen source.new) (W.seen out.new) in
         MatchOption (job_of (map string_bytes words.now)) (RefusesAll old new result) (λ job. DoesJob job old new result) }
 {
     match read_words(words) {
-        Some(asked) => do_job(alloc, &asked, link, source, out),
+        Some(asked) => do_job(alloc, &asked, link, keeper, source, out),
         None => own_line(out, b"words refused\n", 1),
     }
 }
 
 // Does what the words ask.
-fn do_job<L: Link, S: Source, W: Sink>(
+fn do_job<L: Link, K: Keeper, S: Source, W: Sink>(
     alloc: Global,
     asked: &Asked<'_>,
     link: &mut L,
+    keeper: &mut K,
     source: &mut S,
     out: &mut W,
 ) -> u8
     requires { (L.seen link.old).missed ≡ 0 }
-    ensures { DoesJob (asked_for asked.now) (outside_of (L.seen link.old) (S.seen source.old) (W.seen out.old))
-        (outside_of (L.seen link.new) (S.seen source.new) (W.seen out.new)) result }
+    ensures { DoesJob (asked_for asked.now) (outside_of (L.seen link.old) (K.seen keeper.old) (S.seen source.old) (W.seen out.old))
+        (outside_of (L.seen link.new) (K.seen keeper.new) (S.seen source.new) (W.seen out.new)) result }
 {
     match asked {
-        Asked::Serve(form) => serve(alloc, form.turns, link, out),
+        Asked::Serve(form) => serve(alloc, form.turns, link, keeper, out),
         Asked::Seal(secret) => seal_input(alloc, secret.as_slice(), source, out),
         Asked::Check(secret) => check_input(alloc, secret.as_slice(), source, out),
     }
 }
 
-// Serves, and writes the own line of the end.
-fn serve<L: Link, W: Sink>(alloc: Global, turns: u64, link: &mut L, out: &mut W) -> u8
+// Opens the tables, serves, and writes the own line of the end.
+fn serve<L: Link, K: Keeper, W: Sink>(
+    alloc: Global,
+    turns: u64,
+    link: &mut L,
+    keeper: &mut K,
+    out: &mut W,
+) -> u8
     requires { (L.seen link.old).missed ≡ 0 }
-    ensures { ServesAsOffice turns (world_of (L.seen link.old) (W.seen out.old)) (world_of (L.seen link.new) (W.seen out.new)) result }
+    ensures { ServesAsOffice turns (world_of (L.seen link.old) (K.seen keeper.old) (W.seen out.old))
+        (world_of (L.seen link.new) (K.seen keeper.new) (W.seen out.new)) result }
 {
-    let stop = serve_events(alloc, turns, link, out);
-    finish(stop, out)
+    match Office::start(alloc, keeper) {
+        Ok(mut office) => {
+            let stop = serve_events(alloc, turns, &mut office, link, keeper, out);
+            finish(stop, out)
+        }
+        Err(err) => stay_closed(err, out),
+    }
+}
+
+// Writes the line of an office that didn't open, and answers the status.
+fn stay_closed<W: Sink>(err: StartErr, out: &mut W) -> u8
+    ensures { OwnWritten (closed_status err) (closed_line err) result (W.seen out.old) (W.seen out.new) }
+{
+    match err {
+        StartErr::Bad(key) => {
+            let line = refusal_line(&key);
+            own_line(out, line.as_slice(), 2)
+        }
+        StartErr::Failed => own_line(out, b"keeper refused\n", 3),
+        StartErr::Memory => own_line(out, b"memory refused\n", 6),
+    }
+}
+
+// The line that names the least bad key.
+fn refusal_line(key: &Key) -> ArrayVec<u8, 80>
+    ensures { result.items ≡ tables_refused key.now }
+{
+    let text = key_text(key);
+    let mut line = ArrayVec::new();
+    let _words = line.try_extend_from_slice(b"tables refused ");
+    let _key = line.try_extend_from_slice(text.as_slice());
+    let _end = line.try_extend_from_slice(b"\n");
+    line
 }
 
 // Writes the run's own line, where the end has one, and answers the status.
@@ -101,14 +146,20 @@ fn own_line<W: Sink>(out: &mut W, line: &[u8], status: u8) -> u8
 }
 
 /// Takes events until an End, `turns` of them at most.
-pub fn serve_events<L: Link, W: Sink>(alloc: Global, turns: u64, link: &mut L, out: &mut W) -> Stop
+pub fn serve_events<L: Link, K: Keeper, W: Sink>(
+    alloc: Global,
+    turns: u64,
+    office: &mut Office,
+    link: &mut L,
+    keeper: &mut K,
+    out: &mut W,
+) -> Stop
     requires { (L.seen link.old).missed ≡ 0 }
-    ensures { Served result turns (world_of (L.seen link.old) (W.seen out.old))
-        (world_of (L.seen link.new) (W.seen out.new)) }
+    ensures { Served result turns office.old office.new (world_of (L.seen link.old) (K.seen keeper.old) (W.seen out.old))
+        (world_of (L.seen link.new) (K.seen keeper.new) (W.seen out.new)) }
 {
-    let mut office = Office::start(alloc);
     for done in 0..turns {
-        match take_turn(alloc, done + 1, &mut office, link, out) {
+        match take_turn(alloc, done + 1, office, link, keeper, out) {
             Turned::Went => {}
             Turned::Ended => return Stop::Finished,
             Turned::Cut => return Stop::Sink,

@@ -1,12 +1,12 @@
 ghost use Rattle.std.specs.Prelude.{◌≡◌, MatchResult};
 ghost use Rattle.off_book.specs.Run.{is_end};
-ghost use Rattle.off_serve.specs.Serving.{Turns, ActWritten, ActCut};
+ghost use Rattle.off_serve.specs.Serving.{Turns, ActWritten, ActCut, world_of};
 
 use crate::lines::write_line;
-use crate::sending::send_all;
+use crate::sending::{send_added, send_all};
 use crate::taking::{Taken, take_event};
 use off_office::Office;
-use off_outside::{Event, Failed, Link, Replies, Sink, What};
+use off_outside::{Event, Failed, Keeper, Link, Replies, Sink, What};
 use std::alloc::Global;
 
 /// What came of one turn.
@@ -25,18 +25,20 @@ pub enum Turned {
 }
 
 /// Takes one event, has the office act on it, sends what it says and writes its line.
-pub fn take_turn<L: Link, W: Sink>(
+pub fn take_turn<L: Link, K: Keeper, W: Sink>(
     alloc: Global,
     number: u64,
     office: &mut Office,
     link: &mut L,
+    keeper: &mut K,
     out: &mut W,
 ) -> Turned
     requires { (L.seen link.old).missed ≡ 0 }
-    ensures { Turns result number office.old office.new (L.seen link.old) (L.seen link.new) (W.seen out.old) (W.seen out.new) }
+    ensures { Turns result number office.old office.new (world_of (L.seen link.old) (K.seen keeper.old) (W.seen out.old))
+        (world_of (L.seen link.new) (K.seen keeper.new) (W.seen out.new)) }
 {
     match take_event(alloc, link) {
-        Taken::Took(event) => match act(alloc, number, &event, office, link, out) {
+        Taken::Took(event) => match act(alloc, number, &event, office, link, keeper, out) {
             Ok(()) => {
                 if is_end(&event.what) {
                     Turned::Ended
@@ -52,22 +54,24 @@ pub fn take_turn<L: Link, W: Sink>(
 }
 
 // Has the office act on an event, sends what it says and writes its line.
-fn act<L: Link, W: Sink>(
+fn act<L: Link, K: Keeper, W: Sink>(
     alloc: Global,
     number: u64,
     event: &Event,
     office: &mut Office,
     link: &mut L,
+    keeper: &mut K,
     out: &mut W,
 ) -> Result<(), Failed>
-    ensures { MatchResult result
-        (λ _. ActWritten event.now number office.old office.new (L.seen link.old) (L.seen link.new) (W.seen out.old) (W.seen out.new))
-        (λ _. ActCut event.now number office.old office.new (L.seen link.old) (L.seen link.new) (W.seen out.old) (W.seen out.new)) }
+    ensures { let old = world_of (L.seen link.old) (K.seen keeper.old) (W.seen out.old) in
+        let new = world_of (L.seen link.new) (K.seen keeper.new) (W.seen out.new) in
+        MatchResult result (λ _. ActWritten event.now number office.old office.new old new) (λ _. ActCut event.now number office.old office.new old new) }
 {
     let mut replies = Replies::new(alloc);
-    let _outcome = office.step(event, &mut replies);
-    let all = send_all(link, &replies);
-    write_line(out, number, event, replies.line(), all)
+    let outcome = office.step(keeper, event, &mut replies);
+    let said = send_all(link, &replies);
+    let added = send_added(link, &event.what, outcome);
+    write_line(out, number, event, replies.line(), said & added)
 }
 
 fn is_end(what: &What) -> bool

@@ -9,6 +9,7 @@ mod standard;
 
 use crate::socket_link::{OpenErr, SocketLink};
 use crate::standard::{StandardInput, StandardOutput};
+use off_keepmem::MemKeeper;
 use off_outside::{Calls, Events, MemLink, Sink};
 use off_serve::{Wanted, place, run};
 use std::env;
@@ -55,8 +56,16 @@ fn serve(rt: &HostRuntime, words: &[String]) -> u8 {
         None => {
             let events = Events::new(rt.alloc());
             let fails = Calls::new(rt.alloc());
+            let mut keeper = MemKeeper::new(rt.alloc(), Calls::new(rt.alloc()));
             match MemLink::new(rt.alloc(), events, 0, 0, fails) {
-                Ok(mut link) => run(rt.alloc(), words, &mut link, &mut input, &mut output),
+                Ok(mut link) => run(
+                    rt.alloc(),
+                    words,
+                    &mut link,
+                    &mut keeper,
+                    &mut input,
+                    &mut output,
+                ),
                 Err(_refused) => no_memory(rt),
             }
         }
@@ -73,8 +82,9 @@ fn serve_sockets(
     if wanted.store != "memory" {
         return NO_STORE;
     }
+    let mut keeper = MemKeeper::new(rt.alloc(), Calls::new(rt.alloc()));
     match SocketLink::open(rt, &wanted.ports) {
-        Ok(mut link) => run(rt.alloc(), words, &mut link, input, output),
+        Ok(mut link) => run(rt.alloc(), words, &mut link, &mut keeper, input, output),
         Err(OpenErr::Memory) => no_memory(rt),
         Err(OpenErr::Socket) => NO_SOCKET,
     }

@@ -1,6 +1,6 @@
 use Rattle.std.proofs.lemmas.Result.{err_from_is_err_and}
 use Rattle.off_outside.proofs.KeeperLemmas.{reads_as}
-use Rattle.off_accounts.specs.Deciding.{by_rule}
+use Rattle.off_accounts.specs.Refusing.{by_rule}
 use Rattle.off_accounts.proofs.LimitLemmas.{limit_there, limit_full, limit_room}
 use Rattle.off_accounts.proofs.RuleLemmas.{not_done_refuses}
 use Rattle.off_accounts.proofs.limits.within_limit.Goals as goal

@@ -11,31 +11,31 @@ use Rattle.off_defs.specs.declared.orders.Command.TheVariants.{PutPool, Remove, 
 use Rattle.off_rules.specs.Rows.{has_pool_size}
 use Rattle.off_rules.specs.Clerk.{when, limit, no_row, has_modems, class_in_use, pool_overlap, relay_taken, pool_has_leases}
 use Rattle.off_outside.proofs.KeeperLemmas.{reads_as}
-use Rattle.off_accounts.specs.Deciding.{planned_of, by_rule, by_memory}
+use Rattle.off_accounts.specs.Refusing.{planned_of, by_rule, by_memory}
 use Rattle.off_accounts.proofs.RuleLemmas.{passed, broken, refuses_then, refuses_as, not_done_refuses}
 use Rattle.off_accounts.proofs.PlanLemmas.{reads_nothing, reads_both, memory_refuses, broken_refuses, rejects, decides, ends, put_pool_counts, drop_pool_counts, pool_writes}
 use Rattle.off_accounts.proofs.RemovalLemmas.{drop_counts, subscriber_counts}
 use Rattle.off_accounts.proofs.pools.remove_pool.Goals as goal
 
-pub returns-in_err-no_row : goal.returns-in_err-no_row
-returns-in_err-no_row g c =
+pub returns-in_err-no_row-clause-told : goal.returns-in_err-no_row-clause-told
+returns-in_err-no_row-clause-told g c =
     let p = err_from_is_err_and c.from_residual.result c.from_residual.ensures.1 in
     rw (p.1, p.2) (refuses_then reads_nothing c.in_err-no_row.ensures (λ t found p is.
     rejects c.args.asked.now (Remove (key.Pool c.args.n)) t found (λ t now. refl) (λ agree. broken (no_row t (key.Pool c.args.n)) (pool_has_leases t c.args.asked.now.at.0 c.args.n None ∷ []) found (is))))
 
-pub returns-in_err-old : goal.returns-in_err-old
-returns-in_err-old g c =
+pub returns-in_err-old-clause-told : goal.returns-in_err-old-clause-told
+returns-in_err-old-clause-told g c =
     let p = err_from_is_err_and c.from_residual-in_err-old.result c.from_residual-in_err-old.ensures.1 in
     rw (p.1, p.2) (refuses_then (reads_both reads_nothing c.in_ok-no_row.ensures) c.in_err-old.ensures (λ t found p is.
     rejects c.args.asked.now (Remove (key.Pool c.args.n)) t found (λ t now. refl) (λ agree. passed (no_row t (key.Pool c.args.n)) (pool_has_leases t c.args.asked.now.at.0 c.args.n None ∷ []) p.1 ∙ broken (pool_has_leases t c.args.asked.now.at.0 c.args.n None) ([]) found (is))))
 
-pub returns-in_err-writes : goal.returns-in_err-writes
-returns-in_err-writes g c =
+pub returns-in_err-writes-clause-told : goal.returns-in_err-writes-clause-told
+returns-in_err-writes-clause-told g c =
     let p = err_from_is_err_and c.from_residual-in_err-writes.result c.from_residual-in_err-writes.ensures.1 in
     rw (p.1, p.2) (refuses_then (reads_both (reads_both reads_nothing c.in_ok-no_row.ensures) c.in_ok-old.ensures) c.in_err-writes.ensures (λ t found p never. absurd never))
 
-pub returns : goal.returns
-returns g c =
+pub returns-clause-told : goal.returns-clause-told
+returns-clause-told g c =
     reads_as (reads_both (reads_both (reads_both reads_nothing c.in_ok-no_row.ensures) c.in_ok-old.ensures) c.in_ok-writes.ensures) (λ t p.
     decides c.args.asked.now (Remove (key.Pool c.args.n)) (planned_of c.in_ok-writes.writes Done c.one_less-after.result) t (λ t now. refl) refl (λ agree. (
       passed (no_row t (key.Pool c.args.n)) (pool_has_leases t c.args.asked.now.at.0 c.args.n None ∷ []) p.0.0.1 ∙ passed (pool_has_leases t c.args.asked.now.at.0 c.args.n None) ([]) p.0.1.1,

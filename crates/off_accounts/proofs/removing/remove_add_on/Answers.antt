@@ -11,20 +11,20 @@ use Rattle.off_defs.specs.declared.orders.Command.TheVariants.{PutPool, Remove, 
 use Rattle.off_rules.specs.Rows.{has_pool_size}
 use Rattle.off_rules.specs.Clerk.{when, limit, no_row, has_modems, class_in_use, pool_overlap, relay_taken, pool_has_leases}
 use Rattle.off_outside.proofs.KeeperLemmas.{reads_as}
-use Rattle.off_accounts.specs.Deciding.{planned_of, by_rule, by_memory}
+use Rattle.off_accounts.specs.Refusing.{planned_of, by_rule, by_memory}
 use Rattle.off_accounts.proofs.RuleLemmas.{passed, broken, refuses_then, refuses_as, not_done_refuses}
 use Rattle.off_accounts.proofs.PlanLemmas.{reads_nothing, reads_both, memory_refuses, broken_refuses, rejects, decides, ends, put_pool_counts, drop_pool_counts, pool_writes}
 use Rattle.off_accounts.proofs.RemovalLemmas.{drop_counts, subscriber_counts}
 use Rattle.off_accounts.proofs.removing.remove_add_on.Goals as goal
 
-pub returns-in_err-no_row : goal.returns-in_err-no_row
-returns-in_err-no_row g c =
+pub returns-in_err-no_row-clause-told : goal.returns-in_err-no_row-clause-told
+returns-in_err-no_row-clause-told g c =
     let p = err_from_is_err_and c.from_residual.result c.from_residual.ensures.1 in
     rw (p.1, p.2) (refuses_then reads_nothing c.in_err-no_row.ensures (λ t found p is.
     rejects c.args.asked.now (Remove (key.AddOn c.args.n c.args.number)) t found (λ t now. refl) (λ agree. broken (no_row t (key.AddOn c.args.n c.args.number)) ([]) found (is))))
 
-pub returns : goal.returns
-returns g c =
-    ends c.args.asked.now (Remove (key.AddOn c.args.n c.args.number)) (planned_of (Drop (key.AddOn c.args.n c.args.number) ∷ []) Done c.one_less.result) c.one_write.result c.one_write.ensures (reads_as (reads_both reads_nothing c.in_ok-no_row.ensures) (λ t p.
+pub returns-clause-told : goal.returns-clause-told
+returns-clause-told g c =
+    ends c.args.asked.now (Remove (key.AddOn c.args.n c.args.number)) (planned_of (Drop (key.AddOn c.args.n c.args.number) ∷ []) Done c.one_less.result) c.one_write.result c.one_write.ensures.told (reads_as (reads_both reads_nothing c.in_ok-no_row.ensures) (λ t p.
     decides c.args.asked.now (Remove (key.AddOn c.args.n c.args.number)) (planned_of (Drop (key.AddOn c.args.n c.args.number) ∷ []) Done c.one_less.result) t (λ t now. refl) refl (λ agree.
     (passed (no_row t (key.AddOn c.args.n c.args.number)) ([]) p.1, refl, drop_counts AddOns (key.AddOn c.args.n c.args.number) t c.args.asked.now.counts c.one_less.result refl p.1 c.one_less.ensures agree))))

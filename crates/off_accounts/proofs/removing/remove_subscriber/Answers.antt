@@ -14,36 +14,36 @@ use Rattle.off_defs.specs.declared.orders.Command.TheVariants.{PutPool, Remove, 
 use Rattle.off_rules.specs.Rows.{has_pool_size, counts_of}
 use Rattle.off_rules.specs.Clerk.{when, limit, no_row, has_modems, class_in_use, pool_overlap, relay_taken, pool_has_leases}
 use Rattle.off_outside.proofs.KeeperLemmas.{reads_as}
-use Rattle.off_accounts.specs.Deciding.{planned_of, by_rule, by_memory}
+use Rattle.off_accounts.specs.Refusing.{planned_of, by_rule, by_memory}
 use Rattle.off_accounts.proofs.RuleLemmas.{passed, broken, refuses_then, refuses_as, not_done_refuses}
 use Rattle.off_accounts.proofs.PlanLemmas.{reads_nothing, reads_both, memory_refuses, broken_refuses, rejects, decides, ends, put_pool_counts, drop_pool_counts, pool_writes}
 use Rattle.off_accounts.proofs.RemovalLemmas.{drop_counts, subscriber_counts}
 use Rattle.off_accounts.proofs.removing.remove_subscriber.Goals as goal
 
-pub returns-in_err-no_row : goal.returns-in_err-no_row
-returns-in_err-no_row g c =
+pub returns-in_err-no_row-clause-told : goal.returns-in_err-no_row-clause-told
+returns-in_err-no_row-clause-told g c =
     let p = err_from_is_err_and c.from_residual.result c.from_residual.ensures.1 in
     rw (p.1, p.2) (refuses_then reads_nothing c.in_err-no_row.ensures (λ t found p is.
     rejects c.args.asked.now (Remove (key.Subscriber c.args.n)) t found (λ t now. refl) (λ agree. broken (no_row t (key.Subscriber c.args.n)) (has_modems t c.args.n ∷ []) found (is))))
 
-pub returns-in_err-has_modems : goal.returns-in_err-has_modems
-returns-in_err-has_modems g c =
+pub returns-in_err-has_modems-clause-told : goal.returns-in_err-has_modems-clause-told
+returns-in_err-has_modems-clause-told g c =
     let p = err_from_is_err_and c.from_residual-in_err-has_modems.result c.from_residual-in_err-has_modems.ensures.1 in
     rw (p.1, p.2) (refuses_then (reads_both reads_nothing c.in_ok-no_row.ensures) c.in_err-has_modems.ensures (λ t found p is.
     rejects c.args.asked.now (Remove (key.Subscriber c.args.n)) t found (λ t now. refl) (λ agree. passed (no_row t (key.Subscriber c.args.n)) (has_modems t c.args.n ∷ []) p.1 ∙ broken (has_modems t c.args.n) ([]) found (is))))
 
-pub returns-in_err-lost : goal.returns-in_err-lost
-returns-in_err-lost g c =
+pub returns-in_err-lost-clause-told : goal.returns-in_err-lost-clause-told
+returns-in_err-lost-clause-told g c =
     let p = err_from_is_err_and c.from_residual-in_err-lost.result c.from_residual-in_err-lost.ensures.1 in
     rw (p.1, p.2) (refuses_then (reads_both (reads_both reads_nothing c.in_ok-no_row.ensures) c.in_ok-has_modems.ensures) (not_done_refuses {Says = λ t rule. ⊥} _ c.in_err-lost.ensures) (λ t found p never. absurd never))
 
-pub returns-in_err-writes : goal.returns-in_err-writes
-returns-in_err-writes g c =
+pub returns-in_err-writes-clause-told : goal.returns-in_err-writes-clause-told
+returns-in_err-writes-clause-told g c =
     let p = err_from_is_err_and c.from_residual-in_err-writes.result c.from_residual-in_err-writes.ensures.1 in
     rw (p.1, p.2) (memory_refuses (reads_both (reads_both (reads_both reads_nothing c.in_ok-no_row.ensures) c.in_ok-has_modems.ensures) c.in_ok-lost.ensures) c.in_err-writes.ensures)
 
-pub returns : goal.returns
-returns g c =
+pub returns-clause-told : goal.returns-clause-told
+returns-clause-told g c =
     reads_as (reads_both (reads_both (reads_both reads_nothing c.in_ok-no_row.ensures) c.in_ok-has_modems.ensures) c.in_ok-lost.ensures) (λ t p.
     decides c.args.asked.now (Remove (key.Subscriber c.args.n)) (planned_of c.in_ok-writes.writes Done c.fewer_add_ons-counts.result) t (λ t now. refl) refl (λ agree. (
       passed (no_row t (key.Subscriber c.args.n)) (has_modems t c.args.n ∷ []) p.0.0.1 ∙ passed (has_modems t c.args.n) ([]) p.0.1,

@@ -1,5 +1,5 @@
-use Rattle.off_serve.proofs.HeadlineLemmas.{serves}
+use Rattle.off_serve.proofs.HeadlineLemmas.{serves, stays_closed}
 use Rattle.off_serve.proofs.serving.serve.Goals as goal
 
-pub returns : goal.returns
-returns g c = serves _ _ _ _ _ _ _ _ c.serve_events-stop.ensures c.finish.ensures
+pub returns-in-Ok : goal.returns-in-Ok
+returns-in-Ok g c = serves _ _ _ _ _ _ _ _ _ _ _ _ _ c.in-Ok.ensures.told c.in-Ok.ensures.held c.serve_events-stop.ensures c.finish.ensures

@@ -1,12 +1,8 @@
-use Rattle.std.proofs.Common.{sym, subst}
-use Rattle.off_defs.specs.State.{Held}
-use Rattle.off_serve.proofs.ServeLemmas.{Going, going_none, going_more, served_end, served_cut, served_memory, served_missed, served_all}
+use Rattle.off_serve.proofs.ServeLemmas.{going_none, going_more, served_end, served_cut, served_memory, served_missed, served_all}
 use Rattle.off_serve.proofs.serving.serve_events.Goals as goal
 
 pub loop-done-init : goal.loop-done-init
-loop-done-init g c =
-    subst (λ (h : Held). Going 0 h (record { link = g.L.Link.seen c.args.link.now; sink = g.W.Sink.seen c.args.out.now }) (record { link = g.L.Link.seen c.args.link.now; sink = g.W.Sink.seen c.args.out.now }))
-    (sym c.start-office.ensures) (going_none _ c.requires)
+loop-done-init g c = going_none _ _ c.requires
 
 pub returns-in-Ended : goal.returns-in-Ended
 returns-in-Ended g c = served_end c.loop-done.invariant c.loop-done-test.true c.in-Ended.ensures

@@ -1,0 +1,4 @@
+pub mod ArrayLemmas
+pub mod PathLemmas
+pub mod TreeLemmas
+pub mod BodyLemmas
