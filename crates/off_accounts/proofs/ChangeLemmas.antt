@@ -1,15 +1,14 @@
 -- How one write changes the counts of rows.
-use Rattle.std.proofs.Common.{◌≡◌, ℕ, ◌+◌, ◌-◌, Bool, true, false, cond, not, ◌&&◌, Option, Some, None, is_some, List, [], ◌∷◌, count_by, refl, sym, ap, subst, ◌∙◌, arith}
+use Rattle.std.proofs.Common.{◌≡◌, ℕ, ◌+◌, Bool, cond, not, ◌&&◌, Option, Some, None, List, [], ◌∷◌, count_by, refl, sym, ap, subst, ◌∙◌, arith}
 use Rattle.std.proofs.lemmas.List.Sums.{sum_by-cons}
 use lib.Dec.{T}
 use Rattle.std.specs.List.{filter}
 use Rattle.std.specs.Ordering.{is_lt, is_eq, eq_by_cmp}
-use Rattle.std.specs.Cmp.{IsTotalOrder, tied_itself}
+use Rattle.std.specs.Cmp.{IsTotalOrder}
 use Rattle.std.specs.declared.cmp.Ordering.{Ordering}
 use Rattle.std.specs.declared.cmp.Ordering.TheVariants.{Less, Equal, Greater}
-use Rattle.std.specs.FinMap as map
 use Rattle.std.specs.FinMap.Entries as list
-use Rattle.off_defs.proofs.EntryLemmas.{is_less, holds, held, first, second}
+use Rattle.off_defs.proofs.EntryLemmas.{is_less, holds, first, second}
 
 module _ {K X : Type 0} (R : K → K → Ordering) (p : K × X → Bool) where
   abbrev pub counts_it : K × X → ℕ

@@ -1,5 +1,5 @@
 -- What a search finds, as the rule says it.
-use Rattle.std.proofs.Common.{◌≡◌, ℕ, ◌==◌, Bool, true, false, cond, not, ◌&&◌, ◌||◌, Option, Some, None, is_some, is_none, option_map, option_and_then, List, [], ◌∷◌, refl, sym, ap, ◌∙◌}
+use Rattle.std.proofs.Common.{◌≡◌, ℕ, ◌==◌, Bool, true, false, cond, ◌&&◌, ◌||◌, Option, Some, None, is_some, option_map, List, [], ◌∷◌, refl, sym, ap, ◌∙◌}
 use Rattle.std.specs.List.{find, filter, filter_map, cons_option, list_any}
 use Rattle.std.specs.FinMap as map
 use Rattle.off_base.specs.declared.addresses.Ip4.{Ip4}
@@ -14,11 +14,11 @@ use Rattle.off_defs.specs.declared.tables.Modem.{Modem}
 use Rattle.off_defs.specs.declared.rules.Rule.{Rule}
 use Rattle.off_defs.specs.declared.rules.Rule.TheVariants as rule
 use Rattle.off_defs.specs.State.{Tables}
-use Rattle.off_rules.specs.Rows.{pool_of, fitting_pool, pool_fits, lease_of, leases, modem_of, pools, modems}
+use Rattle.off_rules.specs.Rows.{pool_of, fitting_pool, pool_fits, lease_of, leases, modem_of, modems}
 use Rattle.off_rules.specs.Clerk.{when, pool_overlap, relay_taken, has_modems, class_in_use, is_other_overlapping, is_other_with_relay, is_live}
 use Rattle.off_accounts.specs.declared.lost.Lost.{Lost}
 use Rattle.off_accounts.specs.declared.searching.Sought.TheVariants.{Overlapping, WithRelay, LiveLost, OfSubscriber, OfClass}
-use Rattle.off_accounts.specs.Searches.{passes, is_given_up, is_wanted, least_wanted, pool_number, lease_address, live_lost, lost_from}
+use Rattle.off_accounts.specs.Searches.{passes, is_given_up, is_wanted, least_wanted, pool_number, lease_address, live_lost}
 
 module _ {X : Type 0} (give : Key × Row → Option X) (test : X → Bool) where
   abbrev tested : Key × Row → Bool

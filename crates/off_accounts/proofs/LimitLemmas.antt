@@ -1,9 +1,8 @@
 -- The limit of a kind, from the counts that were handed in.
-use Rattle.std.proofs.Common.{◌≡◌, ℕ, ◌+◌, ◌≤◌, ◌<◌, Bool, true, false, not, ◌&&◌, Option, Some, None, is_some, is_none, refl, sym, ap, subst, ◌∙◌}
+use Rattle.std.proofs.Common.{◌≡◌, ℕ, ◌+◌, ◌≤◌, ◌<◌, Bool, true, false, ◌&&◌, Option, Some, None, is_some, is_none, refl, sym, ap, subst, ◌∙◌}
 use Rattle.std.specs.Prelude.{nat_le}
 use Rattle.std.proofs.lemmas.Bool.{le-leb, lt-leb}
 use Rattle.off_defs.specs.declared.keys.Key.{Key}
-use Rattle.off_defs.specs.declared.tables.Row.{Row}
 use Rattle.off_defs.specs.declared.orders.Kind.{Kind}
 use Rattle.off_defs.specs.declared.rules.Rule.{Rule}
 use Rattle.off_defs.specs.declared.rules.Rule.TheVariants as rule

@@ -1,5 +1,5 @@
 -- From rules that were tested and a write to what becomes of a command.
-use Rattle.std.proofs.Common.{◌≡◌, ℕ, ◌+◌, Bool, true, false, Option, Some, None, is_some, is_none, not, ◌&&◌, option_map, Result, Ok, Err, MatchResult, List, [], ◌∷◌, refl, sym, ap, subst, ◌∙◌, arith}
+use Rattle.std.proofs.Common.{◌≡◌, ℕ, Bool, true, false, Option, Some, None, is_some, is_none, not, ◌&&◌, option_map, Result, Ok, Err, MatchResult, List, [], ◌∷◌, refl, sym, ap, subst, ◌∙◌}
 use Rattle.std.specs.List.{flat_map}
 use Rattle.off_base.specs.Tree.{Tree}
 use Rattle.off_tree.specs.declared.tables.Kind.TheVariants as tree
@@ -27,11 +27,11 @@ use Rattle.off_defs.proofs.CountLemmas.{grew_self, later_grew}
 use Rattle.off_rules.specs.declared.counts.Counts.{Counts}
 use Rattle.off_rows.specs.Sound.{is_add_on_number, is_sound_pool}
 use Rattle.off_rules.specs.Rows.{class_is_good, add_on_is_good, is_of_kind, is_possible, seen_at, has_pool_size, pool_in, counts_of}
-use Rattle.off_rules.specs.Clerk.{when, no_row, lost_leases, lease_drops, first_broken, rules_of, writes_of, decided, by_rule, accepted, refusal}
+use Rattle.off_rules.specs.Clerk.{when, no_row, lost_leases, lease_drops, first_broken, rules_of, writes_of, decided, by_rule, accepted}
 use Rattle.off_outside.specs.declared.keeper.KeepErr.TheVariants as keeper
 use Rattle.off_outside.specs.KeeperSeen.{KeeperSeen}
 use Rattle.off_outside.specs.KeeperCalls.{Reads, NotDone}
-use Rattle.off_outside.proofs.KeeperLemmas.{reads_then, reads_as, reads_none, failed_then}
+use Rattle.off_outside.proofs.KeeperLemmas.{reads_then, reads_as, reads_none}
 use Rattle.off_accounts.specs.declared.results.Asked.{Asked}
 use Rattle.off_accounts.specs.declared.results.Planned.{Planned}
 use Rattle.off_accounts.specs.declared.results.AccountErr.{AccountErr}

@@ -1,5 +1,5 @@
 -- Whether a key has a row, as rules and limits ask it.
-use Rattle.std.proofs.Common.{◌≡◌, ℕ, Bool, true, false, cond, not, ◌&&◌, Option, Some, None, is_some, is_none, option_and_then, refl, sym, ap, ◌∙◌}
+use Rattle.std.proofs.Common.{◌≡◌, ℕ, Bool, true, false, cond, not, Option, Some, None, is_some, is_none, option_and_then, refl, sym, ap, ◌∙◌}
 use Rattle.off_defs.specs.declared.keys.Key.{Key}
 use Rattle.off_defs.specs.declared.keys.Key.TheVariants as key
 use Rattle.off_defs.specs.declared.tables.Row.{Row}
@@ -8,7 +8,7 @@ use Rattle.off_defs.specs.declared.rules.Rule.{Rule}
 use Rattle.off_defs.specs.declared.rules.Rule.TheVariants as rule
 use Rattle.off_defs.specs.State.{Tables}
 use Rattle.off_defs.specs.Tables.{row_at}
-use Rattle.off_rules.specs.Rows.{possible, seen_at, as_subscriber, as_class, as_pool, subscriber_fits, class_is_good, pool_fits}
+use Rattle.off_rules.specs.Rows.{possible, seen_at, as_subscriber, as_class, subscriber_fits, class_is_good}
 use Rattle.off_rules.specs.Clerk.{when, no_row, no_subscriber, no_class}
 
 absent : {X : Type 0} (o : Option X) → is_none o ≡ not (is_some o)

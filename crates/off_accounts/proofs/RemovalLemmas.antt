@@ -1,27 +1,26 @@
 -- The counts after a removal.
-use Rattle.std.proofs.Common.{◌≡◌, ℕ, zero, suc, ◌+◌, ◌-◌, ◌<◌, ◌≤◌, Bool, true, false, cond, Option, Some, None, is_some, List, [], ◌∷◌, ◌++◌, map, count_by, refl, sym, ap, subst, ◌∙◌, arith}
+use Rattle.std.proofs.Common.{◌≡◌, ℕ, zero, suc, ◌+◌, ◌-◌, ◌<◌, ◌≤◌, Bool, true, false, cond, Option, Some, None, is_some, List, [], ◌∷◌, ◌++◌, map, count_by, refl, sym, ap, ◌∙◌, arith}
 use Rattle.std.specs.List.{flat_map}
 use Rattle.std.specs.Ordering.{eq_by_cmp}
 use Rattle.off_base.specs.declared.addresses.Ip4.{Ip4}
 use Rattle.off_base.specs.declared.macs.Mac.{Mac}
 use Rattle.off_defs.specs.declared.keys.Key.{Key}
-use Rattle.off_defs.specs.declared.keys.Key.TheVariants.{Site, Subscriber, AddOn, Modem, Class, Pool, Lease, Held, Batch}
-use Rattle.off_defs.specs.declared.tables.Row.{Row}
+use Rattle.off_defs.specs.declared.keys.Key.TheVariants.{Subscriber, AddOn, Lease, Held}
 use Rattle.off_defs.specs.declared.tables.Lease.{Lease as LeaseRow}
 use Rattle.off_defs.specs.declared.orders.Kind.{Kind}
 use Rattle.off_defs.specs.declared.orders.Kind.TheVariants.{Subscribers, AddOns, Modems, Classes, Pools, Batches}
 use Rattle.off_defs.specs.declared.orders.Write.{Write}
-use Rattle.off_defs.specs.declared.orders.Write.TheVariants.{Put, Drop}
+use Rattle.off_defs.specs.declared.orders.Write.TheVariants.{Drop}
 use Rattle.off_defs.specs.Keys.{key_cmp}
 use Rattle.off_defs.specs.State.{Tables}
-use Rattle.off_defs.specs.Tables.{row_at, with_row, without, write_all}
+use Rattle.off_defs.specs.Tables.{row_at, without, write_all}
 use Rattle.off_defs.proofs.TableLemmas.{row_without, same_key}
 use Rattle.off_rules.specs.declared.counts.Counts.{Counts}
-use Rattle.off_rules.specs.Rows.{possible, seen_at, is_of_kind, is_possible, counts_of}
+use Rattle.off_rules.specs.Rows.{possible, seen_at, is_of_kind, counts_of}
 use Rattle.off_rules.specs.Good.{owner_of}
 use Rattle.off_rules.specs.Clerk.{no_row, lease_drops, held_drop, add_on_keys}
-use Rattle.off_accounts.specs.Changes.{counted, with_count, counts_put, counts_drop}
-use Rattle.off_accounts.proofs.CountsLemmas.{counts_with, counts_without, counts_without_other}
+use Rattle.off_accounts.specs.Changes.{counted, with_count, counts_drop}
+use Rattle.off_accounts.proofs.CountsLemmas.{counts_without, counts_without_other}
 use Rattle.off_accounts.proofs.PresentLemmas.{row_present}
 
 -- the drop of a row that was there

@@ -1,5 +1,5 @@
 -- Rules that are tested one after another.
-use Rattle.std.proofs.Common.{◌≡◌, Option, Some, None, List, [], ◌∷◌, refl, ap, ◌∙◌, arith}
+use Rattle.std.proofs.Common.{◌≡◌, Option, Some, None, List, ◌∷◌, ap}
 use Rattle.off_defs.specs.declared.rules.Rule.{Rule}
 use Rattle.off_defs.specs.State.{Tables}
 use Rattle.off_rules.specs.Clerk.{first_broken}
@@ -8,7 +8,6 @@ use Rattle.off_outside.specs.declared.keeper.KeepErr.TheVariants as keeper
 use Rattle.off_outside.specs.KeeperSeen.{KeeperSeen}
 use Rattle.off_outside.specs.KeeperCalls.{Reads, NotDone}
 use Rattle.off_outside.proofs.KeeperLemmas.{reads_then, reads_as, failed_then}
-use Rattle.off_defs.proofs.CountLemmas.{later_grew}
 use Rattle.off_accounts.specs.declared.results.AccountErr.{AccountErr}
 use Rattle.off_accounts.specs.Refusing.{Refuses, by_rule, by_failure, by_memory, not_kept}
 

@@ -1,4 +1,4 @@
-use Rattle.std.proofs.Common.{◌∙◌, sym, ap, refl, None, Some, [], ◌∷◌, option_map, not, true}
+use Rattle.std.proofs.Common.{◌∙◌, sym, ap}
 use Rattle.std.proofs.lemmas.Result.{err_from_is_err_and}
 use Rattle.off_rules.specs.Clerk.{shown}
 use Rattle.off_outside.proofs.KeeperLemmas.{reads_as}

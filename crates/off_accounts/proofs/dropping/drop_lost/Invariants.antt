@@ -1,5 +1,5 @@
 -- The drops of all entries are those written so far and those of the entries behind the place.
-use Rattle.std.proofs.Common.{ℕ, Some}
+use Rattle.std.proofs.Common.{Some}
 use Rattle.off_outside.specs.KeeperCalls.{Reads}
 use Rattle.off_accounts.specs.Walks.{room}
 use Rattle.off_accounts.proofs.DropLemmas.{IsLeftToDrop}

@@ -1,8 +1,6 @@
-use Rattle.std.proofs.Common.{◌∙◌, sym, ap, refl, None, Some, [], ◌∷◌, option_map, not, true}
+use Rattle.std.proofs.Common.{refl}
 use Rattle.std.proofs.lemmas.Result.{err_from_is_err_and}
-use Rattle.off_rules.specs.Clerk.{lease_drops}
 use Rattle.off_outside.proofs.KeeperLemmas.{reads_none}
-use Rattle.off_accounts.specs.Searches.{lost_from}
 use Rattle.off_accounts.proofs.DropLemmas.{nothing_lost}
 use Rattle.off_accounts.proofs.PlanLemmas.{reads_nothing, memory_refuses}
 use Rattle.off_accounts.proofs.RuleLemmas.{not_done_refuses}

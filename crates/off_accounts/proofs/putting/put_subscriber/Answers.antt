@@ -1,19 +1,16 @@
-use Rattle.std.proofs.Common.{◌∙◌, sym, ap, refl, None, Some, [], ◌∷◌, option_map, not, true}
+use Rattle.std.proofs.Common.{ap, refl, [], ◌∷◌}
 use Rattle.std.proofs.lemmas.Result.{err_from_is_err_and}
-use Rattle.off_tree.specs.declared.tables.Kind.TheVariants as tree
-use Rattle.off_tree.specs.Fault.{first_fault}
 use Rattle.off_defs.specs.declared.keys.Key.TheVariants as key
 use Rattle.off_defs.specs.declared.tables.Row.TheVariants as row
-use Rattle.off_defs.specs.declared.rules.Rule.TheVariants as rule
-use Rattle.off_defs.specs.declared.orders.Kind.TheVariants.{Subscribers, AddOns, Modems, Classes, Pools}
+use Rattle.off_defs.specs.declared.orders.Kind.TheVariants.{Subscribers}
 use Rattle.off_defs.specs.declared.orders.Write.TheVariants.{Put}
 use Rattle.off_defs.specs.declared.orders.Reply.TheVariants.{Done}
-use Rattle.off_defs.specs.declared.orders.Command.TheVariants.{SetSite, PutSubscriber, PutAddOn, PutModem, PutClass}
-use Rattle.off_rules.specs.Clerk.{limit, no_subscriber, no_class}
+use Rattle.off_defs.specs.declared.orders.Command.TheVariants.{PutSubscriber}
+use Rattle.off_rules.specs.Clerk.{limit}
 use Rattle.off_outside.proofs.KeeperLemmas.{reads_as}
 use Rattle.off_accounts.specs.Refusing.{planned_of}
 use Rattle.off_accounts.proofs.RuleLemmas.{passed, broken, refuses_then}
-use Rattle.off_accounts.proofs.PlanLemmas.{reads_nothing, reads_both, memory_refuses, broken_refuses, rejects, decides, ends, put_counts, good_add_on, good_class}
+use Rattle.off_accounts.proofs.PlanLemmas.{reads_nothing, reads_both, rejects, decides, ends, put_counts}
 use Rattle.off_accounts.proofs.putting.put_subscriber.Goals as goal
 
 pub returns-in_err-after-clause-told : goal.returns-in_err-after-clause-told

@@ -1,7 +1,6 @@
-use Rattle.std.proofs.Common.{◌∙◌, sym, ap, refl, [], ◌∷◌}
+use Rattle.std.proofs.Common.{[], ◌∷◌}
 use Rattle.std.proofs.lemmas.Result.{err_from_is_err_and}
 use Rattle.off_defs.specs.declared.keys.Key.TheVariants as key
-use Rattle.off_defs.specs.declared.tables.Row.TheVariants as row
 use Rattle.off_defs.specs.declared.orders.Write.TheVariants.{Put}
 use Rattle.off_defs.specs.declared.orders.Reply.TheVariants.{Done}
 use Rattle.off_defs.specs.declared.orders.Command.TheVariants.{SetSite}

@@ -1,23 +1,18 @@
-use Rattle.std.proofs.Common.{◌∙◌, sym, ap, refl, None, Some, [], ◌∷◌, option_map, not, true}
+use Rattle.std.proofs.Common.{◌∙◌, sym, ap, refl, [], ◌∷◌}
 use Rattle.std.proofs.lemmas.Result.{err_from_is_err_and}
-use Rattle.off_base.specs.declared.addresses.Ip4.{Ip4}
 use Rattle.off_defs.specs.declared.keys.Key.TheVariants as key
-use Rattle.off_defs.specs.declared.tables.Row.TheVariants as row
-use Rattle.off_defs.specs.declared.rules.Rule.TheVariants as rule
-use Rattle.off_defs.specs.declared.orders.Kind.TheVariants.{Subscribers, AddOns, Modems, Classes, Pools}
 use Rattle.std.proofs.Common.{List}
 use Rattle.off_defs.specs.declared.orders.Write.{Write}
 use Rattle.off_defs.specs.Tables.{write_all}
-use Rattle.off_defs.specs.declared.orders.Write.TheVariants.{Put, Drop}
 use Rattle.off_defs.specs.declared.orders.Reply.TheVariants.{Done}
-use Rattle.off_defs.specs.declared.orders.Command.TheVariants.{PutPool, Remove, Show}
-use Rattle.off_rules.specs.Rows.{has_pool_size, counts_of}
-use Rattle.off_rules.specs.Clerk.{when, limit, no_row, has_modems, class_in_use, pool_overlap, relay_taken, pool_has_leases}
+use Rattle.off_defs.specs.declared.orders.Command.TheVariants.{Remove}
+use Rattle.off_rules.specs.Rows.{counts_of}
+use Rattle.off_rules.specs.Clerk.{no_row, has_modems}
 use Rattle.off_outside.proofs.KeeperLemmas.{reads_as}
-use Rattle.off_accounts.specs.Refusing.{planned_of, by_rule, by_memory}
-use Rattle.off_accounts.proofs.RuleLemmas.{passed, broken, refuses_then, refuses_as, not_done_refuses}
-use Rattle.off_accounts.proofs.PlanLemmas.{reads_nothing, reads_both, memory_refuses, broken_refuses, rejects, decides, ends, put_pool_counts, drop_pool_counts, pool_writes}
-use Rattle.off_accounts.proofs.RemovalLemmas.{drop_counts, subscriber_counts}
+use Rattle.off_accounts.specs.Refusing.{planned_of}
+use Rattle.off_accounts.proofs.RuleLemmas.{passed, broken, refuses_then, not_done_refuses}
+use Rattle.off_accounts.proofs.PlanLemmas.{reads_nothing, reads_both, memory_refuses, rejects, decides}
+use Rattle.off_accounts.proofs.RemovalLemmas.{subscriber_counts}
 use Rattle.off_accounts.proofs.removing.remove_subscriber.Goals as goal
 
 pub returns-in_err-no_row-clause-told : goal.returns-in_err-no_row-clause-told

@@ -1,6 +1,6 @@
-use Rattle.std.proofs.Common.{◌∙◌, sym, ap}
+use Rattle.std.proofs.Common.{◌∙◌, sym}
 use Rattle.std.proofs.lemmas.Result.{err_from_is_err_and}
-use Rattle.off_outside.proofs.KeeperLemmas.{reads_as, reads_none}
+use Rattle.off_outside.proofs.KeeperLemmas.{reads_as}
 use Rattle.off_accounts.specs.Refusing.{by_rule}
 use Rattle.off_accounts.proofs.RuleLemmas.{not_done_refuses}
 use Rattle.off_accounts.proofs.FoundLemmas.{modems_some, modems_none}

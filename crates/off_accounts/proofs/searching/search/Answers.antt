@@ -1,7 +1,4 @@
-use Rattle.std.proofs.Common.{◌∙◌, sym, ◌≡◌, false, Some}
-use Rattle.off_defs.specs.State.{Tables}
-use Rattle.off_outside.specs.KeeperSeen.{KeeperSeen}
-use Rattle.off_outside.specs.KeeperCalls.{Reads}
+use Rattle.std.proofs.Common.{◌∙◌, sym}
 use Rattle.off_outside.proofs.KeeperLemmas.{reads_then, reads_none}
 use Rattle.off_accounts.proofs.SearchLemmas.{search_begin, search_none, search_past, search_found, search_on}
 use Rattle.off_accounts.proofs.searching.search.Goals as goal

@@ -1,5 +1,5 @@
 -- No row up to the place is sought.
-use Rattle.std.proofs.Common.{ℕ, Some}
+use Rattle.std.proofs.Common.{Some}
 use Rattle.off_outside.specs.KeeperCalls.{Reads}
 use Rattle.off_accounts.specs.Walks.{room}
 use Rattle.off_accounts.proofs.SearchLemmas.{IsLeft}
