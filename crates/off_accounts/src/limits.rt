@@ -1,3 +1,5 @@
+//! How many rows of each kind there may be, and how many there are after a write.
+
 ghost use Rattle.std.specs.Prelude.{◌≡◌, ◌<◌, ◌^◌, ◌-◌, None, true, is_some, MatchResult};
 ghost use Rattle.off_defs.specs.declared.orders.Kind.TheVariants.{AddOns};
 ghost use Rattle.off_rules.specs.Rows.{seen_at, counts_of};

@@ -1,3 +1,5 @@
+//! The parts of a plan: one write, and the rows that commands put, which are equal to their sources.
+
 ghost use Rattle.std.specs.Prelude.{◌≡◌, [], ◌∷◌, MatchResult, IfOk};
 ghost use Rattle.off_defs.specs.declared.tables.Row.TheVariants as row;
 ghost use Rattle.off_defs.specs.declared.orders.Reply.TheVariants.{Done};
@@ -26,7 +28,6 @@ pub(crate) fn one_write(alloc: Global, write: Write, counts: Counts) -> Result<P
     }
 }
 
-/// The rows that commands put.
 pub(crate) fn site_row(site: &Site) -> Row
     ensures { result ≡ row.Site site.now }
 {

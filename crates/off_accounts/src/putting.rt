@@ -1,3 +1,5 @@
+//! The commands that put a row and change no other one.
+
 ghost use Rattle.std.specs.Prelude.{◌≡◌, true, MatchResult, IfOk};
 ghost use Rattle.off_defs.specs.declared.orders.Command.TheVariants.{SetSite, PutSubscriber, PutAddOn, PutModem, PutClass};
 ghost use Rattle.off_defs.specs.declared.orders.Reply.TheVariants.{Done};
@@ -15,7 +17,7 @@ use off_defs::{Class, Key, Kind, Modem, Site, Subscriber, Write};
 use off_outside::Keeper;
 use std::alloc::Global;
 
-/// Each of these decides one command. The site's rules read no tables.
+/// The site's rules read no tables.
 pub(crate) fn set_site<K: Keeper>(
     alloc: Global,
     keeper: &mut K,

@@ -1,3 +1,5 @@
+//! The rules that read the tables. Each function tests the rule of its name: it lets the command pass, or refuses it by that rule.
+
 ghost use Rattle.std.specs.Prelude.{◌≡◌, None, Some, MatchResult};
 ghost use Rattle.off_rules.specs.Rows.{pool_in};
 ghost use Rattle.off_rules.specs.Clerk.{no_subscriber, no_class, no_row, pool_overlap, relay_taken, pool_has_leases, has_modems, class_in_use};
@@ -14,7 +16,7 @@ use off_defs::{Key, Pool, Rule};
 use off_outside::Keeper;
 use std::alloc::Global;
 
-/// Each of these tests one rule over the tables: it lets the command pass, or refuses it.
+/// The key has a row.
 pub(crate) fn no_row<K: Keeper>(alloc: Global, keeper: &mut K, key: &Key) -> Result<(), AccountErr>
     ensures { MatchResult result (λ _. Reads (λ t. no_row t key.now ≡ None) (K.seen keeper.old) (K.seen keeper.new))
         (λ err. Refuses (λ t rule. no_row t key.now ≡ rule) (K.seen keeper.old) (K.seen keeper.new) err) }
@@ -28,6 +30,7 @@ pub(crate) fn no_row<K: Keeper>(alloc: Global, keeper: &mut K, key: &Key) -> Res
     Ok(())
 }
 
+/// There is the subscriber.
 pub(crate) fn no_subscriber<K: Keeper>(
     alloc: Global,
     keeper: &mut K,
@@ -45,6 +48,7 @@ pub(crate) fn no_subscriber<K: Keeper>(
     Ok(())
 }
 
+/// There is the class.
 pub(crate) fn no_class<K: Keeper>(alloc: Global, keeper: &mut K, n: u32) -> Result<(), AccountErr>
     ensures { MatchResult result (λ _. Reads (λ t. no_class t n ≡ None) (K.seen keeper.old) (K.seen keeper.new))
         (λ err. Refuses (λ t rule. no_class t n ≡ rule) (K.seen keeper.old) (K.seen keeper.new) err) }
@@ -58,6 +62,7 @@ pub(crate) fn no_class<K: Keeper>(alloc: Global, keeper: &mut K, n: u32) -> Resu
     Ok(())
 }
 
+/// No modem belongs to the subscriber.
 pub(crate) fn has_modems<K: Keeper>(alloc: Global, keeper: &mut K, n: u32) -> Result<(), AccountErr>
     ensures { MatchResult result (λ _. Reads (λ t. has_modems t n ≡ None) (K.seen keeper.old) (K.seen keeper.new))
         (λ err. Refuses (λ t rule. has_modems t n ≡ rule) (K.seen keeper.old) (K.seen keeper.new) err) }
@@ -71,6 +76,7 @@ pub(crate) fn has_modems<K: Keeper>(alloc: Global, keeper: &mut K, n: u32) -> Re
     Ok(())
 }
 
+/// No modem has the class.
 pub(crate) fn class_in_use<K: Keeper>(
     alloc: Global,
     keeper: &mut K,
@@ -88,6 +94,7 @@ pub(crate) fn class_in_use<K: Keeper>(
     Ok(())
 }
 
+/// No other pool has an address of this one. The least that has one is named.
 pub(crate) fn pool_overlap<K: Keeper>(
     alloc: Global,
     keeper: &mut K,
@@ -107,6 +114,7 @@ pub(crate) fn pool_overlap<K: Keeper>(
     })
 }
 
+/// No other pool has the relay of this one. The least that has it is named.
 pub(crate) fn relay_taken<K: Keeper>(
     alloc: Global,
     keeper: &mut K,
@@ -126,7 +134,8 @@ pub(crate) fn relay_taken<K: Keeper>(
     })
 }
 
-/// The pool that was at the number, or `None`, where no lease of it that hasn't expired is lost.
+/// No lease that hasn't expired loses its pool where another one, or none, takes the place of the pool at the number. The least address of
+/// such a lease is named. It gives the pool that is at the number before, or `None`.
 pub(crate) fn pool_has_leases<K: Keeper>(
     alloc: Global,
     keeper: &mut K,
@@ -142,7 +151,7 @@ pub(crate) fn pool_has_leases<K: Keeper>(
     Ok(old)
 }
 
-// Whether a lease that hasn't expired is lost where one pool, or none, takes another one's place.
+// The same, where the pool before is known.
 fn live_lost<K: Keeper>(
     alloc: Global,
     keeper: &mut K,

@@ -1,3 +1,5 @@
+//! The rules on a command's own values. Each function lets the command pass, or refuses it.
+
 ghost use Rattle.std.specs.Prelude.{◌≡◌, None, MatchResult, option_map, not};
 ghost use Rattle.off_tree.specs.declared.tables.Kind.TheVariants as tree;
 ghost use Rattle.off_tree.specs.Fault.{first_fault};
@@ -12,7 +14,7 @@ use off_base::Settings;
 use off_defs::{Pool, Rule, Site, SiteField};
 use off_tree::{check_addon, check_class};
 
-/// Each of these tests rules on a command's own values.
+/// The values of a site are in their ranges. The first that isn't is named.
 pub(crate) fn site_fits(site: &Site) -> Result<(), AccountErr>
     ensures { MatchResult result (λ _. site_rule site.now ≡ None) (λ err. IsBroken (site_rule site.now) err) }
 {
@@ -43,6 +45,7 @@ pub(crate) fn site_fits(site: &Site) -> Result<(), AccountErr>
     Ok(())
 }
 
+/// A pool has 1 to 4,096 addresses.
 pub(crate) fn pool_size(pool: &Pool) -> Result<(), AccountErr>
     ensures { MatchResult result (λ _. when (not (has_pool_size pool.now)) rule.PoolSize ≡ None)
         (λ err. IsBroken (when (not (has_pool_size pool.now)) rule.PoolSize) err) }
@@ -56,6 +59,7 @@ pub(crate) fn pool_size(pool: &Pool) -> Result<(), AccountErr>
     Ok(())
 }
 
+/// The settings of an add-on are good.
 pub(crate) fn add_on_fits(settings: &Settings) -> Result<(), AccountErr>
     ensures { MatchResult result (λ _. option_map rule.Tree (first_fault tree.AddOn settings.now) ≡ None)
         (λ err. IsBroken (option_map rule.Tree (first_fault tree.AddOn settings.now)) err) }
@@ -69,6 +73,7 @@ pub(crate) fn add_on_fits(settings: &Settings) -> Result<(), AccountErr>
     }
 }
 
+/// The settings of a class are good.
 pub(crate) fn class_fits(settings: &Settings) -> Result<(), AccountErr>
     ensures { MatchResult result (λ _. option_map rule.Tree (first_fault tree.Class settings.now) ≡ None)
         (λ err. IsBroken (option_map rule.Tree (first_fault tree.Class settings.now)) err) }
