@@ -1,10 +1,9 @@
 -- Counts as far as a walk has come.
-use Rattle.std.proofs.Common.{◌≡◌, ℕ, ◌+◌, Bool, cond, Option, Some, None, List, [], ◌∷◌, count_by, refl, sym, ap, ◌∙◌, arith, add-zero, zero-add}
+use Rattle.std.proofs.Common.{◌≡◌, ℕ, ◌+◌, Bool, cond, Option, Some, None, List, [], ◌∷◌, count_by, sym, ap, ◌∙◌, arith, add-zero, zero-add}
 use Rattle.std.proofs.lemmas.List.Sums.{sum_by-cons}
 use Rattle.std.specs.FinMap as map
 use Rattle.off_defs.specs.declared.keys.Key.{Key}
 use Rattle.off_defs.specs.declared.tables.Row.{Row}
-use Rattle.off_defs.specs.declared.orders.Kind.{Kind}
 use Rattle.off_defs.specs.declared.orders.Kind.TheVariants.{Subscribers, AddOns, Modems, Classes, Pools, Batches}
 use Rattle.off_defs.specs.State.{Tables}
 use Rattle.off_defs.specs.Tables.{behind, next_entry}
@@ -13,7 +12,7 @@ use Rattle.off_outside.specs.KeeperSeen.{KeeperSeen}
 use Rattle.off_outside.specs.KeeperCalls.{Reads}
 use Rattle.off_outside.proofs.KeeperLemmas.{reads_then, reads_none}
 use Rattle.off_rules.specs.declared.counts.Counts.{Counts}
-use Rattle.off_rules.specs.Rows.{is_counted, count_of, counts_of}
+use Rattle.off_rules.specs.Rows.{is_counted, counts_of}
 use Rattle.off_accounts.specs.Counting.{with_one, with_entry, with_entries}
 use Rattle.off_accounts.proofs.StepLemmas.{all_left}
 

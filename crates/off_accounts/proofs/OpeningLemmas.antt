@@ -14,7 +14,7 @@ use Rattle.off_defs.specs.declared.tables.Pool.{Pool}
 use Rattle.off_outside.specs.KeeperSeen.{KeeperSeen}
 use Rattle.off_outside.specs.KeeperCalls.{Reads}
 use Rattle.off_outside.proofs.KeeperLemmas.{reads_then, reads_none}
-use Rattle.off_rules.specs.Good.{raw_pools, keeps, IsLeastBad, Judged}
+use Rattle.off_rules.specs.Good.{raw_pools, keeps, Judged}
 use Rattle.off_accounts.proofs.OrderLemmas.{found_among, none_passes, entry_of, row_of, first_least, not_both}
 
 -- the next entry is one of the tables

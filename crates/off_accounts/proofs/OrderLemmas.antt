@@ -1,12 +1,12 @@
 -- Entries in the order of their keys, over any total order in which tied keys are equal: the row of a key is that of its entry, and the first
 -- entry that passes a test is below all others that do.
-use Rattle.std.proofs.Common.{◌≡◌, Bool, true, false, cond, ◌&&◌, ◌⊎◌, inl, inr, Option, Some, None, unwrap_or, List, [], ◌∷◌, refl, sym, ap, subst, ◌∙◌}
+use Rattle.std.proofs.Common.{◌≡◌, Bool, true, false, cond, ◌⊎◌, inl, inr, Some, None, unwrap_or, List, [], ◌∷◌, refl, sym, ap, subst, ◌∙◌}
 use lib.Dec.{T}
 use Rattle.std.specs.List.{find}
-use Rattle.std.specs.Ordering.{is_lt, is_eq, eq_by_cmp, ordering_reverse}
+use Rattle.std.specs.Ordering.{is_eq, eq_by_cmp, ordering_reverse}
 use Rattle.std.specs.Cmp.{IsTotalOrder, tied_itself}
 use Rattle.std.specs.declared.cmp.Ordering.{Ordering}
-use Rattle.std.specs.declared.cmp.Ordering.TheVariants.{Less, Equal, Greater}
+use Rattle.std.specs.declared.cmp.Ordering.TheVariants.{Less, Greater}
 use Rattle.std.specs.FinMap.{IsAntisymmetric}
 use Rattle.std.specs.FinMap.Entries as list
 use Rattle.off_defs.proofs.EntryLemmas.{is_less, is_equal, holds, first, second}

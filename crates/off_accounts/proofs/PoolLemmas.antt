@@ -1,5 +1,5 @@
 -- Pools that are gathered by a walk.
-use Rattle.std.proofs.Common.{◌≡◌, ℕ, Option, Some, None, List, [], ◌++◌, refl, sym, ap, ◌∙◌, arith}
+use Rattle.std.proofs.Common.{◌≡◌, ℕ, Some, None, List, [], ◌++◌, refl, sym, ap, ◌∙◌, arith}
 use Rattle.off_defs.specs.declared.keys.Key.{Key}
 use Rattle.off_defs.specs.declared.keys.Key.TheVariants as key
 use Rattle.off_defs.specs.declared.tables.Row.{Row}

@@ -2,7 +2,6 @@
 use Rattle.std.specs.Prelude.{ℕ, ◌+◌, Bool, cond, List, count_by}
 use Rattle.off_defs.specs.declared.keys.Key.{Key}
 use Rattle.off_defs.specs.declared.tables.Row.{Row}
-use Rattle.off_defs.specs.declared.orders.Kind.{Kind}
 use Rattle.off_defs.specs.declared.orders.Kind.TheVariants.{Subscribers, AddOns, Modems, Classes, Pools, Batches}
 use Rattle.off_rules.specs.declared.counts.Counts.{Counts}
 use Rattle.off_rules.specs.Rows.{is_counted}

@@ -1,8 +1,7 @@
 -- What `decide` says of a command: what is to be written and answered, or which rule refuses it.
-use Rattle.std.specs.Prelude.{◌≡◌, ℕ, Bool, true, false, Option, Some, None, Result, Ok, Err, List, [], MatchResult, IsTrue}
-use Rattle.off_defs.specs.declared.rules.Rule.{Rule}
+use Rattle.std.specs.Prelude.{◌≡◌, ℕ, Bool, true, false, IsTrue, [], Ok, Err}
 use Rattle.off_defs.specs.declared.orders.Command.{Command}
-use Rattle.off_defs.specs.declared.orders.Command.TheVariants.{Import, Show}
+use Rattle.off_defs.specs.declared.orders.Command.TheVariants.{Show, Import}
 use Rattle.off_defs.specs.declared.orders.Reply.TheVariants.{Done, Shown}
 use Rattle.off_defs.specs.declared.tables.Row.{Row}
 use Rattle.off_defs.specs.State.{Tables}
@@ -10,7 +9,6 @@ use Rattle.off_defs.specs.Tables.{write_all}
 use Rattle.off_rules.specs.declared.counts.Counts.{Counts}
 use Rattle.off_rules.specs.Rows.{is_possible, counts_of}
 use Rattle.off_rules.specs.Clerk.{decided, accepted, refusal}
-use Rattle.off_outside.specs.declared.keeper.KeepErr.{KeepErr}
 use Rattle.off_outside.specs.declared.keeper.KeepErr.TheVariants as keeper
 use Rattle.off_outside.specs.KeeperSeen.{KeeperSeen}
 use Rattle.off_outside.specs.KeeperCalls.{Reads, NotDone}
@@ -18,30 +16,19 @@ use Rattle.off_accounts.specs.declared.results.Planned.{Planned}
 use Rattle.off_accounts.specs.declared.results.AccountErr.{AccountErr}
 use Rattle.off_accounts.specs.declared.results.AccountErr.TheVariants.{Refused, Failed, Memory}
 
--- the error where the keeper didn't do a call
-abbrev pub not_kept : KeepErr → AccountErr
-not_kept keeper.Memory = Memory
-not_kept keeper.Failed = Failed
-
 -- imports are decided elsewhere
 abbrev pub is_import : Command → Bool
 is_import (Import kind batch digest rows) = true
 is_import command = false
 
--- A rule that was tested, and didn't let the command pass: it's broken, or the tables couldn't be read, or memory was wanted.
-pub data Refuses (Says : Tables → Option Rule → Type 0) (old new : KeeperSeen) : AccountErr → Type 0 where
-  by_rule : {broken : Rule} → Reads (λ t. Says t (Some broken)) old new → Refuses Says old new (Refused 0 broken)
-  by_failure : NotDone keeper.Failed old new → Refuses Says old new Failed
-  by_memory : NotDone keeper.Memory old new → Refuses Says old new Memory
-
--- What was planned is what becomes of the command, and the counts are those of the tables once the writes are done, where the counts that
--- were handed in are those of the tables.
+-- What was planned is what becomes of the command, and its counts are those of the tables once the writes are done.
 pub record IsDecided (counts : Counts) (now : ℕ) (command : Command) (planned : Planned) (t : Tables) : Type 0 where
   pub accepted : decided t now command ≡ Ok (accepted planned.writes planned.reply)
   pub counted : planned.counts ≡ counts_of (write_all t planned.writes)
 
+-- the command isn't to be done: a rule refuses it, or the keeper failed, or memory was wanted
 abbrev pub NotDecided : Counts → ℕ → Command → AccountErr → KeeperSeen → KeeperSeen → Type 0
-NotDecided counts now command (Refused row rule) old new = Reads (λ t. counts ≡ counts_of t → decided t now command ≡ Err (refusal row rule)) old new
+NotDecided counts now command (Refused row broken) old new = Reads (λ t. counts ≡ counts_of t → decided t now command ≡ Err (refusal row broken)) old new
 NotDecided counts now command Failed old new = NotDone keeper.Failed old new
 NotDecided counts now command Memory old new = NotDone keeper.Memory old new
 

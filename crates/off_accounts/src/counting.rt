@@ -10,9 +10,9 @@ use off_outside::{KeepErr, Keeper};
 use off_rules::Counts;
 use std::alloc::Global;
 
-/// How many possible rows there are of each kind of which there may be only so many.
+/// How many possible rows there are of each kind of which there may be only so many. It changes nothing.
 ///
-/// A count that would pass the greatest `u64` is answered as `Memory`, since it can't be held.
+/// An error is the keeper's, or `Memory` where a count would pass the greatest `u64`, since it can't be held.
 pub fn count_rows<K: Keeper>(alloc: Global, keeper: &mut K) -> Result<Counts, KeepErr>
     ensures { MatchResult result (λ counts. Reads (λ t. counts ≡ counts_of t) (K.seen keeper.old) (K.seen keeper.new))
         (λ err. NotDone err (K.seen keeper.old) (K.seen keeper.new)) }

@@ -36,7 +36,7 @@ pub(crate) fn raw_pools<K: Keeper>(
 }
 
 // Whether all keys of pools are below this one.
-fn is_past_pools(key: Key) -> bool
+pub(crate) fn is_past_pools(key: Key) -> bool
     ensures { result ≡ nat_lt 6 (kind_of key) }
 {
     matches!(key, Key::Lease(_) | Key::Held(_) | Key::Batch(_))

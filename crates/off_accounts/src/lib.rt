@@ -3,12 +3,24 @@
 
 mod counting;
 mod deciding;
+mod dropping;
 mod gathering;
+mod limits;
+mod lost;
 mod opening;
+mod planning;
+mod pools;
 mod possible;
+mod putting;
+mod reading;
+mod removing;
 mod results;
+mod rules;
+mod searching;
 mod standing;
+mod values;
 mod walking;
+mod wanted;
 
 pub use counting::count_rows;
 pub use deciding::decide;

@@ -11,7 +11,8 @@ use std::alloc::Global;
 
 /// The least key whose row breaks its line of good tables, or `None` where the tables are good. It changes nothing.
 ///
-/// Its time grows as the number of rows times the number of pools.
+/// An error is the keeper's, or `Memory` where the list of pools has no memory. The time grows as the number of rows times the
+/// number of pools.
 #[tactic(auto, using(off_outside::proofs::KeeperLemmas::reads_then, off_outside::proofs::KeeperLemmas::failed_then))]
 pub fn first_bad<K: Keeper>(alloc: Global, keeper: &mut K) -> Result<Option<Key>, KeepErr>
     ensures told { MatchResult result (λ bad. Reads (λ t. Judged t bad) (K.seen keeper.old) (K.seen keeper.new))

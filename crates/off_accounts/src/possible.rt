@@ -93,13 +93,13 @@ fn site_fits(site: &Site) -> bool
         && is_lease_time(site.lease)
 }
 
-fn is_offset(offset: i32) -> bool
+pub(crate) fn is_offset(offset: i32) -> bool
     ensures { result ≡ is_offset offset }
 {
     -MOST_OFFSET <= offset && offset <= MOST_OFFSET
 }
 
-fn is_lease_time(seconds: u32) -> bool
+pub(crate) fn is_lease_time(seconds: u32) -> bool
     ensures { result ≡ is_lease_time seconds }
 {
     LEAST_LEASE <= seconds && seconds <= MOST_LEASE
@@ -131,7 +131,7 @@ fn pool_fits(pool: &Pool) -> bool
     has_pool_size(pool) && 8 <= pool.prefix && pool.prefix <= 30 && pool.relay.0 != 0
 }
 
-fn has_pool_size(pool: &Pool) -> bool
+pub(crate) fn has_pool_size(pool: &Pool) -> bool
     ensures { result ≡ has_pool_size pool.now }
 {
     let first = pool.first.0;

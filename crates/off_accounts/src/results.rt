@@ -1,4 +1,4 @@
-use off_base::NoMemory;
+use off_base::Moment;
 use off_defs::{Reply, Rule, Writes};
 use off_outside::KeepErr;
 use off_rules::Counts;
@@ -14,14 +14,18 @@ pub struct Planned {
     pub counts: Counts,
 }
 
+/// What is known where a command comes: how many rows there are, and the moment.
+#[derive(Clone, Copy, Debug, PartialEq, Eq)]
+pub(crate) struct Asked {
+    pub counts: Counts,
+    pub at: Moment,
+}
+
 /// Why a command isn't to be done.
 #[derive(Clone, Copy, Debug, PartialEq, Eq)]
 pub enum AccountErr {
     /// A rule is broken. In an import the rows count from 1, and row 0 means none of them.
-    Refused {
-        row: u32,
-        rule: Rule,
-    },
+    Refused { row: u32, rule: Rule },
     /// The keeper failed, and counted a fault.
     Failed,
     /// Memory was wanted, and refused.
@@ -30,7 +34,7 @@ pub enum AccountErr {
 
 impl From<KeepErr> for AccountErr {
     ghost use Rattle.std.specs.Prelude.{◌≡◌};
-    ghost use Rattle.off_accounts.specs.Deciding.{not_kept};
+    ghost use Rattle.off_accounts.specs.Refusing.{not_kept};
 
     ghost from_gives = { λ kept err. err ≡ not_kept kept };
 
@@ -39,27 +43,5 @@ impl From<KeepErr> for AccountErr {
             KeepErr::Memory => AccountErr::Memory,
             KeepErr::Failed => AccountErr::Failed,
         }
-    }
-}
-
-impl From<Rule> for AccountErr {
-    ghost use Rattle.std.specs.Prelude.{◌≡◌};
-    ghost use Rattle.off_accounts.specs.declared.results.AccountErr.TheVariants.{Refused};
-
-    ghost from_gives = { λ rule err. err ≡ Refused 0 rule };
-
-    fn from(rule: Rule) -> AccountErr {
-        AccountErr::Refused { row: 0, rule }
-    }
-}
-
-impl From<NoMemory> for AccountErr {
-    ghost use Rattle.std.specs.Prelude.{◌≡◌};
-    ghost use Rattle.off_accounts.specs.declared.results.AccountErr.TheVariants.{Memory};
-
-    ghost from_gives = { λ _ err. err ≡ Memory };
-
-    fn from(_refused: NoMemory) -> AccountErr {
-        AccountErr::Memory
     }
 }

@@ -101,7 +101,7 @@ fn is_apart(number: u32, pool: &Pool, other: &(u32, Pool)) -> bool
     other.0 == number || (!overlaps(pool, &other.1) && other.1.relay.0 != pool.relay.0)
 }
 
-fn overlaps(pool: &Pool, other: &Pool) -> bool
+pub(crate) fn overlaps(pool: &Pool, other: &Pool) -> bool
     ensures { result ≡ overlaps pool.now other.now }
 {
     pool.first.0.max(other.first.0) <= pool.last.0.min(other.last.0)
@@ -144,13 +144,13 @@ fn pools_with(pools: &[(u32, Pool)], address: Ip4) -> usize
         .count()
 }
 
-fn has_address(pool: &Pool, address: Ip4) -> bool
+pub(crate) fn has_address(pool: &Pool, address: Ip4) -> bool
     ensures { result ≡ has_address pool.now address }
 {
     pool.first.0 <= address.0 && address.0 <= pool.last.0
 }
 
-fn owner_of(hold: Hold) -> Option<Mac>
+pub(crate) fn owner_of(hold: Hold) -> Option<Mac>
     ensures { result ≡ owner_of hold }
 {
     match hold {

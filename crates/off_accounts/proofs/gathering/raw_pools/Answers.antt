@@ -1,4 +1,4 @@
-use Rattle.std.proofs.Common.{◌≡◌, ℕ, ◌<◌, true, None, Some, nat_lt, sym, ◌∙◌, arith}
+use Rattle.std.proofs.Common.{◌≡◌, ◌<◌, true, None, Some, nat_lt, sym, ◌∙◌, arith}
 use Rattle.std.proofs.lemmas.Bool.Decides.{nat_tests}
 use Rattle.off_rows.specs.KeyBytes.{kind_of}
 use Rattle.off_rules.specs.Good.{raw_pool_of, raw_pools}

@@ -1,6 +1,6 @@
 use Rattle.std.proofs.Common.{None, Some}
 use Rattle.off_accounts.proofs.GatherLemmas.{next_is}
-use Rattle.off_accounts.proofs.OpeningLemmas.{none_tested, one_tested, all_tested, bad_tested}
+use Rattle.off_accounts.proofs.OpeningLemmas.{one_tested, all_tested, bad_tested}
 use Rattle.off_accounts.proofs.opening.least_bad.Goals as goal
 
 pub returns-in_default : goal.returns-in_default
