@@ -1,5 +1,4 @@
-use crate::examples::{Put, are_judged, at, mac};
-use off_defs::{Hold, Key};
+use crate::examples::are_judged;
 use std::test::Fail;
 
 #[test]
@@ -8,22 +7,16 @@ fn a_row_is_of_the_kind_of_its_key(rt: HostRuntime) -> Result<(), Fail> {
         &rt,
         rt.alloc(),
         &[
-            (&[Put::Stranger(Key::Site)], Some(Key::Site)),
-            (
-                &[Put::Stranger(Key::Subscriber(8))],
-                Some(Key::Subscriber(8)),
-            ),
-            (&[Put::Stranger(Key::AddOn(7, 0))], Some(Key::AddOn(7, 0))),
-            (
-                &[Put::Stranger(Key::Modem(mac(1)))],
-                Some(Key::Modem(mac(1))),
-            ),
-            (&[Put::Stranger(Key::Class(2))], Some(Key::Class(2))),
-            (&[Put::Stranger(Key::Pool(2))], Some(Key::Pool(2))),
-            (&[Put::Stranger(Key::Lease(at(3)))], Some(Key::Lease(at(3)))),
-            (&[Put::Stranger(Key::Held(mac(1)))], Some(Key::Held(mac(1)))),
-            (&[Put::Stranger(Key::Batch(9))], Some(Key::Batch(9))),
-            (&[Put::Batch(9)], None),
+            ("stray site", "site"),
+            ("stray subscriber 8", "subscriber 8"),
+            ("stray add-on 7 0", "add-on 7 0"),
+            ("stray modem 1", "modem 02aabbccdd01"),
+            ("stray class 2", "class 2"),
+            ("stray pool 2", "pool 2"),
+            ("stray lease 3", "lease 10.64.0.13"),
+            ("stray held 1", "held 02aabbccdd01"),
+            ("stray batch 9", "batch 9"),
+            ("batch 9", ""),
         ],
     )
 }
@@ -34,29 +27,14 @@ fn of_two_bad_keys_the_lesser_is_named(rt: HostRuntime) -> Result<(), Fail> {
         &rt,
         rt.alloc(),
         &[
+            ("subscriber 9 0; subscriber 8 0", "subscriber 8"),
+            ("held 1 0; subscriber 9 0", "subscriber 9"),
+            ("stray batch 1; stray pool 4", "pool 4"),
             (
-                &[Put::Subscriber(9, 0), Put::Subscriber(8, 0)],
-                Some(Key::Subscriber(8)),
+                "lease 200 declined; lease 100 declined",
+                "lease 10.64.0.110",
             ),
-            (
-                &[Put::Held(1, 0), Put::Subscriber(9, 0)],
-                Some(Key::Subscriber(9)),
-            ),
-            (
-                &[Put::Stranger(Key::Batch(1)), Put::Stranger(Key::Pool(4))],
-                Some(Key::Pool(4)),
-            ),
-            (
-                &[
-                    Put::Lease(200, Hold::Declined),
-                    Put::Lease(100, Hold::Declined),
-                ],
-                Some(Key::Lease(at(100))),
-            ),
-            (
-                &[Put::Modem(2, 8, 1), Put::Modem(1, 8, 1)],
-                Some(Key::Modem(mac(1))),
-            ),
+            ("modem 2 8 1; modem 1 8 1", "modem 02aabbccdd01"),
         ],
     )
 }

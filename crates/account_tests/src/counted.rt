@@ -1,33 +1,24 @@
-use crate::examples::{Put, Tree, keeper};
+use crate::examples::keeper;
 use off_accounts::count_rows;
-use off_defs::{Hold, Key};
 use off_outside::Calls;
-use off_rules::Counts;
 use std::alloc::Global;
 use std::process::Abort;
 use std::test::Fail;
 
-// How many subscribers, add-ons, modems, classes, pools and batches there are.
-fn counts(numbers: [u64; 6]) -> Counts {
-    let [subscribers, addons, modems, classes, pools, batches] = numbers;
-    Counts {
-        subscribers,
-        addons,
-        modems,
-        classes,
-        pools,
-        batches,
-    }
-}
-
-fn are_counted(rt: &impl Abort, alloc: Global, rows: &[(&[Put], [u64; 6])]) -> Result<(), Fail> {
-    for (place, (changes, numbers)) in rows.iter().enumerate() {
+// The counts of subscribers, add-ons, modems, classes, pools and batches.
+fn are_counted(rt: &impl Abort, alloc: Global, rows: &[(&str, [u64; 6])]) -> Result<(), Fail> {
+    for (changes, numbers) in rows {
         let mut keeper = keeper(alloc, changes, Calls::new(alloc))?;
-        assert_eq!(rt;
-            count_rows(alloc, &mut keeper)?,
-            counts(*numbers),
-            "row {place}"
-        );
+        let counts = count_rows(alloc, &mut keeper)?;
+        let found = [
+            counts.subscribers,
+            counts.addons,
+            counts.modems,
+            counts.classes,
+            counts.pools,
+            counts.batches,
+        ];
+        assert_eq!(rt; found, *numbers, "{changes}");
     }
     Ok(())
 }
@@ -38,28 +29,14 @@ fn possible_rows_are_counted_by_kind(rt: HostRuntime) -> Result<(), Fail> {
         &rt,
         rt.alloc(),
         &[
-            (&[], [1, 0, 1, 1, 1, 0]),
-            (
-                &[Put::Subscriber(8, 1), Put::Subscriber(9, 0)],
-                [2, 0, 1, 1, 1, 0],
-            ),
-            (&[Put::AddOn(8, 1, Tree::Boost)], [1, 1, 1, 1, 1, 0]),
-            (&[Put::AddOn(7, 8, Tree::Boost)], [1, 0, 1, 1, 1, 0]),
-            (&[Put::Modem(1, 8, 8)], [1, 0, 2, 1, 1, 0]),
-            (
-                &[Put::Class(2, Tree::Gold), Put::Class(3, Tree::Unknown)],
-                [1, 0, 1, 2, 1, 0],
-            ),
-            (
-                &[Put::Pool(2, 0, 0, 24, 1), Put::Pool(3, 0, 0, 7, 1)],
-                [1, 0, 1, 1, 2, 0],
-            ),
-            (&[Put::Batch(1), Put::Batch(2)], [1, 0, 1, 1, 1, 2]),
-            (&[Put::Stranger(Key::Batch(1))], [1, 0, 1, 1, 1, 0]),
-            (
-                &[Put::Lease(0, Hold::Declined), Put::Held(1, 0)],
-                [1, 0, 1, 1, 1, 0],
-            ),
+            ("", [1, 0, 1, 1, 1, 0]),
+            ("subscriber 8 1; subscriber 9 0", [2, 0, 1, 1, 1, 0]),
+            ("add-on 8 1 boost; add-on 7 8 boost", [1, 1, 1, 1, 1, 0]),
+            ("modem 1 8 8", [1, 0, 2, 1, 1, 0]),
+            ("class 2 gold; class 3 unknown", [1, 0, 1, 2, 1, 0]),
+            ("pool 2 0 0 24 2; pool 3 0 0 7 2", [1, 0, 1, 1, 2, 0]),
+            ("batch 1; batch 2; stray batch 3", [1, 0, 1, 1, 1, 2]),
+            ("lease 0 declined; held 1 0", [1, 0, 1, 1, 1, 0]),
         ],
     )
 }

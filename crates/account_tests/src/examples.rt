@@ -5,160 +5,164 @@ use off_defs::{
 };
 use off_keepmem::MemKeeper;
 use off_outside::{Calls, Keeper};
+use off_rows::key_text;
 use std::alloc::Global;
 use std::process::Abort;
 use std::test::Fail;
 
-/// The first address of the example's pool, 10.64.0.10. Others are counted from it.
-pub(crate) const FIRST: u32 = 0x0a40_000a;
+// The office of the worked examples: a site, class 1, subscriber 7, a modem and a pool.
+//
+// A change is a kind of row and its numbers, in the order in which the key and the row have them; behind it may stand `;` and the next.
+// `no` before a key takes its row away, and `stray` gives it a row of another kind. Of a secret the length is given, of an address its
+// distance from 10.64.0.10, and of a hardware address the last byte behind 02aabbccdd.
+const OFFICE: &str =
+    "site 1 6 3600 86400; class 1 gold; subscriber 7 2; modem 238 7 1; pool 1 0 89 24 1";
 
-/// The relay of the example's pool, 10.64.0.1.
-pub(crate) const RELAY: u32 = 0x0a40_0001;
+// The first address of the example's pool, 10.64.0.10.
+const FIRST: u32 = 0x0a40_000a;
 
-/// Settings of an example.
+// The words of a change, and empty ones behind them.
 #[derive(Clone, Copy)]
-pub(crate) enum Tree {
-    Gold,
-    Boost,
-    Unknown,
+struct Words<'a> {
+    words: [&'a str; 6],
 }
 
-/// A row of an example with its key, or a key without its row.
-#[derive(Clone, Copy)]
-pub(crate) enum Put {
-    Site {
-        server: u32,
-        secret: usize,
-        offset: i32,
-        lease: u32,
-    },
-    Subscriber(u32, u8),
-    AddOn(u32, u8, Tree),
-    Modem(u8, u32, u32),
-    Class(u32, Tree),
-    /// The number, the first and the last address counted from `FIRST`, the prefix and the relay.
-    Pool(u32, u32, u32, u8, u32),
-    /// An address counted from `FIRST`.
-    Lease(u32, Hold),
-    /// The last byte of a hardware address, and an address counted from `FIRST`.
-    Held(u8, u32),
-    Batch(u64),
-    /// A row of another kind than the key's.
-    Stranger(Key),
-    Gone(Key),
-}
-
-/// The office of the worked examples: a site, subscriber 7, class 1, a modem and a pool.
-pub(crate) const OFFICE: [Put; 5] = [
-    Put::Site {
-        server: 0x0a00_0002,
-        secret: 6,
-        offset: 3_600,
-        lease: 86_400,
-    },
-    Put::Class(1, Tree::Gold),
-    Put::Subscriber(7, 2),
-    Put::Modem(0xee, 7, 1),
-    Put::Pool(1, 0, 89, 24, RELAY),
-];
-
-pub(crate) fn mac(last: u8) -> Mac {
-    Mac([0x02, 0xaa, 0xbb, 0xcc, 0xdd, last])
-}
-
-pub(crate) fn at(place: u32) -> Ip4 {
-    Ip4(FIRST.wrapping_add(place))
-}
-
-fn leaf(alloc: Global, code: u8, bytes: &[u8]) -> Result<Setting, NoMemory> {
-    let mut value = Bytes::new(alloc);
-    value.push_all(bytes)?;
-    Ok(Setting::Leaf { code, value })
-}
-
-fn group(alloc: Global, code: u8, leaves: &[(u8, &[u8])]) -> Result<Setting, NoMemory> {
-    let mut parts = Settings::new(alloc);
-    for (part, bytes) in leaves {
-        parts.push(leaf(alloc, *part, bytes)?)?;
-    }
-    Ok(Setting::Group { code, parts })
-}
-
-fn settings(alloc: Global, tree: Tree) -> Result<Settings, NoMemory> {
-    let mut settings = Settings::new(alloc);
-    match tree {
-        Tree::Gold => {
-            settings.push(group(
-                alloc,
-                24,
-                &[(1, &[0, 1]), (6, &[7]), (8, &[0, 0x98, 0x96, 0x80])],
-            )?)?;
-            settings.push(group(
-                alloc,
-                25,
-                &[(1, &[0, 2]), (6, &[7]), (8, &[5, 0xf5, 0xe1, 0])],
-            )?)?;
+fn words_of(text: &str) -> Words<'_> {
+    let mut words = [""; 6];
+    for (place, word) in text.split_whitespace().enumerate() {
+        if place < 6 {
+            words[place] = word;
         }
-        Tree::Boost => {
-            settings.push(group(alloc, 24, &[(1, &[0, 5]), (6, &[7])])?)?;
-            settings.push(group(alloc, 22, &[(1, &[3]), (3, &[0, 5])])?)?;
-        }
-        Tree::Unknown => settings.push(leaf(alloc, 99, &[1])?)?,
     }
-    Ok(settings)
+    Words { words }
 }
 
-fn text(bytes: &[u8]) -> Result<Short, NoMemory> {
-    Short::read(bytes).map_err(|_| NoMemory)
-}
+impl Words<'_> {
+    fn word(&self, place: usize) -> &str {
+        match self.words.get(place) {
+            Some(word) => word,
+            None => "",
+        }
+    }
 
-fn site(server: u32, secret: usize, offset: i32, lease: u32) -> Result<Row, NoMemory> {
-    let Some(bytes) = b"secret".get(..secret) else {
-        return Err(NoMemory);
-    };
-    let Some(secret) = Secret::read(bytes) else {
-        return Err(NoMemory);
-    };
-    Ok(Row::Site(Site {
-        server: Ip4(server),
-        secret,
-        offset,
-        lease,
-        log: Ip4(0),
-    }))
-}
+    fn number(&self, place: usize) -> Result<u32, Fail> {
+        Ok(self.word(place).parse::<u32>()?)
+    }
 
-fn subscriber(cpes: u8) -> Result<Row, NoMemory> {
-    Ok(Row::Subscriber(Subscriber {
-        active: true,
-        cpes,
-        name: text(b"Ann")?,
-    }))
-}
+    fn byte(&self, place: usize) -> Result<u8, Fail> {
+        Ok(self.word(place).parse::<u8>()?)
+    }
 
-fn modem(subscriber: u32, class: u32) -> Result<Row, NoMemory> {
-    Ok(Row::Modem(Modem {
-        subscriber,
-        class,
-        serial: text(b"SN01")?,
-    }))
-}
+    fn mac(&self, place: usize) -> Result<Mac, Fail> {
+        let last = self.byte(place)?;
+        Ok(Mac([0x02, 0xaa, 0xbb, 0xcc, 0xdd, last]))
+    }
 
-fn class(alloc: Global, tree: Tree) -> Result<Row, NoMemory> {
-    Ok(Row::Class(Class {
-        name: text(b"gold")?,
-        settings: settings(alloc, tree)?,
-    }))
-}
+    fn address(&self, place: usize) -> Result<Ip4, Fail> {
+        Ok(Ip4(FIRST.wrapping_add(self.number(place)?)))
+    }
 
-fn pool(first: u32, last: u32, prefix: u8, relay: u32) -> Row {
-    Row::Pool(Pool {
-        first: at(first),
-        last: at(last),
-        prefix,
-        router: Ip4(RELAY),
-        relay: Ip4(relay),
-    })
+    // The key whose kind is the word at a place.
+    fn key(&self, place: usize) -> Result<Key, Fail> {
+        let next = place.wrapping_add(1);
+        match self.word(place) {
+            "site" => Ok(Key::Site),
+            "subscriber" => Ok(Key::Subscriber(self.number(next)?)),
+            "add-on" => Ok(Key::AddOn(self.number(next)?, self.byte(place.wrapping_add(2))?)),
+            "modem" => Ok(Key::Modem(self.mac(next)?)),
+            "class" => Ok(Key::Class(self.number(next)?)),
+            "pool" => Ok(Key::Pool(self.number(next)?)),
+            "lease" => Ok(Key::Lease(self.address(next)?)),
+            "held" => Ok(Key::Held(self.mac(next)?)),
+            _ => Ok(Key::Batch(u64::from(self.number(next)?))),
+        }
+    }
+
+    // The row of a key of this kind.
+    fn row(&self, alloc: Global, key: Key) -> Result<Row, Fail> {
+        match key {
+            Key::Site => self.site(),
+            Key::Subscriber(_) => self.subscriber(),
+            Key::AddOn(_, _) => Ok(Row::AddOn(settings(alloc, self.word(3))?)),
+            Key::Modem(_) => self.modem(),
+            Key::Class(_) => self.class(alloc),
+            Key::Pool(_) => self.pool(),
+            Key::Lease(_) => self.lease(),
+            Key::Held(_) => Ok(Row::Held(self.address(2)?)),
+            Key::Batch(_) => Ok(batch()),
+        }
+    }
+
+    fn site(&self) -> Result<Row, Fail> {
+        let bytes = b"secret".get(..usize::from(self.byte(2)?)).unwrap_or(b"");
+        let Some(secret) = Secret::read(bytes) else {
+            return Ok(batch());
+        };
+        Ok(Row::Site(Site {
+            server: Ip4(self.number(1)?),
+            secret,
+            offset: self.word(3).parse::<i32>()?,
+            lease: self.number(4)?,
+            log: Ip4(0),
+        }))
+    }
+
+    fn subscriber(&self) -> Result<Row, Fail> {
+        Ok(Row::Subscriber(Subscriber {
+            active: true,
+            cpes: self.byte(2)?,
+            name: Short::read(b"Ann")?,
+        }))
+    }
+
+    fn modem(&self) -> Result<Row, Fail> {
+        Ok(Row::Modem(Modem {
+            subscriber: self.number(2)?,
+            class: self.number(3)?,
+            serial: Short::read(b"SN01")?,
+        }))
+    }
+
+    fn class(&self, alloc: Global) -> Result<Row, Fail> {
+        Ok(Row::Class(Class {
+            name: Short::read(b"gold")?,
+            settings: settings(alloc, self.word(2))?,
+        }))
+    }
+
+    fn pool(&self) -> Result<Row, Fail> {
+        Ok(Row::Pool(Pool {
+            first: self.address(2)?,
+            last: self.address(3)?,
+            prefix: self.byte(4)?,
+            router: Ip4(9),
+            relay: Ip4(self.number(5)?),
+        }))
+    }
+
+    fn lease(&self) -> Result<Row, Fail> {
+        let hold = match self.word(2) {
+            "offered" => Hold::Offered(self.mac(3)?),
+            "bound" => Hold::Bound(self.mac(3)?),
+            _ => Hold::Declined,
+        };
+        let expiry = Moment(1_700_000_120);
+        Ok(Row::Lease(Lease { hold, expiry }))
+    }
+
+    fn write(&self, alloc: Global) -> Result<Write, Fail> {
+        match self.word(0) {
+            "no" => Ok(Write::Drop(self.key(1)?)),
+            "stray" => {
+                let key = self.key(1)?;
+                Ok(Write::Put(key, stranger(key)))
+            }
+            _ => {
+                let key = self.key(0)?;
+                Ok(Write::Put(key, self.row(alloc, key)?))
+            }
+        }
+    }
 }
 
 fn batch() -> Row {
@@ -173,69 +177,77 @@ fn batch() -> Row {
 fn stranger(key: Key) -> Row {
     match key {
         Key::Held(_) => batch(),
-        _ => Row::Held(at(0)),
+        _ => Row::Held(Ip4(FIRST)),
     }
 }
 
-fn write(alloc: Global, put: Put) -> Result<Write, NoMemory> {
-    match put {
-        Put::Site {
-            server,
-            secret,
-            offset,
-            lease,
-        } => Ok(Write::Put(Key::Site, site(server, secret, offset, lease)?)),
-        Put::Subscriber(number, cpes) => {
-            Ok(Write::Put(Key::Subscriber(number), subscriber(cpes)?))
-        }
-        Put::AddOn(number, add_on, tree) => Ok(Write::Put(
-            Key::AddOn(number, add_on),
-            Row::AddOn(settings(alloc, tree)?),
-        )),
-        Put::Modem(last, number, class) => {
-            Ok(Write::Put(Key::Modem(mac(last)), modem(number, class)?))
-        }
-        Put::Class(number, tree) => Ok(Write::Put(Key::Class(number), class(alloc, tree)?)),
-        Put::Pool(number, first, last, prefix, relay) => {
-            Ok(Write::Put(Key::Pool(number), pool(first, last, prefix, relay)))
-        }
-        Put::Lease(place, hold) => {
-            let expiry = Moment(1_700_000_120);
-            Ok(Write::Put(Key::Lease(at(place)), Row::Lease(Lease { hold, expiry })))
-        }
-        Put::Held(last, place) => Ok(Write::Put(Key::Held(mac(last)), Row::Held(at(place)))),
-        Put::Batch(number) => Ok(Write::Put(Key::Batch(number), batch())),
-        Put::Stranger(key) => Ok(Write::Put(key, stranger(key))),
-        Put::Gone(key) => Ok(Write::Drop(key)),
-    }
+fn leaf(alloc: Global, code: u8, bytes: &[u8]) -> Result<Setting, NoMemory> {
+    let mut value = Bytes::new(alloc);
+    value.push_all(bytes)?;
+    Ok(Setting::Leaf { code, value })
 }
 
-fn push_all(alloc: Global, writes: &mut Writes, puts: &[Put]) -> Result<(), NoMemory> {
-    for put in puts {
-        writes.push(write(alloc, *put)?)?;
+// A group of two leaves.
+fn group(
+    alloc: Global,
+    code: u8,
+    first: (u8, &[u8]),
+    second: (u8, &[u8]),
+) -> Result<Setting, NoMemory> {
+    let mut parts = Settings::new(alloc);
+    parts.push(leaf(alloc, first.0, first.1)?)?;
+    parts.push(leaf(alloc, second.0, second.1)?)?;
+    Ok(Setting::Group { code, parts })
+}
+
+// `gold` is good for a class, `boost` for an add-on, and any other word has a setting that neither may have.
+fn settings(alloc: Global, word: &str) -> Result<Settings, NoMemory> {
+    let mut settings = Settings::new(alloc);
+    match word {
+        "gold" => {
+            settings.push(group(alloc, 24, (1, &[0, 1]), (6, &[7]))?)?;
+            settings.push(group(alloc, 25, (1, &[0, 2]), (6, &[7]))?)?;
+        }
+        "boost" => {
+            settings.push(group(alloc, 24, (1, &[0, 5]), (6, &[7]))?)?;
+            settings.push(group(alloc, 22, (1, &[3]), (3, &[0, 5]))?)?;
+        }
+        _ => settings.push(leaf(alloc, 99, &[1])?)?,
+    }
+    Ok(settings)
+}
+
+fn push_all(alloc: Global, writes: &mut Writes, changes: &str) -> Result<(), Fail> {
+    for change in changes.split(';') {
+        if !change.is_empty() {
+            writes.push(words_of(change).write(alloc)?)?;
+        }
     }
     Ok(())
 }
 
 /// A keeper of the example's office with further changes, made by one commit, whose calls of these numbers are to fail.
-pub(crate) fn keeper(alloc: Global, changes: &[Put], fails: Calls) -> Result<MemKeeper, Fail> {
+pub(crate) fn keeper(alloc: Global, changes: &str, fails: Calls) -> Result<MemKeeper, Fail> {
     let mut keeper = MemKeeper::new(alloc, fails);
     let mut writes = Writes::new(alloc);
-    push_all(alloc, &mut writes, &OFFICE)?;
+    push_all(alloc, &mut writes, OFFICE)?;
     push_all(alloc, &mut writes, changes)?;
     keeper.commit(alloc, &writes)?;
     Ok(keeper)
 }
 
-/// The least bad key of the example's office with each of these changes is the one beside it.
+/// The least bad key of the example's office with each of these changes is the one beside it, as the log shows it. Good tables have none.
 pub(crate) fn are_judged(
     rt: &impl Abort,
     alloc: Global,
-    rows: &[(&[Put], Option<Key>)],
+    rows: &[(&str, &str)],
 ) -> Result<(), Fail> {
-    for (place, (changes, bad)) in rows.iter().enumerate() {
+    for (changes, bad) in rows {
         let mut keeper = keeper(alloc, changes, Calls::new(alloc))?;
-        assert_eq!(rt; first_bad(alloc, &mut keeper)?, *bad, "row {place}");
+        match first_bad(alloc, &mut keeper)? {
+            Some(key) => assert_eq!(rt; key_text(&key).as_slice(), bad.as_bytes(), "{changes}"),
+            None => assert_eq!(rt; *bad, "", "{changes}"),
+        }
     }
     Ok(())
 }
