@@ -2,3 +2,4 @@ pub mod ArrayLemmas
 pub mod PathLemmas
 pub mod TreeLemmas
 pub mod BodyLemmas
+mod Examples
