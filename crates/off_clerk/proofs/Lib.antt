@@ -3,3 +3,4 @@ pub mod PathLemmas
 pub mod TreeLemmas
 pub mod BodyLemmas
 mod Examples
+pub mod ReadBack
