@@ -1,5 +1,5 @@
 -- Arrays of settings, element by element.
-use Rattle.std.proofs.Common.{◌≡◌, ℕ, zero, suc, ◌+◌, ◌*◌, ◌≤◌, List, [], ◌∷◌, ◌++◌, length, take, map, codes, decimal, refl, sym, ap, subst, ◌∙◌, arith, append_assoc, Some, OnOk, Result}
+use Rattle.std.proofs.Common.{◌≡◌, ℕ, zero, suc, ◌+◌, ◌*◌, ◌≤◌, List, [], ◌∷◌, ◌++◌, length, take, map, codes, decimal, refl, sym, ap, ◌∙◌, arith, append_assoc, Some}
 use Rattle.std.specs.List.{slice_get, join_with_byte}
 use Rattle.std.proofs.lemmas.List.{take_more}
 use Rattle.std.proofs.lemmas.Option.{slice_get_within, get_or_from_slice_get}

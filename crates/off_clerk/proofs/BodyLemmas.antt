@@ -1,5 +1,5 @@
 -- Whether bytes are JSON.
-use Rattle.std.proofs.Common.{◌≡◌, ℕ, Bool, true, false, List, refl, sym, ap, ◌∙◌, Option, Some, None, cond, Result, Ok, Err}
+use Rattle.std.proofs.Common.{◌≡◌, ℕ, Bool, true, false, List, refl, ap, ◌∙◌, Some, None, cond, Ok, Err}
 use Rattle.std.specs.Prelude.{IsUtf8, is_some}
 use Rattle.std.specs.Str.{is_utf8}
 use Rattle.std.proofs.lemmas.Str.{IsUtf8-from_is_utf8, is_utf8-from_IsUtf8}
@@ -7,7 +7,6 @@ use Rattle.serde_json.specs.Data.{Data}
 use Rattle.serde_json.specs.Read.{read}
 use Rattle.serde_json.specs.Find.{as_object}
 use Rattle.off_clerk.specs.Commands.{json_in, object_if, object_in}
-use Rattle.off_clerk.specs.declared.faults.ClerkErr.{ClerkErr}
 use Rattle.off_clerk.specs.declared.faults.ClerkErr.TheVariants.{NotJson}
 
 json_read : (body : List ℕ) (d : Data) → IsUtf8 body → read body ≡ Some d → json_in body ≡ Some d

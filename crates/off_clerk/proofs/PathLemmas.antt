@@ -1,5 +1,5 @@
 -- Where the first mark of a text stands, and the first of several keys.
-use Rattle.std.proofs.Common.{◌≡◌, ℕ, ◌==◌, ◌<◌, ◌≤◌, Bool, true, false, List, [], ◌∷◌, length, refl, sym, ap, subst, ◌∙◌, arith, rules, Option, Some, None, IfSome, IsTrue, unwrap_or, nat_lt, cond, not}
+use Rattle.std.proofs.Common.{◌≡◌, ℕ, ◌≤◌, Bool, true, false, List, length, refl, sym, subst, arith, Option, Some, None, IfSome, IsTrue, unwrap_or, nat_lt, cond, not}
 use Rattle.std.proofs.lemmas.Bool.{ltb-false}
 use Rattle.std.proofs.lemmas.List.Sums.{prefix_len-le-length}
 use Rattle.std.specs.List.{position, position_or_len}

@@ -1,5 +1,5 @@
 -- Settings of one level more.
-use Rattle.std.proofs.Common.{◌≡◌, ℕ, zero, suc, ◌-◌, List, codes, refl, sym, ap, ◌∙◌, arith, Option, None, option_map, option_and_then}
+use Rattle.std.proofs.Common.{◌≡◌, ℕ, zero, suc, ◌-◌, codes, refl, sym, ap, arith, Option, None, option_and_then}
 use Rattle.serde_json.specs.Data.{Data}
 use Rattle.serde_json.specs.Find.{get}
 use Rattle.off_base.specs.Tree.{Tree}

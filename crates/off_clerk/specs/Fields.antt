@@ -1,11 +1,11 @@
 -- The fields of a body: a member of a JSON object (RFC 8259), read as a value of a kind and range. What JSON is, is `serde_json`'s own definition: a
 -- whole number is an integer without fraction and exponent, and of two members with one key the last counts.
-use Rattle.std.specs.Prelude.{ℕ, zero, suc, ◌-◌, ◌*◌, ◌^◌, ◌==◌, ◌&&◌, Bool, not, List, [], ◌∷◌, length, codes, nat_le, ℤ, pos, negsuc, Option, Some, None, option_map, option_and_then, ok_or, Result, Ok, Err, if◌then◌else◌}
+use Rattle.std.specs.Prelude.{ℕ, zero, suc, ◌-◌, ◌*◌, ◌^◌, ◌==◌, Bool, not, List, [], ◌∷◌, length, codes, nat_le, ℤ, pos, negsuc, Option, Some, None, option_map, option_and_then, ok_or, Result, Err, if◌then◌else◌}
 use Rattle.std.specs.Int.{is_in_range}
 use Rattle.std.specs.Result.{result_ok}
 use Rattle.hex.specs.Hex.{decode_of}
 use Rattle.serde_json.specs.Data.{Data, Items, no_items, item}
-use Rattle.serde_json.specs.Find.{get, as_bool, as_str, as_number, as_array, as_u64, as_i64}
+use Rattle.serde_json.specs.Find.{get, as_str, as_number, as_array, as_u64, as_i64}
 use Rattle.off_base.specs.AddressText.{ip_of}
 use Rattle.off_base.specs.Tree.{Tree, leaf, group, row_of}
 use Rattle.off_base.specs.declared.addresses.Ip4.{Ip4}

@@ -6,3 +6,4 @@ pub mod Commas
 pub mod Paths
 pub mod Fields
 pub mod Commands
+pub mod Laws

@@ -8,11 +8,10 @@ ghost use Rattle.off_clerk.specs.Fields.{field_in, number_in, offset_in, text_in
 
 use crate::faults::ClerkErr;
 use crate::names::Name;
+use crate::paths::LAST_NUMBER;
 use crate::values::{address_of, flag_of, number_of, offset_of, relay_of, secret_of, text_of};
 use off_base::{Ip4, Secret, Short};
 use serde_json::Value;
-
-const LAST_NUMBER: u64 = 4_294_967_295;
 
 // Each of these reads the field of a body.
 

@@ -7,7 +7,8 @@ ghost use Rattle.off_clerk.specs.Paths.{path_of, length_before, behind, last_num
 use off_base::{read_ip, read_mac, read_number};
 use off_defs::Key;
 
-const LAST_NUMBER: u64 = 4_294_967_295;
+// The greatest number of 32 bits.
+pub(crate) const LAST_NUMBER: u64 = 4_294_967_295;
 
 const LAST_ADD_ON: u64 = 7;
 

@@ -4,7 +4,7 @@ ghost use Rattle.off_clerk.specs.Replies.{IsRightReply};
 ghost use Rattle.off_clerk.specs.Faults.{IsTold};
 
 use crate::{ClerkErr, Fault, Name, command_of, fault_json, fault_status, fault_word, reply_json};
-use off_base::{Bytes, Ip4, Mac, Moment, NoMemory};
+use off_base::{Bytes, Ip4, Mac, Moment, NoMemory, Secret};
 use off_defs::{Command, Hold, Key, Kind, Lease, Reply, Row, Rule, SiteField};
 use off_http::HttpFault;
 use off_tree::{Path, TreeFault, check_class};
@@ -311,23 +311,29 @@ fn with_hex(alloc: Global, front: &str, count: usize, rest: &str) -> Result<Byte
     Ok(text)
 }
 
-#[test]
-fn a_secret_has_at_most_64_bytes(rt: HostRuntime) -> Result<(), Fail> {
-    let alloc = rt.alloc();
+// The secret of a site that has so many bytes 0xff, as it is put, and the fault where it isn't.
+fn secret_of(alloc: Global, count: usize) -> Result<Secret, ClerkErr> {
+    let front = "{\"server\":\"10.0.0.2\",\"secret\":\"";
     let rest = "\",\"offset\":0,\"lease\":60,\"log\":\"0.0.0.0\"}";
+    let Ok(body) = with_hex(alloc, front, count, rest) else {
+        return Err(ClerkErr::Memory);
+    };
+    match command_of(alloc, b"PUT", b"/site", body.as_slice())? {
+        Command::SetSite(site) => Ok(site.secret.copy()),
+        _ => Err(ClerkErr::NoPath),
+    }
+}
+
+#[test]
+fn a_secret_has_at_most_64_bytes(rt: HostRuntime) {
     for count in [0, 1, 64] {
-        let body = with_hex(alloc, "{\"server\":\"10.0.0.2\",\"secret\":\"", count, rest)?;
-        match command_of(alloc, b"PUT", b"/site", body.as_slice()) {
-            Ok(Command::SetSite(site)) => {
-                assert!(rt; site.secret.as_slice() == &[0xff; 64][..count]);
-            }
-            _ => panic!(&rt; "{count} bytes"),
+        match secret_of(rt.alloc(), count) {
+            Ok(secret) => assert!(rt; secret.as_slice() == &[0xff; 64][..count], "{count} bytes"),
+            Err(_) => panic!(&rt; "{count} bytes"),
         }
     }
-    let body = with_hex(alloc, "{\"server\":\"10.0.0.2\",\"secret\":\"", 65, rest)?;
-    let found = command_of(alloc, b"PUT", b"/site", body.as_slice()).err();
+    let found = secret_of(rt.alloc(), 65).err();
     assert_eq!(rt; found, Some(ClerkErr::Value(Name::Secret)));
-    Ok(())
 }
 
 #[test]

@@ -1,4 +1,4 @@
-use Rattle.std.proofs.Common.{◌≡◌, ◌++◌, codes, decimal, sym, ap, arith}
+use Rattle.std.proofs.Common.{ap, arith}
 use Rattle.std.proofs.lemmas.Grind.{common_steps}
 use Rattle.off_base.specs.Setting.{tree_of}
 use Rattle.off_clerk.proofs.ArrayLemmas.{size_at, parts_smaller, element_more, group_text}

@@ -1,4 +1,4 @@
-use Rattle.std.proofs.Common.{sym, ◌∙◌, rules, true, false, true≢false}
+use Rattle.std.proofs.Common.{sym, ◌∙◌, true≢false}
 use Rattle.serde_json.specs.View.{view}
 use Rattle.off_clerk.proofs.BodyLemmas.{an_object, no_json}
 use Rattle.off_clerk.proofs.bodies.object_of.Goals as goal

@@ -1,4 +1,4 @@
-use Rattle.std.proofs.Common.{◌≡◌, ◌==◌, length, ap, ◌∙◌, unwrap_or, Option, ℕ}
+use Rattle.std.proofs.Common.{◌==◌, length, ap, ◌∙◌, unwrap_or, Option, ℕ}
 use Rattle.off_clerk.proofs.PathLemmas.{place_or_length}
 use Rattle.off_clerk.proofs.paths.length_before.Goals as goal
 

@@ -1,5 +1,4 @@
-use Rattle.std.proofs.Common.{rules, sym, arith}
-use Rattle.std.proofs.lemmas.Grind.{common_steps}
+use Rattle.std.proofs.Common.{rules, sym}
 use Rattle.serde_json.specs.View.{view}
 use Rattle.off_clerk.proofs.TreeLemmas.{no_deeper, deeper}
 use Rattle.off_clerk.proofs.trees.+trees.Goals as goal

@@ -1,0 +1,20 @@
+-- What holds of requests and replies.
+use Rattle.std.specs.Prelude.{◌≡◌, ℕ, IsTrue, Ok}
+use Rattle.off_base.specs.declared.macs.Mac.{Mac}
+use Rattle.off_defs.specs.declared.keys.Key.TheVariants as key
+use Rattle.off_defs.specs.declared.tables.Modem.{Modem}
+use Rattle.off_defs.specs.declared.tables.Subscriber.{Subscriber}
+use Rattle.off_defs.specs.declared.tables.Row.TheVariants as row
+use Rattle.off_defs.specs.declared.orders.Command.TheVariants.{PutSubscriber, PutModem}
+use Rattle.off_rows.specs.RowBytes.{RowRanged}
+use Rattle.off_rows.specs.Sound.{is_sound_subscriber}
+use Rattle.off_clerk.specs.Commands.{put_read}
+use Rattle.off_clerk.specs.Replies.{row_text}
+
+-- what a clerk is shown of a subscriber or a modem is a body that puts the same row
+pub record ShownReadBack : Type 0 where
+  pub subscriber :
+      (number : ℕ) (held : Subscriber) → RowRanged (row.Subscriber held) → IsTrue (is_sound_subscriber held)
+      → put_read (key.Subscriber number) (row_text (row.Subscriber held)) ≡ Ok (PutSubscriber number held)
+  pub modem :
+      (mac : Mac) (held : Modem) → RowRanged (row.Modem held) → put_read (key.Modem mac) (row_text (row.Modem held)) ≡ Ok (PutModem mac held)
