@@ -6,3 +6,6 @@ pub mod Judging
 pub mod RowChanges
 pub mod PutLemmas
 pub mod DropLemmas
+pub mod PoolLemmas
+pub mod LostLeases
+pub mod Reading

@@ -1,6 +1,6 @@
 -- What tests, filters and counts over a list say of the elements that are in it.
 use Rattle.std.proofs.Common.{◌≡◌, ℕ, ◌+◌, Bool, true, false, cond, not, ◌&&◌, ◌||◌, Option, Some, None, List, [], ◌∷◌, ◌++◌, ◌⊎◌, inl, inr, refl, sym, ap, subst, ◌∙◌, arith}
-use Rattle.std.proofs.lemmas.Bool.{and_parts, and_from, or_parts, or_from}
+use Rattle.std.proofs.lemmas.Bool.{and_parts, and_from, or_parts, or_from, or_left, or_right}
 use Rattle.std.proofs.lemmas.List.Sums.{sum_by-cons}
 use Rattle.std.specs.List.{filter, filter_map, find, list_all, list_any, count_by, cons_option}
 
@@ -30,6 +30,15 @@ module _ {A : Type 0} (p : A → Bool) where
   none_in [] h x i = elim i [ ]
   none_in (y ∷ ys) h x (inl e) = ap p e ∙ (or_parts (p y) (list_any p ys) h).0
   none_in (y ∷ ys) h x (inr i) = none_in ys (or_parts (p y) (list_any p ys) h).1 x i
+
+  pub in_any : (xs : List A) (x : A) → In x xs → p x ≡ true → list_any p xs ≡ true
+  in_any [] x i h = absurd i
+  in_any (y ∷ ys) x (inl e) h = or_left (p y) (list_any p ys) (ap p (sym e) ∙ h)
+  in_any (y ∷ ys) x (inr i) h = or_right (p y) (list_any p ys) (in_any ys x i h)
+
+  pub any_none : (xs : List A) → ((x : A) → In x xs → p x ≡ false) → list_any p xs ≡ false
+  any_none [] h = refl
+  any_none (y ∷ ys) h = or_from (p y) (list_any p ys) (h y (inl refl)) (any_none ys (λ x i. h x (inr i)))
 
   pub none_found : (xs : List A) → find p xs ≡ None → (x : A) → In x xs → p x ≡ false
   none_found [] h x i = elim i [ ]
