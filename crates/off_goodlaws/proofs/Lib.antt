@@ -9,3 +9,4 @@ pub mod DropLemmas
 pub mod PoolLemmas
 pub mod LostLeases
 pub mod Reading
+pub mod ClerkSteps
