@@ -10,3 +10,6 @@ pub mod PoolLemmas
 pub mod LostLeases
 pub mod Reading
 pub mod ClerkSteps
+pub mod StepLaws
+pub mod TableLaws
+pub mod Examples

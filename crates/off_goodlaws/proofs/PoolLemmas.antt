@@ -81,7 +81,7 @@ pool_same None pool e = cc
 pool_same (Some other) pool e = cc
 
 -- pools that have an address in common overlap, and either way round
-share : (a b : Pool) (address : Ip4) → has_address a address ≡ true → has_address b address ≡ true → overlaps a b ≡ true
+pub share : (a b : Pool) (address : Ip4) → has_address a address ≡ true → has_address b address ≡ true → overlaps a b ≡ true
 share a b address p q =
     let x = and_parts (leb a.first.0 address.0) (leb address.0 a.last.0) p in
     let y = and_parts (leb b.first.0 address.0) (leb address.0 b.last.0) q in
