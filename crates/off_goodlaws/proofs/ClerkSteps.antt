@@ -1,35 +1,30 @@
 -- Each command that no rule refuses leaves good tables good.
-use Rattle.std.proofs.Common.{◌≡◌, ℕ, ◌+◌, Bool, true, false, cond, not, ◌&&◌, ◌||◌, eqb, leb, Option, Some, None, Result, Ok, Err, is_some, is_none, option_map, option_and_then, List, [], ◌∷◌, ◌++◌, length, map, ◌⊎◌, inl, inr, refl, sym, ap, subst, ◌∙◌, arith}
-use Rattle.std.proofs.lemmas.Bool.{and_parts, and_from, and_cases, eqb-false, ne_eqb, eq-eqb, leb-true, le-leb, not-false, not_from_false, false_from_ne_true}
-use Rattle.std.specs.List.{find, filter, flat_map, list_any, list_all}
-use Rattle.off_base.specs.declared.addresses.Ip4.{Ip4}
+use Rattle.std.proofs.Common.{◌≡◌, ℕ, Bool, true, false, not, ◌&&◌, eqb, leb, Option, Some, None, is_none, option_map, List, [], ◌∷◌, length, refl, sym, ap, subst, ◌∙◌, arith}
+use Rattle.std.proofs.lemmas.Bool.{and_from, eqb-false, ne_eqb, le-leb, not-false, not_from_false}
+use Rattle.std.specs.List.{find, flat_map, list_any}
 use Rattle.off_base.specs.declared.macs.Mac.{Mac}
 use Rattle.off_base.specs.Tree.{Tree}
 use Rattle.off_tree.specs.declared.tables.Kind.TheVariants as tree
 use Rattle.off_tree.specs.Fault.{first_fault}
 use Rattle.off_defs.specs.declared.keys.Key.{Key}
 use Rattle.off_defs.specs.declared.keys.Key.TheVariants as key
-use Rattle.off_defs.specs.declared.tables.Row.{Row}
 use Rattle.off_defs.specs.declared.tables.Row.TheVariants as row
 use Rattle.off_defs.specs.declared.tables.Site.{Site}
 use Rattle.off_defs.specs.declared.tables.Modem.{Modem}
-use Rattle.off_defs.specs.declared.tables.Class.{Class}
 use Rattle.off_defs.specs.declared.tables.Pool.{Pool}
 use Rattle.off_defs.specs.declared.orders.Command.{Command}
 use Rattle.off_defs.specs.declared.orders.Command.TheVariants.{SetSite, PutSubscriber, PutAddOn, PutModem, PutClass, PutPool, Remove, Show, Import}
-use Rattle.off_defs.specs.declared.orders.Write.{Write}
-use Rattle.off_defs.specs.declared.orders.Write.TheVariants.{Put, Drop}
 use Rattle.off_defs.specs.declared.rules.Rule.{Rule}
 use Rattle.off_defs.specs.State.{Tables}
 use Rattle.off_defs.specs.Tables.{row_at, write_all}
 use Rattle.off_rows.specs.Sound.{is_sound, is_sound_pool, is_removable}
-use Rattle.off_rules.specs.Rows.{is_possible, is_lease_time, is_offset, site_fits, class_is_good, add_on_is_good, has_pool_size, pool_fits, overlaps, as_subscriber, as_class, modems, pools}
-use Rattle.off_rules.specs.Good.{raw_pools, Good}
+use Rattle.off_rules.specs.Rows.{is_lease_time, is_offset, site_fits, class_is_good, add_on_is_good, has_pool_size, pool_fits, overlaps, as_subscriber, as_class, modems, pools}
+use Rattle.off_rules.specs.Good.{Good}
 use Rattle.off_rules.specs.Clerk.{when, first_broken, rules_of, removal_rules, writes_of, removal_writes, is_other_overlapping, is_other_with_relay, lost_leases, lease_drops}
 use Rattle.off_goodlaws.specs.Laws.{secret_fits}
 use Rattle.off_goodlaws.proofs.ListLemmas.{In, none_in, none_found}
 use Rattle.off_goodlaws.proofs.Rows.{Rows, rows_after, all_written}
-use Rattle.off_goodlaws.proofs.GoodRows.{Has, GoodRows}
+use Rattle.off_goodlaws.proofs.GoodRows.{GoodRows}
 use Rattle.off_goodlaws.proofs.Judging.{good_rows, good_tables, pool_in_raw}
 use Rattle.off_goodlaws.proofs.PutLemmas.{put_site, put_subscriber, put_add_on, put_modem, put_class}
 use Rattle.off_goodlaws.proofs.DropLemmas.{drop_add_on, drop_modem, drop_class, drop_subscriber}

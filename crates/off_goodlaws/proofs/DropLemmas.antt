@@ -1,19 +1,17 @@
 -- Good rows stay good where rows are removed on which no other stands, but for pools: those are in `PoolLemmas`.
-use Rattle.std.proofs.Common.{◌≡◌, ℕ, zero, suc, ◌≤◌, Bool, true, false, Option, Some, None, List, [], ◌∷◌, map, leb, inl, inr, refl, sym, ap, subst, ◌∙◌, arith}
+use Rattle.std.proofs.Common.{◌≡◌, ℕ, zero, suc, ◌≤◌, true, Some, ◌∷◌, map, leb, inl, inr, refl, sym, subst, arith}
 use Rattle.std.proofs.lemmas.Bool.{leb-true, and_parts}
 use Rattle.off_base.specs.declared.macs.Mac.{Mac}
-use Rattle.off_defs.specs.declared.keys.Key.{Key}
 use Rattle.off_defs.specs.declared.keys.Key.TheVariants as key
 use Rattle.off_defs.specs.declared.tables.Row.{Row}
 use Rattle.off_defs.specs.declared.tables.Row.TheVariants as row
 use Rattle.off_defs.specs.declared.tables.Modem.{Modem}
-use Rattle.off_defs.specs.declared.orders.Write.{Write}
-use Rattle.off_defs.specs.declared.orders.Write.TheVariants.{Put, Drop}
+use Rattle.off_defs.specs.declared.orders.Write.TheVariants.{Drop}
 use Rattle.off_rules.specs.Rows.{is_possible, add_on_is_good}
 use Rattle.off_rules.specs.Clerk.{add_on_keys}
 use Rattle.off_goodlaws.proofs.ListLemmas.{In}
 use Rattle.off_goodlaws.proofs.Rows.{Rows, drop_row, rows_after}
-use Rattle.off_goodlaws.proofs.GoodRows.{Has, Possible, GoodRows}
+use Rattle.off_goodlaws.proofs.GoodRows.{GoodRows}
 use Rattle.off_goodlaws.proofs.RowChanges.{left_drop, has_drop, possible_drop, left_drops, dropped}
 
 -- an add-on that is possible has one of the keys of its subscriber's add-ons

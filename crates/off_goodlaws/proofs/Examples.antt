@@ -1,7 +1,6 @@
 -- Why the law of steps speaks of a secret's length: the rules of a command don't, so with a longer secret, which no program can hold, the
 -- tables would not be good.
-use Rattle.std.proofs.Common.{◌≡◌, ℕ, Bool, true, false, ◌&&◌, List, replicate, pos, Option, Some, None, refl, sym, ap, ◌∙◌}
-use Rattle.std.proofs.lemmas.Bool.{and_parts}
+use Rattle.std.proofs.Common.{◌≡◌, ℕ, true, replicate, pos, Option, Some, None, refl}
 use Rattle.std.specs.FinMap as map
 use Rattle.off_defs.specs.declared.keys.Key.{Key}
 use Rattle.off_defs.specs.declared.keys.Key.TheVariants as key

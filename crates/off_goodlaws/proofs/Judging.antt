@@ -1,9 +1,7 @@
 -- Tables are good exactly where their rows are.
-use Rattle.std.proofs.Common.{◌≡◌, ℕ, Bool, true, false, cond, not, ◌&&◌, ◌||◌, eqb, Option, Some, None, is_some, option_map, option_and_then, unwrap_or, List, [], ◌∷◌, refl, sym, ap, subst, ◌∙◌, arith}
+use Rattle.std.proofs.Common.{◌≡◌, ℕ, true, false, ◌&&◌, eqb, Option, Some, None, option_map, option_and_then, unwrap_or, refl, sym, ap, subst, ◌∙◌}
 use Rattle.std.proofs.lemmas.Bool.{and_parts, and_from, eqb-true, eq-eqb}
-use Rattle.std.specs.List.{filter_map, list_all, count_by}
-use Rattle.std.specs.Ordering.{eq_by_cmp, nat_cmp, is_eq}
-use Rattle.std.specs.Cmp.Lexicographic.{slice_cmp}
+use Rattle.std.specs.List.{list_all}
 use Rattle.std.specs.FinMap as map
 use Rattle.off_base.specs.declared.addresses.Ip4.{Ip4}
 use Rattle.off_base.specs.declared.macs.Mac.{Mac}
@@ -14,15 +12,14 @@ use Rattle.off_defs.specs.declared.tables.Row.TheVariants as row
 use Rattle.off_defs.specs.declared.tables.Modem.{Modem}
 use Rattle.off_defs.specs.declared.tables.Pool.{Pool}
 use Rattle.off_defs.specs.declared.tables.Lease.{Lease}
-use Rattle.off_defs.specs.declared.tables.Hold.{Hold}
 use Rattle.off_defs.specs.State.{Tables}
 use Rattle.off_defs.specs.Tables.{row_at}
 use Rattle.off_defs.proofs.TableLemmas.{same_key, own_key}
 use Rattle.off_rules.specs.Rows.{is_possible, has_address, as_lease, as_held}
-use Rattle.off_rules.specs.Good.{is_there, raw_pool_of, raw_pools, is_apart, pools_around, owner_of, is_mac, holds, owner_holds, owner_at, owns, stands_right, keeps, Good}
-use Rattle.off_goodlaws.proofs.ListLemmas.{In, Distinct, IsOnly, all_in, in_all, one_counted, counted_one, in_made, made_in, distinct_made}
+use Rattle.off_rules.specs.Good.{is_there, raw_pool_of, raw_pools, is_apart, pools_around, owner_of, is_mac, holds, owner_holds, owns, stands_right, Good}
+use Rattle.off_goodlaws.proofs.ListLemmas.{In, Distinct, all_in, in_all, one_counted, counted_one, in_made, made_in, distinct_made}
 use Rattle.off_goodlaws.proofs.EntryRows.{row_in, in_row, distinct_entries}
-use Rattle.off_goodlaws.proofs.GoodRows.{Has, Possible, OnePool, OwnedBy, GoodRows}
+use Rattle.off_goodlaws.proofs.GoodRows.{OnePool, OwnedBy, GoodRows}
 
 -- pools of the list are the rows of pools
 raw_made : (q : Key) (held : Row) (n : ℕ) (pool : Pool) → raw_pool_of (q, held) ≡ Some (n, pool) → (q ≡ key.Pool n) × (held ≡ row.Pool pool)

@@ -1,5 +1,5 @@
 -- What tests, filters and counts over a list say of the elements that are in it.
-use Rattle.std.proofs.Common.{◌≡◌, ℕ, ◌+◌, Bool, true, false, cond, not, ◌&&◌, ◌||◌, Option, Some, None, List, [], ◌∷◌, ◌++◌, ◌⊎◌, inl, inr, refl, sym, ap, subst, ◌∙◌, arith}
+use Rattle.std.proofs.Common.{◌≡◌, ◌+◌, Bool, true, false, cond, Option, Some, None, List, [], ◌∷◌, ◌⊎◌, inl, inr, refl, sym, ap, subst, ◌∙◌, arith}
 use Rattle.std.proofs.lemmas.Bool.{and_parts, and_from, or_parts, or_from, or_left, or_right}
 use Rattle.std.proofs.lemmas.List.Sums.{sum_by-cons}
 use Rattle.std.specs.List.{filter, filter_map, find, list_all, list_any, count_by, cons_option}
@@ -102,12 +102,14 @@ module _ {A : Type 0} (p : A → Bool) where
         | false ↦ λ e.
             let s : count_by p (y ∷ ys) ≡ 0 + count_by p ys = count_step y ys ∙ ap (λ b. cond b 1 0 + count_by p ys) e in
             let n : count_by p ys ≡ 1 = omega arith in
-            let one = one_counted ys n in
-            (one.0, record {
-              inside = inr one.1.inside;
-              passes = one.1.passes;
-              only = λ x i t. elim i as (λ j. x ≡ one.0) [ inl same ↦ absurd (let f : p x ≡ false = ap p same ∙ e in cc) | inr rest ↦ one.1.only x rest t ];
-            })
+            let one = one_counted ys n in (
+              one.0,
+              record {
+                inside = inr one.1.inside;
+                passes = one.1.passes;
+                only = λ x i t. elim i as (λ j. x ≡ one.0) [ inl same ↦ absurd (let f : p x ≡ false = ap p same ∙ e in cc) | inr rest ↦ one.1.only x rest t ];
+              },
+            )
       ] refl
 
   pub counted_one : (xs : List A) → Distinct xs → (x : A) → IsOnly xs x → count_by p xs ≡ 1

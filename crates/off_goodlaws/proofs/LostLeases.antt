@@ -1,7 +1,7 @@
 -- The writes that drop lost leases leave the rows without them.
-use Rattle.std.proofs.Common.{◌≡◌, ℕ, Bool, true, false, cond, ◌||◌, Option, Some, None, option_and_then, List, [], ◌∷◌, ◌++◌, ◌⊎◌, inl, inr, refl, sym, ap, subst, ◌∙◌}
+use Rattle.std.proofs.Common.{◌≡◌, ℕ, Bool, true, false, cond, ◌||◌, Option, Some, None, List, [], ◌∷◌, ◌++◌, refl, sym, ap, subst, ◌∙◌}
 use Rattle.std.proofs.lemmas.Bool.{false_from_ne_true}
-use Rattle.std.specs.List.{filter, filter_map, flat_map, list_any}
+use Rattle.std.specs.List.{flat_map, list_any}
 use Rattle.std.specs.Ordering.{eq_by_cmp}
 use Rattle.std.specs.FinMap as map
 use Rattle.off_base.specs.declared.addresses.Ip4.{Ip4}
@@ -18,7 +18,7 @@ use Rattle.off_defs.specs.Keys.{key_cmp}
 use Rattle.off_defs.specs.State.{Tables}
 use Rattle.off_defs.specs.Tables.{row_at}
 use Rattle.off_defs.proofs.TableLemmas.{same_key, own_key}
-use Rattle.off_rules.specs.Rows.{is_possible, lease_of, leases, pool_in}
+use Rattle.off_rules.specs.Rows.{lease_of, leases, pool_in}
 use Rattle.off_rules.specs.Good.{owner_of}
 use Rattle.off_rules.specs.Clerk.{gives_up, lost_leases, held_drop, lease_drops}
 use Rattle.off_goodlaws.proofs.ListLemmas.{In, in_any, any_none, kept_in, in_kept, in_made, made_in}

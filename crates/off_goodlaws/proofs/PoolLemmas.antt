@@ -1,22 +1,20 @@
 -- Good rows stay good where a pool is put or removed, and the leases that lose their pool by it are dropped with the rows of who holds them.
-use Rattle.std.proofs.Common.{◌≡◌, ℕ, Bool, true, false, cond, not, ◌&&◌, ◌||◌, eqb, ltb, leb, min, max, ◌≤◌, ◌<◌, Option, Some, None, is_some, option_map, ◌⊎◌, inl, inr, refl, sym, ap, subst, ◌∙◌, arith}
+use Rattle.std.proofs.Common.{◌≡◌, ℕ, Bool, true, false, cond, not, eqb, leb, min, max, Option, Some, None, option_map, inl, inr, refl, sym, ap, ◌∙◌, arith}
 use Rattle.std.proofs.lemmas.Bool.{and_parts, and_from, and_cases, or_left, or_right, eqb-false, ne_eqb, eq-eqb, leb-true, leb-false, le-leb, lt-leb, cases_eq, not_from_false, not-false}
 use Rattle.std.specs.Ordering.{eq_by_cmp}
 use Rattle.off_base.specs.declared.addresses.Ip4.{Ip4}
-use Rattle.off_base.specs.declared.macs.Mac.{Mac}
 use Rattle.off_defs.specs.declared.keys.Key.{Key}
 use Rattle.off_defs.specs.declared.keys.Key.TheVariants as key
 use Rattle.off_defs.specs.declared.tables.Row.{Row}
 use Rattle.off_defs.specs.declared.tables.Row.TheVariants as row
 use Rattle.off_defs.specs.declared.tables.Pool.{Pool}
-use Rattle.off_defs.specs.declared.tables.Lease.{Lease}
 use Rattle.off_defs.specs.Keys.{key_cmp}
 use Rattle.off_defs.proofs.TableLemmas.{same_key, own_key}
 use Rattle.off_rules.specs.Rows.{is_possible, has_address, overlaps, pool_fits}
-use Rattle.off_rules.specs.Good.{is_apart, owner_of}
+use Rattle.off_rules.specs.Good.{is_apart}
 use Rattle.off_rules.specs.Clerk.{gives_up}
 use Rattle.off_goodlaws.proofs.Rows.{Rows}
-use Rattle.off_goodlaws.proofs.GoodRows.{Has, Possible, OnePool, OwnedBy, GoodRows}
+use Rattle.off_goodlaws.proofs.GoodRows.{OnePool, GoodRows}
 
 -- the rows where a pool is put, or removed
 abbrev pub set_pool : Rows → ℕ → Option Pool → Rows
@@ -111,11 +109,14 @@ both_apart n pool m other a b = or_right _ _ (and_from _ _ (not_from_false (over
 stays_within : (old : Pool) (new : Option Pool) (address : Ip4) → has_address old address ≡ true → gives_up (Some old) new address ≡ false
     → (pool : Pool) × (new ≡ Some pool) × (has_address pool address ≡ true)
 stays_within old None address h g = cc
-stays_within old (Some pool) address h g =
-    (pool, refl, elim (and_cases (has_address old address) (not (has_address pool address)) g) as (λ c. has_address pool address ≡ true) [
-      | inl is ↦ cc
-      | inr is ↦ not-false (has_address pool address) is
-    ])
+stays_within old (Some pool) address h g = (
+  pool,
+  refl,
+  elim (and_cases (has_address old address) (not (has_address pool address)) g) as (λ c. has_address pool address ≡ true) [
+    | inl is ↦ cc
+    | inr is ↦ not-false (has_address pool address) is
+  ],
+)
 
 module _ (rows : Rows) (g : GoodRows rows) (n : ℕ) (old new : Option Pool) where
   pub pool_changed : ((pool : Pool) → rows (key.Pool n) ≡ Some (row.Pool pool) → old ≡ Some pool)

@@ -1,11 +1,9 @@
 -- Good rows stay good where a row is put that is possible and whose own line holds, but for pools: those are in `PoolLemmas`.
-use Rattle.std.proofs.Common.{◌≡◌, ℕ, Bool, true, false, cond, Option, Some, None, is_some, refl, sym, ap, subst, ◌∙◌}
+use Rattle.std.proofs.Common.{◌≡◌, ℕ, true, refl, subst}
 use Rattle.off_base.specs.Tree.{Tree}
 use Rattle.std.proofs.Common.{List}
 use Rattle.off_base.specs.declared.macs.Mac.{Mac}
-use Rattle.off_defs.specs.declared.keys.Key.{Key}
 use Rattle.off_defs.specs.declared.keys.Key.TheVariants as key
-use Rattle.off_defs.specs.declared.tables.Row.{Row}
 use Rattle.off_defs.specs.declared.tables.Row.TheVariants as row
 use Rattle.off_defs.specs.declared.tables.Site.{Site}
 use Rattle.off_defs.specs.declared.tables.Subscriber.{Subscriber}

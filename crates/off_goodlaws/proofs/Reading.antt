@@ -1,6 +1,5 @@
 -- Rows as whoever reads them takes them: they stand in the tables, and in good tables each row is taken.
-use Rattle.std.proofs.Common.{◌≡◌, ℕ, Bool, true, false, cond, ◌&&◌, Option, Some, None, is_some, is_none, option_and_then, List, [], ◌∷◌, ◌⊎◌, inl, inr, refl, sym, ap, subst, ◌∙◌}
-use Rattle.std.specs.List.{filter_map}
+use Rattle.std.proofs.Common.{◌≡◌, ℕ, true, false, cond, Option, Some, None, is_some, is_none, option_and_then, refl, ap, ◌∙◌}
 use Rattle.std.specs.FinMap as map
 use Rattle.off_base.specs.declared.addresses.Ip4.{Ip4}
 use Rattle.off_base.specs.declared.macs.Mac.{Mac}
@@ -17,7 +16,7 @@ use Rattle.off_rules.specs.Rows.{is_possible, possible, seen_at, as_modem, as_po
 use Rattle.off_rules.specs.Good.{raw_pool_of, raw_pools}
 use Rattle.off_goodlaws.proofs.ListLemmas.{In, in_made, made_same}
 use Rattle.off_goodlaws.proofs.EntryRows.{row_in, in_row}
-use Rattle.off_goodlaws.proofs.GoodRows.{Has, Possible, GoodRows}
+use Rattle.off_goodlaws.proofs.GoodRows.{Has, Possible}
 
 -- in good tables a row is taken as it stands
 taken : (q : Key) (o : Option Row) → ((held : Row) → o ≡ Some held → is_possible q held ≡ true) → possible q o ≡ o

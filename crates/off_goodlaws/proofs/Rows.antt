@@ -1,8 +1,7 @@
 -- Tables as the rows of their keys, and what writes make of them.
-use Rattle.std.proofs.Common.{◌≡◌, ℕ, Bool, true, false, cond, not, Option, Some, None, List, [], ◌∷◌, refl, sym, ap, subst, ◌∙◌}
+use Rattle.std.proofs.Common.{◌≡◌, cond, Option, Some, None, List, [], ◌∷◌, refl, ap, ◌∙◌}
 use Rattle.std.specs.Ordering.{eq_by_cmp}
 use Rattle.off_defs.specs.declared.keys.Key.{Key}
-use Rattle.off_defs.specs.declared.keys.Key.TheVariants as key
 use Rattle.off_defs.specs.declared.tables.Row.{Row}
 use Rattle.off_defs.specs.declared.orders.Write.{Write}
 use Rattle.off_defs.specs.declared.orders.Write.TheVariants.{Put, Drop}
@@ -35,4 +34,3 @@ one_written t (Drop key) = λ i q. row_without t key q i
 pub all_written : (t : Tables) (writes : List Write) → row_at (write_all t writes) ≡ rows_after (row_at t) writes
 all_written t [] = refl
 all_written t (write ∷ writes) = all_written (written t write) writes ∙ ap (λ (rows : Rows). rows_after rows writes) (one_written t write)
-

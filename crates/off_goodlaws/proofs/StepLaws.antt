@@ -1,5 +1,5 @@
 -- A command's step leaves good tables good: an import row by row, each other command by its writes.
-use Rattle.std.proofs.Common.{◌≡◌, ℕ, ◌+◌, Bool, true, false, ◌&&◌, leb, Option, Some, None, Result, Ok, Err, List, [], ◌∷◌, ◌++◌, length, refl, sym, ap, subst, ◌∙◌}
+use Rattle.std.proofs.Common.{◌≡◌, ℕ, ◌+◌, true, leb, Option, Some, None, Result, Ok, Err, List, [], ◌∷◌, ◌++◌, length, refl, sym, ap, subst, ◌∙◌}
 use Rattle.std.proofs.lemmas.Bool.{and_parts}
 use Rattle.std.specs.List.{list_all}
 use Rattle.off_defs.specs.declared.keys.Key.{Key}
@@ -17,14 +17,14 @@ use Rattle.off_defs.specs.declared.orders.Reply.{Reply}
 use Rattle.off_defs.specs.declared.orders.Reply.TheVariants.{Done, Rows}
 use Rattle.off_defs.specs.declared.orders.Kind.TheVariants.{Batches}
 use Rattle.off_defs.specs.declared.orders.Write.{Write}
-use Rattle.off_defs.specs.declared.orders.Write.TheVariants.{Put, Drop}
+use Rattle.off_defs.specs.declared.orders.Write.TheVariants.{Put}
 use Rattle.off_defs.specs.declared.rules.Rule.{Rule}
 use Rattle.off_defs.specs.State.{Tables}
 use Rattle.off_defs.specs.Tables.{row_at, written, write_all}
 use Rattle.off_rows.specs.Sound.{is_sound, is_row_of}
 use Rattle.off_rules.specs.Rows.{seen_at, batch_in}
 use Rattle.off_rules.specs.Good.{Good}
-use Rattle.off_rules.specs.Clerk.{Refusal, Accepted, Decision, accepted, by_rule, shown, limit, first_broken, rules_of, writes_of, command_of, then_writes, unless_broken, rows_written, repeated, batch_row, imported_as, import_decided, decided, stepped_by, clerk_step}
+use Rattle.off_rules.specs.Clerk.{Refusal, Decision, accepted, by_rule, shown, limit, first_broken, rules_of, writes_of, command_of, then_writes, unless_broken, rows_written, batch_row, imported_as, import_decided, decided, stepped_by, clerk_step}
 use Rattle.off_goodlaws.specs.Laws.{secret_fits, StepKeepsGood, RefusedChangesNothing}
 use Rattle.off_goodlaws.proofs.Rows as rows
 use Rattle.off_goodlaws.proofs.Rows.{all_written}

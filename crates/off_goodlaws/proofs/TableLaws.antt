@@ -1,27 +1,23 @@
 -- What is known of good tables, and of what a test says of tables.
-use Rattle.std.proofs.Common.{◌≡◌, ℕ, Bool, true, false, cond, not, ◌&&◌, eqb, ◌⊎◌, Option, Some, None, is_some, option_and_then, List, inl, inr, refl, sym, ap, subst, ◌∙◌}
+use Rattle.std.proofs.Common.{◌≡◌, ℕ, true, not, ◌&&◌, eqb, Option, Some, None, is_some, option_and_then, inl, inr, refl, sym, ap, ◌∙◌}
 use Rattle.std.proofs.lemmas.Bool.{or_cases, and_parts, not-true, eqb-true}
 use Rattle.std.specs.Ordering.{ordering_reverse}
-use Rattle.std.specs.declared.cmp.Ordering.{Ordering}
 use Rattle.std.specs.declared.cmp.Ordering.TheVariants.{Less, Equal, Greater}
-use Rattle.std.specs.Cmp.{IsTotalOrder}
 use Rattle.off_base.specs.declared.addresses.Ip4.{Ip4}
 use Rattle.off_base.specs.declared.macs.Mac.{Mac}
-use Rattle.off_base.specs.Tree.{Tree}
 use Rattle.off_defs.specs.declared.keys.Key.{Key}
 use Rattle.off_defs.specs.declared.keys.Key.TheVariants as key
 use Rattle.off_defs.specs.declared.tables.Row.{Row}
 use Rattle.off_defs.specs.declared.tables.Row.TheVariants as row
 use Rattle.off_defs.specs.declared.tables.Lease.{Lease}
-use Rattle.off_defs.specs.declared.tables.Pool.{Pool}
 use Rattle.off_defs.specs.Keys.{key_cmp}
 use Rattle.off_defs.specs.State.{Tables}
 use Rattle.off_defs.specs.Tables.{row_at}
 use Rattle.off_defs.proofs.KeyLemmas.{key_total, key_exact}
-use Rattle.off_rules.specs.Rows.{is_possible, possible, has_address, overlaps, as_site, as_subscriber, as_add_on, as_class, site_in, subscriber_in, add_on_in, class_in, pool_in, lease_in}
-use Rattle.off_rules.specs.Good.{keeps, is_apart, owner_of, Good, Keeps, IsLeastBad, Judged}
+use Rattle.off_rules.specs.Rows.{is_possible, possible, overlaps, as_site, as_subscriber, as_add_on, as_class, lease_in}
+use Rattle.off_rules.specs.Good.{owner_of, Keeps, IsLeastBad}
 use Rattle.off_goodlaws.specs.Laws.{owner_in, OneLeaseAModem, OwnersHold, PoolsAreApart, ModemsStand, AddOnsStand, LeasesStand, GoodHaveNoBadKey, OneJudgement, SeenAsTheyStand}
-use Rattle.off_goodlaws.proofs.GoodRows.{Has, Possible, GoodRows}
+use Rattle.off_goodlaws.proofs.GoodRows.{Has, GoodRows}
 use Rattle.off_goodlaws.proofs.Judging.{good_rows}
 use Rattle.off_goodlaws.proofs.PoolLemmas.{share}
 use Rattle.off_goodlaws.proofs.Reading.{seen_row, modem_row, lease_row, held_row, pool_row, row_lease, row_held, row_pool, pools_raw}
@@ -88,9 +84,10 @@ read_of t g q f kind there =
 pub modems_stand : ModemsStand
 modems_stand t good mac modem e =
     let g = good_rows t good in
-    let at_row = modem_row t mac modem e in
-    (read_of t g (key.Subscriber modem.subscriber) as_subscriber (subscriber_read modem.subscriber) (g.subscriber mac modem at_row),
-    read_of t g (key.Class modem.class) as_class (class_read modem.class) (g.class mac modem at_row))
+    let at_row = modem_row t mac modem e in (
+      read_of t g (key.Subscriber modem.subscriber) as_subscriber (subscriber_read modem.subscriber) (g.subscriber mac modem at_row),
+      read_of t g (key.Class modem.class) as_class (class_read modem.class) (g.class mac modem at_row),
+    )
 
 some_row : (q : Key) {A : Type 0} (f : Row → Option A) (o : Option Row) (x : A) → option_and_then f (possible q o) ≡ Some x → (held : Row) × (o ≡ Some held)
 some_row q f None x e = cc
@@ -106,15 +103,16 @@ pub leases_stand : LeasesStand
 leases_stand t good address lease e =
     let g = good_rows t good in
     let at_row = lease_row t address lease e in
-    let one = g.one_pool address lease at_row in
-    (read_of t g key.Site as_site site_read (g.site address lease at_row),
-    record {
-      number = one.number;
-      pool = one.pool;
-      there = row_pool t g.possible one.number one.pool one.there;
-      within = one.within;
-      only = λ m other p w. one.only m other (pool_row t m other p) w;
-    })
+    let one = g.one_pool address lease at_row in (
+      read_of t g key.Site as_site site_read (g.site address lease at_row),
+      record {
+        number = one.number;
+        pool = one.pool;
+        there = row_pool t g.possible one.number one.pool one.there;
+        within = one.within;
+        only = λ m other p w. one.only m other (pool_row t m other p) w;
+      },
+    )
 
 -- what a test says
 pub good_have_no_bad_key : GoodHaveNoBadKey

@@ -1,5 +1,5 @@
 -- Laws of good tables, and of what a clerk's command makes of them.
-use Rattle.std.specs.Prelude.{◌≡◌, ℕ, Bool, true, IsTrue, nat_le, List, length, Option, Some, None, IsSome, option_and_then, Err, ◌↔◌}
+use Rattle.std.specs.Prelude.{◌≡◌, ℕ, Bool, true, IsTrue, nat_le, List, length, Option, Some, IsSome, option_and_then, Err, ◌↔◌}
 use Rattle.off_base.specs.declared.addresses.Ip4.{Ip4}
 use Rattle.off_base.specs.declared.macs.Mac.{Mac}
 use Rattle.off_base.specs.Tree.{Tree}
