@@ -16,7 +16,8 @@ use Rattle.off_rules.specs.Rows.{has_address, seen_at, site_in, subscriber_in, a
 use Rattle.off_rules.specs.Good.{owner_of, raw_pools, Good, IsLeastBad, Judged}
 use Rattle.off_rules.specs.Clerk.{Refusal, clerk_step}
 
--- A site's secret has at most 64 bytes, by its type. A law ranges over lists of any length, so this one says so.
+-- A site's secret has at most 64 bytes, by its type. But a law ranges over lists of any length, and no rule of a command refuses a longer
+-- one, so the law of steps has this as a premise.
 abbrev pub secret_fits : Command → Bool
 secret_fits (SetSite site) = nat_le (length site.secret) 64
 secret_fits command = true

@@ -4,8 +4,8 @@
 
 ghost use Rattle.off_goodlaws.specs.Laws.{StepKeepsGood, RefusedChangesNothing, OneLeaseAModem, OwnersHold, PoolsAreApart, ModemsStand, AddOnsStand, LeasesStand, GoodHaveNoBadKey, OneJudgement, SeenAsTheyStand};
 
-/// What a clerk's command leaves of good tables is good: each command that is sound, an import too. A site's secret has at most 64
-/// bytes, as its type says.
+/// What a clerk's command leaves of good tables is good, for each command that is sound, an import too. The premise that a new site's
+/// secret has at most 64 bytes holds of each site that a program has, by the secret's type.
 pub fn a_step_keeps_good_tables()
     ensures { StepKeepsGood }
 {}
