@@ -1,0 +1,143 @@
+-- Each command that no rule refuses leaves good tables good.
+use Rattle.std.proofs.Common.{◌≡◌, ℕ, Bool, true, false, not, ◌&&◌, eqb, leb, Option, Some, None, is_none, option_map, List, [], ◌∷◌, length, refl, sym, ap, subst, ◌∙◌, arith}
+use Rattle.std.proofs.lemmas.Bool.{and_from, eqb-false, ne_eqb, le-leb, not-false, not_from_false}
+use Rattle.std.specs.List.{find, flat_map, list_any}
+use Rattle.off_base.specs.declared.macs.Mac.{Mac}
+use Rattle.off_base.specs.Tree.{Tree}
+use Rattle.off_tree.specs.declared.tables.Kind.TheVariants as tree
+use Rattle.off_tree.specs.Fault.{first_fault}
+use Rattle.off_defs.specs.declared.keys.Key.{Key}
+use Rattle.off_defs.specs.declared.keys.Key.TheVariants as key
+use Rattle.off_defs.specs.declared.tables.Row.TheVariants as row
+use Rattle.off_defs.specs.declared.tables.Site.{Site}
+use Rattle.off_defs.specs.declared.tables.Modem.{Modem}
+use Rattle.off_defs.specs.declared.tables.Pool.{Pool}
+use Rattle.off_defs.specs.declared.orders.Command.{Command}
+use Rattle.off_defs.specs.declared.orders.Command.TheVariants.{SetSite, PutSubscriber, PutAddOn, PutModem, PutClass, PutPool, Remove, Show, Import}
+use Rattle.off_defs.specs.declared.rules.Rule.{Rule}
+use Rattle.off_defs.specs.State.{Tables}
+use Rattle.off_defs.specs.Tables.{row_at, write_all}
+use Rattle.off_rows.specs.Sound.{is_sound, is_sound_pool, is_removable}
+use Rattle.off_rules.specs.Rows.{is_lease_time, is_offset, site_fits, class_is_good, add_on_is_good, has_pool_size, pool_fits, overlaps, as_subscriber, as_class, modems, pools}
+use Rattle.off_rules.specs.Good.{Good}
+use Rattle.off_rules.specs.Clerk.{when, first_broken, rules_of, removal_rules, writes_of, removal_writes, is_other_overlapping, is_other_with_relay, lost_leases, lease_drops}
+use Rattle.off_table_laws.specs.Laws.{secret_fits}
+use Rattle.off_table_laws.proofs.ListLemmas.{In, none_in, none_found}
+use Rattle.off_table_laws.proofs.Rows.{Rows, rows_after, all_written}
+use Rattle.off_table_laws.proofs.GoodRows.{GoodRows}
+use Rattle.off_table_laws.proofs.Judging.{good_rows, good_tables, pool_in_raw}
+use Rattle.off_table_laws.proofs.PutLemmas.{put_site, put_subscriber, put_add_on, put_modem, put_class}
+use Rattle.off_table_laws.proofs.DropLemmas.{drop_add_on, drop_modem, drop_class, drop_subscriber}
+use Rattle.off_table_laws.proofs.PoolLemmas.{IsApart, set_pool, pool_changed}
+use Rattle.off_table_laws.proofs.LostLeases.{lost_left}
+use Rattle.off_table_laws.proofs.Reading.{has_read, row_pool, pools_raw, modem_in_all}
+
+-- where no rule is broken, each isn't
+abbrev Whole : List (Option Rule) → Type 0
+Whole [] = Unit {0}
+Whole (rule ∷ rules) = (rule ≡ None) × Whole rules
+
+unbroken : (rules : List (Option Rule)) → first_broken rules ≡ None → Whole rules
+unbroken [] e = tt
+unbroken (None ∷ rules) e = (refl, unbroken rules e)
+unbroken (Some broken ∷ rules) e = cc
+
+not_when : (b : Bool) (broken : Rule) → when b broken ≡ None → b ≡ false
+not_when true broken e = cc
+not_when false broken e = refl
+
+not_mapped : {A B : Type 0} (f : A → B) (o : Option A) → option_map f o ≡ None → o ≡ None
+not_mapped f None e = refl
+not_mapped f (Some x) e = cc
+
+-- a site that no rule refuses, and whose secret has at most 64 bytes
+site_possible : (site : Site) → eqb site.server.0 0 ≡ false → eqb (length site.secret) 0 ≡ false → leb (length site.secret) 64 ≡ true → not (is_lease_time site.lease) ≡ false
+    → not (is_offset site.offset) ≡ false → site_fits site ≡ true
+site_possible site server some short lease offset =
+    let n = eqb-false (length site.secret) 0 some in
+    and_from _ _ (not_from_false (eqb site.server.0 0) server)
+    (and_from _ _ (and_from _ _ (le-leb 1 (length site.secret) (omega arith)) short)
+    (and_from _ _ (not-false (is_offset site.offset) offset) (not-false (is_lease_time site.lease) lease)))
+
+good_class : (settings : List Tree) → first_fault tree.Class settings ≡ None → class_is_good settings ≡ true
+unfolding class_is_good
+good_class settings e = ap is_none e
+
+good_add_on : (settings : List Tree) → first_fault tree.AddOn settings ≡ None → add_on_is_good settings ≡ true
+unfolding add_on_is_good
+good_add_on settings e = ap is_none e
+
+module _ (t : Tables) (g : GoodRows (row_at t)) where
+  -- a pool that overlaps no other, and whose relay is no other's
+  pool_apart : (n : ℕ) (pool : Pool) → find (is_other_overlapping n pool) (pools t) ≡ None → find (is_other_with_relay n pool) (pools t) ≡ None → IsApart (row_at t) n pool
+  pool_apart n pool none free m other away there =
+      let i : In (m, other) (pools t) = subst (λ (ps : List (ℕ × Pool)). In (m, other) ps) (sym (pools_raw t g.possible)) (pool_in_raw t m other there) in
+      let not_it : eqb m n ≡ false = ne_eqb m n away in
+      let a = none_found (is_other_overlapping n pool) (pools t) none (m, other) i in
+      let b = none_found (is_other_with_relay n pool) (pools t) free (m, other) i in
+      (ap (λ x. not x && overlaps pool other) (sym not_it) ∙ a, ap (λ x. not x && eqb other.relay.0 pool.relay.0) (sym not_it) ∙ b)
+
+  pool_possible : (pool : Pool) → is_sound_pool pool ≡ true → not (has_pool_size pool) ≡ false → pool_fits pool ≡ true
+  pool_possible pool sound size = and_from (has_pool_size pool) (is_sound_pool pool) (not-false (has_pool_size pool) size) sound
+
+  pool_step : (n : ℕ) (new : Option Pool) → ((pool : Pool) → new ≡ Some pool → pool_fits pool ≡ true) → ((pool : Pool) → new ≡ Some pool → IsApart (row_at t) n pool)
+      → GoodRows (rows_after (set_pool (row_at t) n new) (flat_map lease_drops (lost_leases t n new)))
+  pool_step n new fits apart =
+      subst (λ (rows : Rows). GoodRows rows) (sym (lost_left t g n new))
+      (pool_changed (row_at t) g n _ new (λ pool e. row_pool t g.possible n pool e) fits apart)
+
+  no_subscribers_modem : (n : ℕ) → list_any (λ (entry : Mac × Modem). eqb entry.1.subscriber n) (modems t) ≡ false → (mac : Mac) (modem : Modem) → row_at t (key.Modem mac) ≡ Some (row.Modem modem)
+      → modem.subscriber ≡ n → ⊥
+  no_subscribers_modem n none mac modem e is =
+      eqb-false modem.subscriber n (none_in (λ (entry : Mac × Modem). eqb entry.1.subscriber n) (modems t) none (mac, modem) (modem_in_all t mac modem e)) is
+
+  no_modem_of_class : (n : ℕ) → list_any (λ (entry : Mac × Modem). eqb entry.1.class n) (modems t) ≡ false → (mac : Mac) (modem : Modem) → row_at t (key.Modem mac) ≡ Some (row.Modem modem)
+      → modem.class ≡ n → ⊥
+  no_modem_of_class n none mac modem e is =
+      eqb-false modem.class n (none_in (λ (entry : Mac × Modem). eqb entry.1.class n) (modems t) none (mac, modem) (modem_in_all t mac modem e)) is
+
+  removal : (now : ℕ) (removed : Key) → is_removable removed ≡ true → first_broken (removal_rules t now removed) ≡ None → GoodRows (rows_after (row_at t) (removal_writes t removed))
+  removal now (key.Subscriber n) sound h =
+      let whole = unbroken (removal_rules t now (key.Subscriber n)) h in
+      drop_subscriber (row_at t) g n (no_subscribers_modem n (not_when _ _ whole.1.0))
+  removal now (key.AddOn n k) sound h = drop_add_on (row_at t) g n k
+  removal now (key.Modem mac) sound h = drop_modem (row_at t) g mac
+  removal now (key.Class n) sound h =
+      let whole = unbroken (removal_rules t now (key.Class n)) h in
+      drop_class (row_at t) g n (no_modem_of_class n (not_when _ _ whole.1.0))
+  removal now (key.Pool n) sound h = pool_step n None (λ pool e. cc) (λ pool e. cc)
+  removal now removed sound h = cc
+
+  pub command_rows : (now : ℕ) (command : Command) → is_sound command ≡ true → secret_fits command ≡ true → first_broken (rules_of t now command) ≡ None
+      → GoodRows (rows_after (row_at t) (writes_of t command))
+  command_rows now (SetSite site) sound short h =
+      let whole = unbroken (rules_of t now (SetSite site)) h in
+      put_site (row_at t) g site
+      (site_possible site (not_when _ _ whole.0) (not_when _ _ whole.1.0) short (not_when _ _ whole.1.1.0) (not_when _ _ whole.1.1.1.0))
+  command_rows now (PutSubscriber n subscriber) sound short h = put_subscriber (row_at t) g n subscriber sound
+  command_rows now (PutAddOn n number settings) sound short h =
+      let whole = unbroken (rules_of t now (PutAddOn n number settings)) h in
+      put_add_on (row_at t) g n number settings (and_from (leb number 7) (add_on_is_good settings) sound (good_add_on settings (not_mapped _ _ whole.1.0)))
+      (has_read t (key.Subscriber n) as_subscriber (not_when _ _ whole.0))
+  command_rows now (PutModem mac modem) sound short h =
+      let whole = unbroken (rules_of t now (PutModem mac modem)) h in
+      put_modem (row_at t) g mac modem (has_read t (key.Subscriber modem.subscriber) as_subscriber (not_when _ _ whole.0))
+      (has_read t (key.Class modem.class) as_class (not_when _ _ whole.1.0))
+  command_rows now (PutClass n class) sound short h =
+      put_class (row_at t) g n class (good_class class.settings (not_mapped _ _ (unbroken (rules_of t now (PutClass n class)) h).0))
+  command_rows now (PutPool n pool) sound short h =
+      let whole = unbroken (rules_of t now (PutPool n pool)) h in
+      let fits = pool_possible pool sound (not_when _ _ whole.0) in
+      let apart = pool_apart n pool (not_mapped _ _ whole.1.0) (not_mapped _ _ whole.1.1.0) in
+      pool_step n (Some pool) (λ other e. let same : pool ≡ other = cc in subst (λ (p : Pool). pool_fits p ≡ true) same fits)
+      (λ other e. let same : pool ≡ other = cc in subst (λ (p : Pool). IsApart (row_at t) n p) same apart)
+  command_rows now (Remove removed) sound short h = removal now removed sound h
+  command_rows now (Show shown) sound short h = g
+  command_rows now (Import kind batch digest rows) sound short h = g
+
+-- so are the tables after a command's writes
+pub command_good : (t : Tables) (now : ℕ) (command : Command) → is_sound command ≡ true → secret_fits command ≡ true → Good t → first_broken (rules_of t now command) ≡ None
+    → Good (write_all t (writes_of t command))
+command_good t now command sound short good h =
+    good_tables (write_all t (writes_of t command))
+    (subst (λ (rows : Rows). GoodRows rows) (sym (all_written t (writes_of t command))) (command_rows t (good_rows t good) now command sound short h))

@@ -1,0 +1,51 @@
+-- Good tables, said of the rows alone: no list of entries, no count. `Judging` has that both say the same.
+use Rattle.std.proofs.Common.{◌≡◌, ℕ, true, Some, is_some}
+use Rattle.off_base.specs.declared.addresses.Ip4.{Ip4}
+use Rattle.off_base.specs.declared.macs.Mac.{Mac}
+use Rattle.off_defs.specs.declared.keys.Key.{Key}
+use Rattle.off_defs.specs.declared.keys.Key.TheVariants as key
+use Rattle.off_defs.specs.declared.tables.Row.{Row}
+use Rattle.off_defs.specs.declared.tables.Row.TheVariants as row
+use Rattle.off_defs.specs.declared.tables.Modem.{Modem}
+use Rattle.off_defs.specs.declared.tables.Pool.{Pool}
+use Rattle.off_defs.specs.declared.tables.Lease.{Lease}
+use Rattle.off_rules.specs.Rows.{is_possible, has_address}
+use Rattle.off_rules.specs.Good.{is_apart, owner_of}
+use Rattle.off_table_laws.proofs.Rows.{Rows}
+
+abbrev pub Has : Rows → Key → Type 0
+Has rows q = is_some (rows q) ≡ true
+
+abbrev pub Possible : Rows → Type 0
+Possible rows = (q : Key) (held : Row) → rows q ≡ Some held → is_possible q held ≡ true
+
+-- one pool has the address, and no other
+abbrev pub OnePool : Rows → Ip4 → Type 0
+OnePool rows address =
+    record {
+      number : ℕ;
+      pool : Pool;
+      there : rows (key.Pool number) ≡ Some (row.Pool pool);
+      within : has_address pool address ≡ true;
+      only : (m : ℕ) (other : Pool) → rows (key.Pool m) ≡ Some (row.Pool other) → has_address other address ≡ true → m ≡ number;
+    }
+
+-- the address has a lease, and the modem owns it
+abbrev pub OwnedBy : Rows → Mac → Ip4 → Type 0
+OwnedBy rows mac address =
+    record {
+      lease : Lease;
+      there : rows (key.Lease address) ≡ Some (row.Lease lease);
+      owner : owner_of lease.hold ≡ Some mac;
+    }
+
+pub record GoodRows (rows : Rows) : Type 0 where
+  pub possible : Possible rows
+  pub add_on : (n k : ℕ) (held : Row) → rows (key.AddOn n k) ≡ Some held → Has rows (key.Subscriber n)
+  pub subscriber : (mac : Mac) (modem : Modem) → rows (key.Modem mac) ≡ Some (row.Modem modem) → Has rows (key.Subscriber modem.subscriber)
+  pub class : (mac : Mac) (modem : Modem) → rows (key.Modem mac) ≡ Some (row.Modem modem) → Has rows (key.Class modem.class)
+  pub apart : (n : ℕ) (pool : Pool) (m : ℕ) (other : Pool) → rows (key.Pool n) ≡ Some (row.Pool pool) → rows (key.Pool m) ≡ Some (row.Pool other) → is_apart n pool (m, other) ≡ true
+  pub site : (address : Ip4) (lease : Lease) → rows (key.Lease address) ≡ Some (row.Lease lease) → Has rows key.Site
+  pub one_pool : (address : Ip4) (lease : Lease) → rows (key.Lease address) ≡ Some (row.Lease lease) → OnePool rows address
+  pub holder : (address : Ip4) (lease : Lease) (mac : Mac) → rows (key.Lease address) ≡ Some (row.Lease lease) → owner_of lease.hold ≡ Some mac → rows (key.Held mac) ≡ Some (row.Held address)
+  pub owner : (mac : Mac) (address : Ip4) → rows (key.Held mac) ≡ Some (row.Held address) → OwnedBy rows mac address

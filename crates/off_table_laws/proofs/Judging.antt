@@ -1,0 +1,152 @@
+-- Tables are good exactly where their rows are.
+use Rattle.std.proofs.Common.{◌≡◌, ℕ, true, false, ◌&&◌, eqb, Option, Some, None, option_map, option_and_then, unwrap_or, refl, sym, ap, subst, ◌∙◌}
+use Rattle.std.proofs.lemmas.Bool.{and_parts, and_from, eqb-true, eq-eqb}
+use Rattle.std.specs.List.{list_all}
+use Rattle.std.specs.FinMap as map
+use Rattle.off_base.specs.declared.addresses.Ip4.{Ip4}
+use Rattle.off_base.specs.declared.macs.Mac.{Mac}
+use Rattle.off_defs.specs.declared.keys.Key.{Key}
+use Rattle.off_defs.specs.declared.keys.Key.TheVariants as key
+use Rattle.off_defs.specs.declared.tables.Row.{Row}
+use Rattle.off_defs.specs.declared.tables.Row.TheVariants as row
+use Rattle.off_defs.specs.declared.tables.Modem.{Modem}
+use Rattle.off_defs.specs.declared.tables.Pool.{Pool}
+use Rattle.off_defs.specs.declared.tables.Lease.{Lease}
+use Rattle.off_defs.specs.State.{Tables}
+use Rattle.off_defs.specs.Tables.{row_at}
+use Rattle.off_defs.proofs.TableLemmas.{same_key, own_key}
+use Rattle.off_rules.specs.Rows.{is_possible, has_address, as_lease, as_held}
+use Rattle.off_rules.specs.Good.{is_there, raw_pool_of, raw_pools, is_apart, pools_around, owner_of, is_mac, holds, owner_holds, owns, stands_right, Good}
+use Rattle.off_table_laws.proofs.ListLemmas.{In, Distinct, all_in, in_all, one_counted, counted_one, in_made, made_in, distinct_made}
+use Rattle.off_table_laws.proofs.EntryRows.{row_in, in_row, distinct_entries}
+use Rattle.off_table_laws.proofs.GoodRows.{OnePool, OwnedBy, GoodRows}
+
+-- pools of the list are the rows of pools
+raw_made : (q : Key) (held : Row) (n : ℕ) (pool : Pool) → raw_pool_of (q, held) ≡ Some (n, pool) → (q ≡ key.Pool n) × (held ≡ row.Pool pool)
+raw_made (key.Pool m) (row.Pool other) n pool e =
+    let pair : (m, other) ≡ (n, pool) = cc in
+    (ap (λ (p : ℕ × Pool). key.Pool p.0) pair, ap (λ (p : ℕ × Pool). row.Pool p.1) pair)
+raw_made q held n pool e = cc
+
+pub pool_in_raw : (t : Tables) (n : ℕ) (pool : Pool) → row_at t (key.Pool n) ≡ Some (row.Pool pool) → In (n, pool) (raw_pools t)
+pool_in_raw t n pool e = in_made raw_pool_of (map.entries t) (key.Pool n, row.Pool pool) (n, pool) (row_in t (key.Pool n) (row.Pool pool) e) refl
+
+pub raw_in_pool : (t : Tables) (n : ℕ) (pool : Pool) → In (n, pool) (raw_pools t) → row_at t (key.Pool n) ≡ Some (row.Pool pool)
+raw_in_pool t n pool i =
+    let m = made_in raw_pool_of (map.entries t) (n, pool) i in
+    let parts = raw_made m.0.0 m.0.1 n pool m.2 in
+    subst (λ (q : Key). row_at t q ≡ Some (row.Pool pool)) parts.0 (in_row t m.0.0 m.0.1 m.1 ∙ ap Some parts.1)
+
+distinct_raw : (t : Tables) → Distinct (raw_pools t)
+distinct_raw t = distinct_made raw_pool_of (map.entries t) (λ a b y f g.
+    let one = raw_made a.0 a.1 y.0 y.1 f in
+    let other = raw_made b.0 b.1 y.0 y.1 g in
+    λ i. ((one.0 ∙ sym other.0) i, (one.1 ∙ sym other.1) i)) (distinct_entries t)
+
+-- one pool is around an address
+around_one : (t : Tables) (address : Ip4) → pools_around t address ≡ 1 → OnePool (row_at t) address
+around_one t address h =
+    let one = one_counted (λ (other : ℕ × Pool). has_address other.1 address) (raw_pools t) h in
+    record {
+      number = one.0.0;
+      pool = one.0.1;
+      there = raw_in_pool t one.0.0 one.0.1 one.1.inside;
+      within = one.1.passes;
+      only = λ m other e w. ap (λ (p : ℕ × Pool). p.0) (one.1.only (m, other) (pool_in_raw t m other e) w);
+    }
+
+one_around : (t : Tables) (address : Ip4) → OnePool (row_at t) address → pools_around t address ≡ 1
+one_around t address one =
+    counted_one (λ (other : ℕ × Pool). has_address other.1 address) (raw_pools t) (distinct_raw t) (one.number, one.pool) (record {
+      inside = pool_in_raw t one.number one.pool one.there;
+      passes = one.within;
+      only = λ y i w.
+          let there = raw_in_pool t y.0 y.1 i in
+          let n = one.only y.0 y.1 there w in
+          let same : Some (row.Pool y.1) ≡ Some (row.Pool one.pool) = sym there ∙ ap (λ m. row_at t (key.Pool m)) n ∙ one.there in
+          let pool : y.1 ≡ one.pool = cc in
+          λ j. (n j, pool j);
+    })
+
+-- a modem is itself, and no other
+mac_same : (mac other : Mac) → is_mac mac other ≡ true → mac ≡ other
+mac_same mac other e = let k : key.Modem mac ≡ key.Modem other = same_key (key.Modem mac) (key.Modem other) e in cc
+
+mac_own : (mac : Mac) → is_mac mac mac ≡ true
+mac_own mac = own_key (key.Modem mac)
+
+-- who holds an address
+held_same : (o : Option Row) (address : Ip4) → unwrap_or (option_map (λ (held : Ip4). eqb held.0 address.0) (option_and_then as_held o)) false ≡ true → o ≡ Some (row.Held address)
+held_same (Some (row.Held held)) address e = let n = eqb-true held.0 address.0 e in λ i. Some (row.Held (record { 0 = n i }))
+held_same o address e = cc
+
+holds_row : (t : Tables) (address : Ip4) (mac : Mac) → holds t address mac ≡ true → row_at t (key.Held mac) ≡ Some (row.Held address)
+holds_row t address mac e = held_same (row_at t (key.Held mac)) address e
+
+row_holds : (t : Tables) (address : Ip4) (mac : Mac) → row_at t (key.Held mac) ≡ Some (row.Held address) → holds t address mac ≡ true
+row_holds t address mac e =
+    ap (λ (o : Option Row). unwrap_or (option_map (λ (held : Ip4). eqb held.0 address.0) (option_and_then as_held o)) false) e ∙ eq-eqb address.0 address.0 refl
+
+-- who owns a lease
+owned_same : (o : Option Row) (mac : Mac) → unwrap_or (option_map (is_mac mac) (option_and_then (λ (lease : Lease). owner_of lease.hold) (option_and_then as_lease o))) false ≡ true
+    → (lease : Lease) × (o ≡ Some (row.Lease lease)) × (owner_of lease.hold ≡ Some mac)
+owned_same (Some (row.Lease lease)) mac e = (lease, refl, by_owner (owner_of lease.hold) e)
+  where
+    by_owner : (o : Option Mac) → unwrap_or (option_map (is_mac mac) o) false ≡ true → o ≡ Some mac
+    by_owner None e = cc
+    by_owner (Some other) e = ap Some (sym (mac_same mac other e))
+owned_same o mac e = cc
+
+owns_row : (t : Tables) (mac : Mac) (address : Ip4) → owns t mac address ≡ true → OwnedBy (row_at t) mac address
+owns_row t mac address e = let o = owned_same (row_at t (key.Lease address)) mac e in record { lease = o.0; there = o.1; owner = o.2 }
+
+row_owns : (t : Tables) (mac : Mac) (address : Ip4) → OwnedBy (row_at t) mac address → owns t mac address ≡ true
+row_owns t mac address o =
+    ap (λ (r : Option Row). unwrap_or (option_map (is_mac mac) (option_and_then (λ (lease : Lease). owner_of lease.hold) (option_and_then as_lease r))) false) o.there
+    ∙ ap (λ (r : Option Mac). unwrap_or (option_map (is_mac mac) r) false) o.owner
+    ∙ mac_own mac
+
+-- the parts of a lease's line
+lease_line : (t : Tables) → Good t → (address : Ip4) (lease : Lease) → row_at t (key.Lease address) ≡ Some (row.Lease lease)
+    → (is_there t key.Site ≡ true) × (pools_around t address ≡ 1) × (owner_holds t address (owner_of lease.hold) ≡ true)
+lease_line t g address lease e =
+    let all = and_parts (is_there t key.Site) (eqb (pools_around t address) 1 && owner_holds t address (owner_of lease.hold)) (g (key.Lease address) (row.Lease lease) e) in
+    let rest = and_parts (eqb (pools_around t address) 1) (owner_holds t address (owner_of lease.hold)) all.1 in
+    (all.0, eqb-true (pools_around t address) 1 rest.0, rest.1)
+
+modem_line : (t : Tables) → Good t → (mac : Mac) (modem : Modem) → row_at t (key.Modem mac) ≡ Some (row.Modem modem)
+    → (is_there t (key.Subscriber modem.subscriber) ≡ true) × (is_there t (key.Class modem.class) ≡ true)
+modem_line t g mac modem e = and_parts (is_there t (key.Subscriber modem.subscriber)) (is_there t (key.Class modem.class)) (g (key.Modem mac) (row.Modem modem) e)
+
+pool_line : (t : Tables) → Good t → (n : ℕ) (pool : Pool) → row_at t (key.Pool n) ≡ Some (row.Pool pool) → list_all (is_apart n pool) (raw_pools t) ≡ true
+pool_line t g n pool e = (and_parts (is_possible (key.Pool n) (row.Pool pool)) (list_all (is_apart n pool) (raw_pools t)) (g (key.Pool n) (row.Pool pool) e)).1
+
+pub good_rows : (t : Tables) → Good t → GoodRows (row_at t)
+good_rows t g = record {
+  possible = λ q held e. (and_parts (is_possible q held) (stands_right t q held) (g q held e)).0;
+  add_on = λ n k held e. (and_parts (is_possible (key.AddOn n k) held) (stands_right t (key.AddOn n k) held) (g (key.AddOn n k) held e)).1;
+  subscriber = λ mac modem e. (modem_line t g mac modem e).0;
+  class = λ mac modem e. (modem_line t g mac modem e).1;
+  apart = λ n pool m other e f. all_in (is_apart n pool) (raw_pools t) (pool_line t g n pool e) (m, other) (pool_in_raw t m other f);
+  site = λ address lease e. (lease_line t g address lease e).0;
+  one_pool = λ address lease e. around_one t address (lease_line t g address lease e).1;
+  holder = λ address lease mac e o. holds_row t address mac (ap (owner_holds t address) (sym o) ∙ (lease_line t g address lease e).2);
+  owner = λ mac address e. owns_row t mac address (g (key.Held mac) (row.Held address) e);
+}
+
+pub good_tables : (t : Tables) → GoodRows (row_at t) → Good t
+good_tables t g q held e = and_from (is_possible q held) (stands_right t q held) (g.possible q held e) (right q held e)
+  where
+    owner_right : (address : Ip4) (o : Option Mac) → ((mac : Mac) → o ≡ Some mac → row_at t (key.Held mac) ≡ Some (row.Held address)) → owner_holds t address o ≡ true
+    owner_right address None h = refl
+    owner_right address (Some mac) h = row_holds t address mac (h mac refl)
+
+    right : (q : Key) (held : Row) → row_at t q ≡ Some held → stands_right t q held ≡ true
+    right (key.AddOn n k) held e = g.add_on n k held e
+    right (key.Modem mac) (row.Modem modem) e = and_from _ _ (g.subscriber mac modem e) (g.class mac modem e)
+    right (key.Pool n) (row.Pool pool) e = in_all (is_apart n pool) (raw_pools t) (λ x i. g.apart n pool x.0 x.1 e (raw_in_pool t x.0 x.1 i))
+    right (key.Lease address) (row.Lease lease) e =
+        and_from _ _ (g.site address lease e)
+        (and_from _ _ (eq-eqb _ _ (one_around t address (g.one_pool address lease e))) (owner_right address (owner_of lease.hold) (λ mac o. g.holder address lease mac e o)))
+    right (key.Held mac) (row.Held address) e = row_owns t mac address (g.owner mac address e)
+    right q held e = refl

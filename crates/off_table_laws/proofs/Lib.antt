@@ -1,0 +1,15 @@
+pub mod ListLemmas
+pub mod EntryRows
+pub mod Rows
+pub mod GoodRows
+pub mod Judging
+pub mod RowChanges
+pub mod PutLemmas
+pub mod DropLemmas
+pub mod PoolLemmas
+pub mod LostLeases
+pub mod Reading
+pub mod ClerkSteps
+pub mod StepLaws
+pub mod TableLaws
+pub mod Examples

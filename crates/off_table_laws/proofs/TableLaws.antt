@@ -1,0 +1,142 @@
+-- What is known of good tables, and of what a test says of tables.
+use Rattle.std.proofs.Common.{◌≡◌, ℕ, true, not, ◌&&◌, eqb, Option, Some, None, is_some, option_and_then, inl, inr, refl, sym, ap, ◌∙◌}
+use Rattle.std.proofs.lemmas.Bool.{or_cases, and_parts, not-true, eqb-true}
+use Rattle.std.specs.Ordering.{ordering_reverse}
+use Rattle.std.specs.declared.cmp.Ordering.TheVariants.{Less, Equal, Greater}
+use Rattle.off_base.specs.declared.addresses.Ip4.{Ip4}
+use Rattle.off_base.specs.declared.macs.Mac.{Mac}
+use Rattle.off_defs.specs.declared.keys.Key.{Key}
+use Rattle.off_defs.specs.declared.keys.Key.TheVariants as key
+use Rattle.off_defs.specs.declared.tables.Row.{Row}
+use Rattle.off_defs.specs.declared.tables.Row.TheVariants as row
+use Rattle.off_defs.specs.declared.tables.Lease.{Lease}
+use Rattle.off_defs.specs.Keys.{key_cmp}
+use Rattle.off_defs.specs.State.{Tables}
+use Rattle.off_defs.specs.Tables.{row_at}
+use Rattle.off_defs.proofs.KeyLemmas.{key_total, key_exact}
+use Rattle.off_rules.specs.Rows.{is_possible, possible, overlaps, as_site, as_subscriber, as_add_on, as_class, lease_in}
+use Rattle.off_rules.specs.Good.{owner_of, Keeps, IsLeastBad}
+use Rattle.off_table_laws.specs.Laws.{owner_in, OneLeaseAModem, OwnersHold, PoolsAreApart, ModemsStand, AddOnsStand, LeasesStand, GoodHaveNoBadKey, OneJudgement, SeenAsTheyStand}
+use Rattle.off_table_laws.proofs.GoodRows.{Has, GoodRows}
+use Rattle.off_table_laws.proofs.Judging.{good_rows}
+use Rattle.off_table_laws.proofs.PoolLemmas.{share}
+use Rattle.off_table_laws.proofs.Reading.{seen_row, modem_row, lease_row, held_row, pool_row, row_lease, row_held, row_pool, pools_raw}
+
+-- who owns a lease
+owned : (o : Option Lease) (mac : Mac) → option_and_then (λ (lease : Lease). owner_of lease.hold) o ≡ Some mac → (lease : Lease) × (o ≡ Some lease) × (owner_of lease.hold ≡ Some mac)
+owned None mac e = cc
+owned (Some lease) mac e = (lease, refl, e)
+
+owner_held : (t : Tables) → GoodRows (row_at t) → (mac : Mac) (address : Ip4) → owner_in t address ≡ Some mac → row_at t (key.Held mac) ≡ Some (row.Held address)
+owner_held t g mac address e = let o = owned (lease_in t address) mac e in g.holder address o.0 mac (lease_row t address o.0 o.1) o.2
+
+pub one_lease_a_modem : OneLeaseAModem
+one_lease_a_modem t good mac one other p q =
+    let g = good_rows t good in
+    let a = owner_held t g mac one p in
+    let b = owner_held t g mac other q in
+    cc
+
+held_owner : (t : Tables) → GoodRows (row_at t) → (mac : Mac) (address : Ip4) → row_at t (key.Held mac) ≡ Some (row.Held address) → owner_in t address ≡ Some mac
+held_owner t g mac address e =
+    let o = g.owner mac address e in
+    ap (option_and_then (λ (lease : Lease). owner_of lease.hold)) (row_lease t address o.lease o.there) ∙ o.owner
+
+pub owners_hold : OwnersHold
+owners_hold t good mac address =
+    let g = good_rows t good in
+    (λ e. row_held t mac address (owner_held t g mac address e), λ e. held_owner t g mac address (held_row t mac address e))
+
+-- pools that have an address in common are one
+pub pools_are_apart : PoolsAreApart
+pools_are_apart t good address n m pool other p q v w =
+    let g = good_rows t good in
+    elim (or_cases (eqb m n) (not (overlaps pool other) && not (eqb other.relay.0 pool.relay.0)) (g.apart n pool m other (pool_row t n pool p) (pool_row t m other q))) as (λ c. n ≡ m) [
+      | inl same ↦ sym (eqb-true m n same)
+      | inr apart ↦
+          let no_share = not-true (overlaps pool other) (and_parts (not (overlaps pool other)) (not (eqb other.relay.0 pool.relay.0)) apart).0 in
+          let shared = share pool other address v w in
+          cc
+    ]
+
+-- a key that has a row in good tables is read as of its kind
+subscriber_read : (n : ℕ) (held : Row) → is_possible (key.Subscriber n) held ≡ true → is_some (as_subscriber held) ≡ true
+subscriber_read n (row.Subscriber subscriber) h = refl
+subscriber_read n held h = cc
+
+class_read : (n : ℕ) (held : Row) → is_possible (key.Class n) held ≡ true → is_some (as_class held) ≡ true
+class_read n (row.Class class) h = refl
+class_read n held h = cc
+
+site_read : (held : Row) → is_possible key.Site held ≡ true → is_some (as_site held) ≡ true
+site_read (row.Site site) h = refl
+site_read held h = cc
+
+read_there : {A : Type 0} (f : Row → Option A) (o : Option Row) → is_some o ≡ true → ((held : Row) → o ≡ Some held → is_some (f held) ≡ true) → is_some (option_and_then f o) ≡ true
+read_there f None there h = cc
+read_there f (Some held) there h = h held refl
+
+read_of : (t : Tables) → GoodRows (row_at t) → (q : Key) {A : Type 0} (f : Row → Option A) → ((held : Row) → is_possible q held ≡ true → is_some (f held) ≡ true) → Has (row_at t) q
+    → is_some (option_and_then f (possible q (row_at t q))) ≡ true
+read_of t g q f kind there =
+    ap (λ (o : Option Row). is_some (option_and_then f o)) (seen_row t g.possible q) ∙ read_there f (row_at t q) there (λ held e. kind held (g.possible q held e))
+
+pub modems_stand : ModemsStand
+modems_stand t good mac modem e =
+    let g = good_rows t good in
+    let at_row = modem_row t mac modem e in (
+      read_of t g (key.Subscriber modem.subscriber) as_subscriber (subscriber_read modem.subscriber) (g.subscriber mac modem at_row),
+      read_of t g (key.Class modem.class) as_class (class_read modem.class) (g.class mac modem at_row),
+    )
+
+some_row : (q : Key) {A : Type 0} (f : Row → Option A) (o : Option Row) (x : A) → option_and_then f (possible q o) ≡ Some x → (held : Row) × (o ≡ Some held)
+some_row q f None x e = cc
+some_row q f (Some held) x e = (held, refl)
+
+pub add_ons_stand : AddOnsStand
+add_ons_stand t good n number settings e =
+    let g = good_rows t good in
+    let at_row = some_row (key.AddOn n number) as_add_on (row_at t (key.AddOn n number)) settings e in
+    read_of t g (key.Subscriber n) as_subscriber (subscriber_read n) (g.add_on n number at_row.0 at_row.1)
+
+pub leases_stand : LeasesStand
+leases_stand t good address lease e =
+    let g = good_rows t good in
+    let at_row = lease_row t address lease e in
+    let one = g.one_pool address lease at_row in (
+      read_of t g key.Site as_site site_read (g.site address lease at_row),
+      record {
+        number = one.number;
+        pool = one.pool;
+        there = row_pool t g.possible one.number one.pool one.there;
+        within = one.within;
+        only = λ m other p w. one.only m other (pool_row t m other p) w;
+      },
+    )
+
+-- what a test says
+pub good_have_no_bad_key : GoodHaveNoBadKey
+good_have_no_bad_key t bad good least =
+    let keep = good bad least.held least.there in
+    let broken = least.breaks in
+    cc
+
+least_same : (t : Tables) (one other : Key) → IsLeastBad t one → IsLeastBad t other → one ≡ other
+least_same t one other p q =
+    elim (key_cmp one other) as (λ r. key_cmp one other ≡ r → one ≡ other) [
+      | Less ↦ λ r. absurd (broken_not_kept t one p (q.least one r))
+      | Equal ↦ λ r. key_exact one other r
+      | Greater ↦ λ r. absurd (broken_not_kept t other q (p.least other (key_total.antisymm other one ∙ ap ordering_reverse r)))
+    ] refl
+  where
+    broken_not_kept : (t : Tables) (bad : Key) → IsLeastBad t bad → Keeps t bad → ⊥
+    broken_not_kept t bad p kept = let keep = kept p.held p.there in let broken = p.breaks in cc
+
+pub one_judgement : OneJudgement
+one_judgement t None None p q = refl
+one_judgement t None (Some bad) p q = absurd (good_have_no_bad_key t bad p q)
+one_judgement t (Some bad) None p q = absurd (good_have_no_bad_key t bad q p)
+one_judgement t (Some one) (Some other) p q = ap Some (least_same t one other p q)
+
+pub seen_as_they_stand : SeenAsTheyStand
+seen_as_they_stand t good = let g = good_rows t good in (seen_row t g.possible, pools_raw t g.possible)

@@ -1,0 +1,94 @@
+-- Laws of good tables, and of what a clerk's command makes of them.
+use Rattle.std.specs.Prelude.{◌≡◌, ℕ, Bool, true, IsTrue, nat_le, List, length, Option, Some, IsSome, option_and_then, Err, ◌↔◌}
+use Rattle.off_base.specs.declared.addresses.Ip4.{Ip4}
+use Rattle.off_base.specs.declared.macs.Mac.{Mac}
+use Rattle.off_base.specs.Tree.{Tree}
+use Rattle.off_defs.specs.declared.keys.Key.{Key}
+use Rattle.off_defs.specs.declared.tables.Modem.{Modem}
+use Rattle.off_defs.specs.declared.tables.Pool.{Pool}
+use Rattle.off_defs.specs.declared.tables.Lease.{Lease}
+use Rattle.off_defs.specs.declared.orders.Command.{Command}
+use Rattle.off_defs.specs.declared.orders.Command.TheVariants.{SetSite}
+use Rattle.off_defs.specs.State.{Tables}
+use Rattle.off_defs.specs.Tables.{row_at}
+use Rattle.off_rows.specs.Sound.{is_sound}
+use Rattle.off_rules.specs.Rows.{has_address, seen_at, site_in, subscriber_in, add_on_in, modem_in, class_in, pool_in, lease_in, held_in, pools}
+use Rattle.off_rules.specs.Good.{owner_of, raw_pools, Good, IsLeastBad, Judged}
+use Rattle.off_rules.specs.Clerk.{Refusal, clerk_step}
+
+-- A site's secret has at most 64 bytes, by its type. But a law ranges over lists of any length, and no rule of a command refuses a longer
+-- one, so the law of steps has this as a premise.
+abbrev pub secret_fits : Command → Bool
+secret_fits (SetSite site) = nat_le (length site.secret) 64
+secret_fits command = true
+
+-- what a command leaves of good tables is good
+abbrev pub StepKeepsGood : Type 0
+StepKeepsGood =
+    (tables : Tables) (now : ℕ) (command : Command) → IsTrue (is_sound command) → IsTrue (secret_fits command) → Good tables
+    → Good (clerk_step tables now command).tables
+
+-- a command that is refused changes no table
+abbrev pub RefusedChangesNothing : Type 0
+RefusedChangesNothing =
+    (tables : Tables) (now : ℕ) (command : Command) (refused : Refusal) → (clerk_step tables now command).answer ≡ Err refused
+    → (clerk_step tables now command).tables ≡ tables
+
+-- the modem that owns the lease of an address
+abbrev pub owner_in : Tables → Ip4 → Option Mac
+owner_in tables address = option_and_then (λ lease. owner_of lease.hold) (lease_in tables address)
+
+-- a modem owns the lease of one address at most
+abbrev pub OneLeaseAModem : Type 0
+OneLeaseAModem =
+    (tables : Tables) → Good tables → (mac : Mac) (one other : Ip4) → owner_in tables one ≡ Some mac → owner_in tables other ≡ Some mac
+    → one ≡ other
+
+-- a modem owns the lease of the address that it holds, and holds the address whose lease it owns
+abbrev pub OwnersHold : Type 0
+OwnersHold =
+    (tables : Tables) → Good tables → (mac : Mac) (address : Ip4) → (owner_in tables address ≡ Some mac) ↔ (held_in tables mac ≡ Some address)
+
+-- no address lies in two pools
+abbrev pub PoolsAreApart : Type 0
+PoolsAreApart =
+    (tables : Tables) → Good tables → (address : Ip4) (n m : ℕ) (pool other : Pool) → pool_in tables n ≡ Some pool → pool_in tables m ≡ Some other
+    → IsTrue (has_address pool address) → IsTrue (has_address other address) → n ≡ m
+
+-- a modem's subscriber and class are there, and an add-on's subscriber
+abbrev pub ModemsStand : Type 0
+ModemsStand =
+    (tables : Tables) → Good tables → (mac : Mac) (modem : Modem) → modem_in tables mac ≡ Some modem
+    → IsSome (subscriber_in tables modem.subscriber) × IsSome (class_in tables modem.class)
+
+abbrev pub AddOnsStand : Type 0
+AddOnsStand =
+    (tables : Tables) → Good tables → (n number : ℕ) (settings : List Tree) → add_on_in tables n number ≡ Some settings
+    → IsSome (subscriber_in tables n)
+
+-- a pool has the address, and no other has
+pub record LiesInOnePool (tables : Tables) (address : Ip4) : Type 0 where
+  pub number : ℕ
+  pub pool : Pool
+  pub there : pool_in tables number ≡ Some pool
+  pub within : IsTrue (has_address pool address)
+  pub only : (m : ℕ) (other : Pool) → pool_in tables m ≡ Some other → IsTrue (has_address other address) → m ≡ number
+
+-- a lease has its site, and its address lies in one pool
+abbrev pub LeasesStand : Type 0
+LeasesStand =
+    (tables : Tables) → Good tables → (address : Ip4) (lease : Lease) → lease_in tables address ≡ Some lease
+    → IsSome (site_in tables) × LiesInOnePool tables address
+
+-- good tables have no bad key
+abbrev pub GoodHaveNoBadKey : Type 0
+GoodHaveNoBadKey = (tables : Tables) (bad : Key) → Good tables → IsLeastBad tables bad → ⊥
+
+-- a test of tables has one answer
+abbrev pub OneJudgement : Type 0
+OneJudgement = (tables : Tables) (one other : Option Key) → Judged tables one → Judged tables other → one ≡ other
+
+-- in good tables what is read stands there, and what stands there is read
+abbrev pub SeenAsTheyStand : Type 0
+SeenAsTheyStand =
+    (tables : Tables) → Good tables → ((key : Key) → seen_at tables key ≡ row_at tables key) × (pools tables ≡ raw_pools tables)

@@ -1,0 +1,61 @@
+//! Laws of good tables and of what a clerk's command makes of them, over the definitions alone. Each function here does nothing: its
+//! contract is the law.
+#![tactic(auto)]
+
+ghost use Rattle.off_table_laws.specs.Laws.{StepKeepsGood, RefusedChangesNothing, OneLeaseAModem, OwnersHold, PoolsAreApart, ModemsStand, AddOnsStand, LeasesStand, GoodHaveNoBadKey, OneJudgement, SeenAsTheyStand};
+
+/// What a clerk's command leaves of good tables is good, for each command that is sound, an import too. The premise that a new site's
+/// secret has at most 64 bytes holds of each site that a program has, by the secret's type.
+pub fn a_step_keeps_good_tables()
+    ensures { StepKeepsGood }
+{}
+
+/// A command that is refused changes no table.
+pub fn a_refused_command_changes_nothing()
+    ensures { RefusedChangesNothing }
+{}
+
+/// In good tables a modem owns the lease of one address at most.
+pub fn a_modem_owns_one_lease()
+    ensures { OneLeaseAModem }
+{}
+
+/// In good tables a modem owns the lease of an address exactly where it holds that address.
+pub fn owners_hold_their_addresses()
+    ensures { OwnersHold }
+{}
+
+/// In good tables no address lies in two pools.
+pub fn no_address_lies_in_two_pools()
+    ensures { PoolsAreApart }
+{}
+
+/// In good tables the subscriber and the class of each modem are there.
+pub fn a_modem_has_its_subscriber_and_class()
+    ensures { ModemsStand }
+{}
+
+/// In good tables the subscriber of each add-on is there.
+pub fn an_add_on_has_its_subscriber()
+    ensures { AddOnsStand }
+{}
+
+/// In good tables with a lease there is a site, and the lease's address lies in one pool and in no other.
+pub fn a_lease_lies_in_one_pool()
+    ensures { LeasesStand }
+{}
+
+/// Good tables have no least bad key.
+pub fn good_tables_have_no_bad_key()
+    ensures { GoodHaveNoBadKey }
+{}
+
+/// A test of tables has one answer: that they are good, or their least bad key.
+pub fn tables_have_one_judgement()
+    ensures { OneJudgement }
+{}
+
+/// In good tables each row is read as it stands, and the pools that are read are all.
+pub fn good_tables_are_seen_as_they_stand()
+    ensures { SeenAsTheyStand }
+{}
