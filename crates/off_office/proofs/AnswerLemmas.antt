@@ -86,8 +86,8 @@ pub show_ends : (command : Command) (before after : Kept) (at : ℕ) (done : Rep
 show_ends command before after at done r q conn said a b done_so is held show told same =
     subst (Ends (steps command before.held.now) conn said before after a b) (sym same)
     (show_by command before.held.now before after done r conn said a b
-        (subst (λ n. Commanded command n before.counts after.counts done a b) (came_now before after at is held) done_so)
-        (same_held before.held after.held at is held) show told)
+    (subst (λ n. Commanded command n before.counts after.counts done a b) (came_now before after at is held) done_so)
+    (same_held before.held after.held at is held) show told)
 
 -- what was in hand before the command was done is its answer
 in_hand : (r : Result (Unit {0}) NoMemory) (said : Said) (conn : ℕ) → is_err r ≡ false → OnOk r (said ≡ reply_said conn Done) → said ≡ reply_said conn Done

@@ -154,9 +154,9 @@ pub acts_closed : (event : Event) (conn : ℕ) (outcome : Outcome) (said : Said)
 acts_closed event conn outcome said before mid after k is at left did says =
     subst (λ (o : Outcome). Acts event o said before after k k) (sym did)
     (acts_quietly event Did said before mid after k (Closed conn) is at (ap (λ (x : Kept). x.counts) left)
-        (λ t. ap (λ (x : Said). record { said = completed (Closed conn) Did x; after = state_of t after.held }) says
-            ∙ ap (λ (x : Kept). record { said = failed_said (codes "http closed"); after = state_of t x.held }) left)
-        refl tt)
+    (λ t. ap (λ (x : Said). record { said = completed (Closed conn) Did x; after = state_of t after.held }) says
+    ∙ ap (λ (x : Kept). record { said = failed_said (codes "http closed"); after = state_of t x.held }) left)
+    refl tt)
 
 pub acts_silently : (event : Event) (said : Said) (before mid : Kept) (k : KeeperSeen) (what : What)
     → event.what ≡ what → mid ≡ kept_at before event.at.0 → said ≡ says_nothing
