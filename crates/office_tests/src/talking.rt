@@ -143,6 +143,7 @@ pub fn serve_words(alloc: Global) -> Result<Vec<String>, Fail> {
 }
 
 // What a run left: its status, what it wrote, and the link, by which what was sent can be read.
+#[derive(Drop)]
 pub struct Ran {
     pub status: u8,
     pub out: MemSink,
