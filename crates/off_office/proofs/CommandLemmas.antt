@@ -1,20 +1,15 @@
 -- A command: what was decided, and what its writes leave.
-use Rattle.std.proofs.Common.{◌≡◌, ℕ, ◌==◌, Bool, true, false, List, [], ◌∷◌, length, Result, Ok, Err, IsTrue, refl, sym, ap, ◌∙◌, subst, arith, nat_eq}
+use Rattle.std.proofs.Common.{◌≡◌, ℕ, true, List, [], ◌∷◌, length, Ok, Err, refl, sym, ap, ◌∙◌, subst, arith}
 use Rattle.off_defs.specs.declared.orders.Command.{Command}
 use Rattle.off_defs.specs.declared.orders.Command.TheVariants.{SetSite, PutSubscriber, PutAddOn, PutModem, PutClass, PutPool, Remove, Show, Import}
-use Rattle.off_defs.specs.declared.orders.Reply.{Reply}
-use Rattle.off_defs.specs.declared.orders.Reply.TheVariants.{Done, Shown}
 use Rattle.off_defs.specs.declared.orders.Write.{Write}
 use Rattle.off_defs.specs.State.{Tables}
 use Rattle.off_defs.specs.Tables.{write_all}
-use Rattle.off_defs.specs.Told.{Told}
 use Rattle.off_rules.specs.declared.counts.Counts.{Counts}
 use Rattle.off_rules.specs.Rows.{counts_of}
 use Rattle.off_rules.specs.Clerk.{Accepted, Refusal, accepted, refusal, decided, stepped_by, clerk_step, IsAnswered, IsRefused}
 use Rattle.off_outside.specs.KeeperSeen.{KeeperSeen}
-use Rattle.off_outside.specs.KeeperCalls.{Reads, Committed, NotDone}
-use Rattle.off_outside.specs.declared.keeper.KeepErr.{KeepErr}
-use Rattle.off_outside.specs.declared.keeper.KeepErr.TheVariants as keep
+use Rattle.off_outside.specs.KeeperCalls.{Reads, Committed}
 use Rattle.off_outside.proofs.KeeperLemmas.{reads_as}
 use Rattle.off_defs.proofs.ToldLemmas.{told_self}
 use Rattle.off_accounts.specs.declared.results.Planned.{Planned}

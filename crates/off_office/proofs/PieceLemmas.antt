@@ -1,5 +1,5 @@
 -- A piece of a connection, by what the bytes so far say.
-use Rattle.std.proofs.Common.{◌≡◌, ℕ, Bool, true, false, ◌&&◌, cond, List, ◌++◌, codes, Option, Some, None, is_none, unwrap_or, Result, Ok, Err, OnOk, MatchResult, refl, sym, ap, ◌∙◌, subst, arith}
+use Rattle.std.proofs.Common.{◌≡◌, ℕ, Bool, true, false, ◌&&◌, cond, List, ◌++◌, codes, Option, Some, None, is_none, Result, Ok, Err, OnOk, MatchResult, refl, sym, ap, ◌∙◌, subst, arith}
 use Rattle.std.specs.Ordering.{nat_cmp, eq_by_cmp, is_eq}
 use Rattle.std.specs.Cmp.{nat_cmp_total}
 use Rattle.std.specs.declared.cmp.Ordering.{Ordering}
@@ -10,17 +10,16 @@ use Rattle.off_http.specs.declared.answers.HttpFault.{HttpFault}
 use Rattle.off_http.specs.Request.{Meaning, Waits, Refused, Asked, RequestIs}
 use Rattle.off_http.specs.Heard.{IsAsked, asked_method, asked_target, asked_body}
 use Rattle.off_clerk.specs.declared.faults.Fault.TheVariants as fault
-use Rattle.off_defs.specs.State.{Tables, Held, State, Said, Effect, state_of}
+use Rattle.off_defs.specs.State.{Tables, Held, Said, Effect, state_of}
 use Rattle.off_defs.proofs.ToldLemmas.{told_self, told_weaker}
 use Rattle.off_defs.proofs.CountLemmas.{grew_self}
-use Rattle.off_rules.specs.Rows.{counts_of}
-use Rattle.off_book.specs.Http.{Answered, answer_fault, answer_request, answered, by_meaning, is_full, heard_of, with_connection, without_connection, TakesPiece, PieceDid}
+use Rattle.off_book.specs.Http.{answer_request, by_meaning, is_full, heard_of, without_connection, TakesPiece, PieceDid}
 use Rattle.off_outside.specs.declared.keeper.KeepErr.{KeepErr}
 use Rattle.off_outside.specs.declared.keeper.KeepErr.TheVariants as keep
 use Rattle.off_outside.specs.KeeperSeen.{KeeperSeen}
 use Rattle.off_outside.specs.KeeperCalls.{NotDone}
 use Rattle.off_office.specs.Kept.{Kept}
-use Rattle.off_office.specs.Answering.{said_to, fault_said, busy_said, failed_said, had_memory, forgets, WaitsFor, AnsweredBy, NotAnswered, HeardPiece, NotHeard}
+use Rattle.off_office.specs.Answering.{said_to, fault_said, busy_said, failed_said, had_memory, forgets, WaitsFor, HeardPiece, NotHeard}
 use Rattle.off_office.proofs.AnswerLemmas.{Ends}
 
 abbrev Connections : Type 0

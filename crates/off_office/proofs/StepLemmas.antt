@@ -1,26 +1,23 @@
 -- From what an event comes to, to the step of the book.
-use Rattle.std.proofs.Common.{◌≡◌, ℕ, max, List, [], ◌++◌, codes, refl, sym, ap, ◌∙◌, subst, arith, append-nil}
-use Rattle.std.specs.FinMap as map
+use Rattle.std.proofs.Common.{◌≡◌, ℕ, List, codes, refl, sym, ap, ◌∙◌, subst, arith, append-nil}
 use Rattle.off_base.specs.declared.addresses.Peer.{Peer}
 use Rattle.off_defs.specs.declared.events.Event.{Event}
 use Rattle.off_defs.specs.declared.events.What.{What}
-use Rattle.off_defs.specs.declared.events.What.TheVariants.{Datagram, Piece, Closed, Tick, End}
+use Rattle.off_defs.specs.declared.events.What.TheVariants.{Datagram, Piece, Closed}
 use Rattle.off_defs.specs.declared.events.Service.{Service}
 use Rattle.off_defs.specs.declared.events.Service.TheVariants.{Dhcp, Time, Tftp}
 use Rattle.off_defs.specs.declared.results.Outcome.{Outcome}
 use Rattle.off_defs.specs.declared.results.Outcome.TheVariants.{Did, Memory, Keeper}
-use Rattle.off_defs.specs.State.{Tables, Held, State, Said, Effect, state_of, held_at, at_moment, says_nothing}
+use Rattle.off_defs.specs.State.{Tables, Held, Said, state_of, held_at, says_nothing}
 use Rattle.off_defs.specs.Counts.{Grew}
 use Rattle.off_defs.proofs.ToldLemmas.{told_self, told_weaker}
 use Rattle.off_defs.proofs.CountLemmas.{grew_self}
-use Rattle.off_rules.specs.Rows.{counts_of}
-use Rattle.off_book.specs.Http.{PieceDid, without_connection, no_memory_reply, no_keeper_reply}
+use Rattle.off_book.specs.Http.{PieceDid}
 use Rattle.off_book.specs.Step.{Step, Does, TellsOutcome, completed}
 use Rattle.off_book.specs.Run.{keeper_failures}
 use Rattle.off_outside.specs.declared.keeper.KeepErr.{KeepErr}
 use Rattle.off_outside.specs.declared.keeper.KeepErr.TheVariants as keep
 use Rattle.off_outside.specs.KeeperSeen.{KeeperSeen}
-use Rattle.off_outside.specs.KeeperCalls.{NotDone}
 use Rattle.off_office.specs.Kept.{Kept}
 use Rattle.off_office.specs.Acting.{Acts, kept_at}
 use Rattle.off_office.specs.Saying.{SaysTime, SaysDatagram}

@@ -217,7 +217,8 @@ fn a_ninth_connection_is_closed(rt: HostRuntime) -> Result<(), Fail> {
     })?;
     push_piece(alloc, &mut events, 9, b"G")?;
     let ran = serve(alloc, events, &mut keeper, Calls::new(alloc))?;
-    let written = "1 http wait\n2 http wait\n3 http wait\n4 http wait\n5 http wait\n6 http wait\n7 http wait\n8 http wait\n9 http busy\n10 http wait\n11 http closed\n12 http wait\n";
+    let written =
+        "1 http wait\n2 http wait\n3 http wait\n4 http wait\n5 http wait\n6 http wait\n7 http wait\n8 http wait\n9 http busy\n10 http wait\n11 http closed\n12 http wait\n";
     assert_eq!(rt; ran.out.written(), written.as_bytes());
     assert_eq!(rt; ran.link.sent_len(), 1);
     is_close(&rt, &ran.link, 0, 9)
@@ -238,7 +239,11 @@ fn connections_are_heard_apart(rt: HostRuntime) -> Result<(), Fail> {
     }
     let ran = serve(alloc, events, &mut keeper, Calls::new(alloc))?;
     assert_eq!(rt; ran.status, 0);
-    let expected = answer_bytes(alloc, "200 OK", "{\"active\":true,\"cpes\":2,\"name\":\"Ann\"}")?;
+    let expected = answer_bytes(
+        alloc,
+        "200 OK",
+        "{\"active\":true,\"cpes\":2,\"name\":\"Ann\"}",
+    )?;
     // Behind the datagrams between, each connection has its answer and its end, in the order of the last pieces; then the last datagram.
     let pieces = bytes.as_slice().chunks(20).count();
     let mut place = pieces.wrapping_sub(1);
@@ -262,7 +267,11 @@ fn a_number_that_left_is_a_new_connection(rt: HostRuntime) -> Result<(), Fail> {
     push_piece(alloc, &mut events, 1, again.as_slice())?;
     let ran = serve(alloc, events, &mut keeper, Calls::new(alloc))?;
     assert_eq!(rt; ran.out.written(), b"1 http 200\n2 http 200\n".as_slice());
-    let expected = answer_bytes(alloc, "200 OK", "{\"active\":true,\"cpes\":2,\"name\":\"Ann\"}")?;
+    let expected = answer_bytes(
+        alloc,
+        "200 OK",
+        "{\"active\":true,\"cpes\":2,\"name\":\"Ann\"}",
+    )?;
     is_answer(&rt, &ran.link, 2, 1, expected.as_slice())?;
     is_close(&rt, &ran.link, 3, 1)
 }
@@ -297,7 +306,10 @@ fn a_commit_that_fails_changes_nothing(rt: HostRuntime) -> Result<(), Fail> {
     push_requests(alloc, &mut events, &[get("/site")])?;
     let ran = serve(alloc, events, &mut keeper, Calls::new(alloc))?;
     assert_eq!(rt; ran.status, 0);
-    assert_eq!(rt; ran.out.written(), b"1 http keeper\n2 http 404 no-row\n".as_slice());
+    assert_eq!(rt;
+        ran.out.written(),
+        b"1 http keeper\n2 http 404 no-row\n".as_slice()
+    );
     is_answer(&rt, &ran.link, 0, 1, NO_KEEPER)?;
     is_close(&rt, &ran.link, 1, 1)
 }

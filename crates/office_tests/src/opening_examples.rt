@@ -33,7 +33,10 @@ fn bad_tables_are_refused(rt: HostRuntime) -> Result<(), Fail> {
     let mut keeper = bad_keeper(&rt, alloc)?;
     let ran = serve(alloc, time_event(alloc)?, &mut keeper, Calls::new(alloc))?;
     assert_eq!(rt; ran.status, 2);
-    assert_eq!(rt; ran.out.written(), b"tables refused held 02aabbccddee\n".as_slice());
+    assert_eq!(rt;
+        ran.out.written(),
+        b"tables refused held 02aabbccddee\n".as_slice()
+    );
     assert_eq!(rt; ran.link.sent_len(), 0);
     Ok(())
 }
@@ -46,12 +49,29 @@ fn a_refused_opening_takes_no_event(rt: HostRuntime) -> Result<(), Fail> {
     let mut source = MemSource::new(alloc, Bytes::new(alloc), Calls::new(alloc));
     let mut out = MemSink::new(alloc, 400, Calls::new(alloc))?;
     let words = serve_words(alloc)?;
-    let bad = run(alloc, words.as_slice(), &mut link, &mut keeper, &mut source, &mut out);
+    let bad = run(
+        alloc,
+        words.as_slice(),
+        &mut link,
+        &mut keeper,
+        &mut source,
+        &mut out,
+    );
     let mut empty = MemKeeper::new(alloc, Calls::new(alloc));
-    let good = run(alloc, words.as_slice(), &mut link, &mut empty, &mut source, &mut out);
+    let good = run(
+        alloc,
+        words.as_slice(),
+        &mut link,
+        &mut empty,
+        &mut source,
+        &mut out,
+    );
     assert_eq!(rt; bad, 2);
     assert_eq!(rt; good, 0);
-    assert_eq!(rt; out.written(), b"tables refused held 02aabbccddee\n1 time sent\n".as_slice());
+    assert_eq!(rt;
+        out.written(),
+        b"tables refused held 02aabbccddee\n1 time sent\n".as_slice()
+    );
     Ok(())
 }
 
@@ -93,7 +113,12 @@ fn a_second_run_starts_from_the_tables_that_the_first_left(rt: HostRuntime) -> R
         path: "/modems/02aabbccddee",
         body: "",
     };
-    let ran = serve(alloc, requests(alloc, &[shown])?, &mut keeper, Calls::new(alloc))?;
+    let ran = serve(
+        alloc,
+        requests(alloc, &[shown])?,
+        &mut keeper,
+        Calls::new(alloc),
+    )?;
     let expected = answer_bytes(
         alloc,
         "200 OK",
@@ -116,7 +141,14 @@ fn jobs_and_other_words_leave_bad_tables(rt: HostRuntime) -> Result<(), Fail> {
         let mut words = Vec::new(alloc);
         words.push(String::from_str(alloc, command)?)?;
         words.push(String::from_str(alloc, "736563726574")?)?;
-        let ended = run(alloc, words.as_slice(), &mut link, &mut keeper, &mut source, &mut out);
+        let ended = run(
+            alloc,
+            words.as_slice(),
+            &mut link,
+            &mut keeper,
+            &mut source,
+            &mut out,
+        );
         assert_eq!(rt; ended, status, "{command}");
         let held = keeper.get(alloc, &Key::Held(MODEM));
         assert!(rt; held.is_ok_and(|row| row.is_some()), "{command}");

@@ -36,8 +36,7 @@ pub const OFFICE: [Request; 5] = [
 ];
 
 // What the office writes while it's put.
-pub const OFFICE_LINES: &str =
-    "1 http 200\n2 http 200\n3 http 200\n4 http 200\n5 http 200\n";
+pub const OFFICE_LINES: &str = "1 http 200\n2 http 200\n3 http 200\n4 http 200\n5 http 200\n";
 
 // A clerk's request.
 #[derive(Clone, Copy, Debug)]
@@ -111,11 +110,7 @@ pub fn requests(alloc: Global, requests: &[Request]) -> Result<Events, Fail> {
     Ok(events)
 }
 
-pub fn push_requests(
-    alloc: Global,
-    events: &mut Events,
-    requests: &[Request],
-) -> Result<(), Fail> {
+pub fn push_requests(alloc: Global, events: &mut Events, requests: &[Request]) -> Result<(), Fail> {
     let mut conn: u32 = 0;
     for request in requests {
         conn = conn.wrapping_add(1);
@@ -205,12 +200,7 @@ pub fn is_answer(
 }
 
 // The item at a place ends this connection.
-pub fn is_close(
-    rt: &impl Abort,
-    link: &MemLink,
-    place: usize,
-    number: u32,
-) -> Result<(), Fail> {
+pub fn is_close(rt: &impl Abort, link: &MemLink, place: usize, number: u32) -> Result<(), Fail> {
     assert!(rt; place < link.sent_len());
     match link.sent(place) {
         SentRef::Close { conn } => assert_eq!(rt; conn, number),

@@ -1,7 +1,7 @@
 use Rattle.std.proofs.Common.{sym, ap, ◌∙◌, subst, List, ℕ, ◌++◌}
 use Rattle.off_http.specs.declared.answers.Fed.{Fed}
 use Rattle.off_http.specs.Heard.{Answers}
-use Rattle.off_office.proofs.PieceLemmas.{Read, busy_hears, wait_hears, bad_hears, asked_hears}
+use Rattle.off_office.proofs.PieceLemmas.{busy_hears, wait_hears, bad_hears, asked_hears}
 use Rattle.off_office.proofs.office.Office.hear.Goals as goal
 
 pub returns-then-is_full_for : goal.returns-then-is_full_for
