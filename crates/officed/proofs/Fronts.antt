@@ -12,7 +12,7 @@ pub sent_front : (bytes : List ℕ) (sent count room : ℕ) (old : UnsentHeld) �
     → sent + count < length bytes → SentFront old (record { left = drop (sent + count) bytes; room = room })
 sent_front bytes sent count room old seen within =
     subst (λ before. SentFront before (record { left = drop (sent + count) bytes; room = room })) seen
-        (record { front = (count, sym (drop-drop count sent bytes)); more = some_left bytes (sent + count) within; room = refl })
+    (record { front = (count, sym (drop-drop count sent bytes)); more = some_left bytes (sent + count) within; room = refl })
 
 pub sent_all : (bytes : List ℕ) (sent room : ℕ) (old : UnsentHeld) → room ≡ old.room
     → length bytes ≤ sent → SentAll old (record { left = drop sent bytes; room = room })

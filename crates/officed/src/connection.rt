@@ -1,5 +1,6 @@
-ghost use Rattle.std.specs.Prelude.{◌≡◌, ◌≢◌, IfOk, IsTrue};
-ghost use Rattle.officed.specs.Connections.{GivesNothing};
+ghost use Rattle.std.specs.Prelude.{◌≡◌, ◌≢◌, ◌<◌, ◌≤◌, ◌↔◌, ◌⊎◌, length, IfOk, IsTrue, false};
+ghost use Rattle.officed.specs.Connections.{GivesNothing, IsInTime, IsSpoken, later};
+ghost use Rattle.officed.specs.declared.connection.Heard.TheVariants as heard;
 ghost use Rattle.officed.specs.declared.connection.Stage.TheVariants as stage;
 
 use crate::unsent::{Sending, Unsent};
@@ -16,10 +17,12 @@ const ROOM: usize = 4096;
 // How many times bytes that nobody wants are read before another socket is asked.
 const MOST_DROPPED: u32 = 16;
 
-// So many seconds a peer may say nothing before its request is whole.
+// So many seconds a peer may say nothing before its request is whole. Else the few connections that the office takes at a time would
+// stay with peers that have gone, or mean no good.
 const LONGEST_SILENCE: u64 = 60;
 
-// So many seconds a peer has, behind a close, to take its answer and to end the connection.
+// So many seconds a peer has, behind a close, to take its answer and to end the connection. What it hasn't taken then is lost, and no
+// count tells of it: the bytes were handed to the link.
 const LONGEST_CLOSE: u64 = 10;
 
 /// What a connection had.
@@ -63,7 +66,11 @@ pub struct Connection {
 impl Connection {
     /// A connection that was accepted in the second `now`.
     pub fn new(number: u32, stream: TcpStream, unsent: Unsent, now: u64) -> Connection
-        ensures { result.number ≡ number }
+        ensures number { result.number ≡ number }
+        ensures open { result.stage ≡ stage.Open }
+        ensures unspoken { result.spoke ≡ false }
+        ensures unsent { result.unsent ≡ unsent }
+        ensures until { result.until ≡ later now LONGEST_SILENCE }
     {
         Connection {
             number,
@@ -77,7 +84,7 @@ impl Connection {
 
     /// Whether the office has heard of it and doesn't know of its end.
     pub fn is_known(&self) -> bool
-        ensures { IsTrue result → self.now.stage ≡ stage.Open }
+        ensures { IsTrue result ↔ (IsTrue self.now.spoke × (self.now.stage ≡ stage.Open)) }
     {
         self.spoke && self.stage == Stage::Open
     }
@@ -87,6 +94,8 @@ impl Connection {
         ensures number { self.new.number ≡ self.old.number }
         ensures closed { self.old.stage ≢ stage.Open → self.new.stage ≢ stage.Open }
         ensures gives { self.old.stage ≢ stage.Open → IfOk result GivesNothing }
+        ensures spoken { IfOk result (λ given. IsSpoken given self.new.spoke) }
+        ensures in_time { IfOk result (λ given. IsInTime given now self.new.until) }
     {
         let sending = self.unsent.send(&mut self.stream);
         if sending == Sending::Broken {
@@ -106,6 +115,7 @@ impl Connection {
     pub fn answer(&mut self, bytes: &[u8]) -> bool
         ensures number { self.new.number ≡ self.old.number }
         ensures open { IsTrue result → self.old.stage ≡ stage.Open }
+        ensures fits { IsTrue result → length bytes.now ≤ self.old.unsent.room }
         ensures stage { self.new.stage ≡ self.old.stage }
     {
         self.stage == Stage::Open
@@ -117,6 +127,7 @@ impl Connection {
     pub fn close(&mut self, now: u64)
         ensures number { self.new.number ≡ self.old.number }
         ensures closed { self.new.stage ≢ stage.Open }
+        ensures until { self.old.stage ≡ stage.Open → self.new.until ≡ later now LONGEST_CLOSE }
     {
         if self.stage == Stage::Open {
             self.stage = Stage::Sending;
@@ -131,25 +142,40 @@ impl Connection {
     fn end_writing(&mut self)
         ensures number { self.new.number ≡ self.old.number }
         ensures stage { self.new.stage ≡ stage.Ending }
+        ensures spoke { self.new.spoke ≡ self.old.spoke }
+        ensures until { self.new.until ≡ self.old.until }
     {
         let _told = self.stream.shutdown(Shutdown::Write);
         self.stage = Stage::Ending;
     }
 
+    // Whether its time is over.
+    fn is_late(&self, now: u64) -> bool
+        ensures { IsTrue result ↔ (self.now.until ≤ now) }
+    {
+        self.until <= now
+    }
+
     // Nothing came: it goes on, or took too long.
     fn quiet(&self, now: u64) -> Heard
-        ensures { GivesNothing result }
+        ensures gives { GivesNothing result }
+        ensures in_time { IsInTime result now self.now.until }
+        ensures goes_on { now < self.now.until → result ≡ heard.Quiet }
     {
-        if self.until <= now {
+        if self.is_late(now) {
             Heard::Over
         } else {
             Heard::Quiet
         }
     }
 
+    // Reads the next bytes.
     fn read_piece(&mut self, alloc: Global, now: u64) -> Result<Heard, LinkErr>
         ensures number { self.new.number ≡ self.old.number }
         ensures stage { self.new.stage ≡ self.old.stage }
+        ensures spoken { IfOk result (λ given. IsSpoken given self.new.spoke) }
+        ensures in_time { IfOk result (λ given. IsInTime given now self.new.until) }
+        ensures until { (self.new.until ≡ self.old.until) ⊎ (self.new.until ≡ later now LONGEST_SILENCE) }
     {
         let mut room = [0u8; ROOM];
         match self.stream.read(&mut room) {
@@ -171,9 +197,11 @@ impl Connection {
     fn end_reading(&mut self, now: u64) -> Heard
         ensures number { self.new.number ≡ self.old.number }
         ensures stage { self.new.stage ≡ self.old.stage }
+        ensures until { self.new.until ≡ self.old.until }
         ensures gives { GivesNothing result }
+        ensures in_time { IsInTime result now self.new.until }
     {
-        if self.until <= now {
+        if self.is_late(now) {
             return Heard::Over;
         }
         drop_pieces(&mut self.stream)
@@ -199,7 +227,9 @@ fn drop_pieces(stream: &mut TcpStream) -> Heard
     Heard::Dropped
 }
 
-fn piece(alloc: Global, part: &[u8]) -> Result<Heard, LinkErr> {
+fn piece(alloc: Global, part: &[u8]) -> Result<Heard, LinkErr>
+    ensures { IfOk result (λ given. given ≡ heard.Piece part.now) }
+{
     let mut bytes = Bytes::new(alloc);
     match bytes.push_all(part) {
         Ok(()) => Ok(Heard::Piece(bytes)),
