@@ -106,7 +106,7 @@ impl Clerks {
                     self.spare = Some(unsent);
                     match error.kind() {
                         ErrorKind::WouldBlock => return Ok(()),
-                        ErrorKind::Interrupted | ErrorKind::ConnectionAborted => {}
+                        kind if is_of_peer(kind) => {}
                         _ => return Err(LinkErr::Failed),
                     }
                 }
@@ -189,4 +189,17 @@ impl Clerks {
             Asked::Dropped
         }
     }
+}
+
+// Whether an error of `accept` speaks of the connection that waited, or of a signal, and not of the listener: the next one may be good.
+fn is_of_peer(kind: ErrorKind) -> bool {
+    matches!(
+        kind,
+        ErrorKind::Interrupted
+            | ErrorKind::ConnectionAborted
+            | ErrorKind::ConnectionReset
+            | ErrorKind::HostUnreachable
+            | ErrorKind::NetworkUnreachable
+            | ErrorKind::NetworkDown
+    )
 }
