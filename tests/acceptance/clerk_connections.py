@@ -7,8 +7,6 @@ It ends what it started, and takes under a minute.
 
 That the office ends a silent connection after 60 seconds, and one whose peer doesn't end it 10 seconds behind its close, takes longer:
     OFFICE_WAITS=1 python3 tests/acceptance/clerk_connections.py
-
-A build whose office logs clerks as `not-built` is only asked to take pieces and ends.
 """
 import json
 import os
@@ -291,34 +289,14 @@ def judge(lines):
     print(f"{len(lines)} lines, the last number {numbers[-1] if numbers else 0}")
 
 
-def clerks_are_answered(port):
-    """Whether this build answers clerks. It waits for the program first."""
+def wait_until_answering(port):
+    """Waits for the program. It answers the first request."""
     for _ in range(100):
         try:
             return ask(port, request("GET", "/nowhere")) == reply(404, b'{"fault":"no-path"}')
         except OSError:
             time.sleep(0.05)
     return False
-
-
-def only_taken(port):
-    """Three pieces and an end, a piece and a reset, for an office that doesn't answer clerks yet."""
-    with connect(port) as peer:
-        for byte in (b"G", b"E", b"T"):
-            peer.sendall(byte)
-            time.sleep(0.1)
-    peer = connect(port)
-    peer.sendall(b"P")
-    time.sleep(0.1)
-    reset(peer)
-    time.sleep(0.3)
-
-
-def judge_not_built(lines):
-    # The question whether clerks are answered was a piece and an end, too.
-    check(all(re.fullmatch(r"[0-9]+ http not-built", line) for line in lines), "no line but those of an office that doesn't answer")
-    check(len(lines) == 8, f"each piece and each end has a line: {lines}")
-    print("this build doesn't answer clerks: only pieces and ends were tried")
 
 
 def try_all(port):
@@ -337,21 +315,15 @@ def main():
     with tempfile.TemporaryFile() as log:
         program = start(ports, 10**9, log)
         try:
-            answered = clerks_are_answered(port)
-            if answered:
-                try_all(port)
-            else:
-                only_taken(port)
+            check(wait_until_answering(port), "the office answers clerks")
+            try_all(port)
             check(program.poll() is None, "the program goes on")
         finally:
             program.send_signal(signal.SIGTERM)
             program.wait(timeout=10)
         log.seek(0)
         lines = log.read().decode().splitlines()
-        if answered:
-            judge(lines)
-        else:
-            judge_not_built(lines)
+        judge(lines)
     print(f"acceptance: {len(failures)} failed")
     return 1 if failures else 0
 

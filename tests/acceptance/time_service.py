@@ -147,7 +147,7 @@ def serve_and_ask():
 def judge(lines):
     numbers = []
     for line in lines:
-        form = re.fullmatch(r"([0-9]+) (time sent|dhcp not-built|tftp not-built|http not-built)", line)
+        form = re.fullmatch(r"([0-9]+) (time sent|dhcp not-built|tftp not-built|http wait|http closed|http 404 no-row)", line)
         check(form is not None, f"a line has its form: {line!r}")
         if form:
             numbers.append(int(form.group(1)))
@@ -156,7 +156,7 @@ def judge(lines):
     check(words.count("time sent") >= 500, "each answer has a line")
     check(words.count("dhcp not-built") == 1, "the DHCP datagram has a line")
     check(words.count("tftp not-built") == 1, "the TFTP datagram has a line")
-    check(words.count("http not-built") >= 2, "the clerk's piece and its end have lines")
+    check(words.count("http 404 no-row") == 1, "the clerk's request has a line")
     print(f"{len(lines)} lines, the last number {numbers[-1] if numbers else 0}")
 
 

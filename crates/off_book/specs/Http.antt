@@ -71,8 +71,10 @@ answer_request tables now method target body = answer_command tables now (comman
 -- an answer ends the connection
 abbrev pub answered : State → ℕ → Answered → Effect
 answered s conn answer =
-    record { said = record { items = answer_and_close conn (reply answer.status answer.body); line = codes "http " ++ answer.words };
-             after = state_of answer.tables (without_connection s.held conn) }
+    record {
+      said = record { items = answer_and_close conn (reply answer.status answer.body); line = codes "http " ++ answer.words };
+      after = state_of answer.tables (without_connection s.held conn);
+    }
 
 -- what the bytes of a connection have the office do
 abbrev pub by_meaning : State → ℕ → List ℕ → Meaning → Effect
