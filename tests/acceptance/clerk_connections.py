@@ -189,9 +189,9 @@ def long_class():
         parts = [{"code": 8, "hex": "00100b"}] + [{"code": 255, "hex": ""}] * leaves
         return {"code": 43, "parts": parts + [{"code": 1, "hex": "5a" * last}]}
 
-    # 9 + 9 bytes of flows; a vendor's group has 2 + 5 + 2 n + 2 + last bytes
-    settings = [flow(24, 1), flow(25, 2)] + [vendor(124, 0) for _ in range(7)] + [vendor(110, 2)]
-    spelled = 18 + 7 * (9 + 248) + 9 + 220 + 2
+    # 9 + 9 bytes of flows; a vendor's group has 2 + 5 + 2 n + 2 + last bytes, and 256 at most
+    settings = [flow(24, 1), flow(25, 2)] + [vendor(123, 0) for _ in range(7)] + [vendor(118, 0)]
+    spelled = 18 + 7 * (9 + 246) + 9 + 236
     assert spelled == 2048, spelled
     return json.dumps({"name": "\x01" * 64, "settings": settings}, separators=(",", ":")).encode()
 

@@ -20,3 +20,5 @@ mod examples;
 mod failing;
 #[cfg(test)]
 mod lying;
+#[cfg(test)]
+mod refused;
