@@ -1,5 +1,5 @@
 -- What is read of a body is in the ranges of its kind: a subscriber's count of devices, a pool's prefix and relay, a site's secret.
-use Rattle.std.proofs.Common.{◌≡◌, ℕ, ◌≤◌, Bool, true, false, cond, not, ◌&&◌, ◌==◌, List, length, Option, Some, None, option_map, option_and_then, IfSome, Result, Ok, Err, IfOk, nat_le, refl, sym, arith}
+use Rattle.std.proofs.Common.{◌≡◌, ℕ, ◌≤◌, Bool, true, false, cond, not, ◌&&◌, ◌==◌, List, length, Option, Some, None, option_and_then, IfSome, Result, Ok, Err, IfOk, nat_le, refl, arith}
 use Rattle.std.proofs.lemmas.Bool.Decides.{nat_tests}
 use Rattle.std.specs.Prelude.{ℤ, ok_or}
 use Rattle.std.specs.Int.{is_in_range}
@@ -9,7 +9,6 @@ use Rattle.hex.specs.declared.error.FromHexError.{FromHexError}
 use Rattle.hex.proofs.HexLemmas.{decode_of-ok}
 use Rattle.serde_json.specs.Data.{Data}
 use Rattle.serde_json.specs.Find.{get, as_bool, as_str, as_number, as_u64}
-use Rattle.off_base.specs.AddressText.{ip_of}
 use Rattle.off_base.specs.declared.addresses.Ip4.{Ip4}
 use Rattle.off_defs.specs.declared.tables.Site.{Site}
 use Rattle.off_defs.specs.declared.tables.Subscriber.{Subscriber}
@@ -21,7 +20,7 @@ use Rattle.off_clerk.specs.declared.names.Name.TheVariants as field
 use Rattle.off_clerk.specs.Commands.{◌>>=◌, site_in, subscriber_in, pool_in}
 use Rattle.off_clerk.specs.Fields.{member_in, field_in, only_if, number_in, offset_in, text_in, address_in, relay_in, hex_of, hex_in}
 use Rattle.off_clerk.specs.Names.{name_text}
-use Rattle.off_clerk.specs.Paths.{ip_with, last_number}
+use Rattle.off_clerk.specs.Paths.{last_number}
 
 -- a field has what each value that is read for it has
 read_ok : {A : Type 0} (P : A → Type 0) (which : Name) (read : Option A) (err : ClerkErr) → IfSome read P → IfOk (ok_or read err) P

@@ -4,4 +4,6 @@ pub mod Requests
 pub mod Answers
 pub mod Ways
 pub mod StepLaws
+pub mod Lines
+pub mod Connections
 pub mod RunLaws

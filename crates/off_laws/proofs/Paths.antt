@@ -5,7 +5,7 @@ use Rattle.off_base.specs.Number.{number_of, is_number_text, number_read}
 use Rattle.off_defs.specs.declared.keys.Key.{Key}
 use Rattle.off_defs.specs.declared.keys.Key.TheVariants as key
 use Rattle.off_rows.specs.Sound.{is_shown, is_removable}
-use Rattle.off_clerk.specs.Paths.{length_before, behind, numbered, last_number, mac_with, ip_with, add_on_named, site_at, subscriber_at, add_on_at, modem_at, class_at, pool_at, lease_at, key_at, has_delete}
+use Rattle.off_clerk.specs.Paths.{length_before, last_number, mac_with, ip_with, add_on_named, site_at, subscriber_at, add_on_at, modem_at, class_at, pool_at, lease_at, key_at, has_delete}
 use Rattle.off_clerk.proofs.PathLemmas.{IsShown, either_shown}
 
 within_if : (text : Bool) (n most : ℕ) (b : Bool) → nat_le n most ≡ b → IfSome (cond (text && b) (Some n) None) (λ (m : ℕ). nat_le m most ≡ true)

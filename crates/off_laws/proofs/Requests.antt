@@ -2,17 +2,11 @@
 use Rattle.std.proofs.Common.{◌≡◌, ℕ, Bool, true, false, cond, ◌&&◌, List, codes, Option, Some, None, Result, Ok, Err, IfOk, refl}
 use Rattle.std.specs.Prelude.{bytes_eq}
 use Rattle.serde_json.specs.Data.{Data}
-use Rattle.off_base.specs.Tree.{Tree}
 use Rattle.off_defs.specs.declared.keys.Key.{Key}
 use Rattle.off_defs.specs.declared.keys.Key.TheVariants as key
-use Rattle.off_defs.specs.declared.tables.Modem.{Modem}
-use Rattle.off_defs.specs.declared.tables.Class.{Class}
-use Rattle.off_defs.specs.declared.tables.Pool.{Pool}
-use Rattle.off_defs.specs.declared.tables.Site.{Site}
-use Rattle.off_defs.specs.declared.tables.Subscriber.{Subscriber}
 use Rattle.off_defs.specs.declared.orders.Command.{Command}
 use Rattle.off_defs.specs.declared.orders.Command.TheVariants.{SetSite, PutSubscriber, PutAddOn, PutModem, PutClass, PutPool, Remove, Show}
-use Rattle.off_rows.specs.Sound.{is_sound, is_shown, is_sound_subscriber, is_sound_pool}
+use Rattle.off_rows.specs.Sound.{is_sound, is_shown}
 use Rattle.off_clerk.specs.declared.faults.ClerkErr.{ClerkErr}
 use Rattle.off_clerk.specs.declared.faults.ClerkErr.TheVariants.{NoMethod}
 use Rattle.off_clerk.specs.Commands.{◌>>=◌, site_in, subscriber_in, add_on_in, modem_in, class_in, pool_in, object_in, put_read, asked_at, command_read}

@@ -1,5 +1,5 @@
 -- The laws of runs, by the laws of their events.
-use Rattle.std.proofs.Common.{◌≡◌, ℕ, ◌≤◌, List, [], ◌∷◌, sym, ap, ◌∙◌, subst, arith}
+use Rattle.std.proofs.Common.{◌≡◌, ℕ, List, [], ◌∷◌, sym, ap, ◌∙◌, subst, arith}
 use Rattle.std.specs.Ordering.{nat_cmp}
 use Rattle.std.specs.FinMap as map
 use Rattle.off_defs.specs.State.{Tables, State, Effect, start}
@@ -7,7 +7,8 @@ use Rattle.off_rules.specs.Good.{Good}
 use Rattle.off_book.specs.Step.{Step}
 use Rattle.off_book.specs.Run.{Turn, Run}
 use Rattle.off_laws.specs.Laws.{OneEnd, MomentNeverFalls, RunKeepsGood, FewAreLive}
-use Rattle.off_laws.proofs.StepLaws.{one_result, moment_is_greatest, step_good, AreFew, step_few}
+use Rattle.off_laws.proofs.StepLaws.{one_result, moment_is_greatest, step_good}
+use Rattle.off_laws.proofs.Connections.{AreFew, step_few}
 
 -- what a turn said, and a state after it
 abbrev turned : Turn → State → Effect

@@ -1,6 +1,7 @@
 -- What an event makes of the state, in four ways: it stays, it forgets a connection, it hears more of one, or it does what a clerk asked.
--- Only `way` and `piece_way` go through the cases of a step; a service that is built changes lines of `way`.
-use Rattle.std.proofs.Common.{◌≡◌, ℕ, Bool, true, false, List, ◌++◌, refl, ap, ◌∙◌}
+-- What a law says of the states alone goes by these four. A service that is built changes lines of `way`, and of the two laws that go
+-- through the cases of a step themselves: that an event gives one thing, and what its line says.
+use Rattle.std.proofs.Common.{◌≡◌, ℕ, Bool, true, false, List, ◌++◌, refl, ap}
 use Rattle.off_defs.specs.declared.events.Service.TheVariants.{Dhcp, Time, Tftp}
 use Rattle.off_defs.specs.declared.events.What.{What}
 use Rattle.off_defs.specs.declared.events.What.TheVariants.{Datagram, Piece, Closed, Tick, End}
