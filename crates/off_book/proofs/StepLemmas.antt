@@ -1,5 +1,5 @@
 -- What the line of an event says of its outcome.
-use Rattle.std.proofs.Common.{◌≡◌, ℕ, List, [], ◌∷◌, ◌++◌, codes, All, refl, ap, subst, arith}
+use Rattle.std.proofs.Common.{◌≡◌, ℕ, List, [], ◌∷◌, ◌++◌, codes, All, refl, ap, arith}
 use Rattle.std.proofs.lemmas.List.Elements.{All-nil, All-cons, All-head, All-tail}
 use Rattle.off_defs.specs.declared.events.Service.TheVariants.{Dhcp, Time, Tftp}
 use Rattle.off_defs.specs.declared.events.What.{What}

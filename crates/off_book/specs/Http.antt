@@ -9,7 +9,7 @@ use Rattle.off_defs.specs.declared.orders.Command.{Command}
 use Rattle.off_defs.specs.declared.orders.Reply.{Reply}
 use Rattle.off_defs.specs.declared.results.Sent.{Sent}
 use Rattle.off_defs.specs.declared.results.Sent.TheVariants.{Answer, Close}
-use Rattle.off_defs.specs.State.{Tables, State, Held, Said, Effect, state_of, only_line}
+use Rattle.off_defs.specs.State.{Tables, State, Held, Effect, state_of, only_line}
 use Rattle.off_rules.specs.Clerk.{Stepped, Refusal, clerk_step}
 use Rattle.off_clerk.specs.declared.faults.ClerkErr.{ClerkErr}
 use Rattle.off_clerk.specs.declared.faults.Fault.{Fault}

@@ -1,27 +1,21 @@
 -- From a command to what its clerk is told.
-use Rattle.std.proofs.Common.{◌≡◌, ℕ, Bool, true, false, max, List, ◌++◌, codes, Result, Ok, Err, OnOk, MatchResult, is_err, refl, sym, ap, ◌∙◌, subst, arith}
+use Rattle.std.proofs.Common.{◌≡◌, ℕ, true, false, max, Result, Ok, Err, OnOk, MatchResult, is_err, sym, ap, ◌∙◌, subst, arith}
 use Rattle.off_base.specs.declared.octets.NoMemory.{NoMemory}
 use Rattle.off_defs.specs.declared.orders.Command.{Command}
 use Rattle.off_defs.specs.declared.orders.Reply.{Reply}
 use Rattle.off_defs.specs.declared.orders.Reply.TheVariants.{Done}
 use Rattle.off_defs.specs.declared.rules.Rule.{Rule}
-use Rattle.off_defs.specs.Told.{Told}
 use Rattle.off_defs.specs.State.{Tables, Held, Said, held_at}
 use Rattle.off_defs.proofs.ToldLemmas.{told_weaker}
-use Rattle.off_rules.specs.declared.counts.Counts.{Counts}
 use Rattle.off_rules.specs.Rows.{counts_of}
-use Rattle.off_rules.specs.Clerk.{Stepped, Refusal, refusal, clerk_step, IsAnswered, IsRefused}
-use Rattle.off_clerk.specs.declared.faults.Fault.{Fault}
+use Rattle.off_rules.specs.Clerk.{Stepped, clerk_step, IsRefused}
 use Rattle.off_clerk.specs.declared.faults.Fault.TheVariants as fault
-use Rattle.off_clerk.specs.declared.faults.ClerkErr.{ClerkErr}
-use Rattle.off_book.specs.Http.{Answered, answer_step, answer_fault, answer_command, answer_request}
-use Rattle.off_clerk.specs.Commands.{command_read}
+use Rattle.off_book.specs.Http.{Answered, answer_step}
 use Rattle.off_outside.specs.declared.keeper.KeepErr.{KeepErr}
 use Rattle.off_outside.specs.declared.keeper.KeepErr.TheVariants as keep
 use Rattle.off_outside.specs.KeeperSeen.{KeeperSeen}
 use Rattle.off_outside.specs.KeeperCalls.{Reads, NotDone}
 use Rattle.off_outside.proofs.KeeperLemmas.{reads_told}
-use Rattle.off_defs.proofs.CountLemmas.{grew_self}
 use Rattle.off_accounts.specs.declared.results.AccountErr.{AccountErr}
 use Rattle.off_accounts.specs.declared.results.AccountErr.TheVariants.{Refused, Failed, Memory}
 use Rattle.off_office.specs.Kept.{Kept}
@@ -86,8 +80,8 @@ pub show_ends : (command : Command) (before after : Kept) (at : ℕ) (done : Rep
 show_ends command before after at done r q conn said a b done_so is held show told same =
     subst (Ends (steps command before.held.now) conn said before after a b) (sym same)
     (show_by command before.held.now before after done r conn said a b
-        (subst (λ n. Commanded command n before.counts after.counts done a b) (came_now before after at is held) done_so)
-        (same_held before.held after.held at is held) show told)
+    (subst (λ n. Commanded command n before.counts after.counts done a b) (came_now before after at is held) done_so)
+    (same_held before.held after.held at is held) show told)
 
 -- what was in hand before the command was done is its answer
 in_hand : (r : Result (Unit {0}) NoMemory) (said : Said) (conn : ℕ) → is_err r ≡ false → OnOk r (said ≡ reply_said conn Done) → said ≡ reply_said conn Done

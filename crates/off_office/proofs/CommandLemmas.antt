@@ -1,26 +1,21 @@
 -- A command: what was decided, and what its writes leave.
-use Rattle.std.proofs.Common.{◌≡◌, ℕ, ◌==◌, Bool, true, false, List, [], ◌∷◌, length, Result, Ok, Err, IsTrue, refl, sym, ap, ◌∙◌, subst, arith, nat_eq}
+use Rattle.std.proofs.Common.{◌≡◌, ℕ, true, List, [], ◌∷◌, length, Ok, Err, refl, sym, ap, ◌∙◌, subst, arith}
 use Rattle.off_defs.specs.declared.orders.Command.{Command}
 use Rattle.off_defs.specs.declared.orders.Command.TheVariants.{SetSite, PutSubscriber, PutAddOn, PutModem, PutClass, PutPool, Remove, Show, Import}
-use Rattle.off_defs.specs.declared.orders.Reply.{Reply}
-use Rattle.off_defs.specs.declared.orders.Reply.TheVariants.{Done, Shown}
 use Rattle.off_defs.specs.declared.orders.Write.{Write}
 use Rattle.off_defs.specs.State.{Tables}
 use Rattle.off_defs.specs.Tables.{write_all}
-use Rattle.off_defs.specs.Told.{Told}
 use Rattle.off_rules.specs.declared.counts.Counts.{Counts}
 use Rattle.off_rules.specs.Rows.{counts_of}
 use Rattle.off_rules.specs.Clerk.{Accepted, Refusal, accepted, refusal, decided, stepped_by, clerk_step, IsAnswered, IsRefused}
 use Rattle.off_outside.specs.KeeperSeen.{KeeperSeen}
-use Rattle.off_outside.specs.KeeperCalls.{Reads, Committed, NotDone}
-use Rattle.off_outside.specs.declared.keeper.KeepErr.{KeepErr}
-use Rattle.off_outside.specs.declared.keeper.KeepErr.TheVariants as keep
-use Rattle.off_outside.proofs.KeeperLemmas.{reads_as, failed_then}
+use Rattle.off_outside.specs.KeeperCalls.{Reads, Committed}
+use Rattle.off_outside.proofs.KeeperLemmas.{reads_as}
 use Rattle.off_defs.proofs.ToldLemmas.{told_self}
 use Rattle.off_accounts.specs.declared.results.Planned.{Planned}
 use Rattle.off_accounts.specs.declared.results.AccountErr.{AccountErr}
 use Rattle.off_accounts.specs.declared.results.AccountErr.TheVariants.{Refused, Failed, Memory}
-use Rattle.off_accounts.specs.Deciding.{not_kept, IsDecided, NotDecided, AnswersCommand}
+use Rattle.off_accounts.specs.Deciding.{IsDecided, NotDecided, AnswersCommand}
 use Rattle.off_office.specs.Answering.{is_show, Commanded, NotCommanded}
 
 -- what is decided is the step
@@ -37,12 +32,6 @@ pub not_commanded : (command : Command) (now : ℕ) (counts : Counts) (err : Acc
 not_commanded command now counts (Refused row rule) a b reads = reads_as reads (λ t says agree. refused_step t now command (refusal row rule) (says agree))
 not_commanded command now counts Failed a b done = done
 not_commanded command now counts Memory a b done = done
-
--- what was read before a call of the keeper's that wasn't done
-pub not_settled : (command : Command) (now : ℕ) (counts : Counts) (err : KeepErr) {P : Tables → Type 0} {a b c : KeeperSeen} → Reads P a b → NotDone err b c
-    → NotCommanded command now counts (not_kept err) a c
-not_settled command now counts keep.Memory reads not = failed_then reads not
-not_settled command now counts keep.Failed reads not = failed_then reads not
 
 shows_none : (command : Command) (planned : Planned) → AnswersCommand command planned → is_show command ≡ true → planned.writes ≡ []
 shows_none (Show key) planned answers is = answers.1

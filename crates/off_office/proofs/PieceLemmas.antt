@@ -1,5 +1,5 @@
 -- A piece of a connection, by what the bytes so far say.
-use Rattle.std.proofs.Common.{◌≡◌, ℕ, Bool, true, false, ◌&&◌, cond, List, ◌++◌, codes, Option, Some, None, is_none, unwrap_or, Result, Ok, Err, OnOk, MatchResult, refl, sym, ap, ◌∙◌, subst, arith}
+use Rattle.std.proofs.Common.{◌≡◌, ℕ, Bool, true, false, ◌&&◌, cond, List, ◌++◌, codes, Option, Some, None, is_none, Result, Ok, Err, OnOk, MatchResult, refl, sym, ap, ◌∙◌, subst, arith}
 use Rattle.std.specs.Ordering.{nat_cmp, eq_by_cmp, is_eq}
 use Rattle.std.specs.Cmp.{nat_cmp_total}
 use Rattle.std.specs.declared.cmp.Ordering.{Ordering}
@@ -10,17 +10,16 @@ use Rattle.off_http.specs.declared.answers.HttpFault.{HttpFault}
 use Rattle.off_http.specs.Request.{Meaning, Waits, Refused, Asked, RequestIs}
 use Rattle.off_http.specs.Heard.{IsAsked, asked_method, asked_target, asked_body}
 use Rattle.off_clerk.specs.declared.faults.Fault.TheVariants as fault
-use Rattle.off_defs.specs.State.{Tables, Held, State, Said, Effect, state_of}
+use Rattle.off_defs.specs.State.{Tables, Held, Said, Effect, state_of}
 use Rattle.off_defs.proofs.ToldLemmas.{told_self, told_weaker}
 use Rattle.off_defs.proofs.CountLemmas.{grew_self}
-use Rattle.off_rules.specs.Rows.{counts_of}
-use Rattle.off_book.specs.Http.{Answered, answer_fault, answer_request, answered, by_meaning, is_full, heard_of, with_connection, without_connection, TakesPiece, PieceDid}
+use Rattle.off_book.specs.Http.{answer_request, by_meaning, is_full, heard_of, without_connection, TakesPiece, PieceDid}
 use Rattle.off_outside.specs.declared.keeper.KeepErr.{KeepErr}
 use Rattle.off_outside.specs.declared.keeper.KeepErr.TheVariants as keep
 use Rattle.off_outside.specs.KeeperSeen.{KeeperSeen}
 use Rattle.off_outside.specs.KeeperCalls.{NotDone}
 use Rattle.off_office.specs.Kept.{Kept}
-use Rattle.off_office.specs.Answering.{said_to, fault_said, busy_said, failed_said, had_memory, forgets, WaitsFor, AnsweredBy, NotAnswered, HeardPiece, NotHeard}
+use Rattle.off_office.specs.Answering.{said_to, fault_said, busy_said, failed_said, had_memory, forgets, WaitsFor, HeardPiece, NotHeard}
 use Rattle.off_office.proofs.AnswerLemmas.{Ends}
 
 abbrev Connections : Type 0
@@ -73,7 +72,7 @@ busy_by : (conn : ℕ) (piece : List ℕ) (said : Said) (before : Kept) (k : Kee
 busy_by conn piece said before k (Ok u) full is = record {
   tables = told_self (λ t agree. (
     subst (λ b. TakesPiece b (state_of t before.held) conn piece (record { said = said; after = state_of t before.held })) (sym full)
-    (ap (λ (x : Said). record { said = x; after = state_of t before.held }) is),
+        (ap (λ (x : Said). record { said = x; after = state_of t before.held }) is),
     agree,
   ));
   faults = omega arith;
@@ -98,8 +97,11 @@ takes : (conn : ℕ) (piece bytes : List ℕ) (meaning : Meaning) (before : Kept
     → effect ≡ by_meaning (state_of t before.held) conn bytes meaning → PieceDid (state_of t before.held) conn piece effect
 takes conn piece bytes meaning before t effect read does =
     subst (λ b. TakesPiece b (state_of t before.held) conn piece effect) (sym read.room)
-    (record { meaning = meaning; says = subst (λ (x : List ℕ). RequestIs x meaning) read.joins read.says;
-              does = subst (λ (x : List ℕ). effect ≡ by_meaning (state_of t before.held) conn x meaning) read.joins does })
+    (record {
+      meaning = meaning;
+      says = subst (λ (x : List ℕ). RequestIs x meaning) read.joins read.says;
+      does = subst (λ (x : List ℕ). effect ≡ by_meaning (state_of t before.held) conn x meaning) read.joins does;
+    })
 
 forgotten : (conn : ℕ) (before after : Kept) (k : KeeperSeen) → after ≡ forgets before conn → NotHeard keep.Memory conn before after k k
 forgotten conn before after k is = record {
@@ -113,9 +115,9 @@ wait_by : (conn : ℕ) (piece bytes : List ℕ) (said : Said) (before after : Ke
 wait_by conn piece bytes said before after k (Ok u) read waits = record {
   tables = told_self (λ t agree. (
     takes conn piece bytes Waits before t (record { said = said; after = state_of t after.held }) read
-    (ap (λ (x : Said). record { said = x; after = state_of t after.held }) waits.0
-    ∙ (ap (λ (x : Kept). record { said = failed_said (codes "http wait"); after = state_of t x.held }) waits.1
-    ∙ ap (λ (m : Connections). record { said = failed_said (codes "http wait"); after = state_of t (record before.held { connections = m }) }) (insert_removed before.held.connections conn bytes))),
+        (ap (λ (x : Said). record { said = x; after = state_of t after.held }) waits.0
+        ∙ (ap (λ (x : Kept). record { said = failed_said (codes "http wait"); after = state_of t x.held }) waits.1
+        ∙ ap (λ (m : Connections). record { said = failed_said (codes "http wait"); after = state_of t (record before.held { connections = m }) }) (insert_removed before.held.connections conn bytes))),
     ap (λ (x : Kept). x.counts) waits.1 ∙ agree,
   ));
   faults = omega arith;
@@ -134,7 +136,7 @@ bad_by : (conn : ℕ) (piece bytes : List ℕ) (f : HttpFault) (said : Said) (be
 bad_by conn piece bytes f said before k (Ok u) read is = record {
   tables = told_self (λ t agree. (
     takes conn piece bytes (Refused f) before t (record { said = said; after = state_of t (without_connection before.held conn) }) read
-    (ap (λ (x : Said). record { said = x; after = state_of t (without_connection before.held conn) }) is),
+        (ap (λ (x : Said). record { said = x; after = state_of t (without_connection before.held conn) }) is),
     agree,
   ));
   faults = omega arith;
@@ -147,7 +149,7 @@ pub bad_hears : (conn : ℕ) (piece bytes : List ℕ) (meaning : Meaning) (f : H
 bad_hears conn piece bytes meaning f said before after k r q read is left told same =
     subst (λ (x : Kept). Hears conn piece said before x k k q) (sym left)
     (subst (Hears conn piece said before (forgets before conn) k k) (sym same)
-        (bad_by conn piece bytes f said before k r (subst (λ (m : Meaning). Read conn piece bytes m before) is read) told))
+    (bad_by conn piece bytes f said before k r (subst (λ (m : Meaning). Read conn piece bytes m before) is read) told))
 
 asked_by : (conn : ℕ) (piece bytes m p b : List ℕ) (said : Said) (before after : Kept) (k l : KeeperSeen) (q : Result (Unit {0}) KeepErr)
     → Read conn piece bytes (Asked m p b) before
@@ -158,8 +160,8 @@ asked_by conn piece bytes m p b said before after k l (Ok u) read ends = record 
       let reply = answer_request t before.held.now m p b in (
         takes conn piece bytes (Asked m p b) before t (record { said = said; after = state_of v after.held }) read
             (ap (λ (x : Said). record { said = x; after = state_of v after.held }) f.0
-                ∙ (ap (λ (x : Tables). record { said = said_to conn reply; after = state_of x after.held }) f.1
-                    ∙ ap (λ (h : Held). record { said = said_to conn reply; after = state_of reply.tables h }) ends.held)),
+            ∙ (ap (λ (x : Tables). record { said = said_to conn reply; after = state_of x after.held }) f.1
+            ∙ ap (λ (h : Held). record { said = said_to conn reply; after = state_of reply.tables h }) ends.held)),
         f.2,
       ));
   faults = ends.faults;

@@ -1,16 +1,15 @@
 -- A request that was read, and its answer.
-use Rattle.std.proofs.Common.{◌≡◌, ◌≢◌, ℕ, Bool, true, false, ◌&&◌, cond, List, Option, Some, None, Result, Ok, Err, OnOk, MatchResult, refl, sym, ap, ◌∙◌, subst, arith, bytes_eq, codes}
+use Rattle.std.proofs.Common.{◌≡◌, ℕ, Bool, true, false, ◌&&◌, cond, List, Option, Some, None, Result, Ok, Err, OnOk, refl, sym, ap, ◌∙◌, subst, arith, bytes_eq, codes}
 use Rattle.off_base.specs.declared.octets.NoMemory.{NoMemory}
 use Rattle.off_defs.specs.declared.keys.Key.{Key}
 use Rattle.off_defs.specs.declared.keys.Key.TheVariants as key
 use Rattle.off_defs.specs.declared.orders.Command.{Command}
-use Rattle.off_defs.specs.State.{Tables, Said}
+use Rattle.off_defs.specs.State.{Said}
 use Rattle.off_clerk.specs.declared.faults.ClerkErr.{ClerkErr}
-use Rattle.off_clerk.specs.declared.faults.ClerkErr.TheVariants.{Memory}
 use Rattle.off_clerk.specs.declared.faults.Fault.TheVariants as fault
 use Rattle.off_clerk.specs.Commands.{◌>>=◌, command_read, asked_at, asked_of, put_read, object_in, site_in, subscriber_in, add_on_in, modem_in, class_in, pool_in}
 use Rattle.off_clerk.specs.Paths.{path_of, key_at, has_delete}
-use Rattle.off_book.specs.Http.{Answered, answer_step, answer_fault, answer_command, answer_request}
+use Rattle.off_book.specs.Http.{answer_step, answer_command, answer_request}
 use Rattle.off_rules.specs.Clerk.{clerk_step}
 use Rattle.off_outside.specs.declared.keeper.KeepErr.{KeepErr}
 use Rattle.off_outside.specs.declared.keeper.KeepErr.TheVariants as keep
@@ -19,7 +18,7 @@ use Rattle.off_defs.proofs.ToldLemmas.{told_self}
 use Rattle.off_defs.proofs.CountLemmas.{grew_self}
 use Rattle.off_accounts.specs.Deciding.{is_import}
 use Rattle.off_office.specs.Kept.{Kept}
-use Rattle.off_office.specs.Answering.{fault_said, had_memory, AnsweredBy, NotAnswered}
+use Rattle.off_office.specs.Answering.{fault_said, had_memory}
 use Rattle.off_office.proofs.AnswerLemmas.{Ends, not_answered}
 
 -- no request asks for an import yet

@@ -1,26 +1,23 @@
 -- From what an event comes to, to the step of the book.
-use Rattle.std.proofs.Common.{◌≡◌, ℕ, max, List, [], ◌++◌, codes, refl, sym, ap, ◌∙◌, subst, arith, append-nil}
-use Rattle.std.specs.FinMap as map
+use Rattle.std.proofs.Common.{◌≡◌, ℕ, List, codes, refl, sym, ap, ◌∙◌, subst, arith, append-nil}
 use Rattle.off_base.specs.declared.addresses.Peer.{Peer}
 use Rattle.off_defs.specs.declared.events.Event.{Event}
 use Rattle.off_defs.specs.declared.events.What.{What}
-use Rattle.off_defs.specs.declared.events.What.TheVariants.{Datagram, Piece, Closed, Tick, End}
+use Rattle.off_defs.specs.declared.events.What.TheVariants.{Datagram, Piece, Closed}
 use Rattle.off_defs.specs.declared.events.Service.{Service}
 use Rattle.off_defs.specs.declared.events.Service.TheVariants.{Dhcp, Time, Tftp}
 use Rattle.off_defs.specs.declared.results.Outcome.{Outcome}
 use Rattle.off_defs.specs.declared.results.Outcome.TheVariants.{Did, Memory, Keeper}
-use Rattle.off_defs.specs.State.{Tables, Held, State, Said, Effect, state_of, held_at, at_moment, says_nothing}
+use Rattle.off_defs.specs.State.{Tables, Held, Said, state_of, held_at, says_nothing}
 use Rattle.off_defs.specs.Counts.{Grew}
 use Rattle.off_defs.proofs.ToldLemmas.{told_self, told_weaker}
 use Rattle.off_defs.proofs.CountLemmas.{grew_self}
-use Rattle.off_rules.specs.Rows.{counts_of}
-use Rattle.off_book.specs.Http.{PieceDid, without_connection, no_memory_reply, no_keeper_reply}
+use Rattle.off_book.specs.Http.{PieceDid}
 use Rattle.off_book.specs.Step.{Step, Does, TellsOutcome, completed}
 use Rattle.off_book.specs.Run.{keeper_failures}
 use Rattle.off_outside.specs.declared.keeper.KeepErr.{KeepErr}
 use Rattle.off_outside.specs.declared.keeper.KeepErr.TheVariants as keep
 use Rattle.off_outside.specs.KeeperSeen.{KeeperSeen}
-use Rattle.off_outside.specs.KeeperCalls.{NotDone}
 use Rattle.off_office.specs.Kept.{Kept}
 use Rattle.off_office.specs.Acting.{Acts, kept_at}
 use Rattle.off_office.specs.Saying.{SaysTime, SaysDatagram}
@@ -154,9 +151,9 @@ pub acts_closed : (event : Event) (conn : ℕ) (outcome : Outcome) (said : Said)
 acts_closed event conn outcome said before mid after k is at left did says =
     subst (λ (o : Outcome). Acts event o said before after k k) (sym did)
     (acts_quietly event Did said before mid after k (Closed conn) is at (ap (λ (x : Kept). x.counts) left)
-        (λ t. ap (λ (x : Said). record { said = completed (Closed conn) Did x; after = state_of t after.held }) says
-            ∙ ap (λ (x : Kept). record { said = failed_said (codes "http closed"); after = state_of t x.held }) left)
-        refl tt)
+    (λ t. ap (λ (x : Said). record { said = completed (Closed conn) Did x; after = state_of t after.held }) says
+    ∙ ap (λ (x : Kept). record { said = failed_said (codes "http closed"); after = state_of t x.held }) left)
+    refl tt)
 
 pub acts_silently : (event : Event) (said : Said) (before mid : Kept) (k : KeeperSeen) (what : What)
     → event.what ≡ what → mid ≡ kept_at before event.at.0 → said ≡ says_nothing

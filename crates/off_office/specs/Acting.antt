@@ -1,6 +1,5 @@
 -- What an office does at its start and at one event.
 use Rattle.std.specs.Prelude.{◌≡◌, ℕ}
-use Rattle.off_defs.specs.declared.keys.Key.{Key}
 use Rattle.off_defs.specs.declared.events.Event.{Event}
 use Rattle.off_defs.specs.declared.results.Outcome.{Outcome}
 use Rattle.off_defs.specs.Told.{Told}

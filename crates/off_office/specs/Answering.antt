@@ -12,10 +12,10 @@ use Rattle.off_defs.specs.declared.results.Outcome.TheVariants as end
 use Rattle.off_defs.specs.declared.events.What.TheVariants.{Piece}
 use Rattle.off_defs.specs.Told.{Told}
 use Rattle.off_defs.specs.Counts.{Grew}
-use Rattle.off_defs.specs.State.{Tables, Held, Said, state_of}
+use Rattle.off_defs.specs.State.{Tables, Said, state_of}
 use Rattle.off_rules.specs.declared.counts.Counts.{Counts}
 use Rattle.off_rules.specs.Rows.{counts_of}
-use Rattle.off_rules.specs.Clerk.{refusal, clerk_step, IsAnswered, IsRefused}
+use Rattle.off_rules.specs.Clerk.{clerk_step, IsAnswered, IsRefused}
 use Rattle.off_clerk.specs.declared.faults.Fault.{Fault}
 use Rattle.off_clerk.specs.declared.faults.Fault.TheVariants as fault
 use Rattle.off_clerk.specs.Faults.{word_of, status_of, fault_text}

@@ -1,5 +1,5 @@
 -- What an office keeps between two events: what the book says that it holds, and how many rows of each kind the tables have.
-use Rattle.std.specs.Prelude.{◌≡◌, ℕ, refl}
+use Rattle.std.specs.Prelude.{ℕ, refl}
 use Rattle.std.specs.Coded.{Coded, code_by, coded×, coded_ℕ}
 use Rattle.off_defs.specs.State.{Held}
 use Rattle.off_defs.specs.Codes.{held_code}

@@ -3,7 +3,7 @@ ghost use Rattle.off_defs.specs.State.{says_nothing};
 ghost use Rattle.off_http.specs.Reply.{is_reply_status};
 ghost use Rattle.off_clerk.specs.Faults.{IsTold};
 ghost use Rattle.off_clerk.specs.Replies.{IsRightReply};
-ghost use Rattle.off_office.specs.Answering.{said_as, fault_said, fault_line, reply_said, busy_said};
+ghost use Rattle.off_office.specs.Answering.{said_as, fault_said, fault_line, reply_said, busy_said, Fails};
 
 use arrayvec::ArrayVec;
 use itoa::Buffer;
@@ -11,7 +11,7 @@ use off_base::NoMemory;
 use off_clerk::{Fault, fault_json, fault_status, fault_word, reply_json};
 use off_defs::Reply;
 use off_http::reply_bytes;
-use off_outside::{Replies, Sent};
+use off_outside::{KeepErr, Outcome, Replies, Sent};
 use std::alloc::Global;
 
 /// Answers a connection that a request is at fault, and closes it.
@@ -90,4 +90,21 @@ fn line_of_fault(status: u16, word: &[u8]) -> ArrayVec<u8, 80>
     let _space = line.try_extend_from_slice(b" ");
     let _word = line.try_extend_from_slice(word);
     line
+}
+
+/// Says that a piece couldn't be acted on, and nothing else.
+pub(crate) fn fail(err: KeepErr, out: &mut Replies) -> Outcome
+    ensures { Fails err result out.new }
+{
+    out.clear();
+    match err {
+        KeepErr::Memory => {
+            out.set_line(b"http memory");
+            Outcome::Memory
+        }
+        KeepErr::Failed => {
+            out.set_line(b"http keeper");
+            Outcome::Keeper
+        }
+    }
 }

@@ -6,9 +6,9 @@ ghost use Rattle.off_http.specs.Request.{Waits};
 ghost use Rattle.off_rows.specs.Sound.{is_sound};
 ghost use Rattle.off_accounts.specs.Deciding.{is_import};
 ghost use Rattle.off_book.specs.Http.{answer_request, answer_step, is_full, heard_of};
-ghost use Rattle.off_office.specs.Answering.{forgets, AnsweredBy, NotAnswered, HeardPiece, NotHeard, TookPiece, WaitsFor, Refuses, Fails, had_memory, is_show};
+ghost use Rattle.off_office.specs.Answering.{forgets, AnsweredBy, NotAnswered, HeardPiece, NotHeard, TookPiece, WaitsFor, Refuses, had_memory, is_show};
 
-use crate::answers::{answer_fault, answer_reply, close_busy};
+use crate::answers::{answer_fault, answer_reply, close_busy, fail};
 use crate::office::Office;
 use off_accounts::AccountErr;
 use off_base::NoMemory;
@@ -216,22 +216,5 @@ fn had_memory(done: Result<(), NoMemory>) -> Result<(), KeepErr>
     match done {
         Ok(()) => Ok(()),
         Err(NoMemory) => Err(KeepErr::Memory),
-    }
-}
-
-// Says that a piece couldn't be acted on, and nothing else.
-fn fail(err: KeepErr, out: &mut Replies) -> Outcome
-    ensures { Fails err result out.new }
-{
-    out.clear();
-    match err {
-        KeepErr::Memory => {
-            out.set_line(b"http memory");
-            Outcome::Memory
-        }
-        KeepErr::Failed => {
-            out.set_line(b"http keeper");
-            Outcome::Keeper
-        }
     }
 }

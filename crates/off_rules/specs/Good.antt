@@ -1,6 +1,6 @@
 -- When tables are good: each key's row is possible and stands in the right relations to the other rows. Here rows are read as they are,
 -- also impossible ones, so that the least bad key is named and not one that stands on it.
-use Rattle.std.specs.Prelude.{◌≡◌, ◌==◌, Bool, true, false, not, ◌&&◌, ◌||◌, IsTrue, List, length, Option, Some, None, is_some, option_and_then, option_map, unwrap_or}
+use Rattle.std.specs.Prelude.{◌≡◌, ◌==◌, Bool, true, false, not, ◌&&◌, ◌||◌, IsTrue, List, Option, Some, None, is_some, option_and_then, option_map, unwrap_or}
 use Rattle.std.specs.List.{filter_map, list_all, count_by}
 use Rattle.std.specs.Ordering.{eq_by_cmp, nat_cmp}
 use Rattle.std.specs.Cmp.Lexicographic.{slice_cmp}

@@ -1,6 +1,6 @@
 -- Rows of the tables, by kind. A row is possible at a key where it's of the key's kind and its own values are in their ranges, whatever
 -- the other rows are. Whoever reads a row takes an impossible one as one that isn't there; only the test of good tables doesn't.
-use Rattle.std.specs.Prelude.{◌≡◌, ℕ, ℤ, pos, neg_ℤ, ◌-◌, ◌==◌, Bool, true, false, not, ◌&&◌, nat_le, nat_lt, int_le, min, max, List, length, Option, Some, None, is_none, option_and_then, if◌then◌else◌}
+use Rattle.std.specs.Prelude.{ℕ, ℤ, pos, neg_ℤ, ◌-◌, ◌==◌, Bool, true, false, not, ◌&&◌, nat_le, nat_lt, int_le, min, max, List, length, Option, Some, None, is_none, option_and_then, if◌then◌else◌}
 use Rattle.std.specs.List.{filter_map, count_by}
 use Rattle.std.specs.Int.{is_in_range}
 use Rattle.std.specs.FinMap as map
@@ -8,7 +8,6 @@ use Rattle.off_base.specs.Tree.{Tree}
 use Rattle.off_base.specs.declared.addresses.Ip4.{Ip4}
 use Rattle.off_base.specs.declared.macs.Mac.{Mac}
 use Rattle.off_tree.specs.declared.tables.Kind.TheVariants as tree
-use Rattle.off_tree.specs.declared.tables.Kind as tree_kind
 use Rattle.off_tree.specs.Fault.{first_fault}
 use Rattle.off_defs.specs.declared.keys.Key.{Key}
 use Rattle.off_defs.specs.declared.keys.Key.TheVariants as key

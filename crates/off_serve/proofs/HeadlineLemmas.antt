@@ -1,9 +1,8 @@
 -- From the loop and the run's own line to the headline.
-use Rattle.std.proofs.Common.{◌≡◌, ◌≢◌, ℕ, List, [], All, Option, Some, MatchOption, refl, sym, ap, ◌∙◌, subst, inl, inr, arith}
-use Rattle.off_defs.specs.State.{Tables, Held, held_at_start, start, state_of}
-use Rattle.off_defs.specs.Counts.{Grew}
+use Rattle.std.proofs.Common.{◌≡◌, ◌≢◌, ℕ, List, [], All, Option, Some, MatchOption, sym, subst, inl, inr, arith}
+use Rattle.off_defs.specs.State.{Held, held_at_start, state_of}
 use Rattle.off_book.specs.Words.{Job}
-use Rattle.off_book.specs.Run.{Turn, Run, SaysMemory, failures_by}
+use Rattle.off_book.specs.Run.{Turn, Run, SaysMemory}
 use Rattle.off_book.proofs.StepLemmas.{turns_did}
 use Rattle.off_defs.proofs.CountLemmas.{later_grew}
 use Rattle.off_rules.specs.Good.{Good}
@@ -11,7 +10,7 @@ use Rattle.off_rules.specs.Rows.{counts_of}
 use Rattle.off_outside.specs.LinkSeen.{LinkSeen}
 use Rattle.off_outside.specs.KeeperSeen.{KeeperSeen}
 use Rattle.off_outside.specs.KeeperCalls.{Reads}
-use Rattle.off_outside.specs.Streams.{SinkSeen, Wrote, NotWritten}
+use Rattle.off_outside.specs.Streams.{SinkSeen}
 use Rattle.off_office.specs.Kept.{Kept}
 use Rattle.off_office.specs.Acting.{NotStarted}
 use Rattle.off_office.specs.declared.office.StartErr.{StartErr}
@@ -19,7 +18,7 @@ use Rattle.off_office.specs.declared.office.StartErr.TheVariants as start_err
 use Rattle.off_serve.specs.declared.serving.Stop.{Stop}
 use Rattle.off_serve.specs.declared.serving.Stop.TheVariants as stop
 use Rattle.off_serve.specs.Serving.{World, world_of}
-use Rattle.off_serve.specs.Headline.{WroteText, CutText, RanTurns, RanFrom, RanOffice, Stops, Served, OwnLine, OwnWritten, Ended, Ends, NoFault, Completed, LinkSame, StaysClosed, RunsAsOffice, ServesAsOffice, closed_status, closed_line}
+use Rattle.off_serve.specs.Headline.{WroteText, CutText, RanTurns, RanFrom, RanOffice, Stops, Served, OwnLine, OwnWritten, Ended, Ends, NoFault, Completed, LinkSame, ServesAsOffice, closed_status, closed_line}
 use Rattle.off_serve.proofs.ServeLemmas.{wrote_more, wrote_same, wrote_none, cut_more, cut_same}
 
 own_line : (of : ℕ) (own text : List ℕ) (status : ℕ) (a b c : SinkSeen) → WroteText text a b → OwnWritten of own status b c → OwnLine of own text status a c

@@ -1,5 +1,5 @@
 -- One turn: the event that was taken, what the office made of it, what was sent, and the line.
-use Rattle.std.proofs.Common.{◌≡◌, ℕ, Bool, ◌&&◌, List, ◌++◌, Result, Ok, Err, MatchResult, refl, ap, ◌∙◌, subst, arith}
+use Rattle.std.proofs.Common.{◌≡◌, ℕ, Bool, ◌&&◌, List, Result, Ok, Err, MatchResult, refl, ap, ◌∙◌, subst, arith}
 use Rattle.off_defs.specs.declared.events.Event.{Event}
 use Rattle.off_defs.specs.declared.results.Outcome.{Outcome}
 use Rattle.off_defs.specs.Counts.{Grew}

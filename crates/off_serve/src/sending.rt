@@ -7,8 +7,11 @@ ghost use Rattle.off_serve.specs.Serving.{SentOne, SentAll};
 use off_outside::{Link, Outcome, Replies, Sent, What};
 
 // What a clerk is answered where memory was wanted, and where the keeper of the tables failed (RFC 9110, section 15.6).
-const NO_MEMORY: &[u8] = b"HTTP/1.1 503 Service Unavailable\r\nContent-Length: 0\r\nConnection: close\r\n\r\n";
-const NO_KEEPER: &[u8] = b"HTTP/1.1 500 Internal Server Error\r\nContent-Length: 0\r\nConnection: close\r\n\r\n";
+const NO_MEMORY: &[u8] =
+    b"HTTP/1.1 503 Service Unavailable\r\nContent-Length: 0\r\nConnection: close\r\n\r\n";
+
+const NO_KEEPER: &[u8] =
+    b"HTTP/1.1 500 Internal Server Error\r\nContent-Length: 0\r\nConnection: close\r\n\r\n";
 
 // Hands one item to the link, and tells whether it went out.
 fn send_one<L: Link>(link: &mut L, item: &Sent) -> bool

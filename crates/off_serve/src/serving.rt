@@ -4,11 +4,11 @@ ghost use Rattle.off_serve.specs.Reading.{asked_for};
 ghost use Rattle.off_serve.specs.Headline.{Served, Ended, OwnWritten, ServesAsOffice, RefusesAll, DoesJob, outside_of, closed_status, closed_line, tables_refused};
 ghost use Rattle.off_serve.specs.Serving.{world_of};
 
-use arrayvec::ArrayVec;
 use crate::jobs::{Asked, read_words};
 use crate::turning::{Turned, take_turn};
-use off_jobs::{check_input, seal_input};
+use arrayvec::ArrayVec;
 use off_defs::Key;
+use off_jobs::{check_input, seal_input};
 use off_office::{Office, StartErr};
 use off_outside::{Failed, Keeper, Link, Sink, Source};
 use off_rows::key_text;

@@ -1,4 +1,5 @@
 use off_base::{Bytes, NoMemory};
+use off_keepmem::MemKeeper;
 use off_outside::{Calls, Events, MemLink, MemSink, MemSource};
 use off_serve::run;
 use std::alloc::Global;
@@ -49,7 +50,15 @@ fn does(
     let mut words = Vec::new(alloc);
     words.push(String::from_str(alloc, job.command)?)?;
     words.push(String::from_str(alloc, job.secret)?)?;
-    let status = run(alloc, words.as_slice(), &mut link, &mut source, &mut out);
+    let mut keeper = MemKeeper::new(alloc, Calls::new(alloc));
+    let status = run(
+        alloc,
+        words.as_slice(),
+        &mut link,
+        &mut keeper,
+        &mut source,
+        &mut out,
+    );
     assert_eq!(rt; status, job.status, "{job:?}");
     assert_eq!(rt; out.written(), job.written, "{job:?}");
     Ok(())

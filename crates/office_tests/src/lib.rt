@@ -5,8 +5,14 @@
 #![tactic(auto)]
 
 #[cfg(test)]
+mod clerk_examples;
+#[cfg(test)]
 mod job_examples;
 #[cfg(test)]
+mod opening_examples;
+#[cfg(test)]
 mod serve_examples;
+#[cfg(test)]
+mod talking;
 #[cfg(test)]
 mod word_examples;

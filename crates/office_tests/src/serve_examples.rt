@@ -1,4 +1,5 @@
 use off_base::{Bytes, Ip4, Moment, NoMemory, Peer};
+use off_keepmem::MemKeeper;
 use off_outside::{Calls, Event, Events, MemLink, MemSink, MemSource, SentRef, Service, What};
 use off_serve::run;
 use std::alloc::Global;
@@ -118,7 +119,15 @@ fn serves(rt: &impl Abort, alloc: Global, example: &Example<'_>) -> Result<(), F
     let mut source = MemSource::new(alloc, Bytes::new(alloc), Calls::new(alloc));
     let mut out = MemSink::new(alloc, example.room, calls(alloc, example.sink_fails)?)?;
     let words = words(alloc, example.turns)?;
-    let status = run(alloc, words.as_slice(), &mut link, &mut source, &mut out);
+    let mut keeper = MemKeeper::new(alloc, Calls::new(alloc));
+    let status = run(
+        alloc,
+        words.as_slice(),
+        &mut link,
+        &mut keeper,
+        &mut source,
+        &mut out,
+    );
     assert_eq!(rt; status, example.status, "{shows}");
     assert_eq!(rt; out.written(), example.written.as_bytes(), "{shows}");
     assert_eq!(rt; link.sent_len(), example.replies.len(), "{shows}");
@@ -209,7 +218,7 @@ fn the_time_is_told(rt: HostRuntime) -> Result<(), Fail> {
             shows: "no more than the turns",
             turns: "1",
             comes: &[Comes::Piece(0), Comes::Time(0)],
-            written: "1 http not-built\n",
+            written: "1 http wait\n",
             ..plain
         },
     )?;

@@ -1,16 +1,16 @@
 ghost use Rattle.std.specs.Prelude.{◌<◌, vec_len};
 
+use crate::connection::{Connection, Heard};
 use crate::datagrams::Asked;
+use crate::numbers::Numbers;
+use crate::unsent::Unsent;
 use mio::net::{TcpListener, TcpStream};
 use mio::{Interest, Registry, Token};
-use off_base::{Bytes, NoMemory};
+use off_base::NoMemory;
 use off_outside::{LinkErr, What};
 use std::alloc::Global;
-use std::io::{self, ErrorKind, Read, Write};
+use std::io::{self, ErrorKind};
 use std::net::{Ipv4Addr, SocketAddr, SocketAddrV4};
-
-// How many bytes of a connection are taken at a time.
-const ROOM: usize = 4096;
 
 // How many connections are held at a time; further ones wait in the listener's queue.
 const MOST: usize = 64;
@@ -18,24 +18,20 @@ const MOST: usize = 64;
 // The listener's token; a connection's is its number and this one more.
 const LISTENER: usize = 3;
 
-// A clerk's connection.
-#[derive(Drop)]
-struct Connection {
-    number: u32,
-    stream: TcpStream,
-    // Whether a piece of it was given.
-    spoke: bool,
-}
-
 /// The TCP listener for clerks, on all addresses of the machine, and their connections.
+///
+/// More connections are held than the office takes, so that it can close the others.
 #[derive(Drop)]
 pub struct Clerks {
     listener: TcpListener,
     live: Vec<Connection>,
-    // The number of the next connection; none behind the greatest.
-    next_number: Option<u32>,
+    numbers: Numbers,
+    // The room of the next connection's answer, where it was taken already.
+    spare: Option<Unsent>,
     // The place of the connection whose turn it is to be asked.
     turn: usize,
+    // The second in which they were asked last.
+    now: u64,
 }
 
 impl Clerks {
@@ -46,73 +42,111 @@ impl Clerks {
         Ok(Clerks {
             listener,
             live: Vec::new(rt.alloc()),
-            next_number: Some(1),
+            numbers: Numbers::new(),
+            spare: None,
             turn: 0,
+            now: 0,
         })
     }
 
-    /// The next thing of a connection: a piece, or its end.
-    pub fn ask(&mut self, alloc: Global, registry: &Registry) -> Result<Asked, LinkErr> {
-        self.accept(registry)?;
+    /// The next thing of a connection, in the second `now`: a piece, or its end.
+    pub fn ask(&mut self, alloc: Global, registry: &Registry, now: u64) -> Result<Asked, LinkErr> {
+        self.now = now;
+        self.accept(alloc, registry)?;
+        let mut dropped = false;
         for _place in 0..self.live.len() {
             match self.ask_one(alloc)? {
+                Asked::Gave(what) => return Ok(Asked::Gave(what)),
+                Asked::Dropped => dropped = true,
                 Asked::Quiet => {}
-                asked => return Ok(asked),
             }
         }
-        Ok(Asked::Quiet)
+        Ok(if dropped {
+            Asked::Dropped
+        } else {
+            Asked::Quiet
+        })
     }
 
-    /// Writes bytes on a connection, and tells whether all of them went out.
+    /// Takes bytes to be sent on a connection, and tells whether they were taken. What the peer is slow to take goes out in later
+    /// rounds. It takes no memory.
     pub fn answer(&mut self, number: u32, bytes: &[u8]) -> bool {
         match self
             .live
             .iter_mut()
             .find(|connection| connection.number == number)
         {
-            Some(connection) => connection.stream.write_all(bytes).is_ok(),
+            Some(connection) => connection.answer(bytes),
             None => false,
         }
     }
 
-    /// Closes a connection, if it is still there.
+    /// Closes a connection, if it is still there. Nothing more is told of it.
     pub fn close(&mut self, number: u32) {
-        self.live.retain(|connection| connection.number != number);
+        let now = self.now;
+        if let Some(connection) = self
+            .live
+            .iter_mut()
+            .find(|connection| connection.number == number)
+        {
+            connection.close(now);
+        }
     }
 
-    // Takes the connections that wait, as far as there is room.
-    fn accept(&mut self, registry: &Registry) -> Result<(), LinkErr> {
+    // Takes the connections that wait, as far as there are places and numbers.
+    fn accept(&mut self, alloc: Global, registry: &Registry) -> Result<(), LinkErr> {
         for _place in self.live.len()..MOST {
+            if self.numbers.are_spent() {
+                return Ok(());
+            }
+            let unsent = self.room(alloc)?;
             match self.listener.accept() {
-                Ok((stream, _from)) => self.take(registry, stream)?,
-                Err(error) => match error.kind() {
-                    ErrorKind::WouldBlock => return Ok(()),
-                    ErrorKind::Interrupted | ErrorKind::ConnectionAborted => {}
-                    _ => return Err(LinkErr::Failed),
-                },
+                Ok((stream, _from)) => self.take(registry, stream, unsent)?,
+                Err(error) => {
+                    self.spare = Some(unsent);
+                    match error.kind() {
+                        ErrorKind::WouldBlock => return Ok(()),
+                        kind if is_of_peer(kind) => {}
+                        _ => return Err(LinkErr::Failed),
+                    }
+                }
             }
         }
         Ok(())
     }
 
+    // Room for an answer, and a place in the table. The only error is want of memory.
+    fn room(&mut self, alloc: Global) -> Result<Unsent, LinkErr> {
+        if self.live.reserve(1).is_err() {
+            return Err(LinkErr::Memory);
+        }
+        if let Some(unsent) = self.spare.take() {
+            return Ok(unsent);
+        }
+        match Unsent::new(alloc) {
+            Ok(unsent) => Ok(unsent),
+            Err(NoMemory) => Err(LinkErr::Memory),
+        }
+    }
+
     // Gives a connection the next number. Behind the greatest it is dropped, which closes it.
-    fn take(&mut self, registry: &Registry, mut stream: TcpStream) -> Result<(), LinkErr> {
-        let Some(number) = self.next_number else {
+    fn take(
+        &mut self,
+        registry: &Registry,
+        mut stream: TcpStream,
+        unsent: Unsent,
+    ) -> Result<(), LinkErr> {
+        let Some(number) = self.numbers.give() else {
             return Ok(());
         };
-        self.next_number = number.checked_add(1);
         let Ok(()) = registry.register(
             &mut stream,
             Token(LISTENER + number as usize),
-            Interest::READABLE,
+            Interest::READABLE | Interest::WRITABLE,
         ) else {
             return Err(LinkErr::Failed);
         };
-        let connection = Connection {
-            number,
-            stream,
-            spoke: false,
-        };
+        let connection = Connection::new(number, stream, unsent, self.now);
         match self.live.push(connection) {
             Ok(()) => Ok(()),
             Err(_refused) => Err(LinkErr::Memory),
@@ -128,33 +162,26 @@ impl Clerks {
             return Ok(Asked::Quiet);
         }
         let place = self.turn;
-        let mut room = [0u8; ROOM];
         let connection = &mut self.live[place];
-        match connection.stream.read(&mut room) {
-            Ok(0) => Ok(self.ended(place)),
-            Ok(count) => {
-                connection.spoke = true;
-                let number = connection.number;
-                self.turn = place + 1;
-                piece(alloc, number, &room[..count])
-            }
-            Err(error) => match error.kind() {
-                ErrorKind::WouldBlock | ErrorKind::Interrupted => {
-                    self.turn = place + 1;
-                    Ok(Asked::Quiet)
-                }
-                // The peer has broken it off.
-                _ => Ok(self.ended(place)),
-            },
+        let conn = connection.number;
+        let heard = connection.ask(alloc, self.now)?;
+        if let Heard::Over = heard {
+            return Ok(self.end(place));
         }
+        self.turn = place + 1;
+        Ok(match heard {
+            Heard::Piece(bytes) => Asked::Gave(What::Piece { conn, bytes }),
+            Heard::Quiet => Asked::Quiet,
+            Heard::Dropped | Heard::Over => Asked::Dropped,
+        })
     }
 
-    // Drops a connection. The office hears of its end only where it has heard of the connection.
-    fn ended(&mut self, place: usize) -> Asked
+    // Drops a connection. The office hears of its end only where it has heard of the connection and hasn't closed it.
+    fn end(&mut self, place: usize) -> Asked
         requires { place < vec_len self.old.live }
     {
         let connection = self.live.remove(place);
-        if connection.spoke {
+        if connection.is_known() {
             Asked::Gave(What::Closed {
                 conn: connection.number,
             })
@@ -164,10 +191,15 @@ impl Clerks {
     }
 }
 
-fn piece(alloc: Global, conn: u32, part: &[u8]) -> Result<Asked, LinkErr> {
-    let mut bytes = Bytes::new(alloc);
-    match bytes.push_all(part) {
-        Ok(()) => Ok(Asked::Gave(What::Piece { conn, bytes })),
-        Err(NoMemory) => Err(LinkErr::Memory),
-    }
+// Whether an error of `accept` speaks of the connection that waited, or of a signal, and not of the listener: the next one may be good.
+fn is_of_peer(kind: ErrorKind) -> bool {
+    matches!(
+        kind,
+        ErrorKind::Interrupted
+            | ErrorKind::ConnectionAborted
+            | ErrorKind::ConnectionReset
+            | ErrorKind::HostUnreachable
+            | ErrorKind::NetworkUnreachable
+            | ErrorKind::NetworkDown
+    )
 }

@@ -2,10 +2,13 @@
 #![tactic(auto)]
 
 mod clerks;
+mod connection;
 mod datagrams;
+mod numbers;
 mod reflecting;
 mod socket_link;
 mod standard;
+mod unsent;
 
 use crate::socket_link::{OpenErr, SocketLink};
 use crate::standard::{StandardInput, StandardOutput};

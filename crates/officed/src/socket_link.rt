@@ -9,7 +9,7 @@ use off_base::{Moment, Peer};
 use off_outside::{Event, Failed, Link, LinkErr, Service, What};
 use std::alloc::Global;
 use std::io;
-use std::time::{Duration, SystemTime};
+use std::time::{Duration, Instant, SystemTime};
 
 // How many seconds an idle link sleeps at most.
 const LONGEST_SLEEP: u64 = 1;
@@ -108,6 +108,8 @@ struct Asking {
     turn: u8,
     // The second of the last Tick.
     last_tick: u64,
+    // When the link was opened, by the clock that never goes back.
+    opened: Instant,
 }
 
 impl Asking {
@@ -123,6 +125,7 @@ impl Asking {
             clerks,
             turn: 0,
             last_tick: 0,
+            opened: Instant::now(rt)?,
         })
     }
 
@@ -182,7 +185,18 @@ impl Asking {
             0 => self.datagrams.ask(alloc, Service::Dhcp),
             1 => self.datagrams.ask(alloc, Service::Time),
             2 => self.datagrams.ask(alloc, Service::Tftp),
-            _ => self.clerks.ask(alloc, self.poll.registry()),
+            _ => {
+                let now = self.uptime()?;
+                self.clerks.ask(alloc, self.poll.registry(), now)
+            }
+        }
+    }
+
+    // Whole seconds since the link was opened, which don't follow the clock where it is set.
+    fn uptime(&self) -> Result<u64, LinkErr> {
+        match self.opened.elapsed(&self.rt) {
+            Ok(passed) => Ok(passed.as_secs()),
+            Err(_error) => Err(LinkErr::Failed),
         }
     }
 

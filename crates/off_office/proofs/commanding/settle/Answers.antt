@@ -1,4 +1,4 @@
-use Rattle.std.proofs.Common.{sym, ◌∙◌, arith}
+use Rattle.std.proofs.Common.{arith}
 use Rattle.std.proofs.lemmas.Bool.Decides.{nat_tests}
 use Rattle.off_office.proofs.CommandLemmas.{committed_none}
 use Rattle.off_office.proofs.commanding.settle.Goals as goal

@@ -1,4 +1,4 @@
-use Rattle.off_serve.proofs.HeadlineLemmas.{serves, stays_closed}
+use Rattle.off_serve.proofs.HeadlineLemmas.{serves}
 use Rattle.off_serve.proofs.serving.serve.Goals as goal
 
 pub returns-in-Ok : goal.returns-in-Ok

@@ -1,5 +1,3 @@
-use Rattle.std.proofs.Common.{sym, ap, ◌∙◌, ◌&&◌, not, is_some, nat_le, option_map}
-use Rattle.off_book.specs.Http.{is_full}
 use Rattle.off_office.proofs.ConnectionLemmas.{full_by, not_full}
 use Rattle.off_office.proofs.connections.Connections.is_full_for.Goals as goal
 

@@ -1,5 +1,5 @@
 use Rattle.std.proofs.Common.{rules}
-use Rattle.off_office.proofs.RequestLemmas.{Parts, no_import, command_ends, fault_ends}
+use Rattle.off_office.proofs.RequestLemmas.{no_import, command_ends, fault_ends}
 use Rattle.off_office.proofs.office.Office.answer_request.Goals as goal
 
 pub answer_command-requires-clause-not_import : goal.answer_command-requires-clause-not_import

@@ -1,4 +1,4 @@
-use Rattle.std.proofs.Common.{ap, sym, ◌∙◌}
+use Rattle.std.proofs.Common.{ap, sym}
 use Rattle.off_office.specs.Kept.{Kept}
 use Rattle.off_office.proofs.AnswerLemmas.{change_done, refuse_ends}
 use Rattle.off_office.proofs.office.Office.do_change.Goals as goal

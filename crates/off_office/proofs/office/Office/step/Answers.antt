@@ -1,5 +1,5 @@
-use Rattle.std.proofs.Common.{refl, sym, ap, ◌∙◌, subst, List, ℕ, codes}
-use Rattle.off_defs.specs.declared.events.What.TheVariants.{Piece, Datagram, Closed, Tick, End}
+use Rattle.std.proofs.Common.{refl, sym, ap, ◌∙◌, List, ℕ, codes}
+use Rattle.off_defs.specs.declared.events.What.TheVariants.{Piece, Tick, End}
 use Rattle.off_defs.specs.State.{Said}
 use Rattle.off_office.proofs.StepLemmas.{acts_piece, acts_datagram, acts_closed, acts_silently}
 use Rattle.off_office.proofs.office.Office.step.Goals as goal

@@ -1,0 +1,29 @@
+-- What a connection gives.
+use Rattle.std.specs.Prelude.{◌≡◌, ℕ, ◌+◌, ◌-◌, ◌^◌, ◌<◌, Bool, true, min}
+use Rattle.officed.specs.declared.connection.Heard.{Heard}
+use Rattle.officed.specs.declared.connection.Heard.TheVariants.{Piece, Quiet, Dropped, Over}
+
+-- none of its bytes is given to the office
+abbrev pub GivesNothing : Heard → Type 0
+GivesNothing (Piece bytes) = ⊥
+GivesNothing Quiet = Unit {0}
+GivesNothing Dropped = Unit {0}
+GivesNothing Over = Unit {0}
+
+-- it goes on only before its time is over
+abbrev pub IsInTime : Heard → ℕ → ℕ → Type 0
+IsInTime (Piece bytes) now until = Unit {0}
+IsInTime Quiet now until = now < until
+IsInTime Dropped now until = now < until
+IsInTime Over now until = Unit {0}
+
+-- once a piece of it is given, the office knows of it
+abbrev pub IsSpoken : Heard → Bool → Type 0
+IsSpoken (Piece bytes) spoke = spoke ≡ true
+IsSpoken Quiet spoke = Unit {0}
+IsSpoken Dropped spoke = Unit {0}
+IsSpoken Over spoke = Unit {0}
+
+-- the second that is so many later
+abbrev pub later : ℕ → ℕ → ℕ
+later now seconds = min (now + seconds) (2 ^ 64 - 1)

@@ -1,0 +1,360 @@
+#!/usr/bin/env python3
+"""Starts officed on free loopback ports and speaks to it as clerks do, over connections that behave well and badly.
+
+Requests come whole, in odd pieces and byte by byte; peers half-close, reset, read slowly, say nothing, and are nine at a time.
+It checks the replies byte for byte and the form of the log's lines. The time of a thousand requests is printed and not judged.
+It ends what it started, and takes under a minute.
+
+That the office ends a silent connection after 60 seconds, and one whose peer doesn't end it 10 seconds behind its close, takes longer:
+    OFFICE_WAITS=1 python3 tests/acceptance/clerk_connections.py
+
+A build whose office logs clerks as `not-built` is only asked to take pieces and ends.
+"""
+import json
+import os
+import re
+import signal
+import socket
+import statistics
+import struct
+import sys
+import tempfile
+import time
+
+from time_service import PROGRAM, check, failures, free_ports, start
+
+ANN = b'{"active":true,"cpes":2,"name":"Ann"}'
+PHRASES = {200: b"OK", 400: b"Bad Request", 404: b"Not Found", 405: b"Method Not Allowed", 413: b"Payload Too Large"}
+WORDS = r"wait|closed|busy|link|200|400 head|404 no-path|405 no-method|413 too-long"
+
+
+def request(method, path, body=b""):
+    return f"{method} {path} HTTP/1.1\r\nHost: office\r\nContent-Length: {len(body)}\r\n\r\n".encode() + body
+
+
+def reply(status, body):
+    head = b"HTTP/1.1 %d %s\r\nContent-Type: application/json\r\nContent-Length: %d\r\nConnection: close\r\n\r\n"
+    return head % (status, PHRASES[status], len(body)) + body
+
+
+DONE = reply(200, b'{"ok":true}')
+
+
+def connect(port, room=None):
+    """A connection; with `room` one that takes few bytes at a time."""
+    peer = socket.socket(socket.AF_INET, socket.SOCK_STREAM)
+    if room is not None:
+        peer.setsockopt(socket.SOL_SOCKET, socket.SO_RCVBUF, room)
+        peer.setsockopt(socket.IPPROTO_TCP, socket.TCP_MAXSEG, 536)
+    peer.settimeout(5)
+    peer.connect(("127.0.0.1", port))
+    peer.setsockopt(socket.IPPROTO_TCP, socket.TCP_NODELAY, 1)
+    return peer
+
+
+def read_to_end(peer):
+    """All bytes up to the end of the connection, or None where it was reset or nothing came for five seconds."""
+    parts = []
+    try:
+        while True:
+            part = peer.recv(65536)
+            if not part:
+                return b"".join(parts)
+            parts.append(part)
+    except OSError:
+        return None
+
+
+def ask(port, text):
+    with connect(port) as peer:
+        peer.sendall(text)
+        return read_to_end(peer)
+
+
+def is_open(peer):
+    """Whether the office hasn't ended a connection on which nothing was answered."""
+    peer.setblocking(False)
+    try:
+        peer.recv(1)
+        return False
+    except BlockingIOError:
+        return True
+    except OSError:
+        return False
+    finally:
+        peer.settimeout(5)
+
+
+def reset(peer):
+    peer.setsockopt(socket.SOL_SOCKET, socket.SO_LINGER, struct.pack("ii", 1, 0))
+    peer.close()
+
+
+def pieces(port):
+    """One request in single bytes, one in two pieces, and what they put is read back."""
+    text = request("PUT", "/subscribers/7", ANN)
+    with connect(port) as peer:
+        for byte in text:
+            peer.sendall(bytes([byte]))
+            time.sleep(0.001)
+        check(read_to_end(peer) == DONE, "a request in single bytes is answered")
+    for cut in (1, 30, len(text) - len(ANN) - 1, len(text) - 1):
+        with connect(port) as peer:
+            peer.sendall(text[:cut])
+            time.sleep(0.05)
+            peer.sendall(text[cut:])
+            check(read_to_end(peer) == DONE, f"a request in two pieces, cut at {cut}, is answered")
+    check(ask(port, request("GET", "/subscribers/7")) == reply(200, ANN), "what was put is read back")
+
+
+def refusals(port):
+    check(ask(port, request("GET", "/nowhere")) == reply(404, b'{"fault":"no-path"}'), "an unknown path is 404")
+    check(ask(port, request("DELETE", "/site")) == reply(405, b'{"fault":"no-method"}'), "an unknown method is 405")
+    check(ask(port, b"no head\r\n\r\n") == reply(400, b'{"fault":"head"}'), "no head is 400")
+
+
+def early_answer(port):
+    """The office answers at the head, while the peer still sends; the answer isn't lost by a reset."""
+    head = b"PUT /subscribers/7 HTTP/1.1\r\nContent-Length: 2000000\r\n\r\n"
+    with connect(port) as peer:
+        peer.sendall(head)
+        time.sleep(0.2)
+        sent = b"x" * 100_000
+        for _ in range(5):
+            peer.sendall(sent)
+        check(read_to_end(peer) == reply(413, b'{"fault":"too-long"}'), "a body that is too long is answered before it has come")
+
+
+def half_closed(port):
+    with connect(port) as peer:
+        peer.sendall(request("PUT", "/subscribers/7", ANN))
+        peer.shutdown(socket.SHUT_WR)
+        check(read_to_end(peer) == DONE, "a peer that has ended its side is answered")
+    with connect(port) as peer:
+        peer.sendall(request("PUT", "/subscribers/7", ANN)[:-1])
+        peer.shutdown(socket.SHUT_WR)
+        check(read_to_end(peer) == b"", "half a request is ended without an answer")
+
+
+def resets(port):
+    for count in (0, 1, 40, None):
+        peer = connect(port)
+        peer.sendall(request("GET", "/subscribers/7")[:count])
+        time.sleep(0.02)
+        reset(peer)
+    for _ in range(20):
+        peer = connect(port)
+        peer.sendall(request("GET", "/subscribers/7"))
+        reset(peer)
+    check(ask(port, request("GET", "/subscribers/7")) == reply(200, ANN), "a request behind resets is answered")
+
+
+def nine_at_once(port):
+    """Eight connections wait for their requests' ends; a ninth is closed, and one that says nothing isn't counted."""
+    text = request("PUT", "/subscribers/7", ANN)
+    silent = [connect(port) for _ in range(10)]
+    peers = [connect(port) for _ in range(8)]
+    for peer in peers:
+        peer.sendall(text[:20])
+    time.sleep(0.3)
+    check(ask(port, text) == b"", "a ninth connection is closed without an answer")
+    peers[3].sendall(text[20:])
+    check(read_to_end(peers[3]) == DONE, "one of the eight is answered")
+    check(ask(port, text) == DONE, "then there is room for one more")
+    for peer in peers[:3] + peers[4:]:
+        peer.sendall(text[20:])
+        check(read_to_end(peer) == DONE, "each of the eight is answered")
+    check(all(is_open(peer) for peer in silent), "connections that said nothing stay open")
+    for peer in silent + peers:
+        peer.close()
+
+
+def beyond_the_table(port):
+    """More connections than the office's link holds at a time: the last ones are taken when the first have gone."""
+    silent = [connect(port) for _ in range(64)]
+    late = connect(port)
+    late.sendall(request("GET", "/subscribers/7"))
+    time.sleep(0.3)
+    check(is_open(late), "a connection behind sixty-four waits")
+    for peer in silent:
+        peer.close()
+    check(read_to_end(late) == reply(200, ANN), "it is answered when they have gone")
+    late.close()
+
+
+def long_class():
+    """A class whose settings are 2,048 bytes in a file, most of them leaves of no bytes."""
+    def flow(code, reference):
+        return {"code": code, "parts": [{"code": 1, "hex": f"{reference:04x}"}, {"code": 6, "hex": "07"}]}
+
+    def vendor(leaves, last):
+        parts = [{"code": 8, "hex": "00100b"}] + [{"code": 255, "hex": ""}] * leaves
+        return {"code": 43, "parts": parts + [{"code": 1, "hex": "5a" * last}]}
+
+    # 9 + 9 bytes of flows; a vendor's group has 2 + 5 + 2 n + 2 + last bytes
+    settings = [flow(24, 1), flow(25, 2)] + [vendor(124, 0) for _ in range(7)] + [vendor(110, 2)]
+    spelled = 18 + 7 * (9 + 248) + 9 + 220 + 2
+    assert spelled == 2048, spelled
+    return json.dumps({"name": "\x01" * 64, "settings": settings}, separators=(",", ":")).encode()
+
+
+def slow_reader(port):
+    """A peer that takes a long answer bit by bit doesn't hold up the others."""
+    body = long_class()
+    check(ask(port, request("PUT", "/classes/3", body)) == DONE, "a long class is put")
+    with connect(port, room=1024) as slow:
+        slow.sendall(request("GET", "/classes/3"))
+        delays = []
+        for _ in range(20):
+            began = time.perf_counter()
+            check(ask(port, request("GET", "/subscribers/7")) == reply(200, ANN), "others are answered meanwhile")
+            delays.append(time.perf_counter() - began)
+            time.sleep(0.05)
+        check(max(delays) < 0.9, "others aren't held up")
+        got = slow.recv(1000)
+        time.sleep(0.5)
+        rest = read_to_end(slow)
+        check(rest is not None and got + rest == reply(200, body), "the slow peer has its whole answer")
+    check(ask(port, request("GET", "/classes/3")) == reply(200, body), "the long class is read back")
+    print(f"the longest answer tried has {len(reply(200, body))} bytes")
+
+
+def idle(port):
+    with connect(port) as peer:
+        text = request("PUT", "/subscribers/7", ANN)
+        peer.sendall(text[:10])
+        time.sleep(2)
+        check(is_open(peer), "an idle connection is open after 2 seconds")
+        peer.sendall(text[10:])
+        check(read_to_end(peer) == DONE, "and then has its answer")
+
+
+def many(port):
+    delays = []
+    began = time.perf_counter()
+    for number in range(1000):
+        before = time.perf_counter()
+        check(ask(port, request("PUT", f"/subscribers/{number + 100}", ANN)) == DONE, f"request {number} of a thousand is answered")
+        delays.append(time.perf_counter() - before)
+    passed = time.perf_counter() - began
+    print(f"1000 PUTs: {passed:.2f} s; one: median {statistics.median(delays) * 1000:.2f} ms, greatest {max(delays) * 1000:.2f} ms")
+    check(ask(port, request("GET", "/subscribers/1099")) == reply(200, ANN), "the last of a thousand is read back")
+
+
+def long_waits(port):
+    """What takes more than a minute. See the head of this file."""
+    silent = connect(port)
+    spoken = connect(port)
+    spoken.sendall(b"GET")
+    lingering = connect(port)
+    lingering.sendall(request("GET", "/subscribers/7"))
+    check(lingering.recv(65536) == reply(200, ANN), "an answer comes")
+    time.sleep(5)
+    check(is_live(lingering), "5 seconds behind a close a peer may still send")
+    time.sleep(8)
+    lingering.sendall(b"x")
+    time.sleep(0.2)
+    check(not is_live(lingering), "13 seconds behind a close it may not")
+    time.sleep(42)
+    check(is_open(silent) and is_open(spoken), "a silent connection is open after 55 seconds")
+    time.sleep(8)
+    check(not is_open(silent) and not is_open(spoken), "a silent connection is closed after 63 seconds")
+    for peer in (silent, spoken, lingering):
+        peer.close()
+
+
+def is_live(peer):
+    """Whether the other side still takes what is sent."""
+    try:
+        peer.sendall(b"x")
+        time.sleep(0.2)
+        peer.sendall(b"x")
+        return True
+    except OSError:
+        return False
+
+
+def judge(lines):
+    numbers = []
+    for line in lines:
+        form = re.fullmatch(rf"([0-9]+) http ({WORDS})", line)
+        check(form is not None, f"a line has its form: {line!r}")
+        if form:
+            numbers.append(int(form.group(1)))
+    check(numbers == sorted(set(numbers)), "the numbers of the lines rise")
+    words = [line.split(" ", 2)[2] for line in lines if line.count(" ") > 1]
+    check(words.count("wait") >= 100, "each piece of a request has a line")
+    check(words.count("busy") == 1, "the ninth connection has a line")
+    check(words.count("closed") >= 3, "connections that end in a request have lines")
+    check(words.count("200") >= 1000, "each answer has a line")
+    check("link" not in words or words.count("link") <= 20, "only answers to reset peers may be lost")
+    print(f"{len(lines)} lines, the last number {numbers[-1] if numbers else 0}")
+
+
+def clerks_are_answered(port):
+    """Whether this build answers clerks. It waits for the program first."""
+    for _ in range(100):
+        try:
+            return ask(port, request("GET", "/nowhere")) == reply(404, b'{"fault":"no-path"}')
+        except OSError:
+            time.sleep(0.05)
+    return False
+
+
+def only_taken(port):
+    """Three pieces and an end, a piece and a reset, for an office that doesn't answer clerks yet."""
+    with connect(port) as peer:
+        for byte in (b"G", b"E", b"T"):
+            peer.sendall(byte)
+            time.sleep(0.1)
+    peer = connect(port)
+    peer.sendall(b"P")
+    time.sleep(0.1)
+    reset(peer)
+    time.sleep(0.3)
+
+
+def judge_not_built(lines):
+    # The question whether clerks are answered was a piece and an end, too.
+    check(all(re.fullmatch(r"[0-9]+ http not-built", line) for line in lines), "no line but those of an office that doesn't answer")
+    check(len(lines) == 8, f"each piece and each end has a line: {lines}")
+    print("this build doesn't answer clerks: only pieces and ends were tried")
+
+
+def try_all(port):
+    for part in (pieces, refusals, early_answer, half_closed, resets, nine_at_once, beyond_the_table, slow_reader, idle, many):
+        part(port)
+    if os.environ.get("OFFICE_WAITS"):
+        long_waits(port)
+
+
+def main():
+    if not os.path.exists(PROGRAM):
+        print("officed isn't built: run bin/officed once")
+        return 1
+    ports = free_ports()
+    port = ports[3]
+    with tempfile.TemporaryFile() as log:
+        program = start(ports, 10**9, log)
+        try:
+            answered = clerks_are_answered(port)
+            if answered:
+                try_all(port)
+            else:
+                only_taken(port)
+            check(program.poll() is None, "the program goes on")
+        finally:
+            program.send_signal(signal.SIGTERM)
+            program.wait(timeout=10)
+        log.seek(0)
+        lines = log.read().decode().splitlines()
+        if answered:
+            judge(lines)
+        else:
+            judge_not_built(lines)
+    print(f"acceptance: {len(failures)} failed")
+    return 1 if failures else 0
+
+
+if __name__ == "__main__":
+    sys.exit(main())
