@@ -1,1 +1,9 @@
+pub mod Paths
+pub mod Bodies
+pub mod Requests
+pub mod Answers
+pub mod Ways
 pub mod StepLaws
+pub mod Lines
+pub mod Connections
+pub mod RunLaws

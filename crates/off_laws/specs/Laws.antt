@@ -1,9 +1,17 @@
 -- Laws of events and of runs.
-use Rattle.std.specs.Prelude.{◌≡◌, ◌≤◌, max, List, ◌++◌, codes, ◌↔◌}
+use Rattle.std.specs.Prelude.{◌≡◌, ◌≤◌, ◌⊎◌, max, ℕ, Bool, true, false, IsTrue, List, ◌++◌, codes, ◌↔◌, count_by, None}
+use Rattle.std.specs.List.{list_any}
+use Rattle.std.specs.FinMap as map
 use Rattle.off_defs.specs.declared.events.Event.{Event}
+use Rattle.off_defs.specs.declared.events.What.{What}
+use Rattle.off_defs.specs.declared.events.What.TheVariants.{Piece}
 use Rattle.off_defs.specs.declared.results.Outcome.{Outcome}
-use Rattle.off_defs.specs.declared.results.Outcome.TheVariants.{Memory}
-use Rattle.off_defs.specs.State.{State, Effect}
+use Rattle.off_defs.specs.declared.results.Outcome.TheVariants.{Did, Memory, Keeper}
+use Rattle.off_defs.specs.declared.results.Sent.{Sent}
+use Rattle.off_defs.specs.declared.results.Sent.TheVariants.{Datagram, Answer, Close}
+use Rattle.off_defs.specs.State.{Tables, State, Effect, start}
+use Rattle.off_rules.specs.Good.{Good}
+use Rattle.off_book.specs.Http.{most_connections}
 use Rattle.off_book.specs.Step.{Step, service_word}
 use Rattle.off_book.specs.Run.{Turn, Run}
 
@@ -15,11 +23,12 @@ OneResult = (s : State) (event : Event) (outcome : Outcome) (one other : Effect)
 abbrev pub OneEnd : Type 0
 OneEnd = (s one other : State) (turns : List Turn) → Run s turns one → Run s turns other → one ≡ other
 
--- the line says `memory` exactly where memory was wanted
+-- the line says `memory` exactly where memory was wanted, and `keeper` exactly where the keeper of the tables failed
 abbrev pub LineTellsOutcome : Type 0
 LineTellsOutcome =
     (s : State) (event : Event) (outcome : Outcome) (effect : Effect) → Step s event outcome effect
     → ((effect.said.line ≡ service_word event.what ++ codes " memory") ↔ (outcome ≡ Memory))
+    × ((effect.said.line ≡ service_word event.what ++ codes " keeper") ↔ (outcome ≡ Keeper))
 
 -- the moment after an event is the greatest so far
 abbrev pub MomentIsGreatest : Type 0
@@ -30,3 +39,45 @@ MomentIsGreatest =
 -- the moment never falls over a run
 abbrev pub MomentNeverFalls : Type 0
 MomentNeverFalls = (s last : State) (turns : List Turn) → Run s turns last → s.held.now ≤ last.held.now
+
+-- a run that begins with good tables ends with good tables
+abbrev pub RunKeepsGood : Type 0
+RunKeepsGood = (s last : State) (turns : List Turn) → Run s turns last → Good s.tables → Good last.tables
+
+-- a clerk's request was done: a piece came, the office acted on it, and the line says `http 200`
+pub record IsDone (what : What) (outcome : Outcome) (line : List ℕ) : Type 0 where
+  pub conn : ℕ
+  pub piece : List ℕ
+  pub came : what ≡ Piece conn piece
+  pub acted : outcome ≡ Did
+  pub says : line ≡ codes "http 200"
+
+-- The tables stay, or a clerk's request was done. So datagrams, ticks and the ends of connections leave the tables, and pieces too that
+-- are waited behind, refused, or couldn't be acted on.
+abbrev pub OnlyDoneChanges : Type 0
+OnlyDoneChanges =
+    (s : State) (event : Event) (outcome : Outcome) (effect : Effect) → Step s event outcome effect
+    → (effect.after.tables ≡ s.tables) ⊎ IsDone event.what outcome effect.said.line
+
+-- an answer; and what ends a connection, an answer or a close
+abbrev pub is_answer : Sent → Bool
+is_answer (Datagram service to bytes) = false
+is_answer (Answer conn bytes) = true
+is_answer (Close conn) = false
+
+abbrev pub ends_connection : Sent → Bool
+ends_connection (Datagram service to bytes) = false
+ends_connection (Answer conn bytes) = true
+ends_connection (Close conn) = true
+
+-- a piece is answered once at most, and once it is answered, or its connection closed, that connection isn't live any more
+abbrev pub AnsweredOnce : Type 0
+AnsweredOnce =
+    (s : State) (event : Event) (outcome : Outcome) (effect : Effect) (conn : ℕ) (piece : List ℕ) → Step s event outcome effect
+    → event.what ≡ Piece conn piece
+    → (count_by is_answer effect.said.items ≤ 1)
+    × (IsTrue (list_any ends_connection effect.said.items) → map.get effect.after.held.connections conn ≡ None)
+
+-- Few connections are live at the end of a run from the start, so after each turn: the turns up to it are a run too.
+abbrev pub FewAreLive : Type 0
+FewAreLive = (tables : Tables) (last : State) (turns : List Turn) → Run (start tables) turns last → map.len last.held.connections ≤ most_connections

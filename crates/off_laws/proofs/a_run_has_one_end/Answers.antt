@@ -1,4 +1,4 @@
-use Rattle.off_laws.proofs.StepLaws.{one_end}
+use Rattle.off_laws.proofs.RunLaws.{one_end}
 use Rattle.off_laws.proofs.a_run_has_one_end.Goals as goal
 
 pub returns : goal.returns

@@ -1,4 +1,4 @@
-use Rattle.off_laws.proofs.StepLaws.{moment_never_falls}
+use Rattle.off_laws.proofs.RunLaws.{moment_never_falls}
 use Rattle.off_laws.proofs.the_moment_never_falls.Goals as goal
 
 pub returns : goal.returns

@@ -1,0 +1,90 @@
+-- What the line of an event says of its outcome.
+use Rattle.std.proofs.Common.{◌≡◌, ℕ, ◌<◌, Bool, true, false, List, [], ◌++◌, codes, nat_eq, refl, sym, ap, ◌∙◌, subst, arith}
+use Rattle.std.proofs.lemmas.Bool.Decides.{nat_tests}
+use Rattle.std.specs.Prelude.{slice_index}
+use Rattle.std.specs.Char.{digit_value}
+use Rattle.off_defs.specs.declared.events.Service.TheVariants.{Dhcp, Time, Tftp}
+use Rattle.off_defs.specs.declared.events.What.{What}
+use Rattle.off_defs.specs.declared.events.What.TheVariants.{Datagram, Piece, Closed, Tick, End}
+use Rattle.off_defs.specs.declared.events.Event.{Event}
+use Rattle.off_defs.specs.declared.results.Outcome.{Outcome}
+use Rattle.off_defs.specs.declared.results.Outcome.TheVariants.{Did, Memory, Keeper}
+use Rattle.off_defs.specs.State.{State, Effect}
+use Rattle.off_http.specs.Request.{Meaning, Waits, Refused, Asked}
+use Rattle.off_clerk.specs.declared.faults.Fault.TheVariants as fault
+use Rattle.off_book.specs.Http.{by_meaning, is_full, TakesPiece}
+use Rattle.off_book.specs.Step.{Step, Does, TellsOutcome, service_word}
+use Rattle.off_book.proofs.StepLemmas.{step_tells}
+use Rattle.off_laws.specs.Laws.{LineTellsOutcome}
+use Rattle.off_laws.proofs.Answers.{BeginsWithDigit, fault_digit, request_digit}
+
+-- The line of an event that was acted on is no other line: their sixth bytes differ.
+abbrev NoFailure : List ℕ → What → Type 0
+NoFailure line what = (line ≡ service_word what ++ codes " memory" → ⊥) × (line ≡ service_word what ++ codes " keeper" → ⊥)
+
+other_byte : (xs ys : List ℕ) → nat_eq (slice_index xs 5) (slice_index ys 5) ≡ false → xs ≡ ys → ⊥
+other_byte xs ys apart same = let e : slice_index xs 5 ≡ slice_index ys 5 = ap (λ (zs : List ℕ). slice_index zs 5) same in grind (arith, nat_tests)
+
+says : (what : What) (effect : Effect) (line : List ℕ) → nat_eq (slice_index line 5) (slice_index (service_word what ++ codes " memory") 5) ≡ false
+    → nat_eq (slice_index line 5) (slice_index (service_word what ++ codes " keeper") 5) ≡ false → effect.said.line ≡ line → NoFailure effect.said.line what
+says what effect line memory keeper is =
+    (λ same. other_byte line (service_word what ++ codes " memory") memory (sym is ∙ same), λ same. other_byte line (service_word what ++ codes " keeper") keeper (sym is ∙ same))
+
+line_is : (one other : Effect) → one ≡ other → one.said.line ≡ other.said.line
+line_is one other is = ap (λ (e : Effect). e.said.line) is
+
+no_letter : (byte : ℕ) → digit_value byte < 10 → (nat_eq byte 109 ≡ false) × (nat_eq byte 107 ≡ false)
+no_letter byte small = (grind (arith, nat_tests), grind (arith, nat_tests))
+
+digit_says : (conn : ℕ) (piece words : List ℕ) (effect : Effect) → BeginsWithDigit words → effect.said.line ≡ codes "http " ++ words → NoFailure effect.said.line (Piece conn piece)
+digit_says conn piece words effect digit is =
+    let no = no_letter (slice_index words 0) digit in
+    says (Piece conn piece) effect (codes "http " ++ words) no.0 no.1 is
+
+meaning_line : (s : State) (conn : ℕ) (piece bytes : List ℕ) (effect : Effect) (meaning : Meaning) → effect ≡ by_meaning s conn bytes meaning
+    → NoFailure effect.said.line (Piece conn piece)
+meaning_line s conn piece bytes effect Waits is = says (Piece conn piece) effect (codes "http wait") refl refl (line_is effect _ is)
+meaning_line s conn piece bytes effect (Refused f) is = digit_says conn piece _ effect (fault_digit s.tables (fault.Http f)) (line_is effect _ is)
+meaning_line s conn piece bytes effect (Asked method target body) is =
+    digit_says conn piece _ effect (request_digit s.tables s.held.now method target body) (line_is effect _ is)
+
+piece_line : (full : Bool) (s : State) (conn : ℕ) (piece : List ℕ) (effect : Effect) → TakesPiece full s conn piece effect → NoFailure effect.said.line (Piece conn piece)
+piece_line true s conn piece effect takes = says (Piece conn piece) effect (codes "http busy") refl refl (line_is effect _ takes)
+piece_line false s conn piece effect takes = meaning_line s conn piece _ effect takes.meaning takes.does
+
+does_line : (s : State) (what : What) (effect : Effect) → Does s what Did effect → NoFailure effect.said.line what
+does_line s (Datagram Dhcp from bytes) effect p = says (Datagram Dhcp from bytes) effect (codes "dhcp not-built") refl refl (line_is effect _ p)
+does_line s (Datagram Time from bytes) effect p = says (Datagram Time from bytes) effect (codes "time sent") refl refl (line_is effect _ p)
+does_line s (Datagram Tftp from bytes) effect p = says (Datagram Tftp from bytes) effect (codes "tftp not-built") refl refl (line_is effect _ p)
+does_line s (Piece conn piece) effect p = piece_line (is_full s.held.connections conn) s conn piece effect p
+does_line s (Closed conn) effect p = says (Closed conn) effect (codes "http closed") refl refl (line_is effect _ p)
+does_line s Tick effect p = says Tick effect [] refl refl (line_is effect _ p)
+does_line s End effect p = says End effect [] refl refl (line_is effect _ p)
+
+-- the lines of the two failures differ too
+front : (what : What) → (service_word what ++ codes " memory" ≡ service_word what ++ codes " keeper") → ⊥
+front (Datagram Dhcp from bytes) same = other_byte (codes "dhcp memory") (codes "dhcp keeper") refl same
+front (Datagram Time from bytes) same = other_byte (codes "time memory") (codes "time keeper") refl same
+front (Datagram Tftp from bytes) same = other_byte (codes "tftp memory") (codes "tftp keeper") refl same
+front (Piece conn bytes) same = other_byte (codes "http memory") (codes "http keeper") refl same
+front (Closed conn) same = other_byte (codes "http memory") (codes "http keeper") refl same
+front Tick same = other_byte (codes "tick memory") (codes "tick keeper") refl same
+front End same = other_byte (codes " memory") (codes " keeper") refl same
+
+abbrev ToldBy : State → Event → Outcome → Effect → Type 0
+ToldBy s event outcome effect =
+    (effect.said.line ≡ service_word event.what ++ codes " memory" → outcome ≡ Memory) × (effect.said.line ≡ service_word event.what ++ codes " keeper" → outcome ≡ Keeper)
+
+outcome_of : (s : State) (event : Event) (outcome : Outcome) (effect : Effect) → Step s event outcome effect → ToldBy s event outcome effect
+unfolding Step
+outcome_of s event Did effect p = let no = does_line _ event.what effect p in (λ line. absurd (no.0 line), λ line. absurd (no.1 line))
+outcome_of s event Memory effect p = (λ line. refl, λ line. absurd (front event.what (sym (step_tells s event Memory effect p) ∙ line)))
+outcome_of s event Keeper effect p = (λ line. absurd (front event.what (sym line ∙ step_tells s event Keeper effect p)), λ line. refl)
+
+line_of : (s : State) (event : Event) (outcome other : Outcome) (effect : Effect) → Step s event outcome effect → outcome ≡ other → TellsOutcome event.what other effect.said.line
+line_of s event outcome other effect p is = subst (λ o. TellsOutcome event.what o effect.said.line) is (step_tells s event outcome effect p)
+
+pub line_tells_outcome : LineTellsOutcome
+line_tells_outcome s event outcome effect p =
+    let told = outcome_of s event outcome effect p in
+    ((told.0, λ is. line_of s event outcome Memory effect p is), (told.1, λ is. line_of s event outcome Keeper effect p is))

@@ -1,0 +1,65 @@
+-- The command that a request means is sound, and its site's secret fits.
+use Rattle.std.proofs.Common.{◌≡◌, ℕ, Bool, true, false, cond, ◌&&◌, List, codes, Option, Some, None, Result, Ok, Err, IfOk, refl}
+use Rattle.std.specs.Prelude.{bytes_eq}
+use Rattle.serde_json.specs.Data.{Data}
+use Rattle.off_defs.specs.declared.keys.Key.{Key}
+use Rattle.off_defs.specs.declared.keys.Key.TheVariants as key
+use Rattle.off_defs.specs.declared.orders.Command.{Command}
+use Rattle.off_defs.specs.declared.orders.Command.TheVariants.{SetSite, PutSubscriber, PutAddOn, PutModem, PutClass, PutPool, Remove, Show}
+use Rattle.off_rows.specs.Sound.{is_sound, is_shown}
+use Rattle.off_clerk.specs.declared.faults.ClerkErr.{ClerkErr}
+use Rattle.off_clerk.specs.declared.faults.ClerkErr.TheVariants.{NoMethod}
+use Rattle.off_clerk.specs.Commands.{◌>>=◌, site_in, subscriber_in, add_on_in, modem_in, class_in, pool_in, object_in, put_read, asked_at, command_read}
+use Rattle.off_clerk.specs.Paths.{path_of, key_at, has_delete}
+use Rattle.off_clerk.proofs.PathLemmas.{IsShown}
+use Rattle.off_table_laws.specs.Laws.{secret_fits}
+use Rattle.off_laws.proofs.Paths.{path_shown, deleted_removable}
+use Rattle.off_laws.proofs.Bodies.{subscriber_sound, pool_sound, site_fits}
+
+abbrev pub MayBe : Command → Type 0
+MayBe command = (is_sound command ≡ true) × (secret_fits command ≡ true)
+
+-- a command that is made of what a body gives
+made : {A : Type 0} (read : Result A ClerkErr) (P : A → Type 0) (make : A → Command) → IfOk read P → ((x : A) → P x → MayBe (make x))
+    → IfOk (read >>= (λ x. Ok (make x))) MayBe
+made (Ok x) P make h may = may x h
+made (Err e) P make h may = tt
+
+put_made : {A : Type 0} (object : Result Data ClerkErr) (read : Data → Result A ClerkErr) (P : A → Type 0) (make : A → Command)
+    → ((d : Data) → IfOk (read d) P) → ((x : A) → P x → MayBe (make x)) → IfOk (object >>= (λ d. read d >>= (λ x. Ok (make x)))) MayBe
+put_made (Ok d) read P make all may = made (read d) P make (all d) may
+put_made (Err e) read P make all may = tt
+
+anything : {A : Type 0} (r : Result A ClerkErr) → IfOk r (λ _. Unit {0})
+anything (Ok x) = tt
+anything (Err e) = tt
+
+put_may : (row : Key) (body : List ℕ) → is_shown row ≡ true → IfOk (put_read row body) MayBe
+put_may key.Site body shown = put_made (object_in body) site_in _ SetSite site_fits (λ site fits. (refl, fits))
+put_may (key.Subscriber n) body shown = put_made (object_in body) subscriber_in _ (PutSubscriber n) subscriber_sound (λ subscriber sound. (sound, refl))
+put_may (key.AddOn n number) body shown =
+    put_made (object_in body) add_on_in (λ _. Unit {0}) (PutAddOn n number) (λ d. anything (add_on_in d)) (λ settings _. (shown, refl))
+put_may (key.Modem mac) body shown = put_made (object_in body) modem_in (λ _. Unit {0}) (PutModem mac) (λ d. anything (modem_in d)) (λ modem _. (refl, refl))
+put_may (key.Class n) body shown = put_made (object_in body) class_in (λ _. Unit {0}) (PutClass n) (λ d. anything (class_in d)) (λ class _. (refl, refl))
+put_may (key.Pool n) body shown = put_made (object_in body) pool_in _ (PutPool n) pool_sound (λ pool sound. (sound, refl))
+put_may (key.Lease address) body shown = tt
+put_may (key.Held mac) body shown = tt
+put_may (key.Batch n) body shown = tt
+
+delete_may : (row : Key) (b : Bool) → has_delete row ≡ b → (named : Bool) → is_shown row ≡ true → IfOk (cond (named && b) (Ok (Remove row)) (Err NoMethod)) MayBe
+delete_may row true e true shown = (deleted_removable row shown e, refl)
+delete_may row false e true shown = tt
+delete_may row b e false shown = tt
+
+by_method : (row : Key) (body : List ℕ) (get put delete : Bool) → is_shown row ≡ true
+    → IfOk (cond get (Ok (Show row)) (cond put (put_read row body) (cond (delete && has_delete row) (Ok (Remove row)) (Err NoMethod)))) MayBe
+by_method row body true put delete shown = (shown, refl)
+by_method row body false true delete shown = put_may row body shown
+by_method row body false false delete shown = delete_may row _ refl delete shown
+
+at_key : (found : Option Key) (method body : List ℕ) → IsShown found → IfOk (asked_at found method body) MayBe
+at_key (Some row) method body shown = by_method row body (bytes_eq method (codes "GET")) (bytes_eq method (codes "PUT")) (bytes_eq method (codes "DELETE")) shown
+at_key None method body shown = tt
+
+pub request_may : (method target body : List ℕ) → IfOk (command_read method target body) MayBe
+request_may method target body = at_key (key_at (path_of target)) method body (path_shown (path_of target))

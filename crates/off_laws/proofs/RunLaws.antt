@@ -1,0 +1,46 @@
+-- The laws of runs, by the laws of their events.
+use Rattle.std.proofs.Common.{◌≡◌, ℕ, List, [], ◌∷◌, sym, ap, ◌∙◌, subst, arith}
+use Rattle.std.specs.Ordering.{nat_cmp}
+use Rattle.std.specs.FinMap as map
+use Rattle.off_defs.specs.State.{Tables, State, Effect, start}
+use Rattle.off_rules.specs.Good.{Good}
+use Rattle.off_book.specs.Step.{Step}
+use Rattle.off_book.specs.Run.{Turn, Run}
+use Rattle.off_laws.specs.Laws.{OneEnd, MomentNeverFalls, RunKeepsGood, FewAreLive}
+use Rattle.off_laws.proofs.StepLaws.{one_result, moment_is_greatest, step_good}
+use Rattle.off_laws.proofs.Connections.{AreFew, step_few}
+
+-- what a turn said, and a state after it
+abbrev turned : Turn → State → Effect
+turned turn after = record { said = turn.said; after = after }
+
+pub one_end : OneEnd
+one_end s one other [] p q = p ∙ sym q
+one_end s one other (turn ∷ turns) p q =
+    let same : p.0 ≡ q.0 = ap (λ (e : Effect). e.after) (one_result s turn.event turn.outcome (turned turn p.0) (turned turn q.0) p.1.0 q.1.0) in
+    one_end q.0 one other turns (subst (λ m. Run m turns one) same p.1.1) q.1.1
+
+pub moment_never_falls : MomentNeverFalls
+moment_never_falls s last [] p = omega (arith, ap (λ (m : State). m.held.now) p)
+moment_never_falls s last (turn ∷ turns) p =
+    let next = moment_is_greatest s turn.event turn.outcome (turned turn p.0) p.1.0 in
+    let rest = moment_never_falls p.0 last turns p.1.1 in
+    omega arith
+
+-- what each event keeps, a run keeps
+kept : (P : State → Type 0)
+    → ((s : State) (turn : Turn) (after : State) → Step s turn.event turn.outcome (turned turn after) → P s → P after)
+    → (s last : State) (turns : List Turn) → Run s turns last → P s → P last
+kept P keeps s last [] p holds = subst P (sym p) holds
+kept P keeps s last (turn ∷ turns) p holds = kept P keeps p.0 last turns p.1.1 (keeps s turn p.0 p.1.0 holds)
+
+pub run_keeps_good : RunKeepsGood
+run_keeps_good s last turns p good =
+    kept (λ (u : State). Good u.tables) (λ u turn after step holds. step_good u turn.event turn.outcome (turned turn after) step holds) s last turns p good
+
+none_live : (tables : Tables) → AreFew (start tables)
+none_live tables = omega (arith, map.len-empty nat_cmp (List ℕ))
+
+pub few_are_live : FewAreLive
+few_are_live tables last turns p =
+    kept AreFew (λ u turn after step few. step_few u turn.event turn.outcome (turned turn after) step few) (start tables) last turns p (none_live tables)
