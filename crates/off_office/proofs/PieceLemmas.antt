@@ -76,6 +76,7 @@ busy_by conn piece said before k (Ok u) full is = record {
     agree,
   ));
   faults = omega arith;
+  moment = refl;
 }
 busy_by conn piece said before k (Err e) full is = record {
   held = ap (λ (m : Connections). record before.held { connections = m }) (sym (remove_absent before.held.connections conn (full_absent before.held.connections conn full)));
@@ -121,6 +122,7 @@ wait_by conn piece bytes said before after k (Ok u) read waits = record {
     ap (λ (x : Kept). x.counts) waits.1 ∙ agree,
   ));
   faults = omega arith;
+  moment = ap (λ (x : Kept). x.held.now) waits.1;
 }
 wait_by conn piece bytes said before after k (Err e) read waits = forgotten conn before after k waits
 
@@ -140,6 +142,7 @@ bad_by conn piece bytes f said before k (Ok u) read is = record {
     agree,
   ));
   faults = omega arith;
+  moment = refl;
 }
 bad_by conn piece bytes f said before k (Err e) read is = forgotten conn before (forgets before conn) k refl
 
@@ -165,6 +168,7 @@ asked_by conn piece bytes m p b said before after k l (Ok u) read ends = record 
         f.2,
       ));
   faults = ends.faults;
+  moment = ap (λ (h : Held). h.now) ends.held;
 }
 asked_by conn piece bytes m p b said before after k l (Err e) read ends = record { held = ends.held; counts = ends.counts; keeper = ends.keeper }
 

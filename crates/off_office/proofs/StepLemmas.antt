@@ -1,5 +1,5 @@
 -- From what an event comes to, to the step of the book.
-use Rattle.std.proofs.Common.{◌≡◌, ℕ, List, codes, refl, sym, ap, ◌∙◌, subst, arith, append-nil}
+use Rattle.std.proofs.Common.{◌≡◌, ℕ, true, false, List, codes, refl, sym, ap, ◌∙◌, subst, arith, append-nil}
 use Rattle.off_base.specs.declared.addresses.Peer.{Peer}
 use Rattle.off_defs.specs.declared.events.Event.{Event}
 use Rattle.off_defs.specs.declared.events.What.{What}
@@ -19,7 +19,7 @@ use Rattle.off_outside.specs.declared.keeper.KeepErr.{KeepErr}
 use Rattle.off_outside.specs.declared.keeper.KeepErr.TheVariants as keep
 use Rattle.off_outside.specs.KeeperSeen.{KeeperSeen}
 use Rattle.off_office.specs.Kept.{Kept}
-use Rattle.off_office.specs.Acting.{Acts, kept_at}
+use Rattle.off_office.specs.Acting.{Acts, is_piece, kept_at}
 use Rattle.off_office.specs.Saying.{SaysTime, SaysDatagram}
 use Rattle.off_office.specs.Answering.{failed_said, forgets, Fails, HeardPiece, NotHeard, TookPiece}
 
@@ -37,6 +37,7 @@ took_did conn piece said before after a b heard = record {
       ));
   faults = record { later = heard.faults; grew = omega (arith, heard.faults) };
   tells = tt;
+  moment = heard.moment;
 }
 
 took_memory : (conn : ℕ) (piece : List ℕ) (said : Said) (before after : Kept) (a b : KeeperSeen) → NotHeard keep.Memory conn before after a b
@@ -55,6 +56,7 @@ took_memory conn piece said before after a b not is = record {
   };
   faults = not.keeper.faults;
   tells = ap (λ (x : Said). x.line) is;
+  moment = ap (λ (h : Held). h.now) not.held;
 }
 
 took_keeper : (conn : ℕ) (piece : List ℕ) (said : Said) (before after : Kept) (a b : KeeperSeen) → NotHeard keep.Failed conn before after a b
@@ -73,6 +75,7 @@ took_keeper conn piece said before after a b not is = record {
   };
   faults = not.keeper.faults;
   tells = ap (λ (x : Said). x.line) is;
+  moment = ap (λ (h : Held). h.now) not.held;
 }
 
 pub took_failed : (conn : ℕ) (piece : List ℕ) (err : KeepErr) (outcome : Outcome) (said : Said) (before after : Kept) (a b : KeeperSeen) → NotHeard err conn before after a b
@@ -95,23 +98,27 @@ acts_piece event conn piece outcome said before mid after a b is at took =
           ));
       faults = now.faults;
       tells = subst (λ (w : What). TellsOutcome w outcome said.line) (sym is) now.tells;
+      quiet = λ other. absurd (let e : true ≡ false = sym (ap is_piece is) ∙ other in cc);
+      moment = now.moment;
     }
 
 -- an event that needs no tables
 pub acts_quietly : (event : Event) (outcome : Outcome) (said : Said) (before mid after : Kept) (k : KeeperSeen) (what : What)
-    → event.what ≡ what → mid ≡ kept_at before event.at.0 → after.counts ≡ mid.counts
+    → event.what ≡ what → mid ≡ kept_at before event.at.0 → after.held.now ≡ mid.held.now → after.counts ≡ mid.counts
     → ((t : Tables) → Does (state_of t mid.held) what outcome (record { said = completed what outcome said; after = state_of t after.held }))
     → keeper_failures outcome ≡ 0 → TellsOutcome what outcome said.line → Acts event outcome said before after k k
 unfolding Step
-acts_quietly event outcome said before mid after k what is at counts does none tells = record {
-  tables = told_self (λ t agree. (
+acts_quietly event outcome said before mid after k what is at same counts does none tells =
+    let step : (t : Tables) → Does (state_of t (held_at before.held event.at.0)) event.what outcome (record { said = completed event.what outcome said; after = state_of t after.held }) = λ t.
     subst (λ (w : What). Does (state_of t (held_at before.held event.at.0)) w outcome (record { said = completed w outcome said; after = state_of t after.held })) (sym is)
-        (subst (λ (m : Kept). Does (state_of t m.held) what outcome (record { said = completed what outcome said; after = state_of t after.held })) at (does t)),
-    counts ∙ (ap (λ (m : Kept). m.counts) at ∙ agree),
-  ));
-  faults = subst (λ n. Grew n k.faults k.faults) (sym none) (grew_self k.faults);
-  tells = subst (λ (w : What). TellsOutcome w outcome said.line) (sym is) tells;
-}
+    (subst (λ (m : Kept). Does (state_of t m.held) what outcome (record { said = completed what outcome said; after = state_of t after.held })) at (does t)) in
+    record {
+      tables = told_self (λ t agree. (step t, counts ∙ (ap (λ (m : Kept). m.counts) at ∙ agree)));
+      quiet = λ other. (step, counts ∙ ap (λ (m : Kept). m.counts) at);
+      moment = same ∙ ap (λ (m : Kept). m.held.now) at;
+      faults = subst (λ n. Grew n k.faults k.faults) (sym none) (grew_self k.faults);
+      tells = subst (λ (w : What). TellsOutcome w outcome said.line) (sym is) tells;
+    }
 
 abbrev DoesQuietly : What → Kept → Outcome → Said → Type 0
 DoesQuietly what kept outcome said = (t : Tables) → Does (state_of t kept.held) what outcome (record { said = completed what outcome said; after = state_of t kept.held })
@@ -143,14 +150,14 @@ pub acts_datagram : (event : Event) (service : Service) (from : Peer) (bytes : L
     → Acts event outcome said before after k k
 acts_datagram event service from bytes outcome said before mid after k is at says same =
     let does = datagram_does service from bytes after outcome said says in
-    acts_quietly event outcome said before after after k (Datagram service from bytes) is (same ∙ at) refl does.0 does.1 does.2
+    acts_quietly event outcome said before after after k (Datagram service from bytes) is (same ∙ at) refl refl does.0 does.1 does.2
 
 pub acts_closed : (event : Event) (conn : ℕ) (outcome : Outcome) (said : Said) (before mid after : Kept) (k : KeeperSeen)
     → event.what ≡ Closed conn → mid ≡ kept_at before event.at.0 → after ≡ forgets mid conn → outcome ≡ Did → said ≡ failed_said (codes "http closed")
     → Acts event outcome said before after k k
 acts_closed event conn outcome said before mid after k is at left did says =
     subst (λ (o : Outcome). Acts event o said before after k k) (sym did)
-    (acts_quietly event Did said before mid after k (Closed conn) is at (ap (λ (x : Kept). x.counts) left)
+    (acts_quietly event Did said before mid after k (Closed conn) is at (ap (λ (x : Kept). x.held.now) left) (ap (λ (x : Kept). x.counts) left)
     (λ t. ap (λ (x : Said). record { said = completed (Closed conn) Did x; after = state_of t after.held }) says
     ∙ ap (λ (x : Kept). record { said = failed_said (codes "http closed"); after = state_of t x.held }) left)
     refl tt)
@@ -160,6 +167,6 @@ pub acts_silently : (event : Event) (said : Said) (before mid : Kept) (k : Keepe
     → ((t : Tables) → Does (state_of t mid.held) what Did (record { said = completed what Did says_nothing; after = state_of t mid.held }))
     → Acts event Did said before mid k k
 acts_silently event said before mid k what is at says does =
-    acts_quietly event Did said before mid mid k what is at refl
+    acts_quietly event Did said before mid mid k what is at refl refl
     (subst (λ (x : Said). (t : Tables) → Does (state_of t mid.held) what Did (record { said = completed what Did x; after = state_of t mid.held })) (sym says) does)
     refl tt

@@ -94,6 +94,7 @@ pub record HeardPiece (conn : ℕ) (piece : List ℕ) (said : Said) (before afte
   pub tables : Told old.tables new.tables (λ t u. before.counts ≡ counts_of t
       → PieceDid (state_of t before.held) conn piece (record { said = said; after = state_of u after.held }) × (after.counts ≡ counts_of u))
   pub faults : old.faults ≤ new.faults
+  pub moment : after.held.now ≡ before.held.now
 
 -- it couldn't be acted on: its connection is forgotten, and all else is as before
 pub record NotHeard (err : KeepErr) (conn : ℕ) (before after : Kept) (old new : KeeperSeen) : Type 0 where
@@ -108,6 +109,7 @@ pub record TookPiece (conn : ℕ) (piece : List ℕ) (outcome : Outcome) (said :
       × (after.counts ≡ counts_of u))
   pub faults : Grew (keeper_failures outcome) old.faults new.faults
   pub tells : TellsOutcome (Piece conn piece) outcome said.line
+  pub moment : after.held.now ≡ before.held.now
 
 -- a line alone
 abbrev pub failed_said : List ℕ → Said

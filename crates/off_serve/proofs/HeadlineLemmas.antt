@@ -1,6 +1,7 @@
 -- From the loop and the run's own line to the headline.
 use Rattle.std.proofs.Common.{◌≡◌, ◌≢◌, ℕ, List, [], All, Option, Some, MatchOption, sym, subst, inl, inr, arith}
-use Rattle.off_defs.specs.State.{Held, held_at_start, state_of}
+use Rattle.off_defs.specs.Told.{Told}
+use Rattle.off_defs.specs.State.{Held, held_at_start, start, state_of}
 use Rattle.off_book.specs.Words.{Job}
 use Rattle.off_book.specs.Run.{Turn, Run, SaysMemory}
 use Rattle.off_book.proofs.StepLemmas.{turns_did}
@@ -10,6 +11,8 @@ use Rattle.off_rules.specs.Rows.{counts_of}
 use Rattle.off_outside.specs.LinkSeen.{LinkSeen}
 use Rattle.off_outside.specs.KeeperSeen.{KeeperSeen}
 use Rattle.off_outside.specs.KeeperCalls.{Reads}
+use Rattle.off_outside.proofs.KeeperLemmas.{reads_as}
+use Rattle.off_laws.proofs.RunLaws.{run_keeps_good}
 use Rattle.off_outside.specs.Streams.{SinkSeen}
 use Rattle.off_office.specs.Kept.{Kept}
 use Rattle.off_office.specs.Acting.{NotStarted}
@@ -81,6 +84,18 @@ ran_office {turns} {first} {last} {a} {b} {c} opened fresh ran = record {
   tell = ran.tell;
 }
 
+-- good tables stay good over the turns
+good_again : {turns : List Turn} {held : Held} {a b c : KeeperSeen} → Reads Good a b → RanOffice turns held a c → Told a.tables c.tables (λ t u. Good u)
+good_again {turns} {held} good office = record {
+  each = λ t told.
+      let g = office.run.each t told in
+      record {
+        value = g.value;
+        told = g.told;
+        fits = run_keeps_good (start t) (state_of g.value held) turns g.fits (good.tables t told).1;
+      };
+}
+
 pub serves : (budget : ℕ) (link link' : LinkSeen) (k l m : KeeperSeen) (a b c : SinkSeen) (reason : Stop) (first last : Kept) (status : ℕ)
     → Reads (λ t. Good t × (first.counts ≡ counts_of t)) k l → first.held ≡ held_at_start
     → Served reason budget first last (world_of link l a) (world_of link' m b) → Ended reason status b c → ServesAsOffice budget (world_of link k a) (world_of link' m c) status
@@ -96,6 +111,7 @@ serves budget link link' k l m a b c reason first last status opened fresh serve
       ends_last = served.ends_last;
       ran = served.ran;
       office = office;
+      stays_good = good_again (reads_as opened (λ t fits. fits.0)) office;
       ends = ends;
       complete = complete_of reason budget served.turns last.held (world_of link k a) (world_of link' m c) status served.ran office ends;
     })

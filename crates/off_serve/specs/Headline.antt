@@ -212,6 +212,8 @@ pub record RunsAsOffice (budget : ℕ) (old new : World) (status : ℕ) : Type 0
   pub ran : RanTurns turns old.link new.link
   -- they are a run of the abstract office, and leave its tables
   pub office : RanOffice turns held old.keeper new.keeper
+  -- the tables that it leaves are good again
+  pub stays_good : Told old.keeper.tables new.keeper.tables (λ t u. Good u)
   -- what was written, and the status
   pub ends : Ends reason budget turns old new status
   -- where no count rose and no line says `memory`, nothing departs from the run
