@@ -314,6 +314,54 @@ fn a_commit_that_fails_changes_nothing(rt: HostRuntime) -> Result<(), Fail> {
     is_close(&rt, &ran.link, 1, 1)
 }
 
+// How many calls of the keeper come before an event over the office of the examples, and how many the event makes.
+fn calls_of(rt: &impl Abort, alloc: Global, request: &Request) -> Result<(u64, u64), Fail> {
+    let mut keeper = MemKeeper::new(alloc, Calls::new(alloc));
+    put_office(rt, alloc, &mut keeper)?;
+    let put = keeper.calls();
+    let _opened: Ran = serve(alloc, Events::new(alloc), &mut keeper, Calls::new(alloc))?;
+    let opening = keeper.calls().wrapping_sub(put);
+    let before = keeper.calls();
+    let _ran: Ran = serve(
+        alloc,
+        requests(alloc, &[*request])?,
+        &mut keeper,
+        Calls::new(alloc),
+    )?;
+    let event = keeper.calls().wrapping_sub(before).wrapping_sub(opening);
+    Ok((put.wrapping_add(opening), event))
+}
+
+#[test]
+fn a_keeper_that_fails_in_an_event_is_told(rt: HostRuntime) -> Result<(), Fail> {
+    let alloc = rt.alloc();
+    let put = Request {
+        method: "PUT",
+        path: "/modems/02aabbccddef",
+        body: "{\"subscriber\":7,\"class\":1,\"serial\":\"\"}",
+    };
+    for request in [put, get("/modems/02aabbccddee")] {
+        let (before, event) = calls_of(&rt, alloc, &request)?;
+        assert!(rt; event > 0);
+        for number in 0..event {
+            let fails = calls(alloc, before.wrapping_add(number).wrapping_add(1))?;
+            let mut keeper = MemKeeper::new(alloc, fails);
+            put_office(&rt, alloc, &mut keeper)?;
+            let mut events = requests(alloc, &[request])?;
+            push_requests(alloc, &mut events, &[get("/modems/02aabbccddef")])?;
+            let ran = serve(alloc, events, &mut keeper, Calls::new(alloc))?;
+            assert_eq!(rt; ran.status, 0);
+            assert_eq!(rt;
+                ran.out.written(),
+                b"1 http keeper\n2 http 404 no-row\n".as_slice()
+            );
+            is_answer(&rt, &ran.link, 0, 1, NO_KEEPER)?;
+            is_close(&rt, &ran.link, 1, 1)?;
+        }
+    }
+    Ok(())
+}
+
 #[test]
 fn an_answer_that_is_lost_is_told(rt: HostRuntime) -> Result<(), Fail> {
     let alloc = rt.alloc();

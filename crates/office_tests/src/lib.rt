@@ -7,6 +7,8 @@
 #[cfg(test)]
 mod clerk_examples;
 #[cfg(test)]
+mod command_examples;
+#[cfg(test)]
 mod job_examples;
 #[cfg(test)]
 mod opening_examples;
