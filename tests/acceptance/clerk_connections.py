@@ -180,6 +180,35 @@ def beyond_the_table(port):
     late.close()
 
 
+FLOWS = ('[{"code":24,"parts":[{"code":1,"hex":"0001"},{"code":6,"hex":"07"},{"code":8,"hex":"00989680"}]},'
+         '{"code":25,"parts":[{"code":1,"hex":"0002"},{"code":6,"hex":"07"},{"code":8,"hex":"05f5e100"}]}]')
+ADDED = '[{"code":24,"parts":[{"code":1,"hex":"0005"},{"code":6,"hex":"07"}]},{"code":22,"parts":[{"code":1,"hex":"03"},{"code":3,"hex":"0005"}]}]'
+# Each row's path, the body that puts it, and what is shown of it: keys ascend, and the site's secret isn't shown.
+OFFICE = [
+    ("/site", '{"server":"10.0.0.2","secret":"736563726574","offset":3600,"lease":86400,"log":"0.0.0.0"}',
+     '{"lease":86400,"log":"0.0.0.0","offset":3600,"server":"10.0.0.2"}'),
+    ("/classes/1", '{"name":"gold","settings":%s}' % FLOWS, '{"name":"gold","settings":%s}' % FLOWS),
+    ("/subscribers/7", '{"active":true,"cpes":2,"name":"Ann"}', '{"active":true,"cpes":2,"name":"Ann"}'),
+    ("/subscribers/7/addons/0", '{"settings":%s}' % ADDED, '{"settings":%s}' % ADDED),
+    ("/modems/02:AA:bb:cc:dd:ee", '{"subscriber":7,"class":1,"serial":"SN01"}', '{"class":1,"serial":"SN01","subscriber":7}'),
+    ("/pools/1", '{"first":"10.64.0.10","last":"10.64.0.99","prefix":24,"router":"10.64.0.1","relay":"10.64.0.1"}',
+     '{"first":"10.64.0.10","last":"10.64.0.99","prefix":24,"relay":"10.64.0.1","router":"10.64.0.1"}'),
+]
+
+
+def whole_office(port):
+    """Puts an office, each request in pieces of other lengths, and reads it back."""
+    for cut, (path, body, _) in enumerate(OFFICE, start=1):
+        whole = request("PUT", path, body.encode())
+        with connect(port) as peer:
+            for at in range(0, len(whole), 17 * cut):
+                peer.sendall(whole[at:at + 17 * cut])
+                time.sleep(0.002)
+            check(read_to_end(peer) == DONE, f"{path} is put in pieces of {17 * cut} bytes")
+    for path, _, shown in OFFICE:
+        check(ask(port, request("GET", path)) == reply(200, shown.encode()), f"{path} is read back")
+
+
 def long_class():
     """A class whose settings are 2,048 bytes in a file, most of them leaves of no bytes."""
     def flow(code, reference):
@@ -300,7 +329,7 @@ def wait_until_answering(port):
 
 
 def try_all(port):
-    for part in (pieces, refusals, early_answer, half_closed, resets, nine_at_once, beyond_the_table, slow_reader, idle, many):
+    for part in (whole_office, pieces, refusals, early_answer, half_closed, resets, nine_at_once, beyond_the_table, slow_reader, idle, many):
         part(port)
     if os.environ.get("OFFICE_WAITS"):
         long_waits(port)
