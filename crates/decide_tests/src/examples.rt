@@ -275,7 +275,7 @@ fn planned(
     decide(alloc, keeper, counts, Moment(NOW), &command)
 }
 
-fn answer(planned: &Result<Planned, AccountErr>) -> Answer {
+fn answer_of(planned: &Result<Planned, AccountErr>) -> Answer {
     match planned {
         Ok(planned) => match planned.reply {
             Reply::Shown(_, _) => Answer::Shown,
@@ -289,7 +289,7 @@ fn answer(planned: &Result<Planned, AccountErr>) -> Answer {
 
 /// What a command is answered where the counts are these.
 pub(crate) fn answered(alloc: Global, keeper: &mut MemKeeper, counts: &Counts, ask: Ask) -> Answer {
-    answer(&planned(alloc, keeper, counts, ask))
+    answer_of(&planned(alloc, keeper, counts, ask))
 }
 
 /// The example's office with further rows answers each of the commands so. None of them is done.
