@@ -20,7 +20,7 @@ fn held(place: u8) -> Put {
 }
 
 fn lost(place: u32) -> Answer {
-    Answer::Refused(Rule::PoolHasLeases(Ip4(FIRST + place)))
+    Answer::Refused(Rule::PoolHasLeases(Ip4(FIRST.wrapping_add(place))))
 }
 
 #[test]

@@ -88,7 +88,7 @@ fn push_one(alloc: Global, writes: &mut Writes, pools: bool, n: u32) -> Result<(
 // What new rows and rows that are there are answered where there are so many classes or pools.
 fn told(alloc: Global, pools: bool, rows: u32) -> Result<(Answer, Answer), Fail> {
     let mut keeper = keeper(alloc, &[], Calls::new(alloc))?;
-    fill(alloc, &mut keeper, pools, rows + 1)?;
+    fill(alloc, &mut keeper, pools, rows.saturating_add(1))?;
     let counts = count_rows(alloc, &mut keeper)?;
     let (new, old) = if pools {
         (Put::Pool(9_999, 9_999, 9_999, 9_999), Put::Pool(2, 2, 2, 2))
