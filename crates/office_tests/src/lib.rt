@@ -5,16 +5,8 @@
 #![tactic(auto)]
 
 #[cfg(test)]
-mod clerk_examples;
-#[cfg(test)]
-mod command_examples;
-#[cfg(test)]
 mod job_examples;
 #[cfg(test)]
-mod opening_examples;
-#[cfg(test)]
 mod serve_examples;
-#[cfg(test)]
-mod talking;
 #[cfg(test)]
 mod word_examples;
