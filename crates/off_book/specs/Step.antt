@@ -26,12 +26,9 @@ service_word End = []
 abbrev pub NotBuilt : State → What → Effect → Type 0
 NotBuilt s what effect = effect ≡ only_line s (service_word what ++ codes " not-built")
 
--- Memory was wanted, or the keeper of the tables failed: nothing is sent and all is as before.
+-- Memory was wanted: nothing is sent and all is as before.
 abbrev pub WantedMemory : State → What → Effect → Type 0
 WantedMemory s what effect = effect ≡ only_line s (service_word what ++ codes " memory")
-
-abbrev pub KeeperFailed : State → What → Effect → Type 0
-KeeperFailed s what effect = effect ≡ only_line s (service_word what ++ codes " keeper")
 
 -- what an event makes of a state whose moment is the event's already
 abbrev pub Does : State → What → Outcome → Effect → Type 0

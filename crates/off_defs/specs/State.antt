@@ -8,7 +8,8 @@ use Rattle.off_defs.specs.declared.results.Sent.{Sent}
 use Rattle.off_defs.specs.declared.tables.Row.{Row}
 use Rattle.off_defs.specs.Keys.{key_cmp}
 
--- The tables that clerks keep, by key: the site, subscribers, modems, pools, leases. No event reads or changes them yet.
+-- The tables that clerks keep, by key: the site, subscribers and their add-ons, modems, classes, pools, leases and who holds them, and
+-- the batches that were imported.
 abbrev pub Tables : Type 0
 Tables = map.FinMap key_cmp Row
 

@@ -186,6 +186,7 @@ is_counted kind entry = is_of_kind kind entry.0 && is_possible entry.0 entry.1
 abbrev pub count_of : Kind → Tables → ℕ
 count_of kind tables = count_by (is_counted kind) (map.entries tables)
 
+-- All counts as the office keeps them. There are fewer keys of each kind but the last than 2^64; as many as 2^64 batches count as 2^64 - 1.
 abbrev pub counts_of : Tables → Counts
 counts_of tables = record {
   subscribers = count_of Subscribers tables;
@@ -193,5 +194,5 @@ counts_of tables = record {
   modems = count_of Modems tables;
   classes = count_of Classes tables;
   pools = count_of Pools tables;
-  batches = count_of Batches tables;
+  batches = min 18446744073709551615 (count_of Batches tables);
 }
