@@ -1,5 +1,5 @@
 -- The counts of all kinds after one write, and after several.
-use Rattle.std.proofs.Common.{◌≡◌, ℕ, ◌+◌, ◌-◌, Bool, true, false, cond, ◌&&◌, Option, Some, None, is_some, count_by, refl, sym, ap, subst, ◌∙◌, arith}
+use Rattle.std.proofs.Common.{◌≡◌, ℕ, ◌+◌, ◌-◌, min, Bool, true, false, cond, ◌&&◌, Option, Some, None, is_some, count_by, refl, sym, ap, subst, ◌∙◌, arith}
 use Rattle.std.specs.FinMap as map
 use Rattle.std.specs.FinMap.Entries as list
 use Rattle.off_defs.specs.declared.keys.Key.{Key}
@@ -15,6 +15,7 @@ use Rattle.off_defs.proofs.TableLemmas.{entries_with, entries_without}
 use Rattle.off_rules.specs.declared.counts.Counts.{Counts}
 use Rattle.off_rules.specs.Rows.{is_possible, possible, seen_at, is_of_kind, is_counted, count_of, counts_of}
 use Rattle.off_accounts.specs.Changes.{counted, with_count, counts_put, counts_drop}
+use Rattle.off_accounts.specs.Counting.{greatest_count}
 use Rattle.off_accounts.proofs.ChangeLemmas.{counted_at, counts_it, count-put, count-without}
 
 -- one row of the kind at the key, or none
@@ -62,7 +63,12 @@ same_counts c d same = λ i. record {
   batches = same Batches i;
 }
 
-pub counted_of : (kind : Kind) (t : Tables) → counted kind (counts_of t) ≡ count_of kind t
+-- what the counts say of a number of rows of a kind
+abbrev pub kept : Kind → ℕ → ℕ
+kept Batches n = min greatest_count n
+kept kind n = n
+
+pub counted_of : (kind : Kind) (t : Tables) → counted kind (counts_of t) ≡ kept kind (count_of kind t)
 counted_of Subscribers t = refl
 counted_of AddOns t = refl
 counted_of Modems t = refl
@@ -117,45 +123,59 @@ same_then Pools Pools e = refl
 same_then Batches Batches e = refl
 same_then _ _ e = cc
 
--- a kind's count after a change of another one's, and of its own
-put_one : (kind other : Kind) (seen : Option Row) (row : Row) (before after : ℕ) (c : Counts) → counted other c ≡ before
+-- a number that is kept whole for a kind, also where the kind is said as another one
+kept_whole : (kind other : Kind) → ((n : ℕ) → kept kind n ≡ n) → same_kind kind other ≡ true → (n : ℕ) → kept other n ≡ n
+kept_whole kind other whole same n = subst (λ k. kept k n ≡ n) (same_then kind other same) (whole n)
+
+stays : (other : Kind) (before after : ℕ) (c : Counts) → counted other c ≡ kept other before → before ≡ after → counted other c ≡ kept other after
+stays other before after c is same = is ∙ ap (kept other) same
+
+-- a kind's count after a change of another one's, and of its own where that is kept whole
+put_one : (kind other : Kind) (seen : Option Row) (row : Row) (before after : ℕ) (c : Counts) → ((n : ℕ) → kept kind n ≡ n) → counted other c ≡ kept other before
     → after + cond (same_kind kind other) (cond (is_some seen) 1 0) 0 ≡ before + cond (same_kind kind other) 1 0
-    → counted other (counts_put kind (is_some seen) c) ≡ after
-put_one kind other None row before after c is e =
+    → counted other (counts_put kind (is_some seen) c) ≡ kept other after
+put_one kind other None row before after c whole is e =
     counted_with kind other (counted kind c + 1) c
-    ∙ elim (same_kind kind other) as (λ b. same_kind kind other ≡ b → after + cond b 0 0 ≡ before + cond b 1 0 → cond b (counted kind c + 1) (counted other c) ≡ after) [
-      | true ↦ λ same e. let own = ap (λ k. counted k c) (same_then kind other same) in omega (arith, is, own, e)
-      | false ↦ λ same e. omega (arith, is, e)
+    ∙ elim (same_kind kind other) as (λ b. same_kind kind other ≡ b → after + cond b 0 0 ≡ before + cond b 1 0 → cond b (counted kind c + 1) (counted other c) ≡ kept other after) [
+      | true ↦ λ same e.
+          let own : counted kind c ≡ counted other c = ap (λ k. counted k c) (same_then kind other same) in
+          let one : counted kind c + 1 ≡ after = omega (arith, own ∙ is ∙ kept_whole kind other whole same before, e) in
+          one ∙ sym (kept_whole kind other whole same after)
+      | false ↦ λ same e. stays other before after c is (omega (arith, e))
     ] refl e
-put_one kind other (Some x) row before after c is e =
-    elim (same_kind kind other) as (λ b. after + cond b 1 0 ≡ before + cond b 1 0 → counted other c ≡ after) [ true ↦ λ e. omega (arith, is, e) | false ↦ λ e. omega (arith, is, e) ] e
+put_one kind other (Some x) row before after c whole is e =
+    stays other before after c is (elim (same_kind kind other) as (λ b. after + cond b 1 0 ≡ before + cond b 1 0 → before ≡ after) [ true ↦ λ e. omega (arith, e) | false ↦ λ e. omega (arith, e) ] e)
 
-drop_one : (kind other : Kind) (seen : Option Row) (before after : ℕ) (c : Counts) → counted other c ≡ before
+drop_one : (kind other : Kind) (seen : Option Row) (before after : ℕ) (c : Counts) → ((n : ℕ) → kept kind n ≡ n) → counted other c ≡ kept other before
     → after + cond (same_kind kind other) (cond (is_some seen) 1 0) 0 ≡ before
-    → counted other (counts_drop kind (is_some seen) c) ≡ after
-drop_one kind other (Some x) before after c is e =
+    → counted other (counts_drop kind (is_some seen) c) ≡ kept other after
+drop_one kind other (Some x) before after c whole is e =
     counted_with kind other (counted kind c - 1) c
-    ∙ elim (same_kind kind other) as (λ b. same_kind kind other ≡ b → after + cond b 1 0 ≡ before → cond b (counted kind c - 1) (counted other c) ≡ after) [
-      | true ↦ λ same e. let own = ap (λ k. counted k c) (same_then kind other same) in omega (arith, is, own, e)
-      | false ↦ λ same e. omega (arith, is, e)
+    ∙ elim (same_kind kind other) as (λ b. same_kind kind other ≡ b → after + cond b 1 0 ≡ before → cond b (counted kind c - 1) (counted other c) ≡ kept other after) [
+      | true ↦ λ same e.
+          let own : counted kind c ≡ counted other c = ap (λ k. counted k c) (same_then kind other same) in
+          let one : counted kind c - 1 ≡ after = omega (arith, own ∙ is ∙ kept_whole kind other whole same before, e) in
+          one ∙ sym (kept_whole kind other whole same after)
+      | false ↦ λ same e. stays other before after c is (omega (arith, e))
     ] refl e
-drop_one kind other None before after c is e =
-    elim (same_kind kind other) as (λ b. after + cond b 0 0 ≡ before → counted other c ≡ after) [ true ↦ λ e. omega (arith, is, e) | false ↦ λ e. omega (arith, is, e) ] e
+drop_one kind other None before after c whole is e =
+    stays other before after c is (elim (same_kind kind other) as (λ b. after + cond b 0 0 ≡ before → before ≡ after) [ true ↦ λ e. omega (arith, e) | false ↦ λ e. omega (arith, e) ] e)
 
--- the counts after a put of a possible row
-pub counts_with : (kind : Kind) (key : Key) (row : Row) (t : Tables) → is_of_kind kind key ≡ true → is_possible key row ≡ true
+-- the counts after a put of a possible row, of a kind that is counted whole
+pub counts_with : (kind : Kind) (key : Key) (row : Row) (t : Tables) → ((n : ℕ) → kept kind n ≡ n) → is_of_kind kind key ≡ true → is_possible key row ≡ true
     → counts_of (with_row t key row) ≡ counts_put kind (is_some (seen_at t key)) (counts_of t)
-counts_with kind key row t is fits = sym (same_counts (counts_put kind (is_some (seen_at t key)) (counts_of t)) (counts_of (with_row t key row)) (λ other.
+counts_with kind key row t whole is fits = sym (same_counts (counts_put kind (is_some (seen_at t key)) (counts_of t)) (counts_of (with_row t key row)) (λ other.
     let e = count_with other key row t fits in
-    put_one kind other (seen_at t key) row (count_of other t) (count_of other (with_row t key row)) (counts_of t) (counted_of other t)
+    put_one kind other (seen_at t key) row (count_of other t) (count_of other (with_row t key row)) (counts_of t) whole (counted_of other t)
     (subst (λ b. count_of other (with_row t key row) + cond b (cond (is_some (seen_at t key)) 1 0) 0 ≡ count_of other t + cond b 1 0) (own_kind kind other key is) e)
     ∙ sym (counted_of other (with_row t key row))))
 
 -- and after a drop
-pub counts_without : (kind : Kind) (key : Key) (t : Tables) → is_of_kind kind key ≡ true → counts_of (without t key) ≡ counts_drop kind (is_some (seen_at t key)) (counts_of t)
-counts_without kind key t is = sym (same_counts (counts_drop kind (is_some (seen_at t key)) (counts_of t)) (counts_of (without t key)) (λ other.
+pub counts_without : (kind : Kind) (key : Key) (t : Tables) → ((n : ℕ) → kept kind n ≡ n) → is_of_kind kind key ≡ true
+    → counts_of (without t key) ≡ counts_drop kind (is_some (seen_at t key)) (counts_of t)
+counts_without kind key t whole is = sym (same_counts (counts_drop kind (is_some (seen_at t key)) (counts_of t)) (counts_of (without t key)) (λ other.
     let e = count_without other key t in
-    drop_one kind other (seen_at t key) (count_of other t) (count_of other (without t key)) (counts_of t) (counted_of other t)
+    drop_one kind other (seen_at t key) (count_of other t) (count_of other (without t key)) (counts_of t) whole (counted_of other t)
     (subst (λ b. count_of other (without t key) + cond b (cond (is_some (seen_at t key)) 1 0) 0 ≡ count_of other t) (own_kind kind other key is) e)
     ∙ sym (counted_of other (without t key))))
 
@@ -167,9 +187,10 @@ counts_with_other key row t none = same_counts (counts_of (with_row t key row)) 
     let old = found_here other key t ∙ ap (λ b. cond b (cond (is_some (seen_at t key)) 1 0) 0) (none other) in
     let new : counts_it key_cmp (is_counted other) (key, row) ≡ 0 = ap (λ b. cond (b && is_possible key row) 1 0) (none other) in
     let same : count_of other (with_row t key row) ≡ count_of other t = omega (arith, put, entries, old, new) in
-    counted_of other (with_row t key row) ∙ same ∙ sym (counted_of other t))
+    counted_of other (with_row t key row) ∙ ap (kept other) same ∙ sym (counted_of other t))
 
 pub counts_without_other : (key : Key) (t : Tables) → ((kind : Kind) → is_of_kind kind key ≡ false) → counts_of (without t key) ≡ counts_of t
 counts_without_other key t none = same_counts (counts_of (without t key)) (counts_of t) (λ other.
     let e = subst (λ b. count_of other (without t key) + cond b (cond (is_some (seen_at t key)) 1 0) 0 ≡ count_of other t) (none other) (count_without other key t) in
-    counted_of other (without t key) ∙ omega (arith, e) ∙ sym (counted_of other t))
+    let same : count_of other (without t key) ≡ count_of other t = omega (arith, e) in
+    counted_of other (without t key) ∙ ap (kept other) same ∙ sym (counted_of other t))

@@ -42,7 +42,7 @@ use Rattle.off_accounts.specs.Deciding.{IsDecided, NotDecided}
 use Rattle.off_accounts.specs.Refusing.{Refuses, by_memory, IsBroken, site_rule, planned_of, Decides, Rejects}
 use Rattle.off_accounts.specs.Refusing as says
 use Rattle.off_accounts.proofs.RemovalLemmas.{drop_counts, lease_counts}
-use Rattle.off_accounts.proofs.CountsLemmas.{counts_with, counts_with_other}
+use Rattle.off_accounts.proofs.CountsLemmas.{kept, counts_with, counts_with_other}
 
 -- readings, one behind another
 pub reads_nothing : {a : KeeperSeen} → Reads (λ t. Unit {0}) a a
@@ -89,10 +89,10 @@ pub ends : (asked : Asked) (c : Command) (wanted : Planned) {a b : KeeperSeen} (
 ends asked c wanted {a = a} {b = b} (Ok planned) is p = subst (λ w. Reads (Decides asked c w) a b) (sym is) p
 ends asked c wanted (Err err) is p = memory_refuses p is
 
--- a put of a row of which there is a count
-pub put_counts : (kind : Kind) (key : Key) (row made : Row) (t : Tables) (after : Counts) → is_of_kind kind key ≡ true → is_possible key row ≡ true → made ≡ row
+-- a put of a row of which there is a count, of a kind that is counted whole
+pub put_counts : (kind : Kind) (key : Key) (row made : Row) (t : Tables) (after : Counts) → ((n : ℕ) → kept kind n ≡ n) → is_of_kind kind key ≡ true → is_possible key row ≡ true → made ≡ row
     → after ≡ counts_put kind (is_some (seen_at t key)) (counts_of t) → after ≡ counts_of (write_all t (Put key made ∷ []))
-put_counts kind key row made t after is fits same e = e ∙ sym (counts_with kind key row t is fits) ∙ sym (ap (λ r. counts_of (write_all t (Put key r ∷ []))) same)
+put_counts kind key row made t after whole is fits same e = e ∙ sym (counts_with kind key row t whole is fits) ∙ sym (ap (λ r. counts_of (write_all t (Put key r ∷ []))) same)
 
 no_kind : (kind : Kind) → is_of_kind kind key.Site ≡ false
 no_kind Subscribers = refl
@@ -132,7 +132,7 @@ pool_writes write old new n t writes is all = all ∙ ap (λ o. write ∷ flat_m
 pub drop_pool_counts : (n : ℕ) (old new : Option Pool) (t : Tables) (counts after : Counts) (writes : List Write) → no_row t (key.Pool n) ≡ None → after ≡ counts_drop Pools true counts
     → writes ≡ Drop (key.Pool n) ∷ flat_map lease_drops (lost_from old new t) → counts ≡ counts_of t → after ≡ counts_of (write_all t writes)
 drop_pool_counts n old new t counts after writes there after_is all agree =
-    drop_counts Pools (key.Pool n) t counts after refl there after_is agree
+    drop_counts Pools (key.Pool n) t counts after (λ m. refl) refl there after_is agree
     ∙ sym (ap (λ (w : List Write). counts_of (write_all t w)) all ∙ lease_counts (lost_from old new t) (without t (key.Pool n)))
 
 when_none : (b : Bool) (broken : Rule) → when (not b) broken ≡ None → b ≡ true
@@ -146,7 +146,7 @@ pub put_pool_counts : (n : ℕ) (pool : Pool) (old : Option Pool) (t : Tables) (
     → after ≡ counts_put Pools (is_some (seen_at t (key.Pool n))) (counts_of t)
     → writes ≡ Put (key.Pool n) (row.Pool pool) ∷ flat_map lease_drops (lost_from old (Some pool) t) → after ≡ counts_of (write_all t writes)
 put_pool_counts n pool old t after writes sound sized after_is all =
-    put_counts Pools (key.Pool n) (row.Pool pool) (row.Pool pool) t after refl (good_pool n pool sound sized) refl after_is
+    put_counts Pools (key.Pool n) (row.Pool pool) (row.Pool pool) t after (λ m. refl) refl (good_pool n pool sound sized) refl after_is
     ∙ sym (ap (λ (w : List Write). counts_of (write_all t w)) all ∙ lease_counts (lost_from old (Some pool) t) (with_row t (key.Pool n) (row.Pool pool)))
 
 -- what was found for one command holds in the words of the whole call

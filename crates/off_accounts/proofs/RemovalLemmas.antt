@@ -20,14 +20,14 @@ use Rattle.off_rules.specs.Rows.{possible, seen_at, is_of_kind, counts_of}
 use Rattle.off_rules.specs.Good.{owner_of}
 use Rattle.off_rules.specs.Clerk.{no_row, lease_drops, held_drop, add_on_keys}
 use Rattle.off_accounts.specs.Changes.{counted, with_count, counts_drop}
-use Rattle.off_accounts.proofs.CountsLemmas.{counts_without, counts_without_other}
+use Rattle.off_accounts.proofs.CountsLemmas.{kept, counts_without, counts_without_other}
 use Rattle.off_accounts.proofs.PresentLemmas.{row_present}
 
 -- the drop of a row that was there
-pub drop_counts : (kind : Kind) (key : Key) (t : Tables) (counts after : Counts) → is_of_kind kind key ≡ true → no_row t key ≡ None → after ≡ counts_drop kind true counts
+pub drop_counts : (kind : Kind) (key : Key) (t : Tables) (counts after : Counts) → ((n : ℕ) → kept kind n ≡ n) → is_of_kind kind key ≡ true → no_row t key ≡ None → after ≡ counts_drop kind true counts
     → counts ≡ counts_of t → after ≡ counts_of (without t key)
-drop_counts kind key t counts after is there after_is agree =
-    after_is ∙ ap (counts_drop kind true) agree ∙ ap (λ b. counts_drop kind b (counts_of t)) (sym (row_present key t there)) ∙ sym (counts_without kind key t is)
+drop_counts kind key t counts after whole is there after_is agree =
+    after_is ∙ ap (counts_drop kind true) agree ∙ ap (λ b. counts_drop kind b (counts_of t)) (sym (row_present key t there)) ∙ sym (counts_without kind key t whole is)
 
 no_kind_of_lease : (address : Ip4) (kind : Kind) → is_of_kind kind (Lease address) ≡ false
 no_kind_of_lease a Subscribers = refl
@@ -96,7 +96,7 @@ one_dropped false m c = let e : c.addons - m ≡ c.addons - (m + 0) = omega arit
 add_ons_dropped : (t : Tables) (n k : ℕ) → counts_of (dropped_below t n k) ≡ with_count AddOns (counted AddOns (counts_of t) - add_ons_below t n k) (counts_of t)
 add_ons_dropped t n zero = let e : (counts_of t).addons ≡ (counts_of t).addons - 0 = omega arith in ap (λ k. with_count AddOns k (counts_of t)) e
 add_ons_dropped t n (suc k) =
-    counts_without AddOns (AddOn n k) (dropped_below t n k) refl
+    counts_without AddOns (AddOn n k) (dropped_below t n k) (λ m. refl) refl
     ∙ ap (λ o. counts_drop AddOns (is_some o) (counts_of (dropped_below t n k))) (seen_later t n k k (omega arith))
     ∙ ap (counts_drop AddOns (is_some (seen_at t (AddOn n k)))) (add_ons_dropped t n k)
     ∙ one_dropped (is_some (seen_at t (AddOn n k))) (add_ons_below t n k) (counts_of t)
@@ -111,6 +111,6 @@ pub subscriber_counts : (n lost : ℕ) (t : Tables) (counts less after : Counts)
     → less ≡ counts_drop Subscribers true counts → after ≡ with_count AddOns (counted AddOns less - lost) less → counts ≡ counts_of t
     → after ≡ counts_of (write_all t (Drop (Subscriber n) ∷ map Drop (add_on_keys n)))
 subscriber_counts n lost t counts less after there lost_is less_is after_is agree =
-    let left = drop_counts Subscribers (Subscriber n) t counts less refl there less_is agree in
+    let left = drop_counts Subscribers (Subscriber n) t counts less (λ m. refl) refl there less_is agree in
     let same : lost ≡ add_ons_below (without t (Subscriber n)) n 8 = lost_is ∙ sym (same_add_ons t n 8) in
     after_is ∙ (λ i. with_count AddOns (counted AddOns (left i) - same i) (left i)) ∙ sym (add_ons_dropped (without t (Subscriber n)) n 8)

@@ -1,7 +1,8 @@
-ghost use Rattle.std.specs.Prelude.{◌≡◌, ◌&&◌, MatchResult, IfErr, IfOk};
+ghost use Rattle.std.specs.Prelude.{◌≡◌, ◌&&◌, min, MatchResult, IfErr, IfOk};
+ghost use Rattle.off_defs.specs.declared.orders.Kind.TheVariants.{Batches};
 ghost use Rattle.off_outside.specs.KeeperCalls.{Reads, NotDone};
 ghost use Rattle.off_rules.specs.Rows.{counts_of, is_of_kind};
-ghost use Rattle.off_accounts.specs.Counting.{with_one, with_entry};
+ghost use Rattle.off_accounts.specs.Counting.{greatest_count, with_one, with_entry};
 
 use crate::possible::is_possible;
 use crate::walking::next_behind;
@@ -12,7 +13,8 @@ use std::alloc::Global;
 
 /// How many possible rows there are of each kind of which there may be only so many. It changes nothing.
 ///
-/// An error is the keeper's, or `Memory` where a count would pass the greatest `u64`, since it can't be held.
+/// Batches past the greatest `u64` count as that one. An error is the keeper's, or `Memory` where the count of another kind would pass
+/// the greatest `u64`, since it can't be held.
 pub fn count_rows<K: Keeper>(alloc: Global, keeper: &mut K) -> Result<Counts, KeepErr>
     ensures { MatchResult result (λ counts. Reads (λ t. counts ≡ counts_of t) (K.seen keeper.old) (K.seen keeper.new))
         (λ err. NotDone err (K.seen keeper.old) (K.seen keeper.new)) }
@@ -48,7 +50,7 @@ fn with_entry(counts: Counts, entry: (Key, Row)) -> Result<Counts, KeepErr>
     let modems = with_one(counts.modems, Kind::Modems, key, fits)?;
     let classes = with_one(counts.classes, Kind::Classes, key, fits)?;
     let pools = with_one(counts.pools, Kind::Pools, key, fits)?;
-    let batches = with_one(counts.batches, Kind::Batches, key, fits)?;
+    let batches = with_batch(counts.batches, key, fits);
     Ok(Counts {
         subscribers,
         addons,
@@ -71,6 +73,17 @@ fn with_one(count: u64, kind: Kind, key: Key, fits: bool) -> Result<u64, KeepErr
         Some(more) => Ok(more),
         None => Err(KeepErr::Memory),
     }
+}
+
+// The count of batches with one more row, where the row fits and is a batch. There may be as many as 2^64 batches, so that the greatest
+// `u64` stays as it is.
+fn with_batch(count: u64, key: Key, fits: bool) -> u64
+    ensures { result ≡ min greatest_count (with_one count (is_of_kind Batches key && fits)) }
+{
+    if !(is_of_kind(Kind::Batches, key) && fits) {
+        return count;
+    }
+    count.saturating_add(1)
 }
 
 fn is_of_kind(kind: Kind, key: Key) -> bool

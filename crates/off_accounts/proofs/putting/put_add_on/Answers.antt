@@ -45,5 +45,5 @@ returns-clause-told g c =
     decides c.args.asked.now (PutAddOn c.args.n c.args.number c.args.settings.now) (planned_of (Put (key.AddOn c.args.n c.args.number) c.in_ok-row.row ∷ []) Done c.in_ok-after.after) t (λ t now. refl) refl (λ agree. (
       passed (no_subscriber t c.args.n) (option_map rule.Tree (first_fault tree.AddOn c.args.settings.now) ∷ limit t (key.AddOn c.args.n c.args.number) AddOns ∷ []) p.0.1 ∙ passed (option_map rule.Tree (first_fault tree.AddOn c.args.settings.now)) (limit t (key.AddOn c.args.n c.args.number) AddOns ∷ []) c.in_ok-add_on_fits.ensures ∙ passed (limit t (key.AddOn c.args.n c.args.number) AddOns) ([]) (p.1 agree).0,
       ap (λ r. Put (key.AddOn c.args.n c.args.number) r ∷ []) c.in_ok-row.ensures,
-      put_counts AddOns (key.AddOn c.args.n c.args.number) (row.AddOn c.args.settings.now) c.in_ok-row.row t c.in_ok-after.after refl (good_add_on c.args.n c.args.number c.args.settings.now c.requires c.in_ok-add_on_fits.ensures) c.in_ok-row.ensures (p.1 agree).1,
+      put_counts AddOns (key.AddOn c.args.n c.args.number) (row.AddOn c.args.settings.now) c.in_ok-row.row t c.in_ok-after.after (λ m. refl) refl (good_add_on c.args.n c.args.number c.args.settings.now c.requires c.in_ok-add_on_fits.ensures) c.in_ok-row.ensures (p.1 agree).1,
     ))))

@@ -39,5 +39,5 @@ returns-clause-told g c =
     decides c.args.asked.now (PutClass c.args.n c.args.class.now) (planned_of (Put (key.Class c.args.n) c.in_ok-row.row ∷ []) Done c.in_ok-after.after) t (λ t now. refl) refl (λ agree. (
       passed (option_map rule.Tree (first_fault tree.Class c.args.class.now.settings)) (limit t (key.Class c.args.n) Classes ∷ []) c.in_ok-class_fits.ensures ∙ passed (limit t (key.Class c.args.n) Classes) ([]) (p.1 agree).0,
       ap (λ r. Put (key.Class c.args.n) r ∷ []) c.in_ok-row.ensures,
-      put_counts Classes (key.Class c.args.n) (row.Class c.args.class.now) c.in_ok-row.row t c.in_ok-after.after refl (good_class c.args.n c.args.class.now c.in_ok-class_fits.ensures) c.in_ok-row.ensures (p.1 agree).1,
+      put_counts Classes (key.Class c.args.n) (row.Class c.args.class.now) c.in_ok-row.row t c.in_ok-after.after (λ m. refl) refl (good_class c.args.n c.args.class.now c.in_ok-class_fits.ensures) c.in_ok-row.ensures (p.1 agree).1,
     ))))

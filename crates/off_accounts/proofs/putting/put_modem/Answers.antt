@@ -37,5 +37,5 @@ returns-clause-told g c =
     decides c.args.asked.now (PutModem c.args.mac c.args.modem.now) (planned_of (Put (key.Modem c.args.mac) c.modem_row.result ∷ []) Done c.in_ok-after.after) t (λ t now. refl) refl (λ agree. (
       passed (no_subscriber t c.args.modem.now.subscriber) (no_class t c.args.modem.now.class ∷ limit t (key.Modem c.args.mac) Modems ∷ []) p.0.0.1 ∙ passed (no_class t c.args.modem.now.class) (limit t (key.Modem c.args.mac) Modems ∷ []) p.0.1 ∙ passed (limit t (key.Modem c.args.mac) Modems) ([]) (p.1 agree).0,
       ap (λ r. Put (key.Modem c.args.mac) r ∷ []) c.modem_row.ensures,
-      put_counts Modems (key.Modem c.args.mac) (row.Modem c.args.modem.now) c.modem_row.result t c.in_ok-after.after refl refl c.modem_row.ensures (p.1 agree).1,
+      put_counts Modems (key.Modem c.args.mac) (row.Modem c.args.modem.now) c.modem_row.result t c.in_ok-after.after (λ m. refl) refl refl c.modem_row.ensures (p.1 agree).1,
     ))))

@@ -25,5 +25,5 @@ returns-clause-told g c =
     decides c.args.asked.now (PutSubscriber c.args.n c.args.subscriber.now) (planned_of (Put (key.Subscriber c.args.n) c.subscriber_row.result ∷ []) Done c.in_ok-after.after) t (λ t now. refl) refl (λ agree. (
       passed (limit t (key.Subscriber c.args.n) Subscribers) ([]) (p.1 agree).0,
       ap (λ r. Put (key.Subscriber c.args.n) r ∷ []) c.subscriber_row.ensures,
-      put_counts Subscribers (key.Subscriber c.args.n) (row.Subscriber c.args.subscriber.now) c.subscriber_row.result t c.in_ok-after.after refl c.requires c.subscriber_row.ensures (p.1 agree).1,
+      put_counts Subscribers (key.Subscriber c.args.n) (row.Subscriber c.args.subscriber.now) c.subscriber_row.result t c.in_ok-after.after (λ m. refl) refl c.requires c.subscriber_row.ensures (p.1 agree).1,
     ))))

@@ -23,4 +23,4 @@ pub returns-clause-told : goal.returns-clause-told
 returns-clause-told g c =
     ends c.args.asked.now (Remove (key.AddOn c.args.n c.args.number)) (planned_of (Drop (key.AddOn c.args.n c.args.number) ∷ []) Done c.one_less.result) c.one_write.result c.one_write.ensures.told (reads_as (reads_both reads_nothing c.in_ok-no_row.ensures) (λ t p.
     decides c.args.asked.now (Remove (key.AddOn c.args.n c.args.number)) (planned_of (Drop (key.AddOn c.args.n c.args.number) ∷ []) Done c.one_less.result) t (λ t now. refl) refl (λ agree.
-    (passed (no_row t (key.AddOn c.args.n c.args.number)) ([]) p.1, refl, drop_counts AddOns (key.AddOn c.args.n c.args.number) t c.args.asked.now.counts c.one_less.result refl p.1 c.one_less.ensures agree))))
+    (passed (no_row t (key.AddOn c.args.n c.args.number)) ([]) p.1, refl, drop_counts AddOns (key.AddOn c.args.n c.args.number) t c.args.asked.now.counts c.one_less.result (λ m. refl) refl p.1 c.one_less.ensures agree))))

@@ -29,4 +29,4 @@ pub returns-clause-told : goal.returns-clause-told
 returns-clause-told g c =
     ends c.args.asked.now (Remove (key.Class c.args.n)) (planned_of (Drop (key.Class c.args.n) ∷ []) Done c.one_less.result) c.one_write.result c.one_write.ensures.told (reads_as (reads_both (reads_both reads_nothing c.in_ok-no_row.ensures) c.in_ok-class_in_use.ensures) (λ t p.
     decides c.args.asked.now (Remove (key.Class c.args.n)) (planned_of (Drop (key.Class c.args.n) ∷ []) Done c.one_less.result) t (λ t now. refl) refl (λ agree.
-    (passed (no_row t (key.Class c.args.n)) (class_in_use t c.args.n ∷ []) p.0.1 ∙ passed (class_in_use t c.args.n) ([]) p.1, refl, drop_counts Classes (key.Class c.args.n) t c.args.asked.now.counts c.one_less.result refl p.0.1 c.one_less.ensures agree))))
+    (passed (no_row t (key.Class c.args.n)) (class_in_use t c.args.n ∷ []) p.0.1 ∙ passed (class_in_use t c.args.n) ([]) p.1, refl, drop_counts Classes (key.Class c.args.n) t c.args.asked.now.counts c.one_less.result (λ m. refl) refl p.0.1 c.one_less.ensures agree))))
