@@ -9,4 +9,6 @@ mod job_examples;
 #[cfg(test)]
 mod serve_examples;
 #[cfg(test)]
+mod texts;
+#[cfg(test)]
 mod word_examples;

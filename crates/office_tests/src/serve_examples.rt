@@ -1,4 +1,5 @@
-use off_base::{Bytes, Ip4, Moment, NoMemory, Peer};
+use crate::texts::{calls, fields, written};
+use off_base::{Bytes, Ip4, Moment, Peer};
 use off_keepmem::MemKeeper;
 use off_outside::{Calls, Event, Events, MemLink, MemSink, MemSource, SentRef, Service, What};
 use off_serve::run;
@@ -6,31 +7,28 @@ use std::alloc::Global;
 use std::process::Abort;
 use std::test::Fail;
 
-// An event of an example, at a moment.
-#[derive(Clone, Copy, Debug)]
-enum Comes {
-    Dhcp(u64),
-    Time(u64),
-    Piece(u64),
-    Tick(u64),
-    End(u64),
-}
+// Runs of `serve`, one a row: what it shows, the turns, the events with their moments; which calls of the link and of the sink fail, and the
+// sink's room; then the status, what is written, and the replies in hexadecimal.
+const TOLD: [&str; 8] = [
+    "no events|5||||400|0||",
+    "the moment 0|5|time 0|||400|0|1 time sent/|83aa7e80",
+    "the number begins again|5|time 2085978496|||400|0|1 time sent/|00000000",
+    "a moment of 2023|5|time 1700000000|||400|0|1 time sent/|e8fe6f80",
+    "a service that isn't built, a silent tick, an end|9|dhcp 0;tick 0;time 0;end 0;time 0|||400|0|1 dhcp not-built/3 time sent/|83aa7e80",
+    "no more than the turns|1|piece 0;time 0|||400|0|1 http wait/|",
+    "no turns|0|time 0|||400|0||",
+    "the moment never falls|5|tick 1700000000;time 5|||400|0|2 time sent/|e8fe6f80",
+];
 
-// One run of `serve`: what comes, which calls fail, the sink's room, and what must stand behind it.
-#[derive(Clone, Copy, Debug)]
-struct Example<'a> {
-    shows: &'a str,
-    turns: &'a str,
-    comes: &'a [Comes],
-    link_fails: &'a [u64],
-    sink_fails: &'a [u64],
-    room: usize,
-    status: u8,
-    written: &'a str,
-    replies: &'a [[u8; 4]],
-}
-
-const AT_ZERO: [u8; 4] = [0x83, 0xaa, 0x7e, 0x80];
+const FAILING: [&str; 7] = [
+    "the link fails sixteen times|5||1 2 3 4 5 6 7 8 9 10 11 12 13 14 15 16||400|5|link refused/|",
+    "the link fails fifteen times|5|time 0|1 2 3 4 5 6 7 8 9 10 11 12 13 14 15||400|0|1 time sent/|83aa7e80",
+    "the sink has five bytes of room|5|time 0|||5|4|1 tim|83aa7e80",
+    "the sink has no room for the status's line|5||1 2 3 4 5 6 7 8 9 10 11 12 13 14 15 16||4|4|link|",
+    "a write fails|5|time 0||1|400|4||83aa7e80",
+    "a send fails|5|time 0|2||400|0|1 time link/|",
+    "a send fails, and the next goes out|5|time 0;time 0|2||400|0|1 time link/2 time sent/|83aa7e80",
+];
 
 // The modem that asks.
 fn modem() -> Peer {
@@ -40,53 +38,38 @@ fn modem() -> Peer {
     }
 }
 
-fn event(alloc: Global, comes: Comes) -> Event {
-    let from = modem();
-    let bytes = Bytes::new(alloc);
-    match comes {
-        Comes::Dhcp(at) => Event {
-            at: Moment(at),
-            what: What::Datagram {
-                service: Service::Dhcp,
-                from,
-                bytes,
-            },
-        },
-        Comes::Time(at) => Event {
-            at: Moment(at),
-            what: What::Datagram {
-                service: Service::Time,
-                from,
-                bytes,
-            },
-        },
-        Comes::Piece(at) => Event {
-            at: Moment(at),
-            what: What::Piece { conn: 1, bytes },
-        },
-        Comes::Tick(at) => Event {
-            at: Moment(at),
-            what: What::Tick,
-        },
-        Comes::End(at) => Event {
-            at: Moment(at),
-            what: What::End,
-        },
+fn datagram(alloc: Global, service: Service) -> What {
+    What::Datagram {
+        service,
+        from: modem(),
+        bytes: Bytes::new(alloc),
     }
 }
 
-fn events(alloc: Global, comes: &[Comes]) -> Result<Events, NoMemory> {
+// What comes by its word; any other word is an end.
+fn what(alloc: Global, word: &str) -> What {
+    match word {
+        "dhcp" => datagram(alloc, Service::Dhcp),
+        "time" => datagram(alloc, Service::Time),
+        "piece" => What::Piece {
+            conn: 1,
+            bytes: Bytes::new(alloc),
+        },
+        "tick" => What::Tick,
+        _ => What::End,
+    }
+}
+
+// Events behind one another, each a word and its moment.
+fn events(alloc: Global, field: &str) -> Result<Events, Fail> {
     let mut all = Events::new(alloc);
-    for each in comes {
-        all.push(event(alloc, *each))?;
-    }
-    Ok(all)
-}
-
-fn calls(alloc: Global, numbers: &[u64]) -> Result<Calls, NoMemory> {
-    let mut all = Calls::new(alloc);
-    for number in numbers {
-        all.push(*number)?;
+    for each in field.split(';') {
+        if let Some((word, moment)) = each.split_once(' ') {
+            all.push(Event {
+                at: Moment(moment.parse::<u64>()?),
+                what: what(alloc, word),
+            })?;
+        }
     }
     Ok(all)
 }
@@ -107,20 +90,56 @@ fn words(alloc: Global, turns: &str) -> Result<Vec<String>, Fail> {
     Ok(all)
 }
 
-fn serves(rt: &impl Abort, alloc: Global, example: &Example<'_>) -> Result<(), Fail> {
-    let shows = example.shows;
+// These replies went out to the modem, and nothing else.
+fn replied(rt: &impl Abort, alloc: Global, link: &MemLink, replies: &str) -> Result<(), Fail> {
+    let mut place: usize = 0;
+    for reply in replies.split_whitespace() {
+        let expected = hex::decode(alloc, reply)?;
+        is_reply(rt, link, place, expected.as_slice())?;
+        place = place.wrapping_add(1);
+    }
+    assert_eq!(rt; link.sent_len(), place);
+    Ok(())
+}
+
+fn is_reply(rt: &impl Abort, link: &MemLink, place: usize, expected: &[u8]) -> Result<(), Fail> {
+    assert!(rt; place < link.sent_len());
+    match link.sent(place) {
+        SentRef::Datagram { service, to, bytes } => {
+            assert_eq!(rt; service, Service::Time);
+            assert_eq!(rt; to, modem());
+            assert_eq!(rt; bytes, expected);
+        }
+        SentRef::Answer { conn: _, bytes: _ } => assert!(rt; false),
+        SentRef::Close { conn: _ } => assert!(rt; false),
+    }
+    Ok(())
+}
+
+fn serves(rt: &impl Abort, alloc: Global, row: &str) -> Result<(), Fail> {
+    let [
+        _,
+        turns,
+        comes,
+        link_fails,
+        sink_fails,
+        room,
+        status,
+        text,
+        replies,
+    ] = fields(row);
     let mut link = MemLink::new(
         alloc,
-        events(alloc, example.comes)?,
+        events(alloc, comes)?,
         20,
         400,
-        calls(alloc, example.link_fails)?,
+        calls(alloc, link_fails)?,
     )?;
     let mut source = MemSource::new(alloc, Bytes::new(alloc), Calls::new(alloc));
-    let mut out = MemSink::new(alloc, example.room, calls(alloc, example.sink_fails)?)?;
-    let words = words(alloc, example.turns)?;
+    let mut out = MemSink::new(alloc, room.parse::<usize>()?, calls(alloc, sink_fails)?)?;
+    let words = words(alloc, turns)?;
     let mut keeper = MemKeeper::new(alloc, Calls::new(alloc));
-    let status = run(
+    let ended = run(
         alloc,
         words.as_slice(),
         &mut link,
@@ -128,216 +147,24 @@ fn serves(rt: &impl Abort, alloc: Global, example: &Example<'_>) -> Result<(), F
         &mut source,
         &mut out,
     );
-    assert_eq!(rt; status, example.status, "{shows}");
-    assert_eq!(rt; out.written(), example.written.as_bytes(), "{shows}");
-    assert_eq!(rt; link.sent_len(), example.replies.len(), "{shows}");
-    for i in 0..link.sent_len() {
-        match link.sent(i) {
-            SentRef::Datagram { service, to, bytes } => {
-                assert_eq!(rt; service, Service::Time, "{shows}");
-                assert_eq!(rt; to, modem(), "{shows}");
-                assert_eq!(rt; bytes, example.replies[i].as_slice(), "{shows}");
-            }
-            SentRef::Answer { conn: _, bytes: _ } => assert!(rt; false, "{shows}"),
-            SentRef::Close { conn: _ } => assert!(rt; false, "{shows}"),
-        }
+    let expected = written(alloc, text)?;
+    assert_eq!(rt; ended, status.parse::<u8>()?, "{row}");
+    assert_eq!(rt; out.written(), expected.as_slice(), "{row}");
+    replied(rt, alloc, &link, replies)
+}
+
+#[test]
+fn the_time_is_told(rt: HostRuntime) -> Result<(), Fail> {
+    for row in TOLD {
+        serves(&rt, rt.alloc(), row)?;
     }
     Ok(())
 }
 
 #[test]
-fn the_time_is_told(rt: HostRuntime) -> Result<(), Fail> {
-    let alloc = rt.alloc();
-    let plain = Example {
-        shows: "no events",
-        turns: "5",
-        comes: &[],
-        link_fails: &[],
-        sink_fails: &[],
-        room: 400,
-        status: 0,
-        written: "",
-        replies: &[],
-    };
-    serves(&rt, alloc, &plain)?;
-    serves(
-        &rt,
-        alloc,
-        &Example {
-            shows: "the moment 0",
-            comes: &[Comes::Time(0)],
-            written: "1 time sent\n",
-            replies: &[AT_ZERO],
-            ..plain
-        },
-    )?;
-    serves(
-        &rt,
-        alloc,
-        &Example {
-            shows: "the number begins again",
-            comes: &[Comes::Time(2_085_978_496)],
-            written: "1 time sent\n",
-            replies: &[[0, 0, 0, 0]],
-            ..plain
-        },
-    )?;
-    serves(
-        &rt,
-        alloc,
-        &Example {
-            shows: "a moment of 2023",
-            comes: &[Comes::Time(1_700_000_000)],
-            written: "1 time sent\n",
-            replies: &[[0xe8, 0xfe, 0x6f, 0x80]],
-            ..plain
-        },
-    )?;
-    serves(
-        &rt,
-        alloc,
-        &Example {
-            shows: "a service that isn't built, a silent tick, an end",
-            turns: "9",
-            comes: &[
-                Comes::Dhcp(0),
-                Comes::Tick(0),
-                Comes::Time(0),
-                Comes::End(0),
-                Comes::Time(0),
-            ],
-            written: "1 dhcp not-built\n3 time sent\n",
-            replies: &[AT_ZERO],
-            ..plain
-        },
-    )?;
-    serves(
-        &rt,
-        alloc,
-        &Example {
-            shows: "no more than the turns",
-            turns: "1",
-            comes: &[Comes::Piece(0), Comes::Time(0)],
-            written: "1 http wait\n",
-            ..plain
-        },
-    )?;
-    serves(
-        &rt,
-        alloc,
-        &Example {
-            shows: "no turns",
-            turns: "0",
-            comes: &[Comes::Time(0)],
-            ..plain
-        },
-    )?;
-    serves(
-        &rt,
-        alloc,
-        &Example {
-            shows: "the moment never falls",
-            comes: &[Comes::Tick(1_700_000_000), Comes::Time(5)],
-            written: "2 time sent\n",
-            replies: &[[0xe8, 0xfe, 0x6f, 0x80]],
-            ..plain
-        },
-    )
-}
-
-#[test]
 fn failing_calls_are_told(rt: HostRuntime) -> Result<(), Fail> {
-    let alloc = rt.alloc();
-    let fifteen = [1, 2, 3, 4, 5, 6, 7, 8, 9, 10, 11, 12, 13, 14, 15];
-    let sixteen = [1, 2, 3, 4, 5, 6, 7, 8, 9, 10, 11, 12, 13, 14, 15, 16];
-    let plain = Example {
-        shows: "the link fails sixteen times",
-        turns: "5",
-        comes: &[],
-        link_fails: &sixteen,
-        sink_fails: &[],
-        room: 400,
-        status: 5,
-        written: "link refused\n",
-        replies: &[],
-    };
-    serves(&rt, alloc, &plain)?;
-    serves(
-        &rt,
-        alloc,
-        &Example {
-            shows: "the link fails fifteen times",
-            comes: &[Comes::Time(0)],
-            link_fails: &fifteen,
-            status: 0,
-            written: "1 time sent\n",
-            replies: &[AT_ZERO],
-            ..plain
-        },
-    )?;
-    serves(
-        &rt,
-        alloc,
-        &Example {
-            shows: "the sink has five bytes of room",
-            comes: &[Comes::Time(0)],
-            link_fails: &[],
-            room: 5,
-            status: 4,
-            written: "1 tim",
-            replies: &[AT_ZERO],
-            ..plain
-        },
-    )?;
-    serves(
-        &rt,
-        alloc,
-        &Example {
-            shows: "the sink has no room for the status's line",
-            link_fails: &sixteen,
-            room: 4,
-            status: 4,
-            written: "link",
-            ..plain
-        },
-    )?;
-    serves(
-        &rt,
-        alloc,
-        &Example {
-            shows: "a write fails",
-            comes: &[Comes::Time(0)],
-            link_fails: &[],
-            sink_fails: &[1],
-            status: 4,
-            written: "",
-            replies: &[AT_ZERO],
-            ..plain
-        },
-    )?;
-    serves(
-        &rt,
-        alloc,
-        &Example {
-            shows: "a send fails",
-            comes: &[Comes::Time(0)],
-            link_fails: &[2],
-            status: 0,
-            written: "1 time link\n",
-            ..plain
-        },
-    )?;
-    serves(
-        &rt,
-        alloc,
-        &Example {
-            shows: "a send fails, and the next goes out",
-            comes: &[Comes::Time(0), Comes::Time(0)],
-            link_fails: &[2],
-            status: 0,
-            written: "1 time link\n2 time sent\n",
-            replies: &[AT_ZERO],
-            ..plain
-        },
-    )
+    for row in FAILING {
+        serves(&rt, rt.alloc(), row)?;
+    }
+    Ok(())
 }
