@@ -1,6 +1,6 @@
 use crate::talking::{
-    Ran, Request, answer_bytes, calls, delete, empty_keeper, get, is_answer, is_close, push_piece,
-    push_requests, push_time, put, put_office, request_bytes, requests, serve, site, subscriber,
+    Ran, SITE, SUBSCRIBER, answer_bytes, calls, empty_keeper, fields, is_answer, is_close, lines,
+    push_piece, push_requests, push_time, put_office, request_bytes, requests, serve,
 };
 use off_base::Moment;
 use off_keepmem::MemKeeper;
@@ -9,112 +9,56 @@ use std::alloc::Global;
 use std::process::Abort;
 use std::test::Fail;
 
-// One request to the office of the worked examples, and its answer: the line's words, the status and its phrase, and the body.
-type Asked = (Request, &'static str, &'static str, &'static str);
+// Requests to the office of the worked examples, each to an office of its own.
+const ASKED: [&str; 10] = [
+    "GET|/site||1 http 200/|200 OK|{'lease':86400,'log':'0.0.0.0','offset':3600,'server':'10.0.0.2'}",
+    "GET|/classes/2||1 http 404 no-row/|404 Not Found|{'fault':'no-row'}",
+    "PUT|/subscribers/8|{'active':true,'cpes':0,'name':''}|1 http 400 value/|400 Bad Request|{'at':'cpes','fault':'value'}",
+    "PUT|/modems/02aabbccddef|{'subscriber':9,'class':1,'serial':''}|1 http 422 no-subscriber/|422 Unprocessable Entity|{'fault':'no-subscriber'}",
+    "PUT|/classes/2|{'name':'x','settings':[{'code':3,'hex':'01'}]}|1 http 422 tree/|422 Unprocessable Entity|{'at':'1','fault':'tree'}",
+    "DELETE|/classes/1||1 http 409 class-in-use/|409 Conflict|{'fault':'class-in-use'}",
+    "DELETE|/subscribers/7||1 http 409 has-modems/|409 Conflict|{'fault':'has-modems'}",
+    "GET|/subscribers/7||1 http 200/|200 OK|{'active':true,'cpes':2,'name':'Ann'}",
+    "GET|/nothing||1 http 404 no-path/|404 Not Found|{'fault':'no-path'}",
+    "DELETE|/site||1 http 405 no-method/|405 Method Not Allowed|{'fault':'no-method'}",
+];
 
-fn is_answered(rt: &impl Abort, alloc: Global, asked: &[Asked]) -> Result<(), Fail> {
-    for (request, line, status, body) in asked {
-        let mut keeper = empty_keeper(alloc);
-        put_office(rt, alloc, &mut keeper)?;
-        let events = requests(alloc, &[*request])?;
-        let ran = serve(alloc, events, &mut keeper, Calls::new(alloc))?;
-        assert_eq!(rt; ran.status, 0, "{request:?}");
-        assert_eq!(rt; ran.out.written(), line.as_bytes(), "{request:?}");
-        assert_eq!(rt; ran.link.sent_len(), 2, "{request:?}");
-        let expected = answer_bytes(alloc, status, body)?;
-        is_answer(rt, &ran.link, 0, 1, expected.as_slice())?;
-        is_close(rt, &ran.link, 1, 1)?;
-    }
-    Ok(())
+const SUBSCRIBER_SHOWN: &str =
+    "GET|/subscribers/7||1 http 200/|200 OK|{'active':true,'cpes':2,'name':'Ann'}";
+
+// The answer of a row went out at a place, and behind it the end of the connection.
+fn is_answered(
+    rt: &impl Abort,
+    alloc: Global,
+    ran: &Ran,
+    place: usize,
+    conn: u32,
+    row: &str,
+) -> Result<(), Fail> {
+    let [_, _, _, _, status, body] = fields(row);
+    let expected = answer_bytes(alloc, status, body)?;
+    is_answer(rt, &ran.link, place, conn, expected.as_slice())?;
+    is_close(rt, &ran.link, place.wrapping_add(1), conn)
+}
+
+fn asks(rt: &impl Abort, alloc: Global, row: &str) -> Result<(), Fail> {
+    let mut keeper = empty_keeper(alloc);
+    put_office(rt, alloc, &mut keeper)?;
+    let events = requests(alloc, &[row])?;
+    let ran = serve(alloc, events, &mut keeper, Calls::new(alloc))?;
+    let line = lines(alloc, fields(row)[3])?;
+    assert_eq!(rt; ran.status, 0, "{row}");
+    assert_eq!(rt; ran.out.written(), line.as_slice(), "{row}");
+    assert_eq!(rt; ran.link.sent_len(), 2, "{row}");
+    is_answered(rt, alloc, &ran, 0, 1, row)
 }
 
 #[test]
 fn clerks_are_answered(rt: HostRuntime) -> Result<(), Fail> {
-    is_answered(
-        &rt,
-        rt.alloc(),
-        &[
-            (
-                get("/site"),
-                "1 http 200\n",
-                "200 OK",
-                "{\"lease\":86400,\"log\":\"0.0.0.0\",\"offset\":3600,\"server\":\"10.0.0.2\"}",
-            ),
-            (
-                get("/classes/2"),
-                "1 http 404 no-row\n",
-                "404 Not Found",
-                "{\"fault\":\"no-row\"}",
-            ),
-            (
-                put(
-                    "/subscribers/8",
-                    "{\"active\":true,\"cpes\":0,\"name\":\"\"}",
-                ),
-                "1 http 400 value\n",
-                "400 Bad Request",
-                "{\"at\":\"cpes\",\"fault\":\"value\"}",
-            ),
-            (
-                put(
-                    "/modems/02aabbccddef",
-                    "{\"subscriber\":9,\"class\":1,\"serial\":\"\"}",
-                ),
-                "1 http 422 no-subscriber\n",
-                "422 Unprocessable Entity",
-                "{\"fault\":\"no-subscriber\"}",
-            ),
-            (
-                put(
-                    "/classes/2",
-                    "{\"name\":\"x\",\"settings\":[{\"code\":3,\"hex\":\"01\"}]}",
-                ),
-                "1 http 422 tree\n",
-                "422 Unprocessable Entity",
-                "{\"at\":\"1\",\"fault\":\"tree\"}",
-            ),
-            (
-                delete("/classes/1"),
-                "1 http 409 class-in-use\n",
-                "409 Conflict",
-                "{\"fault\":\"class-in-use\"}",
-            ),
-        ],
-    )
-}
-
-#[test]
-fn requests_that_mean_no_command_are_answered(rt: HostRuntime) -> Result<(), Fail> {
-    is_answered(
-        &rt,
-        rt.alloc(),
-        &[
-            (
-                delete("/subscribers/7"),
-                "1 http 409 has-modems\n",
-                "409 Conflict",
-                "{\"fault\":\"has-modems\"}",
-            ),
-            (
-                get("/subscribers/7"),
-                "1 http 200\n",
-                "200 OK",
-                "{\"active\":true,\"cpes\":2,\"name\":\"Ann\"}",
-            ),
-            (
-                get("/nothing"),
-                "1 http 404 no-path\n",
-                "404 Not Found",
-                "{\"fault\":\"no-path\"}",
-            ),
-            (
-                delete("/site"),
-                "1 http 405 no-method\n",
-                "405 Method Not Allowed",
-                "{\"fault\":\"no-method\"}",
-            ),
-        ],
-    )
+    for row in ASKED {
+        asks(&rt, rt.alloc(), row)?;
+    }
+    Ok(())
 }
 
 #[test]
@@ -130,9 +74,8 @@ fn a_body_that_is_declared_too_long_is_refused(rt: HostRuntime) -> Result<(), Fa
     )?;
     let ran = serve(alloc, events, &mut keeper, Calls::new(alloc))?;
     assert_eq!(rt; ran.out.written(), b"1 http 413 too-long\n".as_slice());
-    let expected = answer_bytes(alloc, "413 Payload Too Large", "{\"fault\":\"too-long\"}")?;
-    is_answer(&rt, &ran.link, 0, 1, expected.as_slice())?;
-    is_close(&rt, &ran.link, 1, 1)
+    let answer = "||||413 Payload Too Large|{'fault':'too-long'}";
+    is_answered(&rt, alloc, &ran, 0, 1, answer)
 }
 
 // A line for each piece but the last, and for each datagram between two.
@@ -157,7 +100,7 @@ fn lines_of_bytes(alloc: Global, count: u64) -> Result<Vec<u8>, Fail> {
 fn single_bytes_make_a_request(rt: HostRuntime) -> Result<(), Fail> {
     let alloc = rt.alloc();
     let mut keeper = empty_keeper(alloc);
-    let bytes = request_bytes(alloc, &subscriber())?;
+    let bytes = request_bytes(alloc, SUBSCRIBER)?;
     let mut events = Events::new(alloc);
     let mut count: u64 = 0;
     for piece in bytes.as_slice().chunks(1) {
@@ -173,9 +116,8 @@ fn single_bytes_make_a_request(rt: HostRuntime) -> Result<(), Fail> {
     assert_eq!(rt; ran.out.written(), lines.as_slice());
     let last = ran.link.sent_len();
     assert_eq!(rt; last, bytes.len().wrapping_add(1));
-    let expected = answer_bytes(alloc, "200 OK", "{\"ok\":true}")?;
-    is_answer(&rt, &ran.link, last.wrapping_sub(2), 1, expected.as_slice())?;
-    is_close(&rt, &ran.link, last.wrapping_sub(1), 1)
+    let done = "||||200 OK|{'ok':true}";
+    is_answered(&rt, alloc, &ran, last.wrapping_sub(2), 1, done)
 }
 
 #[test]
@@ -206,7 +148,7 @@ fn connections_are_heard_apart(rt: HostRuntime) -> Result<(), Fail> {
     let alloc = rt.alloc();
     let mut keeper = empty_keeper(alloc);
     put_office(&rt, alloc, &mut keeper)?;
-    let bytes = request_bytes(alloc, &get("/subscribers/7"))?;
+    let bytes = request_bytes(alloc, SUBSCRIBER_SHOWN)?;
     let mut events = Events::new(alloc);
     for piece in bytes.as_slice().chunks(20) {
         for conn in 1..9 {
@@ -216,17 +158,11 @@ fn connections_are_heard_apart(rt: HostRuntime) -> Result<(), Fail> {
     }
     let ran = serve(alloc, events, &mut keeper, Calls::new(alloc))?;
     assert_eq!(rt; ran.status, 0);
-    let expected = answer_bytes(
-        alloc,
-        "200 OK",
-        "{\"active\":true,\"cpes\":2,\"name\":\"Ann\"}",
-    )?;
     // Behind the datagrams between, each connection has its answer and its end, in the order of the last pieces; then the last datagram.
     let pieces = bytes.as_slice().chunks(20).count();
     let mut place = pieces.wrapping_sub(1);
     for conn in 1..9 {
-        is_answer(&rt, &ran.link, place, conn, expected.as_slice())?;
-        is_close(&rt, &ran.link, place.wrapping_add(1), conn)?;
+        is_answered(&rt, alloc, &ran, place, conn, SUBSCRIBER_SHOWN)?;
         place = place.wrapping_add(2);
     }
     assert_eq!(rt; ran.link.sent_len(), place.wrapping_add(1));
@@ -238,19 +174,13 @@ fn a_number_that_left_is_a_new_connection(rt: HostRuntime) -> Result<(), Fail> {
     let alloc = rt.alloc();
     let mut keeper = empty_keeper(alloc);
     let mut events = Events::new(alloc);
-    let whole = request_bytes(alloc, &subscriber())?;
+    let whole = request_bytes(alloc, SUBSCRIBER)?;
     push_piece(alloc, &mut events, 1, whole.as_slice())?;
-    let again = request_bytes(alloc, &get("/subscribers/7"))?;
+    let again = request_bytes(alloc, SUBSCRIBER_SHOWN)?;
     push_piece(alloc, &mut events, 1, again.as_slice())?;
     let ran = serve(alloc, events, &mut keeper, Calls::new(alloc))?;
     assert_eq!(rt; ran.out.written(), b"1 http 200\n2 http 200\n".as_slice());
-    let expected = answer_bytes(
-        alloc,
-        "200 OK",
-        "{\"active\":true,\"cpes\":2,\"name\":\"Ann\"}",
-    )?;
-    is_answer(&rt, &ran.link, 2, 1, expected.as_slice())?;
-    is_close(&rt, &ran.link, 3, 1)
+    is_answered(&rt, alloc, &ran, 2, 1, SUBSCRIBER_SHOWN)
 }
 
 const NO_KEEPER: &[u8] =
@@ -261,7 +191,7 @@ fn first_calls(alloc: Global) -> Result<u64, Fail> {
     let mut keeper = empty_keeper(alloc);
     let _ran: Ran = serve(
         alloc,
-        requests(alloc, &[site()])?,
+        requests(alloc, &[SITE])?,
         &mut keeper,
         Calls::new(alloc),
     )?;
@@ -273,8 +203,8 @@ fn a_commit_that_fails_changes_nothing(rt: HostRuntime) -> Result<(), Fail> {
     let alloc = rt.alloc();
     // The last call of the first request is its commit.
     let mut keeper = MemKeeper::new(alloc, calls(alloc, first_calls(alloc)?)?);
-    let mut events = requests(alloc, &[site()])?;
-    push_requests(alloc, &mut events, &[get("/site")])?;
+    let mut events = requests(alloc, &[SITE])?;
+    push_requests(alloc, &mut events, &["GET|/site|"])?;
     let ran = serve(alloc, events, &mut keeper, Calls::new(alloc))?;
     assert_eq!(rt; ran.status, 0);
     assert_eq!(rt;
@@ -286,7 +216,7 @@ fn a_commit_that_fails_changes_nothing(rt: HostRuntime) -> Result<(), Fail> {
 }
 
 // How many calls of the keeper come before an event over the office of the examples, and how many the event makes.
-fn calls_of(rt: &impl Abort, alloc: Global, request: &Request) -> Result<(u64, u64), Fail> {
+fn calls_of(rt: &impl Abort, alloc: Global, row: &str) -> Result<(u64, u64), Fail> {
     let mut keeper = empty_keeper(alloc);
     put_office(rt, alloc, &mut keeper)?;
     let put = keeper.calls();
@@ -295,7 +225,7 @@ fn calls_of(rt: &impl Abort, alloc: Global, request: &Request) -> Result<(u64, u
     let before = keeper.calls();
     let _ran: Ran = serve(
         alloc,
-        requests(alloc, &[*request])?,
+        requests(alloc, &[row])?,
         &mut keeper,
         Calls::new(alloc),
     )?;
@@ -306,19 +236,16 @@ fn calls_of(rt: &impl Abort, alloc: Global, request: &Request) -> Result<(u64, u
 #[test]
 fn a_keeper_that_fails_in_an_event_is_told(rt: HostRuntime) -> Result<(), Fail> {
     let alloc = rt.alloc();
-    let put = put(
-        "/modems/02aabbccddef",
-        "{\"subscriber\":7,\"class\":1,\"serial\":\"\"}",
-    );
-    for request in [put, get("/modems/02aabbccddee")] {
-        let (before, event) = calls_of(&rt, alloc, &request)?;
+    let put = "PUT|/modems/02aabbccddef|{'subscriber':7,'class':1,'serial':''}";
+    for row in [put, "GET|/modems/02aabbccddee|"] {
+        let (before, event) = calls_of(&rt, alloc, row)?;
         assert!(rt; event > 0);
         for number in 0..event {
             let fails = calls(alloc, before.wrapping_add(number).wrapping_add(1))?;
             let mut keeper = MemKeeper::new(alloc, fails);
             put_office(&rt, alloc, &mut keeper)?;
-            let mut events = requests(alloc, &[request])?;
-            push_requests(alloc, &mut events, &[get("/modems/02aabbccddef")])?;
+            let mut events = requests(alloc, &[row])?;
+            push_requests(alloc, &mut events, &["GET|/modems/02aabbccddef|"])?;
             let ran = serve(alloc, events, &mut keeper, Calls::new(alloc))?;
             assert_eq!(rt; ran.status, 0);
             assert_eq!(rt;
@@ -341,8 +268,8 @@ fn an_answer_that_is_lost_is_told(rt: HostRuntime) -> Result<(), Fail> {
         (3, "1 http link\n2 http 200\n", 3),
     ] {
         let mut keeper = empty_keeper(alloc);
-        let mut events = requests(alloc, &[site()])?;
-        push_requests(alloc, &mut events, &[get("/site")])?;
+        let mut events = requests(alloc, &[SITE])?;
+        push_requests(alloc, &mut events, &["GET|/site|"])?;
         let ran = serve(alloc, events, &mut keeper, calls(alloc, number)?)?;
         assert_eq!(rt; ran.status, 0);
         assert_eq!(rt; ran.out.written(), written.as_bytes());

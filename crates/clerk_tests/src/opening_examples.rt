@@ -1,5 +1,5 @@
 use crate::talking::{
-    answer_bytes, calls, empty_keeper, get, is_answer, push_time, put_office, requests, serve,
+    answer_bytes, calls, empty_keeper, is_answer, push_time, put_office, requests, serve,
 };
 use off_base::{Bytes, Ip4, Mac};
 use off_defs::{Key, Row, Write, Writes};
@@ -72,7 +72,7 @@ fn a_second_run_starts_from_the_tables_that_the_first_left(rt: HostRuntime) -> R
     let alloc = rt.alloc();
     let mut keeper = empty_keeper(alloc);
     put_office(&rt, alloc, &mut keeper)?;
-    let shown = get("/modems/02aabbccddee");
+    let shown = "GET|/modems/02aabbccddee|";
     let ran = serve(
         alloc,
         requests(alloc, &[shown])?,
@@ -82,7 +82,7 @@ fn a_second_run_starts_from_the_tables_that_the_first_left(rt: HostRuntime) -> R
     let expected = answer_bytes(
         alloc,
         "200 OK",
-        "{\"class\":1,\"serial\":\"SN01\",\"subscriber\":7}",
+        "{'class':1,'serial':'SN01','subscriber':7}",
     )?;
     assert_eq!(rt; ran.status, 0);
     is_answer(&rt, &ran.link, 0, 1, expected.as_slice())

@@ -6,70 +6,51 @@ use std::alloc::Global;
 use std::process::Abort;
 use std::test::Fail;
 
-// The office of the worked examples, as a clerk puts it: a site, class 1, subscriber 7, a modem and a pool.
+// A request is a row of fields between bars: its method, its path and its body, in which `'` stands for a quotation mark. Behind them may stand
+// what comes of it: the line that is written, the status with its phrase, and the body of the answer.
 //
-// The texts stand in functions, so that what calls them is proved without reading them.
-pub fn office() -> [Request; 5] {
-    [site(), class(), subscriber(), modem(), pool()]
-}
+// The rows of the office of the worked examples are a site, class 1, subscriber 7, a modem and a pool.
+pub const SITE: &str =
+    "PUT|/site|{'server':'10.0.0.2','secret':'736563726574','offset':3600,'lease':86400,'log':'0.0.0.0'}";
 
-pub fn site() -> Request {
-    put(
-        "/site",
-        "{\"server\":\"10.0.0.2\",\"secret\":\"736563726574\",\"offset\":3600,\"lease\":86400,\"log\":\"0.0.0.0\"}",
-    )
-}
+const CLASS: &str =
+    "PUT|/classes/1|{'name':'gold','settings':[{'code':24,'parts':[{'code':1,'hex':'0001'},{'code':6,'hex':'07'},{'code':8,'hex':'00989680'}]},{'code':25,'parts':[{'code':1,'hex':'0002'},{'code':6,'hex':'07'},{'code':8,'hex':'05f5e100'}]}]}";
 
-fn class() -> Request {
-    put(
-        "/classes/1",
-        "{\"name\":\"gold\",\"settings\":[{\"code\":24,\"parts\":[{\"code\":1,\"hex\":\"0001\"},{\"code\":6,\"hex\":\"07\"},{\"code\":8,\"hex\":\"00989680\"}]},{\"code\":25,\"parts\":[{\"code\":1,\"hex\":\"0002\"},{\"code\":6,\"hex\":\"07\"},{\"code\":8,\"hex\":\"05f5e100\"}]}]}",
-    )
-}
+pub const SUBSCRIBER: &str = "PUT|/subscribers/7|{'active':true,'cpes':2,'name':'Ann'}";
 
-pub fn subscriber() -> Request {
-    put(
-        "/subscribers/7",
-        "{\"active\":true,\"cpes\":2,\"name\":\"Ann\"}",
-    )
-}
+const MODEM: &str = "PUT|/modems/02aabbccddee|{'subscriber':7,'class':1,'serial':'SN01'}";
 
-fn modem() -> Request {
-    put(
-        "/modems/02aabbccddee",
-        "{\"subscriber\":7,\"class\":1,\"serial\":\"SN01\"}",
-    )
-}
+const POOL: &str =
+    "PUT|/pools/1|{'first':'10.64.0.10','last':'10.64.0.99','prefix':24,'router':'10.64.0.1','relay':'10.64.0.1'}";
 
-fn pool() -> Request {
-    put(
-        "/pools/1",
-        "{\"first\":\"10.64.0.10\",\"last\":\"10.64.0.99\",\"prefix\":24,\"router\":\"10.64.0.1\",\"relay\":\"10.64.0.1\"}",
-    )
-}
+// What the office writes while it's put.
+const OFFICE_LINES: &str = "1 http 200\n2 http 200\n3 http 200\n4 http 200\n5 http 200\n";
 
-pub fn put(path: &'static str, body: &'static str) -> Request {
-    Request {
-        method: "PUT",
-        path,
-        body,
+// The fields of a row, and empty ones behind them.
+pub fn fields(row: &str) -> [&str; 6] {
+    let mut fields = [""; 6];
+    for (place, field) in row.split('|').enumerate() {
+        if place < 6 {
+            fields[place] = field;
+        }
     }
+    fields
 }
 
-pub fn get(path: &'static str) -> Request {
-    Request {
-        method: "GET",
-        path,
-        body: "",
+fn push_json(bytes: &mut Vec<u8>, text: &str) -> Result<(), Fail> {
+    for byte in text.bytes() {
+        bytes.push(if byte == b'\'' { b'"' } else { byte })?;
     }
+    Ok(())
 }
 
-pub fn delete(path: &'static str) -> Request {
-    Request {
-        method: "DELETE",
-        path,
-        body: "",
+// A text in which a slash ends each line.
+pub fn lines(alloc: Global, text: &str) -> Result<Vec<u8>, Fail> {
+    let mut bytes = Vec::new(alloc);
+    for byte in text.bytes() {
+        bytes.push(if byte == b'/' { b'\n' } else { byte })?;
     }
+    Ok(bytes)
 }
 
 // The calls of a keeper or a link that are to fail: one number.
@@ -84,28 +65,18 @@ pub fn empty_keeper(alloc: Global) -> MemKeeper {
     MemKeeper::new(alloc, Calls::new(alloc))
 }
 
-// What the office writes while it's put.
-const OFFICE_LINES: &str = "1 http 200\n2 http 200\n3 http 200\n4 http 200\n5 http 200\n";
-
-// A clerk's request.
-#[derive(Clone, Copy, Debug)]
-pub struct Request {
-    pub method: &'static str,
-    pub path: &'static str,
-    pub body: &'static str,
-}
-
-// The bytes of a request.
-pub fn request_bytes(alloc: Global, request: &Request) -> Result<Vec<u8>, Fail> {
+// The bytes of a row's request.
+pub fn request_bytes(alloc: Global, row: &str) -> Result<Vec<u8>, Fail> {
+    let [method, path, body, _, _, _] = fields(row);
     let mut bytes = Vec::new(alloc);
-    bytes.extend_from_slice(request.method.as_bytes())?;
+    bytes.extend_from_slice(method.as_bytes())?;
     bytes.extend_from_slice(b" ")?;
-    bytes.extend_from_slice(request.path.as_bytes())?;
+    bytes.extend_from_slice(path.as_bytes())?;
     bytes.extend_from_slice(b" HTTP/1.1\r\nContent-Length: ")?;
     let mut buffer = itoa::Buffer::new();
-    bytes.extend_from_slice(buffer.format(request.body.len()).as_bytes())?;
+    bytes.extend_from_slice(buffer.format(body.len()).as_bytes())?;
     bytes.extend_from_slice(b"\r\n\r\n")?;
-    bytes.extend_from_slice(request.body.as_bytes())?;
+    push_json(&mut bytes, body)?;
     Ok(bytes)
 }
 
@@ -118,7 +89,7 @@ pub fn answer_bytes(alloc: Global, status: &str, body: &str) -> Result<Vec<u8>, 
     let mut buffer = itoa::Buffer::new();
     bytes.extend_from_slice(buffer.format(body.len()).as_bytes())?;
     bytes.extend_from_slice(b"\r\nConnection: close\r\n\r\n")?;
-    bytes.extend_from_slice(body.as_bytes())?;
+    push_json(&mut bytes, body)?;
     Ok(bytes)
 }
 
@@ -153,17 +124,17 @@ pub fn push_time(alloc: Global, events: &mut Events) -> Result<(), NoMemory> {
 }
 
 // The requests, each whole on a connection of its own, from connection 1 on.
-pub fn requests(alloc: Global, requests: &[Request]) -> Result<Events, Fail> {
+pub fn requests(alloc: Global, rows: &[&str]) -> Result<Events, Fail> {
     let mut events = Events::new(alloc);
-    push_requests(alloc, &mut events, requests)?;
+    push_requests(alloc, &mut events, rows)?;
     Ok(events)
 }
 
-pub fn push_requests(alloc: Global, events: &mut Events, requests: &[Request]) -> Result<(), Fail> {
+pub fn push_requests(alloc: Global, events: &mut Events, rows: &[&str]) -> Result<(), Fail> {
     let mut conn: u32 = 0;
-    for request in requests {
+    for row in rows {
         conn = conn.wrapping_add(1);
-        let bytes = request_bytes(alloc, request)?;
+        let bytes = request_bytes(alloc, row)?;
         push_piece(alloc, events, conn, bytes.as_slice())?;
     }
     Ok(())
@@ -218,12 +189,8 @@ pub fn serve(
 
 // The office of the worked examples was put into the keeper.
 pub fn put_office(rt: &impl Abort, alloc: Global, keeper: &mut MemKeeper) -> Result<(), Fail> {
-    let ran = serve(
-        alloc,
-        requests(alloc, &office())?,
-        keeper,
-        Calls::new(alloc),
-    )?;
+    let office = [SITE, CLASS, SUBSCRIBER, MODEM, POOL];
+    let ran = serve(alloc, requests(alloc, &office)?, keeper, Calls::new(alloc))?;
     assert_eq!(rt; ran.status, 0);
     assert_eq!(rt; ran.out.written(), OFFICE_LINES.as_bytes());
     Ok(())
