@@ -1,9 +1,13 @@
+ghost use Rattle.std.specs.Prelude.{◌≡◌, false};
+ghost use Rattle.off_accounts.specs.Deciding.{is_import};
+
 use off_accounts::AccountErr;
 use off_base::{Ip4, Mac, Moment, Secret};
 use off_defs::{Command, Hold, Key, Lease, Pool, Reply, Row, Rule, Site, Write, Writes};
 use off_keepmem::MemKeeper;
 use off_office::Office;
 use off_outside::{Calls, Keeper};
+use off_rows::sound;
 use std::alloc::Global;
 use std::process::Abort;
 use std::test::Fail;
@@ -53,6 +57,37 @@ fn leased(rt: &impl Abort, alloc: Global) -> Result<MemKeeper, Fail> {
     Ok(keeper)
 }
 
+// What a clerk asks of the office.
+#[derive(Clone, Copy)]
+enum Asked {
+    Site,
+    Removal(u32),
+    Put(u32),
+}
+
+fn command(asked: Asked) -> Command
+    ensures { is_import result ≡ false }
+{
+    match asked {
+        Asked::Site => Command::Show(Key::Site),
+        Asked::Removal(n) => Command::Remove(Key::Pool(n)),
+        Asked::Put(n) => Command::PutPool(n, pool()),
+    }
+}
+
+fn asks(
+    office: &mut Office,
+    keeper: &mut MemKeeper,
+    at: u64,
+    asked: Asked,
+) -> Result<Reply, AccountErr> {
+    let command = command(asked);
+    if !sound(&command) {
+        return Err(AccountErr::Memory);
+    }
+    office.command(keeper, Moment(at), &command)
+}
+
 fn is_done(answer: Result<Reply, AccountErr>) -> bool {
     match answer {
         Ok(Reply::Done) => true,
@@ -74,18 +109,17 @@ fn refusal(answer: Result<Reply, AccountErr>) -> Option<Rule> {
 #[test]
 fn a_command_comes_at_the_later_moment(rt: HostRuntime) -> Result<(), Fail> {
     let alloc = rt.alloc();
-    let remove = Command::Remove(Key::Pool(1));
     let mut keeper = leased(&rt, alloc)?;
     let Ok(mut office) = Office::start(alloc, &mut keeper) else {
         return Err(Fail::new("the tables are good"));
     };
     // Before the lease has expired its pool stays; the office's moment is 50 then.
-    let early = office.command(&mut keeper, Moment(50), &remove);
+    let early = asks(&mut office, &mut keeper, 50, Asked::Removal(1));
     assert_eq!(rt; refusal(early), Some(Rule::PoolHasLeases(ADDRESS)));
     // The office's own moment becomes 100, as the lease expires; a command from an earlier one comes at it.
-    let shown = office.command(&mut keeper, Moment(100), &Command::Show(Key::Site));
+    let shown = asks(&mut office, &mut keeper, 100, Asked::Site);
     assert!(rt; shown.is_ok());
-    let late = office.command(&mut keeper, Moment(50), &remove);
+    let late = asks(&mut office, &mut keeper, 50, Asked::Removal(1));
     assert!(rt; is_done(late));
     let held = keeper.get(alloc, &Key::Held(MODEM));
     assert!(rt; held.is_ok_and(|row| row.is_none()));
@@ -99,8 +133,7 @@ fn a_refused_command_leaves_the_tables(rt: HostRuntime) -> Result<(), Fail> {
     let Ok(mut office) = Office::start(alloc, &mut keeper) else {
         return Err(Fail::new("the tables are good"));
     };
-    let second = Command::PutPool(2, pool());
-    let refused = office.command(&mut keeper, Moment(0), &second);
+    let refused = asks(&mut office, &mut keeper, 0, Asked::Put(2));
     assert_eq!(rt; refusal(refused), Some(Rule::PoolOverlap(1)));
     let row = keeper.get(alloc, &Key::Pool(2));
     assert!(rt; row.is_ok_and(|row| row.is_none()));
