@@ -11,8 +11,7 @@ use Rattle.off_defs.specs.declared.orders.Write.{Write}
 use Rattle.off_defs.specs.declared.orders.Write.TheVariants.{Put, Drop}
 use Rattle.off_defs.specs.Keys.{key_cmp}
 use Rattle.off_defs.specs.Tables.{is_after}
-use Rattle.off_keepmem.specs.declared.tree.Parts.{Parts}
-use Rattle.off_keepmem.specs.declared.tree.First.{First}
+use Rattle.off_keepmem.specs.declared.tree.Branch.{Branch}
 use Rattle.off_keepmem.specs.declared.tree.EntryRef.{EntryRef}
 
 -- the keys rise
@@ -50,12 +49,9 @@ abbrev pub rows_after : List (Key × Row) → List Write → List (Key × Row)
 rows_after entries [] = entries
 rows_after entries (write ∷ writes) = rows_after (entries_written entries write) writes
 
--- the entries of a node that was taken apart, of one behind its first entry, and an entry that is lent
-abbrev pub parts_entries : Parts → List (Key × Row)
-parts_entries p = p.left ++ (p.key, p.row) ∷ p.right
-
-abbrev pub first_entries : First → List (Key × Row)
-first_entries f = (f.key, f.row) ∷ f.rest
+-- the entries of a box, and an entry that is lent
+abbrev pub branch_entries : Branch → List (Key × Row)
+branch_entries b = b.left ++ (b.key, b.row) ∷ b.right
 
 abbrev pub lent_entry : EntryRef → Key × Row
 lent_entry e = (e.key, e.row.now)

@@ -1,207 +1,162 @@
-ghost use Rattle.std.specs.Prelude.{◌≡◌, ◌++◌, [], MatchOption};
-ghost use Rattle.off_keepmem.specs.Trees.{parts_entries, first_entries};
+ghost use Rattle.std.specs.Prelude.{◌≡◌, ◌++◌, [], ◌∷◌, MatchOption};
 
-use crate::tree::{First, Parts, Tree, fork};
+use crate::tree::{Branch, Node, Tree, height_over};
+use std::mem;
 
-/// A node of these parts whose sides differ by a little in height, where they differed by a little more.
-pub(crate) fn balanced(parts: Parts) -> Tree
-    ensures { result ≡ parts_entries parts }
+/// Makes the sides of a tree differ by a little in height, where they differed by a little more, and its height right.
+/// Says whether the height is another one.
+pub(crate) fn settle(tree: &mut Tree) -> bool
+    ensures { tree.new ≡ tree.old }
 {
-    let (left, right) = (parts.left.height(), parts.right.height());
+    let before = tree.height;
+    let (left, right) = side_heights(tree);
     if left > right.saturating_add(1) {
-        lowered_left(parts)
+        lower_left(tree);
     } else if right > left.saturating_add(1) {
-        lowered_right(parts)
+        lower_right(tree);
     } else {
-        fork(parts)
+        measure(tree);
+    }
+    before != tree.height
+}
+
+/// How high the two sides are.
+fn side_heights(tree: &Tree) -> (u8, u8) {
+    match &tree.node {
+        Node::Leaf => (0, 0),
+        Node::Fork(branch) => (branch.left.height, branch.right.height),
     }
 }
 
-/// The same entries, where the left side is too high.
-fn lowered_left(parts: Parts) -> Tree
-    ensures { result ≡ parts_entries parts }
+/// Makes the height that of the sides.
+fn measure(tree: &mut Tree)
+    ensures { tree.new ≡ tree.old }
 {
-    let Parts {
-        frame,
-        left,
-        key,
-        row,
-        right,
-    } = parts;
-    turned_right(Parts {
-        frame,
-        left: high_on_the_left(left),
-        key,
-        row,
-        right,
-    })
-}
-
-/// The same entries, where the right side is too high.
-fn lowered_right(parts: Parts) -> Tree
-    ensures { result ≡ parts_entries parts }
-{
-    let Parts {
-        frame,
-        left,
-        key,
-        row,
-        right,
-    } = parts;
-    turned_left(Parts {
-        frame,
-        left,
-        key,
-        row,
-        right: high_on_the_right(right),
-    })
-}
-
-/// The same tree, whose right side isn't the higher one.
-fn high_on_the_left(tree: Tree) -> Tree
-    ensures { result ≡ tree }
-{
-    let Some(parts) = tree.open() else {
-        return Tree::new();
-    };
-    if parts.left.height() < parts.right.height() {
-        turned_left(parts)
-    } else {
-        fork(parts)
+    if let Node::Fork(branch) = &tree.node {
+        tree.height = height_over(branch);
     }
 }
 
-/// The same tree, whose left side isn't the higher one.
-fn high_on_the_right(tree: Tree) -> Tree
-    ensures { result ≡ tree }
+/// Turns the tree, where the left side is too high.
+fn lower_left(tree: &mut Tree)
+    ensures { tree.new ≡ tree.old }
 {
-    let Some(parts) = tree.open() else {
-        return Tree::new();
-    };
-    if parts.left.height() > parts.right.height() {
-        turned_right(parts)
-    } else {
-        fork(parts)
+    if let Node::Fork(branch) = &mut tree.node {
+        lean_left(&mut branch.left);
+    }
+    turn_right(tree);
+}
+
+/// Turns the tree, where the right side is too high.
+fn lower_right(tree: &mut Tree)
+    ensures { tree.new ≡ tree.old }
+{
+    if let Node::Fork(branch) = &mut tree.node {
+        lean_right(&mut branch.right);
+    }
+    turn_left(tree);
+}
+
+/// Makes the right side not the higher one.
+fn lean_left(tree: &mut Tree)
+    ensures { tree.new ≡ tree.old }
+{
+    let (left, right) = side_heights(tree);
+    if left < right {
+        turn_left(tree);
     }
 }
 
-/// The same entries, with the left side's node above.
-#[tactic(auto, using(std::proofs::Common::append_assoc))]
-fn turned_right(parts: Parts) -> Tree
-    ensures { result ≡ parts_entries parts }
+/// Makes the left side not the higher one.
+fn lean_right(tree: &mut Tree)
+    ensures { tree.new ≡ tree.old }
 {
-    let Parts {
-        frame,
-        left,
-        key,
-        row,
-        right,
-    } = parts;
-    let Some(upper) = left.open() else {
-        return fork(Parts {
-            frame,
-            left: Tree::new(),
-            key,
-            row,
-            right,
-        });
-    };
-    let lower = fork(Parts {
-        frame,
-        left: upper.right,
-        key,
-        row,
-        right,
-    });
-    fork(Parts {
-        frame: upper.frame,
-        left: upper.left,
-        key: upper.key,
-        row: upper.row,
-        right: lower,
-    })
+    let (left, right) = side_heights(tree);
+    if left > right {
+        turn_right(tree);
+    }
 }
 
-/// The same entries, with the right side's node above.
+/// Puts the left side's box above.
 #[tactic(auto, using(std::proofs::Common::append_assoc))]
-fn turned_left(parts: Parts) -> Tree
-    ensures { result ≡ parts_entries parts }
+fn turn_right(tree: &mut Tree)
+    ensures { tree.new ≡ tree.old }
 {
-    let Parts {
-        frame,
-        left,
-        key,
-        row,
-        right,
-    } = parts;
-    let Some(upper) = right.open() else {
-        return fork(Parts {
-            frame,
-            left,
-            key,
-            row,
-            right: Tree::new(),
-        });
+    let Node::Fork(lower) = &mut tree.node else {
+        return;
     };
-    let lower = fork(Parts {
-        frame,
-        left,
-        key,
-        row,
-        right: upper.left,
-    });
-    fork(Parts {
-        frame: upper.frame,
-        left: lower,
-        key: upper.key,
-        row: upper.row,
-        right: upper.right,
-    })
+    let Some(mut upper) = mem::replace(&mut lower.left, Tree::new()).into_box() else {
+        return;
+    };
+    lower.left = mem::replace(&mut upper.right, Tree::new());
+    measure(tree);
+    upper.right = mem::replace(tree, Tree::new());
+    *tree = Tree::over(upper);
 }
 
-/// Takes the first entry off.
+/// Puts the right side's box above.
 #[tactic(auto, using(std::proofs::Common::append_assoc))]
-pub(crate) fn split_first(tree: Tree) -> Option<First>
-    ensures { MatchOption result (tree ≡ []) (λ first. tree ≡ first_entries first) }
+fn turn_left(tree: &mut Tree)
+    ensures { tree.new ≡ tree.old }
 {
-    let Some(parts) = tree.open() else {
+    let Node::Fork(lower) = &mut tree.node else {
+        return;
+    };
+    let Some(mut upper) = mem::replace(&mut lower.right, Tree::new()).into_box() else {
+        return;
+    };
+    lower.right = mem::replace(&mut upper.left, Tree::new());
+    measure(tree);
+    upper.left = mem::replace(tree, Tree::new());
+    *tree = Tree::over(upper);
+}
+
+/// Takes the uppermost box off, with the left side out of it, and leaves the right side.
+fn take_top(tree: &mut Tree) -> Option<(Box<Branch>, Tree)>
+    ensures { MatchOption result ((tree.old ≡ []) × (tree.new ≡ [])) (λ top. tree.old ≡ top.1 ++ (top.0.value.key, top.0.value.row) ∷ tree.new) }
+{
+    let Some(mut top) = mem::replace(tree, Tree::new()).into_box() else {
         return None;
     };
-    let Some(first) = split_first(parts.left) else {
-        return Some(First {
-            frame: parts.frame,
-            key: parts.key,
-            row: parts.row,
-            rest: parts.right,
-        });
-    };
-    let rest = balanced(Parts {
-        frame: parts.frame,
-        left: first.rest,
-        key: parts.key,
-        row: parts.row,
-        right: parts.right,
-    });
-    Some(First {
-        frame: first.frame,
-        key: first.key,
-        row: first.row,
-        rest,
-    })
+    *tree = mem::replace(&mut top.right, Tree::new());
+    let left = mem::replace(&mut top.left, Tree::new());
+    Some((top, left))
 }
 
-/// One tree of two, all of whose keys rise from the first to the second.
-pub(crate) fn glue(left: Tree, right: Tree) -> Tree
-    ensures { result ≡ left ++ right }
+/// Puts a box above a tree, which becomes its right side, with this left side.
+fn put_top(tree: &mut Tree, top: Box<Branch>, left: Tree)
+    ensures { tree.new ≡ left ++ (top.value.key, top.value.row) ∷ tree.old }
 {
-    let Some(first) = split_first(right) else {
+    let mut whole = top;
+    whole.left = left;
+    whole.right = mem::replace(tree, Tree::new());
+    *tree = Tree::over(whole);
+    settle(tree);
+}
+
+/// Takes the first entry off, in its box.
+fn take_first(tree: &mut Tree) -> Option<Box<Branch>>
+    ensures { MatchOption result ((tree.old ≡ []) × (tree.new ≡ [])) (λ first. tree.old ≡ (first.value.key, first.value.row) ∷ tree.new) }
+{
+    let Some((top, mut left)) = take_top(tree) else {
+        return None;
+    };
+    let Some(first) = take_first(&mut left) else {
+        return Some(top);
+    };
+    put_top(tree, top, left);
+    Some(first)
+}
+
+/// The entries of both sides of a box, all of whose keys rise, in one tree. Nothing is left in the box.
+pub(crate) fn glue_sides(branch: &mut Branch) -> Tree
+    ensures { result ≡ branch.old.left ++ branch.old.right }
+{
+    let left = mem::replace(&mut branch.left, Tree::new());
+    let mut right = mem::replace(&mut branch.right, Tree::new());
+    let Some(first) = take_first(&mut right) else {
         return left;
     };
-    balanced(Parts {
-        frame: first.frame,
-        left,
-        key: first.key,
-        row: first.row,
-        right: first.rest,
-    })
+    put_top(&mut right, first, left);
+    right
 }

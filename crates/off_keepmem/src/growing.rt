@@ -2,110 +2,95 @@ ghost use Rattle.std.specs.Prelude.{◌≡◌, ◌+◌, ◌<◌, ◌≤◌, [], 
 ghost use Rattle.off_keepmem.specs.Trees.{Rises, put_entry, but_key, entries_written, rows_after};
 ghost use Rattle.off_keepmem.specs.Puts.{puts_in};
 
-use crate::balance::{balanced, glue};
+use crate::balance::{glue_sides, settle};
 use crate::spare::Spare;
-use crate::tree::{Parts, Tree, compared, fork};
+use crate::tree::{Branch, Node, Tree, compared, no_row};
 use off_defs::{Key, Row, Write};
 use std::cmp::Ordering;
+use std::mem;
 
-/// The tree in which the key has this row. It takes a spare box where the key had none.
+/// Gives the key this row, and leaves the row that it had behind the reference. It takes a spare box where the key had none.
+/// Says whether the tree is now higher, so that what stands above needs no look where it isn't.
 #[tactic(auto, using(crate::proofs::TreeLemmas::left_rises, crate::proofs::TreeLemmas::right_rises, crate::proofs::TreeLemmas::put_left, crate::proofs::TreeLemmas::put_here, crate::proofs::TreeLemmas::put_right, crate::proofs::TreeLemmas::put_none))]
-pub(crate) fn put(tree: Tree, key: Key, row: Row, spare: &mut Spare) -> Tree
+pub(crate) fn put(tree: &mut Tree, key: Key, row: &mut Row, spare: &mut Spare) -> bool
     requires room { 0 < spare.old }
-    requires rises { Rises tree }
-    ensures entries { result ≡ put_entry key row tree }
+    requires rises { Rises tree.old }
+    ensures entries { tree.new ≡ put_entry key row.old tree.old }
     ensures spent { spare.old ≤ spare.new + 1 }
 {
-    let Some(parts) = tree.open() else {
-        return single(key, row, spare);
-    };
-    match compared(key, parts.key) {
-        Ordering::Less => balanced(Parts {
-            frame: parts.frame,
-            left: put(parts.left, key, row, spare),
-            key: parts.key,
-            row: parts.row,
-            right: parts.right,
-        }),
-        Ordering::Equal => fork(Parts {
-            frame: parts.frame,
-            left: parts.left,
-            key: parts.key,
-            row,
-            right: parts.right,
-        }),
-        Ordering::Greater => balanced(Parts {
-            frame: parts.frame,
-            left: parts.left,
-            key: parts.key,
-            row: parts.row,
-            right: put(parts.right, key, row, spare),
-        }),
+    let mut is_higher = false;
+    if let Node::Fork(branch) = &mut tree.node {
+        match compared(key, branch.key) {
+            Ordering::Less => is_higher = put(&mut branch.left, key, row, spare),
+            Ordering::Equal => mem::swap(&mut branch.row, row),
+            Ordering::Greater => is_higher = put(&mut branch.right, key, row, spare),
+        }
+    } else {
+        *tree = single(key, row, spare);
+        return true;
     }
+    is_higher && settle(tree)
 }
 
 /// The tree of one entry.
-fn single(key: Key, row: Row, spare: &mut Spare) -> Tree
+fn single(key: Key, row: &mut Row, spare: &mut Spare) -> Tree
     requires { 0 < spare.old }
-    ensures entries { result ≡ (key, row) ∷ [] }
+    ensures entries { result ≡ (key, row.old) ∷ [] }
     ensures spent { spare.old ≤ spare.new + 1 }
 {
-    let Some(frame) = spare.take() else {
+    let Some(mut frame) = spare.take() else {
         return Tree::new();
     };
-    fork(Parts {
-        frame,
+    *frame = Branch {
         left: Tree::new(),
-        key,
-        row,
         right: Tree::new(),
-    })
-}
-
-/// The tree in which the key has no row. The box is given back to memory.
-#[tactic(auto, using(crate::proofs::TreeLemmas::left_rises, crate::proofs::TreeLemmas::right_rises, crate::proofs::TreeLemmas::drop_left, crate::proofs::TreeLemmas::drop_here, crate::proofs::TreeLemmas::drop_right, crate::proofs::TreeLemmas::drop_none))]
-pub(crate) fn without(tree: Tree, key: Key) -> Tree
-    requires { Rises tree }
-    ensures { result ≡ but_key key tree }
-{
-    let Some(parts) = tree.open() else {
-        return Tree::new();
+        key,
+        row: mem::replace(row, no_row()),
     };
-    match compared(key, parts.key) {
-        Ordering::Less => balanced(Parts {
-            frame: parts.frame,
-            left: without(parts.left, key),
-            key: parts.key,
-            row: parts.row,
-            right: parts.right,
-        }),
-        Ordering::Equal => glue(parts.left, parts.right),
-        Ordering::Greater => balanced(Parts {
-            frame: parts.frame,
-            left: parts.left,
-            key: parts.key,
-            row: parts.row,
-            right: without(parts.right, key),
-        }),
-    }
+    Tree::over(frame)
 }
 
-/// The tree after one write.
+/// Takes the key's row away. The box is given back to memory. Says whether the height is another one.
+#[tactic(auto, using(crate::proofs::TreeLemmas::left_rises, crate::proofs::TreeLemmas::right_rises, crate::proofs::TreeLemmas::drop_left, crate::proofs::TreeLemmas::drop_here, crate::proofs::TreeLemmas::drop_right, crate::proofs::TreeLemmas::drop_none))]
+pub(crate) fn remove(tree: &mut Tree, key: Key) -> bool
+    requires { Rises tree.old }
+    ensures { tree.new ≡ but_key key tree.old }
+{
+    let mut is_lower = false;
+    if let Node::Fork(branch) = &mut tree.node {
+        match compared(key, branch.key) {
+            Ordering::Less => is_lower = remove(&mut branch.left, key),
+            Ordering::Equal => {
+                *tree = glue_sides(branch);
+                return true;
+            }
+            Ordering::Greater => is_lower = remove(&mut branch.right, key),
+        }
+    }
+    is_lower && settle(tree)
+}
+
+/// Does one write.
 #[tactic(auto, using(crate::proofs::TreeLemmas::put_rises, crate::proofs::TreeLemmas::drop_rises))]
-fn written(tree: Tree, write: Write, spare: &mut Spare) -> Tree
+fn do_write(tree: &mut Tree, write: Write, spare: &mut Spare)
     requires room { puts_in (write ∷ []) ≤ spare.old }
-    requires rises { Rises tree }
-    ensures entries { result ≡ entries_written tree write }
-    ensures rises { Rises result }
+    requires rises { Rises tree.old }
+    ensures entries { tree.new ≡ entries_written tree.old write }
+    ensures rises { Rises tree.new }
     ensures spent { spare.old ≤ spare.new + puts_in (write ∷ []) }
 {
     match write {
-        Write::Put(key, row) => put(tree, key, row, spare),
-        Write::Drop(key) => without(tree, key),
+        Write::Put(key, row) => {
+            let mut held = row;
+            put(tree, key, &mut held, spare);
+        }
+        Write::Drop(key) => {
+            remove(tree, key);
+        }
     }
 }
 
-/// The tree after writes in order.
+/// Does writes in order.
 pub(crate) fn write_all(tree: Tree, writes: Vec<Write>, spare: &mut Spare) -> Tree
     requires room { puts_in writes.items ≤ spare.old }
     requires rises { Rises tree }
@@ -115,7 +100,7 @@ pub(crate) fn write_all(tree: Tree, writes: Vec<Write>, spare: &mut Spare) -> Tr
 {
     let mut grown = tree;
     for write in writes {
-        grown = written(grown, write, spare);
+        do_write(&mut grown, write, spare);
     }
     grown
 }

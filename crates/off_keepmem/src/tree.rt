@@ -1,37 +1,37 @@
-ghost use Rattle.std.specs.Prelude.{◌≡◌, ◌++◌, [], ◌∷◌, MatchOption, IfSome};
+ghost use Rattle.std.specs.Prelude.{◌≡◌, [], MatchOption};
 ghost use Rattle.std.specs.Option.{option_map};
-ghost use Rattle.off_keepmem.specs.Trees.{Rises, row_in, next_in, compared, key_after, parts_entries, lent_entry};
+ghost use Rattle.off_keepmem.specs.Trees.{Rises, row_in, next_in, compared, key_after, branch_entries, lent_entry};
 
 use off_base::Ip4;
 use off_defs::{Key, Row};
 use std::cmp::Ordering;
 use std::marker::Model;
-use std::mem;
 
-/// Entries in the order of their keys, as a tree of boxes. Contracts see the list of them. The heights of its nodes, which
-/// keep it balanced, are in the code alone.
+/// Entries in the order of their keys, as a tree of boxes. Contracts see the list of them. How many boxes stand one below
+/// another, 255 at most, is in the code alone. It keeps the tree balanced, and stands beside the pointer, so that a change
+/// on one side of a node never reads the box of the other side.
 #[cycle(tree)]
 #[derive(Drop)]
 pub(crate) struct Tree {
-    node: Node,
+    pub(crate) node: Node,
+    pub(crate) height: u8,
 }
 
 #[cycle(tree)]
 #[derive(Drop)]
-enum Node {
+pub(crate) enum Node {
     Leaf,
     Fork(Box<Branch>),
 }
 
-/// What a box of the tree holds.
+/// What a box of the tree holds. What a way down reads of it stands in front, in 64 bytes, and the row behind.
 #[cycle(tree)]
 #[derive(Drop)]
 pub(crate) struct Branch {
-    left: Tree,
-    key: Key,
-    row: Row,
-    height: u8,
-    right: Tree,
+    pub(crate) left: Tree,
+    pub(crate) right: Tree,
+    pub(crate) key: Key,
+    pub(crate) row: Row,
 }
 
 impl Model for Tree {
@@ -57,25 +57,6 @@ impl Model for Tree {
     ghost size_decreases = { λ t h. sides_below t.node };
 }
 
-/// A node that was taken apart, and the box that it stood in.
-#[derive(Drop)]
-pub(crate) struct Parts {
-    pub(crate) frame: Box<Branch>,
-    pub(crate) left: Tree,
-    pub(crate) key: Key,
-    pub(crate) row: Row,
-    pub(crate) right: Tree,
-}
-
-/// The first entry of a tree, the box that it stood in, and the others.
-#[derive(Drop)]
-pub(crate) struct First {
-    pub(crate) frame: Box<Branch>,
-    pub(crate) key: Key,
-    pub(crate) row: Row,
-    pub(crate) rest: Tree,
-}
-
 /// An entry whose row is lent.
 #[derive(Clone, Copy)]
 pub(crate) struct EntryRef<'a> {
@@ -88,26 +69,29 @@ impl Tree {
     pub(crate) fn new() -> Tree
         ensures { result ≡ [] }
     {
-        Tree { node: Node::Leaf }
-    }
-
-    /// How many boxes stand one below another, 255 at most.
-    pub(crate) fn height(&self) -> u8 {
-        match &self.node {
-            Node::Leaf => 0,
-            Node::Fork(branch) => branch.height,
+        Tree {
+            node: Node::Leaf,
+            height: 0,
         }
     }
 
-    /// Takes the uppermost node apart, if there is one.
-    #[tactic(auto, using(crate::proofs::TreeLemmas::left_rises, crate::proofs::TreeLemmas::right_rises))]
-    pub(crate) fn open(self) -> Option<Parts>
-        ensures entries { MatchOption result (self ≡ []) (λ parts. self ≡ parts_entries parts) }
-        ensures rises { Rises self → IfSome result (λ parts. Rises parts.left × Rises parts.right) }
+    /// A tree of one box, however high its sides are.
+    pub(crate) fn over(branch: Box<Branch>) -> Tree
+        ensures { result ≡ branch_entries branch.value }
+    {
+        Tree {
+            height: height_over(&branch),
+            node: Node::Fork(branch),
+        }
+    }
+
+    /// The uppermost box, if there is one.
+    pub(crate) fn into_box(self) -> Option<Box<Branch>>
+        ensures { MatchOption result (self ≡ []) (λ branch. self ≡ branch_entries branch.value) }
     {
         match self.node {
             Node::Leaf => None,
-            Node::Fork(branch) => Some(emptied(branch)),
+            Node::Fork(branch) => Some(branch),
         }
     }
 
@@ -168,60 +152,22 @@ pub(crate) fn compared(a: Key, b: Key) -> Ordering
     a.cmp(&b)
 }
 
-/// What a branch holds, with its box.
-fn emptied(mut frame: Box<Branch>) -> Parts
-    ensures left { result.left ≡ frame.value.left }
-    ensures key { result.key ≡ frame.value.key }
-    ensures row { result.row ≡ frame.value.row }
-    ensures right { result.right ≡ frame.value.right }
-{
-    let Branch {
-        left,
-        key,
-        row,
-        height: _,
-        right,
-    } = mem::replace(&mut *frame, vacant());
-    Parts {
-        frame,
-        left,
-        key,
-        row,
-        right,
-    }
+/// The height of a tree with this box above.
+pub(crate) fn height_over(branch: &Branch) -> u8 {
+    branch.left.height.max(branch.right.height).saturating_add(1)
 }
 
 /// What a box holds that isn't in use.
 pub(crate) fn vacant() -> Branch {
     Branch {
         left: Tree::new(),
-        key: Key::Site,
-        row: Row::Held(Ip4(0)),
-        height: 0,
         right: Tree::new(),
+        key: Key::Site,
+        row: no_row(),
     }
 }
 
-/// A node of these parts, however high its sides are.
-pub(crate) fn fork(parts: Parts) -> Tree
-    ensures { result ≡ parts_entries parts }
-{
-    let Parts {
-        mut frame,
-        left,
-        key,
-        row,
-        right,
-    } = parts;
-    let height = left.height().max(right.height()).saturating_add(1);
-    *frame = Branch {
-        left,
-        key,
-        row,
-        height,
-        right,
-    };
-    Tree {
-        node: Node::Fork(frame),
-    }
+/// A row that stands where none is in use.
+pub(crate) fn no_row() -> Row {
+    Row::Held(Ip4(0))
 }
