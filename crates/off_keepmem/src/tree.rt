@@ -154,7 +154,11 @@ pub(crate) fn compared(a: Key, b: Key) -> Ordering
 
 /// The height of a tree with this box above.
 pub(crate) fn height_over(branch: &Branch) -> u8 {
-    branch.left.height.max(branch.right.height).saturating_add(1)
+    branch
+        .left
+        .height
+        .max(branch.right.height)
+        .saturating_add(1)
 }
 
 /// What a box holds that isn't in use.
