@@ -8,4 +8,4 @@ use Rattle.off_keepmem.specs.Nodes.{entries_in}
 
 pub sides_below : (n : Node) → max (deep-Node n) 0 ≤ length (entries_in n)
 sides_below Leaf = omega arith
-sides_below (Fork branch) = omega (arith, length-append branch.value.left ((branch.value.key, branch.value.row) ∷ branch.value.right))
+sides_below (Fork height branch) = omega (arith, length-append branch.value.left ((branch.value.key, branch.value.row) ∷ branch.value.right))

@@ -8,4 +8,4 @@ use Rattle.off_keepmem.specs.declared.tree.Node.TheVariants.{Leaf, Fork}
 -- the entries of the left side, the node's own, those of the right side
 abbrev pub entries_in : Node → List (Key × Row)
 entries_in Leaf = []
-entries_in (Fork branch) = branch.value.left ++ (branch.value.key, branch.value.row) ∷ branch.value.right
+entries_in (Fork height branch) = branch.value.left ++ (branch.value.key, branch.value.row) ∷ branch.value.right

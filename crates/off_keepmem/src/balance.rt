@@ -8,7 +8,7 @@ use std::mem;
 pub(crate) fn settle(tree: &mut Tree) -> bool
     ensures { tree.new ≡ tree.old }
 {
-    let before = tree.height;
+    let before = tree.height();
     let (left, right) = side_heights(tree);
     if left > right.saturating_add(1) {
         lower_left(tree);
@@ -17,14 +17,14 @@ pub(crate) fn settle(tree: &mut Tree) -> bool
     } else {
         measure(tree);
     }
-    before != tree.height
+    before != tree.height()
 }
 
 /// How high the two sides are.
 fn side_heights(tree: &Tree) -> (u8, u8) {
     match &tree.node {
         Node::Leaf => (0, 0),
-        Node::Fork(branch) => (branch.left.height, branch.right.height),
+        Node::Fork(_, branch) => (branch.left.height(), branch.right.height()),
     }
 }
 
@@ -32,8 +32,8 @@ fn side_heights(tree: &Tree) -> (u8, u8) {
 fn measure(tree: &mut Tree)
     ensures { tree.new ≡ tree.old }
 {
-    if let Node::Fork(branch) = &tree.node {
-        tree.height = height_over(branch);
+    if let Node::Fork(height, branch) = &mut tree.node {
+        *height = height_over(branch);
     }
 }
 
@@ -41,7 +41,7 @@ fn measure(tree: &mut Tree)
 fn lower_left(tree: &mut Tree)
     ensures { tree.new ≡ tree.old }
 {
-    if let Node::Fork(branch) = &mut tree.node {
+    if let Node::Fork(_, branch) = &mut tree.node {
         lean_left(&mut branch.left);
     }
     turn_right(tree);
@@ -51,7 +51,7 @@ fn lower_left(tree: &mut Tree)
 fn lower_right(tree: &mut Tree)
     ensures { tree.new ≡ tree.old }
 {
-    if let Node::Fork(branch) = &mut tree.node {
+    if let Node::Fork(_, branch) = &mut tree.node {
         lean_right(&mut branch.right);
     }
     turn_left(tree);
@@ -82,7 +82,7 @@ fn lean_right(tree: &mut Tree)
 fn turn_right(tree: &mut Tree)
     ensures { tree.new ≡ tree.old }
 {
-    let Node::Fork(lower) = &mut tree.node else {
+    let Node::Fork(_, lower) = &mut tree.node else {
         return;
     };
     let Some(mut upper) = mem::replace(&mut lower.left, Tree::new()).into_box() else {
@@ -99,7 +99,7 @@ fn turn_right(tree: &mut Tree)
 fn turn_left(tree: &mut Tree)
     ensures { tree.new ≡ tree.old }
 {
-    let Node::Fork(lower) = &mut tree.node else {
+    let Node::Fork(_, lower) = &mut tree.node else {
         return;
     };
     let Some(mut upper) = mem::replace(&mut lower.right, Tree::new()).into_box() else {

@@ -9,8 +9,8 @@ use off_defs::{Key, Row, Write};
 use std::cmp::Ordering;
 use std::mem;
 
-/// Gives the key this row, and leaves the row that it had behind the reference. It takes a spare box where the key had none.
-/// Says whether the tree is now higher, so that what stands above needs no look where it isn't.
+/// Gives the key this row, in place. The row is taken out from behind its reference, and so isn't moved at each step down. It takes a
+/// spare box where the key had none. Says whether the height is another one, since the nodes above need no look where it isn't.
 #[tactic(auto, using(crate::proofs::TreeLemmas::left_rises, crate::proofs::TreeLemmas::right_rises, crate::proofs::TreeLemmas::put_left, crate::proofs::TreeLemmas::put_here, crate::proofs::TreeLemmas::put_right, crate::proofs::TreeLemmas::put_none))]
 pub(crate) fn put(tree: &mut Tree, key: Key, row: &mut Row, spare: &mut Spare) -> bool
     requires room { 0 < spare.old }
@@ -19,7 +19,7 @@ pub(crate) fn put(tree: &mut Tree, key: Key, row: &mut Row, spare: &mut Spare) -
     ensures spent { spare.old ≤ spare.new + 1 }
 {
     let mut is_higher = false;
-    if let Node::Fork(branch) = &mut tree.node {
+    if let Node::Fork(_, branch) = &mut tree.node {
         match compared(key, branch.key) {
             Ordering::Less => is_higher = put(&mut branch.left, key, row, spare),
             Ordering::Equal => mem::swap(&mut branch.row, row),
@@ -43,21 +43,21 @@ fn single(key: Key, row: &mut Row, spare: &mut Spare) -> Tree
     };
     *frame = Branch {
         left: Tree::new(),
-        right: Tree::new(),
         key,
+        right: Tree::new(),
         row: mem::replace(row, no_row()),
     };
     Tree::over(frame)
 }
 
-/// Takes the key's row away. The box is given back to memory. Says whether the height is another one.
+/// Takes the key's row away, in place. The box is given back to memory. Says whether the height may be another one.
 #[tactic(auto, using(crate::proofs::TreeLemmas::left_rises, crate::proofs::TreeLemmas::right_rises, crate::proofs::TreeLemmas::drop_left, crate::proofs::TreeLemmas::drop_here, crate::proofs::TreeLemmas::drop_right, crate::proofs::TreeLemmas::drop_none))]
 pub(crate) fn remove(tree: &mut Tree, key: Key) -> bool
     requires { Rises tree.old }
     ensures { tree.new ≡ but_key key tree.old }
 {
     let mut is_lower = false;
-    if let Node::Fork(branch) = &mut tree.node {
+    if let Node::Fork(_, branch) = &mut tree.node {
         match compared(key, branch.key) {
             Ordering::Less => is_lower = remove(&mut branch.left, key),
             Ordering::Equal => {

@@ -7,30 +7,29 @@ use off_defs::{Key, Row};
 use std::cmp::Ordering;
 use std::marker::Model;
 
-/// Entries in the order of their keys, as a tree of boxes. Contracts see the list of them. How many boxes stand one below
-/// another, 255 at most, is in the code alone. It keeps the tree balanced, and stands beside the pointer, so that a change
-/// on one side of a node never reads the box of the other side.
+/// Entries in the order of their keys, as a tree of boxes. Contracts see the list of them.
 #[cycle(tree)]
 #[derive(Drop)]
 pub(crate) struct Tree {
     pub(crate) node: Node,
-    pub(crate) height: u8,
 }
 
+/// A box has beside it how many boxes stand one below another, itself the first, 255 at most. That keeps the tree balanced, and
+/// no contract sees it. It isn't in the box, so that a change on one side of a node never reads the box of the other side.
 #[cycle(tree)]
 #[derive(Drop)]
 pub(crate) enum Node {
     Leaf,
-    Fork(Box<Branch>),
+    Fork(u8, Box<Branch>),
 }
 
-/// What a box of the tree holds. What a way down reads of it stands in front, in 64 bytes, and the row behind.
+/// What a box of the tree holds. What the way down reads of it stands together in front, and the row behind.
 #[cycle(tree)]
 #[derive(Drop)]
 pub(crate) struct Branch {
     pub(crate) left: Tree,
-    pub(crate) right: Tree,
     pub(crate) key: Key,
+    pub(crate) right: Tree,
     pub(crate) row: Row,
 }
 
@@ -69,19 +68,23 @@ impl Tree {
     pub(crate) fn new() -> Tree
         ensures { result ≡ [] }
     {
-        Tree {
-            node: Node::Leaf,
-            height: 0,
+        Tree { node: Node::Leaf }
+    }
+
+    /// How many boxes stand one below another, 255 at most.
+    pub(crate) fn height(&self) -> u8 {
+        match self.node {
+            Node::Leaf => 0,
+            Node::Fork(height, _) => height,
         }
     }
 
-    /// A tree of one box, however high its sides are.
+    /// A tree with this box above, however high its sides are.
     pub(crate) fn over(branch: Box<Branch>) -> Tree
         ensures { result ≡ branch_entries branch.value }
     {
         Tree {
-            height: height_over(&branch),
-            node: Node::Fork(branch),
+            node: Node::Fork(height_over(&branch), branch),
         }
     }
 
@@ -91,7 +94,7 @@ impl Tree {
     {
         match self.node {
             Node::Leaf => None,
-            Node::Fork(branch) => Some(branch),
+            Node::Fork(_, branch) => Some(branch),
         }
     }
 
@@ -101,7 +104,7 @@ impl Tree {
         requires { Rises self.now }
         ensures { option_map (λ row. row.now) result ≡ row_in key self.now }
     {
-        let Node::Fork(branch) = &self.node else {
+        let Node::Fork(_, branch) = &self.node else {
             return None;
         };
         match compared(key, branch.key) {
@@ -117,7 +120,7 @@ impl Tree {
         requires { Rises self.now }
         ensures { option_map lent_entry result ≡ next_in place self.now }
     {
-        let Node::Fork(branch) = &self.node else {
+        let Node::Fork(_, branch) = &self.node else {
             return None;
         };
         if !lies_after(place, branch.key) {
@@ -156,8 +159,8 @@ pub(crate) fn compared(a: Key, b: Key) -> Ordering
 pub(crate) fn height_over(branch: &Branch) -> u8 {
     branch
         .left
-        .height
-        .max(branch.right.height)
+        .height()
+        .max(branch.right.height())
         .saturating_add(1)
 }
 
@@ -165,8 +168,8 @@ pub(crate) fn height_over(branch: &Branch) -> u8 {
 pub(crate) fn vacant() -> Branch {
     Branch {
         left: Tree::new(),
-        right: Tree::new(),
         key: Key::Site,
+        right: Tree::new(),
         row: no_row(),
     }
 }
