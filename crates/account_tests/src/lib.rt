@@ -19,6 +19,8 @@ mod examples;
 #[cfg(test)]
 mod failing;
 #[cfg(test)]
+mod kept;
+#[cfg(test)]
 mod lying;
 #[cfg(test)]
 mod refused;

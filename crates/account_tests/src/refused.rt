@@ -54,20 +54,24 @@ fn seen(alloc: Global, keeper: &mut MemKeeper) -> Result<(u64, bool, bool), Keep
     Ok((expiry, held, add_on))
 }
 
+// A keeper after the first writes, where memory suffices.
+fn started(alloc: Global) -> Option<MemKeeper> {
+    let mut keeper = MemKeeper::new(alloc, Calls::new(alloc));
+    let first = first_writes(alloc).ok()?;
+    keeper.commit(alloc, &first).ok()?;
+    Some(keeper)
+}
+
 // With ample memory the commit is done. `rt try --test --fail-alloc N` has the Nth growth refused: then it's done, or all is as before.
 #[test]
 fn a_commit_is_done_or_nothing_is(rt: HostRuntime) -> Result<(), Fail> {
     let alloc = rt.alloc();
-    let mut keeper = MemKeeper::new(alloc, Calls::new(alloc));
-    let Ok(first) = first_writes(alloc) else {
+    let Some(mut keeper) = started(alloc) else {
         return Ok(());
     };
     let Ok(next) = next_writes(alloc) else {
         return Ok(());
     };
-    if keeper.commit(alloc, &first).is_err() {
-        return Ok(());
-    }
     let expected = match keeper.commit(alloc, &next) {
         Ok(()) => (2, true, true),
         Err(_refused) => (1, false, false),

@@ -39,9 +39,8 @@ fn pool() -> Pool {
     }
 }
 
-// A keeper with a site, a pool, and a lease in it that expires at moment 100.
-fn leased(rt: &impl Abort, alloc: Global) -> Result<MemKeeper, Fail> {
-    let mut keeper = MemKeeper::new(alloc, Calls::new(alloc));
+// A site, a pool, and a lease in it that expires at moment 100.
+fn lease_writes(alloc: Global) -> Result<Writes, Fail> {
     let mut writes = Writes::new(alloc);
     writes.push(Write::Put(Key::Site, Row::Site(site()?)))?;
     writes.push(Write::Put(Key::Pool(1), Row::Pool(pool())))?;
@@ -53,6 +52,12 @@ fn leased(rt: &impl Abort, alloc: Global) -> Result<MemKeeper, Fail> {
         }),
     ))?;
     writes.push(Write::Put(Key::Held(MODEM), Row::Held(ADDRESS)))?;
+    Ok(writes)
+}
+
+fn leased(rt: &impl Abort, alloc: Global) -> Result<MemKeeper, Fail> {
+    let writes = lease_writes(alloc)?;
+    let mut keeper = MemKeeper::new(alloc, Calls::new(alloc));
     assert!(rt; keeper.commit(alloc, &writes).is_ok());
     Ok(keeper)
 }

@@ -1,6 +1,10 @@
+ghost use Rattle.std.specs.Prelude.{◌≡◌, IfOk};
+
 use off_base::{Bytes, Ip4, Moment, NoMemory, Peer};
 use off_keepmem::MemKeeper;
-use off_outside::{Calls, Event, Events, MemLink, MemSink, MemSource, SentRef, Service, What};
+use off_outside::{
+    Calls, Event, Events, Link, MemLink, MemSink, MemSource, SentRef, Service, What,
+};
 use off_serve::run;
 use std::alloc::Global;
 use std::process::Abort;
@@ -157,53 +161,91 @@ pub fn serve_words(alloc: Global) -> Result<Vec<String>, Fail> {
     Ok(all)
 }
 
-// What a run left: its status, what it wrote, and the link, by which what was sent can be read.
+// What a run works on beside the keeper. It stands in one value, and a run in a function of its own, since a function in which much is live where it
+// may return is slow to prove.
+#[derive(Drop)]
+pub struct Outside {
+    pub link: MemLink,
+    pub source: MemSource,
+    pub out: MemSink,
+}
+
+// Runs the program.
+pub fn runs(alloc: Global, words: &[String], keeper: &mut MemKeeper, outside: &mut Outside) -> u8
+    requires { (⟦<MemLink as Link>⟧.seen outside.old.link).missed ≡ 0 }
+{
+    run(
+        alloc,
+        words,
+        &mut outside.link,
+        keeper,
+        &mut outside.source,
+        &mut outside.out,
+    )
+}
+
+// These events, and room for what is sent and written. The listed calls of the link fail.
+fn outside_of(alloc: Global, events: Events, fails: Calls) -> Result<Outside, Fail>
+    ensures { IfOk result (λ outside. (⟦<MemLink as Link>⟧.seen outside.link).missed ≡ 0) }
+{
+    let link = MemLink::new(alloc, events, 600, 40_000, fails)?;
+    Ok(Outside {
+        link,
+        source: MemSource::new(alloc, Bytes::new(alloc), Calls::new(alloc)),
+        out: MemSink::new(alloc, 20_000, Calls::new(alloc))?,
+    })
+}
+
+// What a run left, and its status.
 #[derive(Drop)]
 pub struct Ran {
     pub status: u8,
-    pub out: MemSink,
-    pub link: MemLink,
+    pub outside: Outside,
 }
 
-// Serves the events over the keeper, with room for what is sent. The listed calls of the link fail.
+// Serves the events over the keeper. The listed calls of the link fail.
 pub fn serve(
     alloc: Global,
-    events: Events,
     keeper: &mut MemKeeper,
-    link_fails: Calls,
+    events: Events,
+    fails: Calls,
 ) -> Result<Ran, Fail> {
-    let mut link = MemLink::new(alloc, events, 600, 40_000, link_fails)?;
-    let mut source = MemSource::new(alloc, Bytes::new(alloc), Calls::new(alloc));
-    let mut out = MemSink::new(alloc, 20_000, Calls::new(alloc))?;
+    let mut outside = outside_of(alloc, events, fails)?;
     let words = serve_words(alloc)?;
-    let status = run(
-        alloc,
-        words.as_slice(),
-        &mut link,
-        keeper,
-        &mut source,
-        &mut out,
-    );
-    Ok(Ran { status, out, link })
+    let status = runs(alloc, words.as_slice(), keeper, &mut outside);
+    Ok(Ran { status, outside })
 }
 
-// The office of the worked examples was put into the keeper.
-pub fn put_office(rt: &impl Abort, alloc: Global, keeper: &mut MemKeeper) -> Result<(), Fail> {
-    let office = [SITE, CLASS, SUBSCRIBER, MODEM, POOL];
-    let ran = serve(alloc, requests(alloc, &office)?, keeper, Calls::new(alloc))?;
+// Serves the events over the keeper, and writes these lines.
+pub fn serves(
+    rt: &impl Abort,
+    alloc: Global,
+    keeper: &mut MemKeeper,
+    events: Events,
+    written: &[u8],
+) -> Result<Ran, Fail> {
+    let ran = serve(alloc, keeper, events, Calls::new(alloc))?;
     assert_eq!(rt; ran.status, 0);
-    assert_eq!(rt; ran.out.written(), OFFICE_LINES.as_bytes());
+    assert_eq!(rt; ran.outside.out.written(), written);
+    Ok(ran)
+}
+
+// The office of the worked examples is put into the keeper.
+pub fn put_office(rt: &impl Abort, alloc: Global, keeper: &mut MemKeeper) -> Result<(), Fail> {
+    let office = requests(alloc, &[SITE, CLASS, SUBSCRIBER, MODEM, POOL])?;
+    let _put: Ran = serves(rt, alloc, keeper, office, OFFICE_LINES.as_bytes())?;
     Ok(())
 }
 
 // The item at a place is this answer on this connection.
 pub fn is_answer(
     rt: &impl Abort,
-    link: &MemLink,
+    ran: &Ran,
     place: usize,
     number: u32,
     expected: &[u8],
 ) -> Result<(), Fail> {
+    let link = &ran.outside.link;
     assert!(rt; place < link.sent_len());
     match link.sent(place) {
         SentRef::Answer { conn, bytes } => {
@@ -221,7 +263,8 @@ pub fn is_answer(
 }
 
 // The item at a place ends this connection.
-pub fn is_close(rt: &impl Abort, link: &MemLink, place: usize, number: u32) -> Result<(), Fail> {
+pub fn is_close(rt: &impl Abort, ran: &Ran, place: usize, number: u32) -> Result<(), Fail> {
+    let link = &ran.outside.link;
     assert!(rt; place < link.sent_len());
     match link.sent(place) {
         SentRef::Close { conn } => assert_eq!(rt; conn, number),

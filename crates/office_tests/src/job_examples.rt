@@ -1,8 +1,10 @@
+ghost use Rattle.std.specs.Prelude.{◌≡◌, IfOk};
+
+use crate::running::{Outside, runs};
 use crate::texts::{calls, fields, written};
 use off_base::{Bytes, NoMemory};
 use off_keepmem::MemKeeper;
-use off_outside::{Calls, Events, MemLink, MemSink, MemSource};
-use off_serve::run;
+use off_outside::{Calls, Events, Link, MemLink, MemSink, MemSource};
 use std::alloc::Global;
 use std::process::Abort;
 use std::test::Fail;
@@ -64,29 +66,61 @@ fn words(alloc: Global, command: &str, secret: &str) -> Result<Vec<String>, Fail
     Ok(words)
 }
 
+fn zeros(alloc: Global, count: usize) -> Result<Vec<u8>, Fail> {
+    let mut bytes = Vec::new(alloc);
+    for _ in 0..count {
+        bytes.push(0)?;
+    }
+    Ok(bytes)
+}
+
 fn bytes_of(alloc: Global, piece: &[u8]) -> Result<Bytes, NoMemory> {
     let mut bytes = Bytes::new(alloc);
     bytes.push_all(piece)?;
     Ok(bytes)
 }
 
-// Does the row's job over a source of these bytes.
-fn does(rt: &impl Abort, alloc: Global, row: &str, input: Bytes) -> Result<(), Fail> {
-    let [command, secret, _, status, text, fails, room, _, _] = fields(row);
+fn source_of(alloc: Global, input: &[u8], row: &str) -> Result<MemSource, Fail> {
+    let fails = calls(alloc, fields(row)[5])?;
+    Ok(MemSource::new(alloc, bytes_of(alloc, input)?, fails))
+}
+
+fn sink_of(alloc: Global, row: &str) -> Result<MemSink, Fail> {
+    let room = fields(row)[6];
     let room = if room == "" { "400" } else { room };
-    let mut link = MemLink::new(alloc, Events::new(alloc), 0, 0, Calls::new(alloc))?;
-    let mut source = MemSource::new(alloc, input, calls(alloc, fails)?);
-    let mut out = MemSink::new(alloc, room.parse::<usize>()?, Calls::new(alloc))?;
+    Ok(MemSink::new(alloc, room.parse::<usize>()?, Calls::new(alloc))?)
+}
+
+fn outside_of(alloc: Global, input: &[u8], row: &str) -> Result<Outside, Fail>
+    ensures { IfOk result (λ outside. (⟦<MemLink as Link>⟧.seen outside.link).missed ≡ 0) }
+{
+    let source = source_of(alloc, input, row)?;
+    let out = sink_of(alloc, row)?;
+    Ok(Outside {
+        link: MemLink::new(alloc, Events::new(alloc), 0, 0, Calls::new(alloc))?,
+        keeper: MemKeeper::new(alloc, Calls::new(alloc)),
+        source,
+        out,
+    })
+}
+
+// The row's job over a source of these bytes ends as the row says.
+fn does(rt: &impl Abort, alloc: Global, row: &str, input: &[u8]) -> Result<(), Fail> {
+    let [command, secret, _, _, _, _, _, _, _] = fields(row);
     let words = words(alloc, command, secret)?;
-    let mut keeper = MemKeeper::new(alloc, Calls::new(alloc));
-    let ended = run(
-        alloc,
-        words.as_slice(),
-        &mut link,
-        &mut keeper,
-        &mut source,
-        &mut out,
-    );
+    let mut outside = outside_of(alloc, input, row)?;
+    let ended = runs(alloc, words.as_slice(), &mut outside);
+    is_right(rt, alloc, row, ended, &outside.out)
+}
+
+fn is_right(
+    rt: &impl Abort,
+    alloc: Global,
+    row: &str,
+    ended: u8,
+    out: &MemSink,
+) -> Result<(), Fail> {
+    let [_, _, _, status, text, _, _, _, _] = fields(row);
     let expected = written(alloc, text)?;
     assert_eq!(rt; ended, status.parse::<u8>()?, "{row}");
     assert_eq!(rt; out.written(), expected.as_slice(), "{row}");
@@ -96,7 +130,7 @@ fn does(rt: &impl Abort, alloc: Global, row: &str, input: Bytes) -> Result<(), F
 fn all_do(rt: &impl Abort, alloc: Global, rows: &[&str]) -> Result<(), Fail> {
     for row in rows {
         let file = hex::decode(alloc, fields(row)[2])?;
-        does(rt, alloc, row, bytes_of(alloc, file.as_slice())?)?;
+        does(rt, alloc, row, file.as_slice())?;
     }
     Ok(())
 }
@@ -119,16 +153,16 @@ fn secrets_are_read(rt: HostRuntime) -> Result<(), Fail> {
 #[test]
 fn long_files_are_refused(rt: HostRuntime) -> Result<(), Fail> {
     let alloc = rt.alloc();
-    let mut long = Bytes::new(alloc);
-    for _ in 0..65_537 {
-        long.push_all(&[0])?;
-    }
-    let check = "check|736563726574||8|refused too-long/";
-    let seal = "seal|736563726574||9|refused too-long/";
-    does(&rt, alloc, check, long.copy()?)?;
-    does(&rt, alloc, seal, long.copy()?)?;
-    // One byte less is read whole.
-    long.truncate(65_536);
-    let read = "seal|736563726574||9|refused early-pad 0/";
-    does(&rt, alloc, read, long)
+    let long = zeros(alloc, 65_537)?;
+    let bytes = long.as_slice();
+    does(&rt, alloc, "check|736563726574||8|refused too-long/", bytes)?;
+    does(&rt, alloc, "seal|736563726574||9|refused too-long/", bytes)
+}
+
+#[test]
+fn the_longest_file_is_read_whole(rt: HostRuntime) -> Result<(), Fail> {
+    let alloc = rt.alloc();
+    let long = zeros(alloc, 65_536)?;
+    let row = "seal|736563726574||9|refused early-pad 0/";
+    does(&rt, alloc, row, long.as_slice())
 }

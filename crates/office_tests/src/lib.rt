@@ -7,6 +7,8 @@
 #[cfg(test)]
 mod job_examples;
 #[cfg(test)]
+mod running;
+#[cfg(test)]
 mod serve_examples;
 #[cfg(test)]
 mod texts;

@@ -1,8 +1,12 @@
+ghost use Rattle.std.specs.Prelude.{◌≡◌, IfOk};
+
+use crate::running::{Outside, runs};
 use crate::texts::{calls, fields, written};
 use off_base::{Bytes, Ip4, Moment, Peer};
 use off_keepmem::MemKeeper;
-use off_outside::{Calls, Event, Events, MemLink, MemSink, MemSource, SentRef, Service, What};
-use off_serve::run;
+use off_outside::{
+    Calls, Event, Events, Link, MemLink, MemSink, MemSource, SentRef, Service, What,
+};
 use std::alloc::Global;
 use std::process::Abort;
 use std::test::Fail;
@@ -116,41 +120,52 @@ fn is_reply(rt: &impl Abort, link: &MemLink, place: usize, expected: &[u8]) -> R
     Ok(())
 }
 
-fn serves(rt: &impl Abort, alloc: Global, row: &str) -> Result<(), Fail> {
-    let [
-        _,
-        turns,
-        comes,
-        link_fails,
-        sink_fails,
-        room,
-        status,
-        text,
-        replies,
-    ] = fields(row);
-    let mut link = MemLink::new(
-        alloc,
-        events(alloc, comes)?,
-        20,
-        400,
-        calls(alloc, link_fails)?,
-    )?;
-    let mut source = MemSource::new(alloc, Bytes::new(alloc), Calls::new(alloc));
-    let mut out = MemSink::new(alloc, room.parse::<usize>()?, calls(alloc, sink_fails)?)?;
-    let words = words(alloc, turns)?;
-    let mut keeper = MemKeeper::new(alloc, Calls::new(alloc));
-    let ended = run(
-        alloc,
-        words.as_slice(),
-        &mut link,
-        &mut keeper,
-        &mut source,
-        &mut out,
-    );
+fn link_of(alloc: Global, row: &str) -> Result<MemLink, Fail>
+    ensures { IfOk result (λ link. (⟦<MemLink as Link>⟧.seen link).missed ≡ 0) }
+{
+    let [_, _, comes, fails, _, _, _, _, _] = fields(row);
+    let events = events(alloc, comes)?;
+    let fails = calls(alloc, fails)?;
+    Ok(MemLink::new(alloc, events, 20, 400, fails)?)
+}
+
+fn sink_of(alloc: Global, row: &str) -> Result<MemSink, Fail> {
+    let [_, _, _, _, fails, room, _, _, _] = fields(row);
+    Ok(MemSink::new(alloc, room.parse::<usize>()?, calls(alloc, fails)?)?)
+}
+
+fn outside_of(alloc: Global, row: &str) -> Result<Outside, Fail>
+    ensures { IfOk result (λ outside. (⟦<MemLink as Link>⟧.seen outside.link).missed ≡ 0) }
+{
+    let link = link_of(alloc, row)?;
+    let out = sink_of(alloc, row)?;
+    Ok(Outside {
+        link,
+        keeper: MemKeeper::new(alloc, Calls::new(alloc)),
+        source: MemSource::new(alloc, Bytes::new(alloc), Calls::new(alloc)),
+        out,
+    })
+}
+
+fn is_right(
+    rt: &impl Abort,
+    alloc: Global,
+    row: &str,
+    ended: u8,
+    outside: &Outside,
+) -> Result<(), Fail> {
+    let [_, _, _, _, _, _, status, text, replies] = fields(row);
     let expected = written(alloc, text)?;
     assert_eq!(rt; ended, status.parse::<u8>()?, "{row}");
-    assert_eq!(rt; out.written(), expected.as_slice(), "{row}");
-    replied(rt, alloc, &link, replies)
+    assert_eq!(rt; outside.out.written(), expected.as_slice(), "{row}");
+    replied(rt, alloc, &outside.link, replies)
+}
+
+fn serves(rt: &impl Abort, alloc: Global, row: &str) -> Result<(), Fail> {
+    let words = words(alloc, fields(row)[1])?;
+    let mut outside = outside_of(alloc, row)?;
+    let ended = runs(alloc, words.as_slice(), &mut outside);
+    is_right(rt, alloc, row, ended, &outside)
 }
 
 #[test]
