@@ -80,67 +80,71 @@ fn command(asked: Asked) -> Command
     }
 }
 
-fn asks(
-    office: &mut Office,
-    keeper: &mut MemKeeper,
-    at: u64,
-    asked: Asked,
-) -> Result<Reply, AccountErr> {
+// What a command was answered.
+#[derive(Clone, Copy, Debug, PartialEq)]
+enum Answer {
+    Done,
+    Shown,
+    Refused(Rule),
+    Failed,
+}
+
+fn answer_of(answer: Result<Reply, AccountErr>) -> Answer {
+    match answer {
+        Ok(Reply::Done) => Answer::Done,
+        Ok(Reply::Shown(_, _)) => Answer::Shown,
+        Ok(Reply::Rows(_)) => Answer::Failed,
+        Err(AccountErr::Refused { row: _, rule }) => Answer::Refused(rule),
+        Err(AccountErr::Failed) => Answer::Failed,
+        Err(AccountErr::Memory) => Answer::Failed,
+    }
+}
+
+// An office, and the keeper of its tables.
+#[derive(Drop)]
+struct Desk {
+    keeper: MemKeeper,
+    office: Office,
+}
+
+fn opened(rt: &impl Abort, alloc: Global) -> Result<Desk, Fail> {
+    let mut keeper = leased(rt, alloc)?;
+    match Office::start(alloc, &mut keeper) {
+        Ok(office) => Ok(Desk { keeper, office }),
+        Err(_) => Err(Fail::new("the tables are good")),
+    }
+}
+
+fn asks(desk: &mut Desk, at: u64, asked: Asked) -> Answer {
     let command = command(asked);
     if !sound(&command) {
-        return Err(AccountErr::Memory);
+        return Answer::Failed;
     }
-    office.command(keeper, Moment(at), &command)
+    answer_of(desk.office.command(&mut desk.keeper, Moment(at), &command))
 }
 
-fn is_done(answer: Result<Reply, AccountErr>) -> bool {
-    match answer {
-        Ok(Reply::Done) => true,
-        Ok(Reply::Shown(_, _)) => false,
-        Ok(Reply::Rows(_)) => false,
-        Err(_) => false,
-    }
-}
-
-fn refusal(answer: Result<Reply, AccountErr>) -> Option<Rule> {
-    match answer {
-        Err(AccountErr::Refused { row: _, rule }) => Some(rule),
-        Err(AccountErr::Failed) => None,
-        Err(AccountErr::Memory) => None,
-        Ok(_) => None,
-    }
+fn has_row(alloc: Global, desk: &mut Desk, key: Key) -> Result<bool, Fail> {
+    Ok(desk.keeper.get(alloc, &key)?.is_some())
 }
 
 #[test]
 fn a_command_comes_at_the_later_moment(rt: HostRuntime) -> Result<(), Fail> {
-    let alloc = rt.alloc();
-    let mut keeper = leased(&rt, alloc)?;
-    let Ok(mut office) = Office::start(alloc, &mut keeper) else {
-        return Err(Fail::new("the tables are good"));
-    };
+    let mut desk = opened(&rt, rt.alloc())?;
     // Before the lease has expired its pool stays; the office's moment is 50 then.
-    let early = asks(&mut office, &mut keeper, 50, Asked::Removal(1));
-    assert_eq!(rt; refusal(early), Some(Rule::PoolHasLeases(ADDRESS)));
+    let early = asks(&mut desk, 50, Asked::Removal(1));
+    assert_eq!(rt; early, Answer::Refused(Rule::PoolHasLeases(ADDRESS)));
     // The office's own moment becomes 100, as the lease expires; a command from an earlier one comes at it.
-    let shown = asks(&mut office, &mut keeper, 100, Asked::Site);
-    assert!(rt; shown.is_ok());
-    let late = asks(&mut office, &mut keeper, 50, Asked::Removal(1));
-    assert!(rt; is_done(late));
-    let held = keeper.get(alloc, &Key::Held(MODEM));
-    assert!(rt; held.is_ok_and(|row| row.is_none()));
+    assert_eq!(rt; asks(&mut desk, 100, Asked::Site), Answer::Shown);
+    assert_eq!(rt; asks(&mut desk, 50, Asked::Removal(1)), Answer::Done);
+    assert!(rt; !has_row(rt.alloc(), &mut desk, Key::Held(MODEM))?);
     Ok(())
 }
 
 #[test]
 fn a_refused_command_leaves_the_tables(rt: HostRuntime) -> Result<(), Fail> {
-    let alloc = rt.alloc();
-    let mut keeper = leased(&rt, alloc)?;
-    let Ok(mut office) = Office::start(alloc, &mut keeper) else {
-        return Err(Fail::new("the tables are good"));
-    };
-    let refused = asks(&mut office, &mut keeper, 0, Asked::Put(2));
-    assert_eq!(rt; refusal(refused), Some(Rule::PoolOverlap(1)));
-    let row = keeper.get(alloc, &Key::Pool(2));
-    assert!(rt; row.is_ok_and(|row| row.is_none()));
+    let mut desk = opened(&rt, rt.alloc())?;
+    let refused = asks(&mut desk, 0, Asked::Put(2));
+    assert_eq!(rt; refused, Answer::Refused(Rule::PoolOverlap(1)));
+    assert!(rt; !has_row(rt.alloc(), &mut desk, Key::Pool(2))?);
     Ok(())
 }
