@@ -308,6 +308,28 @@ pub(crate) fn are_decided(
     Ok(())
 }
 
+// Does a command, and gives the counts of its plan.
+fn does(alloc: Global, keeper: &mut MemKeeper, ask: Ask) -> Result<Counts, Fail> {
+    let counts = count_rows(alloc, keeper)?;
+    let planned = planned(alloc, keeper, &counts, ask)?;
+    keeper.commit(alloc, &planned.writes)?;
+    Ok(planned.counts)
+}
+
+// Each of the keys has a row, or none, as stands beside it.
+fn has_rows(
+    rt: &impl Abort,
+    alloc: Global,
+    keeper: &mut MemKeeper,
+    keys: &[(Key, bool)],
+) -> Result<(), Fail> {
+    for (place, (key, there)) in keys.iter().enumerate() {
+        let row = keeper.get(alloc, key)?;
+        assert_eq!(rt; row.is_some(), *there, "key {place}");
+    }
+    Ok(())
+}
+
 /// The example's office with further rows does a command. The counts of the plan are those of the tables then, and each of the keys has a
 /// row, or none, as stands beside it.
 pub(crate) fn is_done(
@@ -318,13 +340,7 @@ pub(crate) fn is_done(
     keys: &[(Key, bool)],
 ) -> Result<(), Fail> {
     let mut keeper = keeper(alloc, more, Calls::new(alloc))?;
-    let counts = count_rows(alloc, &mut keeper)?;
-    let planned = planned(alloc, &mut keeper, &counts, ask)?;
-    keeper.commit(alloc, &planned.writes)?;
-    assert_eq!(rt; count_rows(alloc, &mut keeper)?, planned.counts);
-    for (place, (key, there)) in keys.iter().enumerate() {
-        let row = keeper.get(alloc, key)?;
-        assert_eq!(rt; row.is_some(), *there, "key {place}");
-    }
-    Ok(())
+    let planned = does(alloc, &mut keeper, ask)?;
+    assert_eq!(rt; count_rows(alloc, &mut keeper)?, planned);
+    has_rows(rt, alloc, &mut keeper, keys)
 }
