@@ -1,5 +1,5 @@
 -- How a reading of parts goes on, part by part, and that it is what the grammar says.
-use Rattle.std.proofs.Common.{◌≡◌, ℕ, zero, suc, ◌+◌, ◌<◌, ◌≤◌, Bool, true, false, eqb, leb, List, [], ◌∷◌, ◌++◌, length, take, drop, get_or, Result, Ok, Err, refl, sym, ap, ◌∙◌, arith, inl, inr, add-zero, drop-cons, length-drop, length-append}
+use Rattle.std.proofs.Common.{◌≡◌, ℕ, zero, suc, ◌+◌, ◌<◌, ◌≤◌, Bool, true, false, cond, eqb, leb, List, [], ◌∷◌, ◌++◌, length, take, drop, get_or, Result, Ok, Err, refl, sym, ap, ◌∙◌, arith, inl, inr, add-zero, drop-cons, length-drop, length-append}
 use Rattle.std.proofs.Math.Nat.{le_refl}
 use Rattle.std.proofs.Math.Seq.{take-append_seam, drop-append_seam}
 use Rattle.std.proofs.lemmas.List.{drop-drop, drop_all, take-append-drop, length-take-le}
@@ -9,7 +9,7 @@ use Rattle.std.proofs.lemmas.Bool.{both_ways, and_parts, cases_Bool, or_parts, c
 use Rattle.off_base.specs.Parts.{Part, has, values, joined, bytes_of, IsCode, Spells, Cut, IsReading, onto, is_mark, parts_from, parts_in}
 use Rattle.off_base.specs.Parts.Spells.{spells_nothing, spells_end, spells_pad, spells_part}
 use Rattle.off_base.specs.Parts.Cut.{cut_length, cut_value, cut_behind_pad, cut_behind_part}
-use Rattle.off_base.specs.Walk.{all_parts, left, Finds, FindsPart}
+use Rattle.off_base.specs.Walk.{all_parts, left, Finds, FindsPart, all_values, cursor_at, Stands}
 use Rattle.off_base.specs.declared.parts.Step.{Step}
 use Rattle.off_base.specs.declared.parts.Step.TheVariants.{Found, End, Cut as Cuts}
 
@@ -90,6 +90,7 @@ left_part m bytes at more no_pad no_end fits =
     record {
       ahead = omega arith;
       within = fits;
+      here = refl;
       first = ap (parts_from m at 0) (two_at bytes at more)
           ∙ part_first m at (get_or bytes at 0) (get_or bytes (at + 1) 0) (drop (at + 2) bytes) no_pad no_end (omega arith)
           ∙ ap (λ rest. onto (record { code = get_or bytes at 0; place = at; value = take len (drop (at + 2) bytes) }) (parts_from m (at + 2 + len) 0 rest)) (drop-drop len (at + 2) bytes);
@@ -101,6 +102,7 @@ pub finds_from : (m : Bool) (bytes : List ℕ) (from at : ℕ) (step : Step) →
 finds_from m bytes from at (Found code place len) le same finds = record {
   ahead = (let ahead = finds.ahead in omega arith);
   within = finds.within;
+  here = same ∙ finds.here;
   first = same ∙ finds.first;
 }
 finds_from m bytes from at End le same finds = same ∙ finds
@@ -246,3 +248,53 @@ bytes_of-joined wanted (Ok parts) =
       | inl there ↦ rw there refl
       | inr none ↦ rw none (sym (values_none wanted parts none))
     ]
+
+-- ---- a cursor among options
+
+pub at_front : (options : List ℕ) (code : ℕ) → IsOk (parts_in true options) → Stands options code (cursor_at 0 0)
+unfolding parts_in
+at_front options code ok = record { within = omega arith; ok = ok; few = omega arith; rest = refl }
+
+-- how many bytes of a part count
+abbrev pub counts : ℕ → ℕ → ℕ → ℕ
+counts code wanted len = cond (eqb code wanted) len 0
+
+values_on : (wanted code place len : ℕ) (options : List ℕ) (rest : List Part) → place + 2 + len ≤ length options
+    → (shown : List ℕ) × (length shown ≡ counts code wanted len) × (values wanted (record { code = code; place = place; value = take len (drop (place + 2) options) } ∷ rest) ≡ shown ++ values wanted rest)
+values_on wanted code place len options rest within =
+    elim (cases_Bool (eqb code wanted)) [
+      | inl same ↦
+          let size = length-drop (place + 2) options in
+          (take len (drop (place + 2) options), rw same (length-take-le len (drop (place + 2) options) (omega arith)), rw same refl)
+      | inr other ↦ ([], rw other refl, rw other refl)
+    ]
+
+-- behind an option that doesn't have the byte
+pub stands_on : (options : List ℕ) (wanted at before code place len : ℕ) → Stands options wanted (cursor_at at before)
+    → FindsPart true options at code place len → Stands options wanted (cursor_at (place + 2 + len) (before + counts code wanted len))
+stands_on options wanted at before code place len stands found =
+    let rest = found_rest true options at code place len found stands.ok in
+    let shown = values_on wanted code place len options (all_parts (left true (place + 2 + len) options)) found.within in
+    let behind = values wanted (all_parts (left true (place + 2 + len) options)) in
+    let all : drop before (all_values wanted options) ≡ shown.0 ++ behind = sym stands.rest ∙ ap (values wanted) rest.1 ∙ shown.2 in
+    let size = ap length all in
+    let sizes = length-append shown.0 behind in
+    let dropped = length-drop before (all_values wanted options) in
+    let few = stands.few in
+    let long = shown.1 in
+    let seam : drop (length shown.0) (shown.0 ++ behind) ≡ behind = drop-append_seam shown.0 behind in
+    record {
+      within = found.within;
+      ok = rest.0;
+      few = omega arith;
+      rest = sym (sym (drop-drop (counts code wanted len) before (all_values wanted options)) ∙ ap (drop (counts code wanted len)) all ∙ ap (λ n. drop n (shown.0 ++ behind)) (sym long) ∙ seam);
+    }
+
+-- behind the last option there is no byte left
+pub none_left : (options : List ℕ) (wanted at before i : ℕ) → Stands options wanted (cursor_at at before) → left true at options ≡ Ok []
+    → before ≤ i → i < length (all_values wanted options) → ⊥
+none_left options wanted at before i stands ended behind within =
+    let none : [] ≡ drop before (all_values wanted options) = ap (λ read. values wanted (all_parts read)) (sym ended) ∙ stands.rest in
+    let size = ap length none in
+    let dropped = length-drop before (all_values wanted options) in
+    omega arith

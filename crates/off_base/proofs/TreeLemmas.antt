@@ -1,6 +1,9 @@
 -- Rows against lists of settings, and how long a spelling is.
-use Rattle.std.proofs.Common.{◌≡◌, ℕ, List, [], ◌∷◌, ◌++◌, length, refl, ap, arith, length-append}
-use Rattle.off_base.specs.Tree.{Tree, Row, leaf, group, no_more, followed, row_items, row_of, spelled, spelled_row, spelling, RowFits, AllFit, tree_length, row_length, trees_length, row_size, trees_size}
+use Rattle.std.proofs.Common.{◌≡◌, ℕ, zero, suc, ◌+◌, ◌*◌, ◌≤◌, List, [], ◌∷◌, ◌++◌, length, take, drop, refl, ap, ◌∙◌, arith, length-append, Some}
+use Rattle.std.specs.List.{slice_get}
+use Rattle.std.proofs.lemmas.List.{take_more, drop_more}
+use Rattle.std.proofs.lemmas.Option.{slice_get_within, get_or_from_slice_get}
+use Rattle.off_base.specs.Tree.{Tree, Row, leaf, group, no_more, followed, row_items, row_of, spelled, spelled_row, spelling, RowFits, AllFit, tree_length, row_length, trees_length, row_size, tree_size, trees_size}
 
 pub row_items-row_of : (ts : List Tree) → row_items (row_of ts) ≡ ts
 row_items-row_of [] = refl
@@ -43,3 +46,19 @@ mutual
 pub length-spelling : (ts : List Tree) → length (spelling ts) ≡ trees_length ts
 length-spelling [] = refl
 length-spelling (t ∷ ts) = omega (arith, length-append (spelled t) (spelling ts), length-spelled t, length-spelling ts)
+
+-- the setting at a place: no larger than all of them, the last of those up to it, the first of those from it on
+pub size_at : (ts : List Tree) (i : ℕ) (t : Tree) → slice_get ts i ≡ Some t → tree_size t ≤ trees_size ts
+size_at [] i t e = cc
+size_at (u ∷ ts) zero t e = let same : u ≡ t = cc in omega (arith, ap tree_size same)
+size_at (u ∷ ts) (suc i) t e = omega (arith, size_at ts i t e)
+
+pub taken : (ts : List Tree) (i : ℕ) (t : Tree) → slice_get ts i ≡ Some t → take (i + 1) ts ≡ take i ts ++ t ∷ []
+taken ts i t e = take_more ts i t (slice_get_within ts i t e) ∙ ap (λ (x : Tree). take i ts ++ x ∷ []) (get_or_from_slice_get ts i t t e)
+
+pub dropped : (ts : List Tree) (i : ℕ) (t : Tree) → slice_get ts i ≡ Some t → drop i ts ≡ t ∷ drop (i + 1) ts
+dropped ts i t e = drop_more ts i t (slice_get_within ts i t e) ∙ ap (λ (x : Tree). x ∷ drop (i + 1) ts) (get_or_from_slice_get ts i t t e)
+
+-- the parts of a group are smaller than the group, and than settings that it is one of
+pub parts_smaller : (code : ℕ) (parts : List Tree) (t : Tree) → t ≡ group code (row_of parts) → 2 * trees_size parts + 2 ≤ 2 * tree_size t
+parts_smaller code parts t is = omega (arith, ap tree_size is, row_size-row_of parts)

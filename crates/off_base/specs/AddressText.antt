@@ -1,10 +1,11 @@
 -- Texts of addresses: an EUI-48 (a MAC address, IEEE 802) in hexadecimal digits, and an IPv4 address in dotted decimal.
-use Rattle.std.specs.Prelude.{ℕ, ◌+◌, ◌*◌, ◌/◌, ◌%◌, ◌^◌, ◌==◌, Bool, ◌&&◌, List, [], ◌∷◌, length, map, filter, Option, Some, None, if◌then◌else◌}
-use Rattle.std.specs.List.{join_with_byte, list_any}
+use Rattle.std.specs.Prelude.{ℕ, ◌+◌, ◌*◌, ◌/◌, ◌%◌, ◌^◌, ◌==◌, Bool, ◌&&◌, nat_lt, List, [], ◌∷◌, length, map, filter, Option, Some, None, if◌then◌else◌}
+use Rattle.std.specs.List.{join_with_byte, slice_split, list_any}
 use Rattle.std.specs.Fmt.{decimal}
 use Rattle.std.specs.Result.{result_ok}
 use Rattle.std.specs.Str.{bytes_eq}
 use Rattle.hex.specs.Hex.{encode_lower, decode_of, is_hex_digit}
+use Rattle.off_base.specs.Number.{number_of}
 
 -- the one text that the office writes for a MAC: its six bytes as twelve digits in lower case
 abbrev pub mac_text_of : List ℕ → List ℕ
@@ -47,12 +48,16 @@ ip_bytes a = (a / 2 ^ 24 % 256) ∷ (a / 2 ^ 16 % 256) ∷ (a / 2 ^ 8 % 256) ∷
 unfoldable pub ip_text_of : ℕ → List ℕ
 ip_text_of a = join_with_byte 46 (map decimal (ip_bytes a))
 
--- the address that a text spells, digit by digit, where it is one that `ip_text_of` gives; another number for other texts
-abbrev pub spelled : ℕ → ℕ → List ℕ → ℕ
-spelled whole last [] = whole % 2 ^ 24 * 256 + last
-spelled whole last (c ∷ cs) =
-    if c == 46 then spelled (whole % 2 ^ 24 * 256 + last) 0 cs else spelled whole ((last * 10 + c % 16) % 256) cs
+-- a number of 0 to 255 as it is written: in decimal digits, without leading zeros
+abbrev pub octet_of : List ℕ → Option ℕ
+octet_of text =
+    if nat_lt (number_of text) 256 && bytes_eq (decimal (number_of text)) text then Some (number_of text) else None
 
--- the address whose text this is: `read_ip` promises that it is there exactly for the texts of addresses
+-- the address of four such numbers
+abbrev pub address_of : List (Option ℕ) → Option ℕ
+address_of (Some first ∷ Some second ∷ Some third ∷ Some fourth ∷ []) = Some (((first * 256 + second) * 256 + third) * 256 + fourth)
+address_of _ = None
+
+-- the address whose text this is: four numbers of 0 to 255 between dots, each as it is written
 unfoldable pub ip_of : List ℕ → Option ℕ
-ip_of text = if bytes_eq (ip_text_of (spelled 0 0 text)) text then Some (spelled 0 0 text) else None
+ip_of text = address_of (map octet_of (slice_split (λ c. c == 46) text))

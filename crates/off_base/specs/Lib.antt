@@ -1,4 +1,5 @@
 pub mod AddressText
+pub mod Dotted
 pub mod Number
 pub mod Parts
 pub mod Walk

@@ -2,6 +2,10 @@
 use Rattle.std.specs.Prelude.{ℕ, ◌+◌, ◌-◌, ◌*◌, ◌^◌, Bool, ◌&&◌, List, [], ◌∷◌, length, nat_lt, nat_le, Option, Some, None, if◌then◌else◌}
 use Rattle.std.specs.Str.{all_ascii_digits}
 
+-- the greatest number of 64 bits, at which counts and sums stop
+abbrev pub greatest_u64 : ℕ
+greatest_u64 = 2 ^ 64 - 1
+
 -- the number that decimal digits spell: each digit has the weight of its place
 abbrev pub number_of : List ℕ → ℕ
 number_of [] = 0

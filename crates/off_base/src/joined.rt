@@ -1,7 +1,9 @@
-ghost use Rattle.std.specs.Prelude.{◌≡◌, ◌==◌, ◌<◌, true, length, if◌then◌else◌, slice_index, Err, IsOk, is_some, MatchOption};
+ghost use Rattle.std.specs.Prelude.{◌≡◌, ◌==◌, ◌<◌, true, length, if◌then◌else◌, slice_index, Err};
+ghost use Rattle.std.specs.Prelude.{IsOk, is_some, MatchOption};
 ghost use Rattle.off_base.specs.Parts.{parts_in, has, values, joined, bytes_of, IsReading};
 ghost use Rattle.off_base.specs.Walk.{all_parts};
 
+use crate::cursors::JoinedBytes;
 use crate::parts::{Step, next_part};
 use std::marker::Model;
 
@@ -29,7 +31,8 @@ impl<'a> Model for Joined<'a> {
 /// The place of the first option that passes the end of the bytes (RFC 2132, section 2).
 #[tactic(auto, unfolding(crate::specs::Parts::parts_in))]
 pub fn first_cut(options: &[u8]) -> Option<usize>
-    ensures place { MatchOption result (IsOk (parts_in true options.now)) (λ place. parts_in true options.now ≡ Err place) }
+    ensures place { MatchOption result (IsOk (parts_in true options.now))
+        (λ place. parts_in true options.now ≡ Err place) }
     ensures reading { IsReading true options.now (parts_in true options.now) }
 {
     let mut at = 0;
@@ -78,6 +81,13 @@ impl<'a> Joined<'a> {
         ensures { result ≡ slice_index (bytes_of self.now) i }
     {
         joined_byte(self.options, self.code, i)
+    }
+
+    /// The bytes, to be read from the front on.
+    pub fn bytes(&self) -> JoinedBytes<'a>
+        ensures { result ≡ bytes_of self.now }
+    {
+        JoinedBytes::over(self.options, self.code, self.len())
     }
 }
 
@@ -145,43 +155,8 @@ fn joined_byte(options: &[u8], wanted: u8, i: usize) -> u8
 }
 
 // The length, where it counts.
-fn counted(counts: bool, len: usize) -> usize
+pub(crate) fn counted(counts: bool, len: usize) -> usize
     ensures { result ≡ (if counts then len else 0) }
 {
     if counts { len } else { 0 }
-}
-
-#[cfg(test)]
-mod tests {
-    use super::*;
-
-    #[test]
-    fn the_first_option_past_the_end_is_told(rt: HostRuntime) {
-        assert_eq!(rt; first_cut(&[]), None);
-        assert_eq!(rt; first_cut(&[0, 0]), None);
-        assert_eq!(rt; first_cut(&[255, 53]), None);
-        assert_eq!(rt; first_cut(&[53, 1, 1, 53]), Some(3));
-        assert_eq!(rt; first_cut(&[0, 53, 2, 1]), Some(1));
-        assert_eq!(rt; first_cut(&[53, 0, 61, 255]), Some(2));
-    }
-
-    #[test]
-    fn values_of_one_code_are_joined(rt: HostRuntime) {
-        let options = [
-            0, 53, 1, 1, 43, 2, 9, 8, 0, 43, 0, 43, 1, 7, 60, 0, 255, 43, 1, 6,
-        ];
-        assert_eq!(rt; first_cut(&options), None);
-        if first_cut(&options).is_none() {
-            let joined = Joined::over(&options, 43);
-            assert!(rt; joined.present());
-            assert_eq!(rt; joined.len(), 3);
-            assert_eq!(rt; joined.byte(0), 9);
-            assert_eq!(rt; joined.byte(1), 8);
-            assert_eq!(rt; joined.byte(2), 7);
-            let empty = Joined::over(&options, 60);
-            assert!(rt; empty.present());
-            assert!(rt; empty.is_empty());
-            assert!(rt; !Joined::over(&options, 82).present());
-        }
-    }
 }

@@ -4,6 +4,7 @@
 #![tactic(auto)]
 
 mod addresses;
+mod cursors;
 mod dotted;
 mod joined;
 mod macs;
@@ -11,11 +12,13 @@ mod moments;
 mod numbers;
 mod octets;
 mod parts;
+mod readable;
 mod secrets;
 mod trees;
 mod wording;
 
 pub use addresses::{Ip4, Peer};
+pub use cursors::{Cursor, JoinedBytes};
 pub use dotted::{IpText, NotIp, ip_text, read_ip};
 pub use joined::{Joined, first_cut};
 pub use macs::{Mac, NotMac, mac_text, read_mac};

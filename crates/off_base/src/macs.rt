@@ -1,8 +1,10 @@
-ghost use Rattle.std.specs.Prelude.{◌≡◌, ◌==◌, ◌≤◌, ◌∷◌, [], length, filter, Option, Some, None, MatchResult, MatchOption, if◌then◌else◌};
+ghost use Rattle.std.specs.Prelude.{◌≡◌, ◌==◌, ◌≤◌, ◌∷◌, [], length, filter, Option, Some, None};
+ghost use Rattle.std.specs.Prelude.{MatchResult, MatchOption, if◌then◌else◌};
 ghost use Rattle.std.specs.List.{join_with_byte, list_any};
 ghost use Rattle.std.specs.Str.{bytes_eq};
 ghost use Rattle.hex.specs.Hex.{is_hex_digit};
-ghost use Rattle.off_base.specs.AddressText.{mac_text_of, mac_of, mac_forms, digits_in, pairs, fours};
+ghost use Rattle.off_base.specs.AddressText.{mac_text_of, mac_of, mac_forms, digits_in, pairs};
+ghost use Rattle.off_base.specs.AddressText.{fours};
 
 use arrayvec::ArrayVec;
 
@@ -29,7 +31,8 @@ pub fn mac_text(mac: Mac) -> [u8; 12]
 ///
 /// `NotMac` comes exactly for every other text.
 pub fn read_mac(text: &[u8]) -> Result<Mac, NotMac>
-    ensures { MatchResult result (λ mac. mac_of text.now ≡ Some mac.0) (λ _. mac_of text.now ≡ None) }
+    ensures { MatchResult result (λ mac. mac_of text.now ≡ Some mac.0)
+        (λ _. mac_of text.now ≡ None) }
 {
     let Some(digits) = twelve_digits(text) else {
         return Err(NotMac);
@@ -67,7 +70,8 @@ fn hex_digits(text: &[u8]) -> ArrayVec<u8, 17>
 
 // The digits of the text, where there are twelve of them.
 fn twelve_digits(text: &[u8]) -> Option<[u8; 12]>
-    ensures { MatchOption result (mac_of text.now ≡ None) (λ digits. (digits ≡ digits_in text.now) × (length digits ≡ 12)) }
+    ensures { MatchOption result (mac_of text.now ≡ None)
+        (λ digits. (digits ≡ digits_in text.now) × (length digits ≡ 12)) }
 {
     if text.len() > 17 {
         return None;
@@ -105,42 +109,4 @@ fn in_fours(digits: &[u8; 12], separator: u8) -> [u8; 14]
     let s = separator;
     let [a, b, c, d, e, f, g, h, i, j, k, l] = *digits;
     [a, b, c, d, s, e, f, g, h, s, i, j, k, l]
-}
-
-#[cfg(test)]
-mod tests {
-    use super::*;
-
-    #[test]
-    fn a_mac_is_read_in_its_four_forms_alone(rt: HostRuntime) {
-        let mac = Mac([0x02, 0xaa, 0xbb, 0xcc, 0xdd, 0xee]);
-        for text in [
-            "02aabbccddee",
-            "02AABBccDDEE",
-            "02:aa:bb:CC:dd:ee",
-            "02-AA-bb-cc-dd-eE",
-            "02aa.BBcc.ddee",
-        ] {
-            assert_eq!(rt; read_mac(text.as_bytes()), Ok(mac), "{text}");
-        }
-        for text in [
-            "",
-            "02aabbccdde",
-            "02aabbccddeeff",
-            "02-aa:bb-cc-dd-ee",
-            "02:aa:bb:cc:dd-ee",
-            "02:aa:bb:cc:dd:e",
-            "02:aa:bb:cc:dd:ee:",
-            ":02aa:bb:cc:ddee",
-            "02aa:bbcc:ddee",
-            "02.aa.bb.cc.dd.ee",
-            "02aa.bbcc:ddee",
-            "02aabb.ccddee",
-            "02 aa bb cc dd ee",
-            "0gaabbccddee",
-        ] {
-            assert_eq!(rt; read_mac(text.as_bytes()), Err(NotMac), "{text}");
-        }
-        assert_eq!(rt; mac_text(mac), *b"02aabbccddee");
-    }
 }

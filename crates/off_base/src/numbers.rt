@@ -27,7 +27,8 @@ pub fn read_number(text: &[u8], most: u64) -> Option<u64>
 
 // The number with one more digit behind it, where the byte is a digit and `most` isn't passed.
 fn with_digit(number: u64, byte: u8, most: u64) -> Option<u64>
-    ensures { SomeIff result ((48 ≤ byte) × (byte ≤ 57) × (number * 10 + (byte - 48) ≤ most)) (number * 10 + (byte - 48)) }
+    ensures { SomeIff result ((48 ≤ byte) × (byte ≤ 57) × (number * 10 + (byte - 48) ≤ most))
+        (number * 10 + (byte - 48)) }
 {
     if byte < b'0' {
         return None;

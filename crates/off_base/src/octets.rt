@@ -42,10 +42,8 @@ impl Bytes {
         ensures ok { OnOk result (self.new ≡ self.old ++ piece.now) }
         ensures err { OnErr result (self.new ≡ self.old) }
     {
-        match self.items.extend_from_slice(piece) {
-            Ok(()) => Ok(()),
-            Err(AllocError) => Err(NoMemory),
-        }
+        self.items.extend_from_slice(piece)?;
+        Ok(())
     }
 
     /// The bytes.

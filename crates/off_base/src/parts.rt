@@ -2,6 +2,8 @@ ghost use Rattle.std.specs.Prelude.{◌≡◌, ◌≢◌, ◌<◌, ◌≤◌, le
 ghost use Rattle.off_base.specs.Parts.{is_mark};
 ghost use Rattle.off_base.specs.Walk.{Finds};
 
+use crate::readable::{Plain, Readable};
+
 // A pad of one byte, and the end (RFC 2132, sections 3.1 and 3.2).
 const PAD: u8 = 0;
 
@@ -22,9 +24,18 @@ pub(crate) fn next_part(bytes: &[u8], from: usize, marked: bool) -> Step
     requires { from ≤ length bytes.now }
     ensures { Finds marked bytes.now from result }
 {
+    next_in(&mut Plain { bytes }, from, marked)
+}
+
+/// The next part from a place on, of bytes that may lie apart.
+pub(crate) fn next_in<R: Readable>(bytes: &mut R, from: usize, marked: bool) -> Step
+    requires { from ≤ length (R.bytes bytes.old) }
+    ensures found { Finds marked (R.bytes bytes.old) from result }
+    ensures same { R.bytes bytes.new ≡ R.bytes bytes.old }
+{
     let mut at = from;
     while at < bytes.len() {
-        if !is_mark(marked, PAD, bytes[at]) {
+        if !is_mark(marked, PAD, bytes.byte(at)) {
             return part_at(bytes, at, marked);
         }
         at += 1;
@@ -40,21 +51,23 @@ fn is_mark(marked: bool, mark: u8, byte: u8) -> bool
 }
 
 // The part whose code stands at a place, where that isn't a pad.
-fn part_at(bytes: &[u8], place: usize, marked: bool) -> Step
-    requires within { place < length bytes.now }
-    requires no_pad { is_mark marked 0 (slice_index bytes.now place) ≡ false }
-    ensures { Finds marked bytes.now place result }
+fn part_at<R: Readable>(bytes: &mut R, place: usize, marked: bool) -> Step
+    requires within { place < length (R.bytes bytes.old) }
+    requires no_pad { is_mark marked 0 (slice_index (R.bytes bytes.old) place) ≡ false }
+    ensures found { Finds marked (R.bytes bytes.old) place result }
+    ensures same { R.bytes bytes.new ≡ R.bytes bytes.old }
 {
-    if is_mark(marked, END, bytes[place]) {
+    let code = bytes.byte(place);
+    if is_mark(marked, END, code) {
         return Step::End;
     }
     let behind = bytes.len() - place - 1;
     if behind == 0 {
         return Step::Cut(place);
     }
-    let len = usize::from(bytes[place + 1]);
+    let len = usize::from(bytes.byte(place + 1));
     if behind - 1 < len {
         return Step::Cut(place);
     }
-    Step::Found(bytes[place], place, len)
+    Step::Found(code, place, len)
 }

@@ -20,7 +20,8 @@ impl Model for Secret {
 impl Secret {
     /// The secret of these bytes. `None` comes exactly where there are more than 64.
     pub fn read(bytes: &[u8]) -> Option<Secret>
-        ensures { MatchOption result (64 < length bytes.now) (λ secret. (secret ≡ bytes.now) × (length bytes.now ≤ 64)) }
+        ensures { MatchOption result (64 < length bytes.now)
+            (λ secret. (secret ≡ bytes.now) × (length bytes.now ≤ 64)) }
     {
         let mut held = ArrayVec::new();
         match held.try_extend_from_slice(bytes) {
@@ -44,20 +45,5 @@ impl Secret {
         let mut held = ArrayVec::new();
         let _fits = held.try_extend_from_slice(self.held.as_slice());
         Secret { held }
-    }
-}
-
-#[cfg(test)]
-mod tests {
-    use super::*;
-
-    #[test]
-    fn sixty_four_bytes_are_kept(rt: HostRuntime) {
-        let bytes = [0xff; 65];
-        for len in [0, 1, 64] {
-            let kept = Secret::read(&bytes[..len]).map(|secret| secret.copy().as_slice().len());
-            assert_eq!(rt; kept, Some(len));
-        }
-        assert!(rt; Secret::read(&bytes).is_none());
     }
 }

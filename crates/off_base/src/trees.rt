@@ -1,4 +1,5 @@
-ghost use Rattle.std.specs.Prelude.{◌≡◌, ◌==◌, ◌<◌, ◌++◌, [], ◌∷◌, length, Some, slice_get, IfOk, OnOk, OnErr};
+ghost use Rattle.std.specs.Prelude.{◌≡◌, ◌==◌, ◌<◌, ◌++◌, [], ◌∷◌, length, Some, slice_get, IfOk};
+ghost use Rattle.std.specs.Prelude.{OnOk, OnErr};
 ghost use Rattle.off_base.specs.Tree.{Tree};
 ghost use Rattle.off_base.specs.Setting.{tree_of};
 
@@ -6,7 +7,8 @@ use crate::octets::{Bytes, NoMemory};
 use std::alloc::Global;
 use std::marker::Model;
 
-/// A setting of a configuration file (CM-SP-MULPIv3.1, annex C): its code, and its value or its parts.
+/// A setting of a configuration file (CM-SP-MULPIv3.1, annex C): its code, and its value or its
+/// parts.
 #[cycle(setting)]
 #[derive(Drop)]
 pub enum Setting {
@@ -114,26 +116,5 @@ impl Setting {
                 parts: parts.copy()?,
             }),
         }
-    }
-}
-
-#[cfg(test)]
-mod tests {
-    use super::*;
-    use std::test::Fail;
-
-    #[test]
-    fn a_group_is_copied_with_its_parts(rt: HostRuntime) -> Result<(), Fail> {
-        let mut value = Bytes::new(rt.alloc());
-        value.push_all(&[0, 1])?;
-        let mut parts = Settings::new(rt.alloc());
-        parts.push(Setting::Leaf { code: 1, value })?;
-        let mut settings = Settings::new(rt.alloc());
-        settings.push(Setting::Group { code: 24, parts })?;
-
-        let copy = settings.copy()?;
-        assert_eq!(rt; copy.len(), 1);
-        assert!(rt; matches!(copy.get(0), Setting::Group { code: 24, .. }));
-        Ok(())
     }
 }

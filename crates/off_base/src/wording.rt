@@ -22,9 +22,12 @@ impl Model for Short {
 }
 
 impl Short {
-    /// The text, where it fits. `NotShort` comes exactly where it is longer than 64 bytes or isn't UTF-8.
+    /// The text, where it fits. `NotShort` comes exactly where it is longer than 64 bytes or isn't
+    /// UTF-8.
     pub fn read(text: &[u8]) -> Result<Short, NotShort>
-        ensures read { MatchResult result (λ short. (short ≡ text.now) × (length text.now ≤ 64) × IsUtf8 text.now) (λ _. (length text.now ≤ 64) → IsUtf8 text.now → ⊥) }
+        ensures read { MatchResult result
+            (λ short. (short ≡ text.now) × (length text.now ≤ 64) × IsUtf8 text.now)
+            (λ _. (length text.now ≤ 64) → IsUtf8 text.now → ⊥) }
     {
         let Ok(text) = std::str::from_utf8(text) else {
             return Err(NotShort);
@@ -56,33 +59,5 @@ impl Short {
         ensures { result ≡ self.now }
     {
         Short { held: self.held }
-    }
-}
-
-#[cfg(test)]
-mod tests {
-    use super::*;
-
-    // Whether the text is read, and both its copy and itself have its bytes.
-    fn is_kept(text: &[u8]) -> bool {
-        match Short::read(text) {
-            Ok(short) => short.as_slice() == text && short.copy().as_str().as_bytes() == text,
-            Err(NotShort) => false,
-        }
-    }
-
-    #[test]
-    fn sixty_four_bytes_of_utf8_are_kept(rt: HostRuntime) {
-        let mut text = [b'a'; 65];
-        assert!(rt; is_kept(b""));
-        assert!(rt; is_kept("Anné".as_bytes()));
-        assert!(rt; is_kept(&text[..64]));
-        assert!(rt; !is_kept(&text));
-        assert!(rt; !is_kept(b"\xff"));
-        assert!(rt; !is_kept(b"Ann\xc3"));
-        text[63] = 0xc3;
-        text[64] = 0xa9;
-        assert!(rt; !is_kept(&text));
-        assert!(rt; !is_kept(&text[..64]));
     }
 }

@@ -65,16 +65,16 @@ log_option log = if log == 0 then [] else option 7 (four log)
 -- an OFFER or an ACK
 unfoldable pub reply_bytes : Received → Offer → List ℕ
 reply_bytes m o =
-    padded (head m m.flags (confirmed m o) o.yiaddr.0 o.server.0 o.name
+    padded (head m m.flags (confirmed m o) o.yiaddr.0 o.site.server.0 o.name
     ++ option 53 (o.kind ∷ [])
-    ++ option 54 (four o.server.0)
-    ++ option 51 (four o.lease)
-    ++ option 58 (four (o.lease / 2))
-    ++ option 59 (four (7 * o.lease / 8))
-    ++ option 1 (four (mask o.prefix))
-    ++ option 3 (four o.router.0)
-    ++ option 2 (four (cast_unsigned w32 o.offset))
-    ++ option 4 (four o.server.0)
-    ++ log_option o.log.0
+    ++ option 54 (four o.site.server.0)
+    ++ option 51 (four o.site.lease)
+    ++ option 58 (four (o.site.lease / 2))
+    ++ option 59 (four (7 * o.site.lease / 8))
+    ++ option 1 (four (mask o.pool.prefix))
+    ++ option 3 (four o.pool.router.0)
+    ++ option 2 (four (cast_unsigned w32 o.site.offset))
+    ++ option 4 (four o.site.server.0)
+    ++ log_option o.site.log.0
     ++ relay_options (option_in 82 m.options)
     ++ (255 ∷ []))

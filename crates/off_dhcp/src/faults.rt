@@ -3,7 +3,8 @@ ghost use Rattle.off_dhcp.specs.Datagram.{first_there, fixed_faults, option_faul
 
 use off_base::{Joined, first_cut};
 
-/// Why a datagram is no message that the office reads. The first fault in the order of `read` is told.
+/// Why a datagram is no message that the office reads. The first fault in the order of `read` is
+/// told.
 #[derive(Clone, Copy, Debug, PartialEq, Eq)]
 pub enum DhcpFault {
     /// Fewer than 240 bytes: the fixed part and the cookie.

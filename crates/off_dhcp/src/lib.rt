@@ -14,6 +14,3 @@ pub use off_base::Joined;
 pub use offers::Offer;
 pub use reading::Message;
 pub use replies::{write_nak, write_reply};
-
-#[cfg(test)]
-mod tests;

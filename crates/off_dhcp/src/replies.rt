@@ -1,5 +1,7 @@
-ghost use Rattle.std.specs.Prelude.{◌≡◌, ◌≤◌, ◌+◌, ◌-◌, ◌*◌, ◌/◌, ◌==◌, ◌++◌, ◌⊎◌, bit_or, if◌then◌else◌, length, [], ◌∷◌, OnOk, IfOk};
-ghost use Rattle.off_dhcp.specs.Reply.{zeros, four, head, option, padded, relay_options, nak_flags, nak_bytes, reply_bytes, mask, confirmed, log_option};
+ghost use Rattle.std.specs.Prelude.{◌≡◌, ◌≤◌, ◌+◌, ◌-◌, ◌*◌, ◌/◌, ◌==◌, ◌++◌, ◌⊎◌, bit_or};
+ghost use Rattle.std.specs.Prelude.{if◌then◌else◌, length, [], ◌∷◌, OnOk, IfOk};
+ghost use Rattle.off_dhcp.specs.Reply.{zeros, four, head, option, padded, relay_options, nak_flags};
+ghost use Rattle.off_dhcp.specs.Reply.{nak_bytes, reply_bytes, mask, confirmed, log_option};
 ghost use Rattle.off_dhcp.specs.Datagram.{option_in};
 
 use crate::faults::{MAGIC_COOKIE, MESSAGE_TYPE};
@@ -55,21 +57,23 @@ pub fn write_nak(alloc: Global, m: &Message<'_>, server: Ip4) -> Result<Bytes, N
 #[tactic(auto, unfolding(crate::specs::Reply::reply_bytes))]
 pub fn write_reply(alloc: Global, m: &Message<'_>, r: &Offer) -> Result<Bytes, NoMemory>
     requires kind { (r.now.kind ≡ 2) ⊎ (r.now.kind ≡ 5) }
-    requires prefix { (8 ≤ r.now.prefix) × (r.now.prefix ≤ 30) }
+    requires prefix { (8 ≤ r.now.pool.prefix) × (r.now.pool.prefix ≤ 30) }
     ensures { IfOk result (λ bytes. bytes ≡ reply_bytes m.now r.now) }
 {
     let ciaddr = confirmed_address(m, r.kind);
-    let mut out = write_head(alloc, m, m.flags(), ciaddr, r.yiaddr, r.server, &r.name)?;
+    let server = r.site.server;
+    let lease = r.site.lease;
+    let mut out = write_head(alloc, m, m.flags(), ciaddr, r.yiaddr, server, &r.name)?;
     push_option(&mut out, MESSAGE_TYPE, &[r.kind])?;
-    push_number(&mut out, SERVER_IDENTIFIER, r.server.0)?;
-    push_number(&mut out, LEASE_TIME, r.lease)?;
-    push_number(&mut out, RENEWAL_TIME, r.lease / 2)?;
-    push_number(&mut out, REBINDING_TIME, seven_eighths(r.lease))?;
-    push_number(&mut out, SUBNET_MASK, mask_of(r.prefix))?;
-    push_number(&mut out, ROUTER, r.router.0)?;
-    push_number(&mut out, TIME_OFFSET, r.offset.cast_unsigned())?;
-    push_number(&mut out, TIME_SERVER, r.server.0)?;
-    push_log(&mut out, r.log)?;
+    push_number(&mut out, SERVER_IDENTIFIER, server.0)?;
+    push_number(&mut out, LEASE_TIME, lease)?;
+    push_number(&mut out, RENEWAL_TIME, lease / 2)?;
+    push_number(&mut out, REBINDING_TIME, seven_eighths(lease))?;
+    push_number(&mut out, SUBNET_MASK, mask_of(r.pool.prefix))?;
+    push_number(&mut out, ROUTER, r.pool.router.0)?;
+    push_number(&mut out, TIME_OFFSET, r.site.offset.cast_unsigned())?;
+    push_number(&mut out, TIME_SERVER, server.0)?;
+    push_log(&mut out, r.site.log)?;
     push_relay(&mut out, m)?;
     finish(&mut out)?;
     Ok(out)

@@ -1,12 +1,8 @@
 -- The test of a modem's class against the form of its text.
-use Rattle.std.proofs.Common.{◌≡◌, ℕ, ◌≤◌, true, false, ◌&&◌, eqb, leb, List, ◌∷◌, length, Result, Ok, Err, ◌<◌, refl, ap, arith}
+use Rattle.std.proofs.Common.{◌≡◌, ℕ, ◌≤◌, true, false, ◌&&◌, eqb, leb, List, ◌∷◌, length, ◌<◌, refl, ap, arith}
 use Rattle.std.specs.Char.{IsAsciiDigit, is_ascii_digit}
 use Rattle.std.proofs.lemmas.Bool.{both_ways, and_parts, and_from, eqb-true, leb-true, le-leb, lt-leb}
-use Rattle.off_base.specs.Parts.{Part}
-use Rattle.off_docsis.specs.declared.spans.Span.{Span}
-use Rattle.off_docsis.specs.declared.spans.PartCut.{PartCut}
-use Rattle.off_docsis.specs.Spans.{span_in, span_before}
-use Rattle.off_docsis.specs.Cable.{relay_of, device_of, begins_as_modem, spells_docsis, has_version, BeginsAsModem}
+use Rattle.off_docsis.specs.Cable.{begins_as_modem, spells_docsis, has_version, BeginsAsModem}
 
 digit_is : (c : ℕ) → is_ascii_digit c ≡ true → IsAsciiDigit c
 digit_is c h = let both = and_parts (leb 48 c) (leb c 57) h in (leb-true 48 c both.0, leb-true c 57 both.1)
@@ -55,31 +51,3 @@ not_modem_if_short v short = let test : leb 10 (length v) ≡ false = lt-leb 10 
 pub test_if_long : (v : List ℕ) → 10 ≤ length v → begins_as_modem v ≡ (spells_docsis v && has_version v)
 unfolding begins_as_modem
 test_if_long v long = let test : leb 10 (length v) ≡ true = le-leb 10 (length v) long in rw test refl
-
--- ---- the parts that a call looks for one by one
-
-pub relay_err : (read : Result (List Part) ℕ) (code : ℕ) (cut : PartCut) → Err cut ≡ span_in code read → Err cut ≡ relay_of read
-unfolding relay_of
-relay_err (Ok parts) code cut is = cc
-relay_err (Err place) code cut is = cc
-
-pub relay_ok : (read : Result (List Part) ℕ) (circuit remote : Span) → Ok circuit ≡ span_in 1 read → Ok remote ≡ span_in 2 read
-    → Ok (record { circuit = circuit; remote = remote }) ≡ relay_of read
-unfolding relay_of
-relay_ok (Ok parts) circuit remote first second = cc
-relay_ok (Err place) circuit remote first second = cc
-
-pub device_err : (read : Result (List Part) ℕ) (code : ℕ) (cut : PartCut) → Err cut ≡ span_in code read → Err cut ≡ device_of read
-unfolding device_of
-device_err (Ok parts) code cut is = cc
-device_err (Err place) code cut is = cc
-
-pub device_ok : (read : Result (List Part) ℕ) (kind serial software : Span) → Ok kind ≡ span_in 2 read → Ok serial ≡ span_in 4 read → Ok software ≡ span_in 6 read
-    → Ok (record { kind = kind; serial = serial; software = software }) ≡ device_of read
-unfolding device_of
-device_ok (Ok parts) kind serial software first second third = cc
-device_ok (Err place) kind serial software first second third = cc
-
-pub no_part_yet : (read : Result Span PartCut) → span_before (record { there = false; at = 0; len = 0 }) read ≡ read
-no_part_yet (Ok span) = refl
-no_part_yet (Err cut) = refl

@@ -1,1 +1,2 @@
 pub mod CableLemmas
+pub mod SpanLemmas

@@ -1,21 +1,29 @@
 -- What a cable modem says of itself in DHCP (CableLabs CANN-DHCP-Reg: options 43 and 60), and what a relay says of the
 -- way to it (RFC 3046: option 82).
-use Rattle.std.specs.Prelude.{◌≡◌, ℕ, ◌+◌, ◌==◌, Bool, true, false, ◌&&◌, List, ◌∷◌, ◌++◌, length, nat_le, find, slice_index, Option, Some, None, Result, Ok, Err, codes}
+use Rattle.std.specs.Prelude.{◌≡◌, ℕ, ◌+◌, ◌≤◌, ◌==◌, Bool, true, false, ◌&&◌, List, ◌∷◌, ◌++◌, length, take, drop, nat_le, find, slice_index, Option, Some, None, Result, Ok, Err, codes}
 use Rattle.std.specs.Char.{IsAsciiDigit, is_ascii_digit}
-use Rattle.off_base.specs.Parts.{Part}
+use Rattle.off_base.specs.Parts.{Part, IsReading, parts_in}
 use Rattle.off_docsis.specs.declared.vendor.DeviceParts.{DeviceParts}
 use Rattle.off_docsis.specs.declared.agent.RelayParts.{RelayParts}
 use Rattle.off_docsis.specs.declared.spans.PartCut.{PartCut}
 use Rattle.off_docsis.specs.declared.spans.Span.{Span}
+
+-- the one reading of an option's value in parts is what the grammar says of it
+abbrev pub ReadsParts : Bool → List ℕ → Type 0
+ReadsParts marked value = IsReading marked value (parts_in marked value)
 
 -- where a part's value stands
 abbrev pub span_at : Option Part → Span
 span_at (Some part) = record { there = true; at = part.place + 2; len = length part.value }
 span_at None = record { there = false; at = 0; len = 0 }
 
--- where the value of the first part with this code stands
+-- the first part with this code
+abbrev pub first_of : ℕ → List Part → Option Part
+first_of code parts = find (λ part. part.code == code) parts
+
+-- where its value stands
 abbrev pub span_of : ℕ → List Part → Span
-span_of code parts = span_at (find (λ part. part.code == code) parts)
+span_of code parts = span_at (first_of code parts)
 
 -- the parts that the office reads of option 43: 2 the device type, 4 the serial number, 6 the software version
 unfoldable pub device_of : Result (List Part) ℕ → Result DeviceParts PartCut
@@ -26,6 +34,21 @@ device_of (Err place) = Err (record { place = place })
 unfoldable pub relay_of : Result (List Part) ℕ → Result RelayParts PartCut
 relay_of (Ok parts) = Ok (record { circuit = span_of 1 parts; remote = span_of 2 parts })
 relay_of (Err place) = Err (record { place = place })
+
+-- the span lies in the option's value, and the bytes there are the value of the part, where there is one
+abbrev pub Shows : List ℕ → Span → Option Part → Type 0
+Shows value span (Some part) =
+    (span.there ≡ true) × (span.at + span.len ≤ length value) × (take span.len (drop span.at value) ≡ part.value)
+Shows value span None = span.there ≡ false
+
+abbrev pub ShowsDevice : List ℕ → DeviceParts → Result (List Part) ℕ → Type 0
+ShowsDevice value device (Ok parts) =
+    Shows value device.kind (first_of 2 parts) × Shows value device.serial (first_of 4 parts) × Shows value device.software (first_of 6 parts)
+ShowsDevice value device (Err place) = ⊥
+
+abbrev pub ShowsRelay : List ℕ → RelayParts → Result (List Part) ℕ → Type 0
+ShowsRelay value relay (Ok parts) = Shows value relay.circuit (first_of 1 parts) × Shows value relay.remote (first_of 2 parts)
+ShowsRelay value relay (Err place) = ⊥
 
 -- option 60 of a modem: `docsis`, the two digits of its version with a dot between them, a colon, and what follows
 pub record BeginsAsModem (value : List ℕ) : Type 0 where

@@ -1,7 +1,8 @@
 ghost use Rattle.std.specs.Prelude.{◌≡◌, ◌≤◌, ◌↔◌, IsTrue, length};
 ghost use Rattle.std.specs.Char.{is_ascii_digit};
 ghost use Rattle.off_base.specs.Parts.{bytes_of};
-ghost use Rattle.off_docsis.specs.Cable.{begins_as_modem, spells_docsis, has_version, BeginsAsModem};
+ghost use Rattle.off_docsis.specs.Cable.{begins_as_modem, spells_docsis, has_version};
+ghost use Rattle.off_docsis.specs.Cable.{BeginsAsModem};
 
 use off_base::Joined;
 
@@ -37,44 +38,4 @@ fn has_version(option60: &Joined<'_>) -> bool
         && option60.byte(7) == b'.'
         && option60.byte(8).is_ascii_digit()
         && option60.byte(9) == b':'
-}
-
-#[cfg(test)]
-mod tests {
-    use super::*;
-    use off_base::{Bytes, NoMemory, first_cut};
-    use std::alloc::Global;
-
-    // What is said of an option 60 with this text.
-    fn is_modem_text(alloc: Global, text: &str) -> Result<bool, NoMemory> {
-        let mut options = Bytes::new(alloc);
-        options.push_all(&[60, u8::try_from(text.len()).unwrap_or(0)])?;
-        options.push_all(text.as_bytes())?;
-        let options = options.as_slice();
-        Ok(first_cut(options).is_none() && is_modem(&Joined::over(options, 60)))
-    }
-
-    #[test]
-    fn a_modem_names_docsis_and_its_version(rt: HostRuntime) {
-        for text in ["docsis3.1:", "docsis3.0:052401", "docsis0.9:"] {
-            assert_eq!(rt; is_modem_text(rt.alloc(), text), Ok(true), "{text}");
-        }
-        for text in [
-            "",
-            "docsis",
-            "docsis3.1",
-            "docsis31:0",
-            "docsis3,1:",
-            "docsis3.x:",
-            "docsisX.1:",
-            "docsis3.1;",
-            "docsis3.10:",
-            "Docsis3.1:",
-            "docsiz3.1:",
-            " docsis3.1:",
-            "pktc1.0:00",
-        ] {
-            assert_eq!(rt; is_modem_text(rt.alloc(), text), Ok(false), "{text}");
-        }
-    }
 }

@@ -1,8 +1,10 @@
-ghost use Rattle.std.specs.Prelude.{◌≡◌, ◌≤◌, List, ℕ, length, take, IfNone, IfSome, MatchResult, None};
+ghost use Rattle.std.specs.Prelude.{◌≡◌, ◌≤◌, List, ℕ, length, take, IfNone, IfSome, MatchResult};
+ghost use Rattle.std.specs.Prelude.{None};
 ghost use Rattle.memchr.specs.Find.{FindsNeedle};
 ghost use Rattle.httparse.specs.Grammar.{RequestHead};
 ghost use Rattle.httparse.specs.Spans.{IsRequestWithin, IsRequestAt};
-ghost use Rattle.off_http.specs.Request.{Refused, head_limit, field_limit, blank_line, IsOneHead, HeadSays};
+ghost use Rattle.off_http.specs.Request.{Refused, head_limit, field_limit, blank_line, IsOneHead};
+ghost use Rattle.off_http.specs.Request.{HeadSays};
 ghost use Rattle.off_http.specs.Stages.{HeadHas};
 
 use crate::answers::HttpFault;
@@ -76,7 +78,8 @@ fn one_head(text: &[u8], fields: &mut [HeaderSpan]) -> Option<RequestSpans>
     requires { length fields.old ≡ field_limit }
     ensures within { IfSome result (IsRequestWithin text.now fields.new) }
     ensures whole { IfSome result (λ spans. spans.len ≡ length text.now) }
-    ensures found { IfSome result (λ spans. (head : RequestHead) × IsRequestAt text.now fields.new spans head) }
+    ensures found { IfSome result (λ spans.
+        (head : RequestHead) × IsRequestAt text.now fields.new spans head) }
     ensures none { IfNone result ((head : RequestHead) → ¬ (IsOneHead text.now head)) }
 {
     match parse_request(text, fields) {

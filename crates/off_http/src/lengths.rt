@@ -3,7 +3,8 @@ ghost use Rattle.std.specs.Option.{option_map_or};
 ghost use Rattle.std.specs.List.{list_any};
 ghost use Rattle.std.specs.Str.{str_eq_ignore_ascii_case};
 ghost use Rattle.httparse.specs.Spans.{IsHeaderWithin, header_bytes};
-ghost use Rattle.off_http.specs.Request.{is_named, values_of, length_read, common_number, declared_length};
+ghost use Rattle.off_http.specs.Request.{is_named, values_of, length_read, common_number};
+ghost use Rattle.off_http.specs.Request.{declared_length};
 
 use httparse::spans::HeaderSpan;
 use off_base::read_number;
@@ -37,7 +38,8 @@ fn has_field(text: &[u8], fields: &[HeaderSpan], name: &[u8]) -> bool
 // The one number that all fields of the name declare, and 0 where there are none.
 fn content_length(text: &[u8], fields: &[HeaderSpan]) -> Option<u64>
     requires { All (IsHeaderWithin (length text.now)) fields.now }
-    ensures { result ≡ common_number (map length_read (values_of (codes "content-length") (map (header_bytes text.now) fields.now))) }
+    ensures { result ≡ common_number (map length_read
+        (values_of (codes "content-length") (map (header_bytes text.now) fields.now))) }
 {
     let mut declared: Option<u64> = None;
     for field in fields {

@@ -7,7 +7,8 @@ use itoa::Buffer;
 use off_base::{Bytes, NoMemory};
 use std::alloc::Global;
 
-/// The bytes of a reply with a JSON body, after which the connection is closed (RFC 9112, section 9.6).
+/// The bytes of a reply with a JSON body, after which the connection is closed (RFC 9112, section
+/// 9.6).
 ///
 /// The status is 200, 400, 404, 405, 409, 413 or 422. The only error is want of memory.
 pub fn reply_bytes(alloc: Global, status: u16, body: &[u8]) -> Result<Bytes, NoMemory>

@@ -1,6 +1,7 @@
 ghost use Rattle.std.specs.Prelude.{◌≡◌, ◌+◌, ◌<◌, [], ◌++◌, length, IfOk, OnOk, OnErr};
 ghost use Rattle.off_http.specs.Request.{Waits, RequestIs, head_limit, body_limit};
-ghost use Rattle.off_http.specs.Heard.{IsAsked, Answers, asked_method, asked_target, asked_body, IsPartOf};
+ghost use Rattle.off_http.specs.Heard.{IsAsked, Answers, asked_method, asked_target, asked_body};
+ghost use Rattle.off_http.specs.Heard.{IsPartOf};
 
 use crate::answers::Fed;
 use crate::stages::{Stage, next_stage, parts_of, piece_answer};
@@ -8,7 +9,8 @@ use off_base::{Bytes, NoMemory};
 use std::alloc::Global;
 use std::marker::Model;
 
-/// One connection's request, in the making. Contracts see all the bytes that have come, and what they say.
+/// One connection's request, in the making. Contracts see all the bytes that have come, and what
+/// they say.
 #[derive(Drop)]
 pub struct Session {
     bytes: Bytes,
@@ -41,14 +43,15 @@ impl Session {
 
     /// Takes the next piece of the connection's bytes. After `NoMemory` the session is as before.
     ///
-    /// A session that has answered `Whole` or `Bad` takes no more. One that waits holds fewer than 1,056,768 bytes, and
-    /// each byte of a body costs no more than its copy.
+    /// A session that has answered `Whole` or `Bad` takes no more. One that waits holds fewer than
+    /// 1,056,768 bytes, and each byte of a body costs no more than its copy.
     pub fn feed(&mut self, piece: &[u8]) -> Result<Fed, NoMemory>
         requires { self.old.answer ≡ Waits }
         ensures joins { OnOk result (self.new.bytes ≡ self.old.bytes ++ piece.now) }
         ensures says { OnOk result (RequestIs self.new.bytes self.new.answer) }
         ensures answers { IfOk result (λ fed. Answers fed self.new.answer) }
-        ensures bounded { OnOk result (self.new.answer ≡ Waits → length self.new.bytes < head_limit + body_limit) }
+        ensures bounded { OnOk result (self.new.answer ≡ Waits
+            → length self.new.bytes < head_limit + body_limit) }
         ensures err { OnErr result (self.new ≡ self.old) }
     {
         let seen = self.bytes.len();

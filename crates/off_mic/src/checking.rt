@@ -1,4 +1,5 @@
-ghost use Rattle.std.specs.Prelude.{◌≡◌, ◌↔◌, ◌∷◌, [], List, Result, IsTrue, None, Some, length, MatchOption, MatchResult};
+ghost use Rattle.std.specs.Prelude.{◌≡◌, ◌↔◌, ◌∷◌, [], List, Result, IsTrue, None, Some, length};
+ghost use Rattle.std.specs.Prelude.{MatchOption, MatchResult};
 ghost use Rattle.off_base.specs.Tree.{Tree, spelling};
 ghost use Rattle.off_tlv.specs.Fault.{Reads};
 ghost use Rattle.off_tlv.specs.declared.faults.ReadFault.{ReadFault as FirstFault};
@@ -32,18 +33,22 @@ pub enum MicFault {
     MicLength(u8),
 }
 
-/// Whether the two values of a file are right under a secret (CM-SP-MULPIv3.1, annexes C.1.1.6 and C.1.1.7). It takes no memory.
+/// Whether the two values of a file are right under a secret (CM-SP-MULPIv3.1, annexes C.1.1.6 and
+/// C.1.1.7). It takes no memory.
 ///
 /// A fault of the file is told first, then one of setting 6, then one of setting 7.
 pub fn verify(file: &[u8], secret: &[u8]) -> Result<Verdict, MicFault>
-    ensures found { (reading : Result (List Tree) FirstFault) × Reads file.now reading × Verified secret.now reading result }
-    ensures only { (reading : Result (List Tree) FirstFault) → Reads file.now reading → Verified secret.now reading result }
+    ensures found { (reading : Result (List Tree) FirstFault) × Reads file.now reading
+        × Verified secret.now reading result }
+    ensures only { (reading : Result (List Tree) FirstFault) → Reads file.now reading
+        → Verified secret.now reading result }
 {
     found_verdict(file, secret)
 }
 
 fn found_verdict(file: &[u8], secret: &[u8]) -> Result<Verdict, MicFault>
-    ensures { (reading : Result (List Tree) FirstFault) × Reads file.now reading × Verified secret.now reading result }
+    ensures { (reading : Result (List Tree) FirstFault) × Reads file.now reading
+        × Verified secret.now reading result }
 {
     match extent(file) {
         Ok(end) => verdict_of(&file[..end], secret),
@@ -53,7 +58,8 @@ fn found_verdict(file: &[u8], secret: &[u8]) -> Result<Verdict, MicFault>
 
 // The verdict on settings.
 fn verdict_of(settings: &[u8], secret: &[u8]) -> Result<Verdict, MicFault>
-    ensures { (trees : List Tree) → settings.now ≡ spelling trees → MatchResult result (IsVerdict secret.now trees) (λ fault. mic_fault trees ≡ Some fault) }
+    ensures { (trees : List Tree) → settings.now ≡ spelling trees
+        → MatchResult result (IsVerdict secret.now trees) (λ fault. mic_fault trees ≡ Some fault) }
 {
     let cm = match one_value(CM_MIC, settings) {
         Ok(value) => value,
@@ -78,7 +84,10 @@ fn is_same(value: &[u8], mic: [u8; 16]) -> bool
 // The value of the one setting of a code, which is to have 16 bytes.
 fn one_value(code: u8, settings: &[u8]) -> Result<&[u8], MicFault>
     ensures { (trees : List Tree) → settings.now ≡ spelling trees
-        → MatchResult result (λ value. (values_of code trees ≡ value.now ∷ []) × (values_fault code (values_of code trees) ≡ None)) (λ fault. values_fault code (values_of code trees) ≡ Some fault) }
+        → MatchResult result
+        (λ value. (values_of code trees ≡ value.now ∷ [])
+        × (values_fault code (values_of code trees) ≡ None))
+        (λ fault. values_fault code (values_of code trees) ≡ Some fault) }
 {
     let mut walk = Tlvs::over(settings);
     let Some(value) = next_value(code, &mut walk) else {
@@ -97,7 +106,8 @@ fn one_value(code: u8, settings: &[u8]) -> Result<&[u8], MicFault>
 // The value of the next setting of a code. The walk goes on behind it.
 fn next_value<'a>(code: u8, walk: &mut Tlvs<'a>) -> Option<&'a [u8]>
     ensures { (trees : List Tree) → walk.old.rest ≡ spelling trees
-        → MatchOption result (values_of code trees ≡ []) (λ value. NextValue code trees value.now walk.new.rest) }
+        → MatchOption result (values_of code trees ≡ [])
+        (λ value. NextValue code trees value.now walk.new.rest) }
 {
     'settings: loop {
         let found = match walk.next() {

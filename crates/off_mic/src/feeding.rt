@@ -33,7 +33,8 @@ impl Wanted {
 
 // Takes in the wanted settings of bytes that are spelled by settings.
 pub(crate) fn feed(hasher: &mut Md5, wanted: Wanted, bytes: &[u8])
-    ensures { (message : List ℕ) (trees : List Tree) → bytes.now ≡ spelling trees → Holds hasher.old message
+    ensures { (message : List ℕ) (trees : List Tree) → bytes.now ≡ spelling trees
+        → Holds hasher.old message
         → Holds hasher.new (message ++ wanted_text wanted trees) }
 {
     let mut walk = Tlvs::over(bytes);
@@ -53,7 +54,9 @@ pub(crate) fn feed(hasher: &mut Md5, wanted: Wanted, bytes: &[u8])
 fn feed_one(hasher: &mut Md5, wanted: Wanted, code: u8, value: &[u8])
     requires { length value.now ≤ 255 }
     ensures { (message : List ℕ) → Holds hasher.old message
-        → Holds hasher.new (message ++ (if is_wanted wanted code then code ∷ length value.now ∷ value.now else [])) }
+        → Holds hasher.new
+        (message ++
+        (if is_wanted wanted code then code ∷ length value.now ∷ value.now else [])) }
 {
     if wanted.has(code) {
         hasher.update([code, value.len() as u8]);

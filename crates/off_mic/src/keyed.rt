@@ -14,7 +14,8 @@ const INNER: u8 = 0x36;
 
 const OUTER: u8 = 0x5c;
 
-/// HMAC-MD5 of a message that comes in pieces, for a secret of any length (RFC 2104). It takes no memory.
+/// HMAC-MD5 of a message that comes in pieces, for a secret of any length (RFC 2104). It takes no
+/// memory.
 #[derive(Drop)]
 pub struct Hmac {
     inner: Md5,
@@ -37,14 +38,16 @@ impl Hmac {
 
     /// Takes in the next piece of the message.
     pub fn update(&mut self, piece: &[u8])
-        ensures { (key message : List ℕ) → HoldsKeyed self.old key message → HoldsKeyed self.new key (message ++ piece.now) }
+        ensures { (key message : List ℕ) → HoldsKeyed self.old key message
+            → HoldsKeyed self.new key (message ++ piece.now) }
     {
         self.inner.update(piece);
     }
 
     // Takes in the wanted settings of bytes that are spelled by settings.
     pub(crate) fn take_settings(&mut self, wanted: Wanted, bytes: &[u8])
-        ensures { (key message : List ℕ) (trees : List Tree) → bytes.now ≡ spelling trees → HoldsKeyed self.old key message
+        ensures { (key message : List ℕ) (trees : List Tree) → bytes.now ≡ spelling trees
+            → HoldsKeyed self.old key message
             → HoldsKeyed self.new key (message ++ wanted_text wanted trees) }
     {
         feed(&mut self.inner, wanted, bytes);

@@ -1,7 +1,9 @@
-//! The two message integrity checks of configuration files (CM-SP-MULPIv3.1, annexes C.1.1.6, C.1.1.7 and D.1.3).
+//! The two message integrity checks of configuration files (CM-SP-MULPIv3.1, annexes C.1.1.6,
+//! C.1.1.7 and D.1.3).
 //!
-//! `cm_mic` and `cmts_mic` compute the values over settings that are spelled in two pieces, `verify` checks a file, and `seal` signs
-//! one. Which settings the termination system's value covers, and in which order, is this project's profile.
+//! `cm_mic` and `cmts_mic` compute the values over settings that are spelled in two pieces,
+//! `verify` checks a file, and `seal` signs one. Which settings the termination system's value
+//! covers, and in which order, is this project's profile.
 #![tactic(auto)]
 
 mod checking;
@@ -18,6 +20,3 @@ pub use laws::{
     a_sealed_file_stays, a_sealed_file_verifies, a_verdict_tells, settings_have_one_sealed_file,
 };
 pub use sealing::seal;
-
-#[cfg(test)]
-mod tests;

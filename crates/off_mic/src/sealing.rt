@@ -1,4 +1,5 @@
-ghost use Rattle.std.specs.Prelude.{◌≡◌, ◌∷◌, ◌++◌, ◌≤◌, [], List, Err, length, if◌then◌else◌, IfOk, OnOk, MatchResult};
+ghost use Rattle.std.specs.Prelude.{◌≡◌, ◌∷◌, ◌++◌, ◌≤◌, [], List, Err, length, if◌then◌else◌};
+ghost use Rattle.std.specs.Prelude.{IfOk, OnOk, MatchResult};
 ghost use Rattle.off_base.specs.Tree.{Tree, spelling};
 ghost use Rattle.off_tlv.specs.Grammar.{FileOf};
 ghost use Rattle.off_tlv.specs.Fault.{IsFirstFault};
@@ -13,17 +14,16 @@ ghost use Rattle.off_mic.specs.Seal.{SealsFile, GivesSealed, Ended};
 use crate::digests::{cm_mic, cmts_mic};
 use crate::feeding::{CM_MIC, CMTS_MIC, Wanted};
 use off_base::{Bytes, NoMemory};
-use off_tlv::{FileErr, Tlvs, extent};
+use off_tlv::{END_MARKER, FileErr, Tlvs, extent};
 use std::alloc::Global;
 
-// The end marker of a file.
-const END: u8 = 255;
-
-/// The sealed file of a file's settings, without its settings 6 and 7, under a secret (CM-SP-MULPIv3.1, annex D.1.3): both values
-/// behind them, the end marker, and zeros to a multiple of four bytes.
+/// The sealed file of a file's settings, without its settings 6 and 7, under a secret
+/// (CM-SP-MULPIv3.1, annex D.1.3): both values behind them, the end marker, and zeros to a multiple
+/// of four bytes.
 pub fn seal(alloc: Global, file: &[u8], secret: &[u8]) -> Result<Bytes, FileErr>
     ensures found { MatchResult result (SealsFile file.now secret.now) (WhyNotRead file.now) }
-    ensures only { (trees : List Tree) → FileOf file.now trees → GivesSealed trees secret.now result }
+    ensures only { (trees : List Tree) → FileOf file.now trees
+        → GivesSealed trees secret.now result }
     ensures first { (fault : ReadFault) → IsFirstFault file.now fault → result ≡ Err (Read fault) }
 {
     found_seal(alloc, file, secret)
@@ -44,7 +44,9 @@ fn found_seal(alloc: Global, file: &[u8], secret: &[u8]) -> Result<Bytes, FileEr
 
 // The sealed file of settings without those of the two values.
 fn sealed(alloc: Global, settings: &[u8], secret: &[u8]) -> Result<Bytes, NoMemory>
-    ensures { IfOk result (λ bytes. (trees : List Tree) → settings.now ≡ spelling trees → Sealed bytes (without_mics trees) secret.now) }
+    ensures { IfOk result
+        (λ bytes. (trees : List Tree) → settings.now ≡ spelling trees
+        → Sealed bytes (without_mics trees) secret.now) }
 {
     let mut out = Bytes::new(alloc);
     push_without_mics(settings, &mut out)?;
@@ -58,7 +60,9 @@ fn sealed(alloc: Global, settings: &[u8], secret: &[u8]) -> Result<Bytes, NoMemo
 
 // Appends the settings but those of the two values.
 fn push_without_mics(settings: &[u8], out: &mut Bytes) -> Result<(), NoMemory>
-    ensures { OnOk result ((trees : List Tree) → settings.now ≡ spelling trees → out.new ≡ out.old ++ wanted_text but_mics trees) }
+    ensures { OnOk result
+        ((trees : List Tree) → settings.now ≡ spelling trees
+        → out.new ≡ out.old ++ wanted_text but_mics trees) }
 {
     let mut walk = Tlvs::over(settings);
     'settings: loop {
@@ -76,7 +80,9 @@ fn push_without_mics(settings: &[u8], out: &mut Bytes) -> Result<(), NoMemory>
 // Appends a setting that isn't one of the two values.
 fn push_wanted(code: u8, value: &[u8], out: &mut Bytes) -> Result<(), NoMemory>
     requires { length value.now ≤ 255 }
-    ensures { OnOk result (out.new ≡ out.old ++ (if is_wanted but_mics code then code ∷ length value.now ∷ value.now else [])) }
+    ensures { OnOk result
+        (out.new ≡ out.old ++
+        (if is_wanted but_mics code then code ∷ length value.now ∷ value.now else [])) }
 {
     if Wanted::ButMics.has(code) {
         out.push_all(&[code, value.len() as u8])?;
@@ -97,7 +103,7 @@ fn push_mic(code: u8, mic: &[u8; 16], out: &mut Bytes) -> Result<(), NoMemory>
 fn push_end(out: &mut Bytes) -> Result<(), NoMemory>
     ensures { OnOk result (Ended out.old out.new) }
 {
-    out.push_all(&[END])?;
+    out.push_all(&[END_MARKER])?;
     let pads = (4 - out.len() % 4) % 4;
     out.push_all(&[0; 3][..pads])
 }

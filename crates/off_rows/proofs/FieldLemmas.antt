@@ -66,3 +66,6 @@ Same fault other = let one : Result ℕ ReadFault = Err fault in one ≡ Err oth
 pub settings_by_fault : (bytes : List ℕ) (fault : ReadFault) (b : Bool) → IsFirstFault bytes fault → ((other : ReadFault) → IsFirstFault bytes other → Same fault other) → MatchBool b (fault ≡ NoEnd) (fault ≢ NoEnd) → MatchBool b (IsSettings bytes) (¬ IsSettings bytes)
 settings_by_fault bytes fault true found first e = settings_no_end bytes (subst (IsFirstFault bytes) e found)
 settings_by_fault bytes fault false found first n = λ s. let e = first NoEnd (no_end_settings bytes s) in n cc
+
+-- what a length in two bytes and so many bytes need
+pub ruleset spelled_rules = (length_cut, held_cut, held_taken)

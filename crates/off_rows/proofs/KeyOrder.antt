@@ -1,5 +1,5 @@
 -- Keys are ordered as their bytes are: numbers as their bytes with the most significant first, and then one list behind another.
-use Rattle.std.proofs.Common.{◌≡◌, ℕ, zero, suc, ◌+◌, ◌*◌, ◌/◌, ◌%◌, ◌<◌, ◌^◌, List, [], ◌∷◌, ◌++◌, length, refl, sym, ap, ◌∙◌, arith}
+use Rattle.std.proofs.Common.{◌≡◌, ℕ, zero, suc, ◌+◌, ◌*◌, ◌/◌, ◌%◌, ◌<◌, ◌^◌, List, [], ◌∷◌, ◌++◌, length, refl, sym, ap, ◌∙◌, arith, Option, Some, None, MatchOption}
 use Rattle.std.specs.Cmp.{nat_cmp_is, ranks}
 use Rattle.std.specs.Ordering.{nat_cmp, ordering_then, MatchOrdering}
 use Rattle.std.specs.Cmp.Lexicographic.{slice_cmp}
@@ -10,7 +10,10 @@ use Rattle.std.proofs.Math.Nat.{pow-succ'}
 use Rattle.std.proofs.Math.Arith.{mod-mul}
 use Rattle.std.proofs.lemmas.Nat.{mul-add-lt, mod_below}
 use Rattle.off_defs.specs.declared.keys.Key.TheVariants.{Site, Subscriber, AddOn, Modem, Class, Pool, Lease, Held, Batch}
-use Rattle.off_rows.specs.Laws.{OrderedAsBytes}
+use Rattle.off_defs.specs.declared.keys.Key.{Key}
+use Rattle.off_rows.specs.KeyBytes.{key_bytes, IsRanged}
+use Rattle.off_rows.specs.Laws.{OrderedAsBytes, OneKey}
+use Rattle.off_defs.proofs.KeyLemmas.{key_exact}
 
 -- a digit and what stands behind it
 lex_ranks : (B a b x y : ℕ) (r s : Ordering) → x < B → y < B → MatchOrdering r (a < b) (a ≡ b) (b < a) → MatchOrdering s (x < y) (x ≡ y) (y < x) → MatchOrdering (ordering_then r s) (a * B + x < b * B + y) (a * B + x ≡ b * B + y) (b * B + y < a * B + x)
@@ -86,3 +89,20 @@ ordered_as_bytes (Lease a) (Lease b) p q = word_cmp a.0 b.0 p q
 ordered_as_bytes (Held a) (Held b) p q = refl
 ordered_as_bytes (Batch a) (Batch b) p q = long_cmp a b p q
 ordered_as_bytes _ _ p q = refl
+
+-- ---- a key's bytes are its own
+
+same_bytes : (bytes : List ℕ) → slice_cmp nat_cmp bytes bytes ≡ Equal
+same_bytes [] = refl
+same_bytes (b ∷ bytes) =
+    let same : nat_cmp b b ≡ Equal = sym (nat_cmp_is b b Equal refl) in
+    ap (λ (o : Ordering). ordering_then o (slice_cmp nat_cmp bytes bytes)) same ∙ same_bytes bytes
+
+pub one_key : OneKey
+one_key a b p q e =
+    key_exact a b (sym (ordered_as_bytes a b p q) ∙ ap (λ (bytes : List ℕ). slice_cmp nat_cmp bytes (key_bytes b)) e ∙ same_bytes (key_bytes b))
+
+pub decodes_key : (bytes : List ℕ) (found : Option Key) → MatchOption found ((key : Key) → IsRanged key → key_bytes key ≡ bytes → ⊥) (λ key. IsRanged key × (key_bytes key ≡ bytes))
+    → (key : Key) → IsRanged key → key_bytes key ≡ bytes → found ≡ Some key
+decodes_key bytes None none key ranged is = absurd (none key ranged is)
+decodes_key bytes (Some given) some key ranged is = ap Some (one_key given key some.0 ranged (some.1 ∙ sym is))

@@ -16,8 +16,7 @@ use Rattle.off_defs.specs.declared.tables.Hold.{Hold}
 use Rattle.off_defs.specs.declared.tables.Hold.TheVariants.{Offered, Bound, Declined}
 use Rattle.off_defs.specs.declared.tables.Row.{Row}
 use Rattle.off_defs.specs.declared.tables.Row.TheVariants.{Site, Subscriber, AddOn, Modem, Class, Pool, Lease, Held, Batch}
-use Rattle.off_rows.specs.RowBytes.{counted, settings_bytes, flag_bytes, hold_bytes, import_kind_bytes, row_bytes, row_kind, RowRanged, SettingsStand, CanSpell, OwnerIsMac, IsText, IsRowOf, IsShortSpelling}
-use Rattle.off_rows.specs.KeyBytes.{kind_of}
+use Rattle.off_rows.specs.RowBytes.{counted, settings_bytes, flag_bytes, hold_bytes, import_kind_bytes, row_bytes, IsOfKind, RowRanged, SettingsStand, CanSpell, OwnerIsMac, IsText, IsRowOf, IsShortSpelling}
 use Rattle.off_rows.specs.BadRow.{bytes_of, one_of, text, settings, IsField, IsBadAt, fields_of, hold_fields}
 use Rattle.off_rows.specs.Reading.{WhyNotRead, Gives, BadIn, WhyNoAddOn, WhyNoClass, from_start}
 use Rattle.off_rows.specs.Laws.{RowsReadBack, OneBadPlace}
@@ -62,7 +61,7 @@ settings_are : (s : List Tree) → AllStand in_file s → IsShortSpelling s → 
 settings_are s p q = (s, p, q, refl)
 
 -- a row's values are of the fields of its kind
-values_are : (k : Key) (row : Row) → row_kind row ≡ kind_of k → RowRanged row → SettingsStand row → AllFields (fields_of k (row_bytes row)) (values_of row)
+values_are : (k : Key) (row : Row) → IsOfKind k row → RowRanged row → SettingsStand row → AllFields (fields_of k (row_bytes row)) (values_of row)
 values_are key.Site (Site s) e r t = (refl, ((s.secret, r.1, refl), (refl, (refl, (refl, tt)))))
 values_are (key.Subscriber n) (Subscriber s) e r t = (flag_is s.active, (refl, (text_is s.name r.1, tt)))
 values_are (key.AddOn n i) (AddOn s) e r t = (settings_are s t.0 t.1, tt)
@@ -72,7 +71,7 @@ values_are (key.Pool n) (Pool p) e r t = (refl, (refl, (refl, (refl, (refl, tt))
 values_are (key.Lease a) (Lease l) e r t = hold_are l.hold l.expiry.0 r.0
 values_are (key.Held m) (Held a) e r t = (refl, tt)
 values_are (key.Batch n) (Batch b) e r t = (kind_is b.kind, (r.0, (refl, tt)))
-values_are _ _ e r t = absurd (omega arith)
+values_are _ _ e r t = absurd e
 
 -- and its bytes are these values joined
 hold_joined : (h : Hold) (x : List ℕ) → joined (hold_values h ++ x ∷ []) ≡ hold_bytes h ++ x
@@ -146,6 +145,39 @@ offset_same x y p q e =
     let one = word_same (cast_unsigned w32 x) (cast_unsigned w32 y) (below_z x p) (below_z y q) e in
     sym (to_z-of_z w32 x p) ∙ (ap (cast_signed w32) one ∙ to_z-of_z w32 y q)
 
+-- two rows of one kind
+abbrev row_kind : Row → ℕ
+row_kind (Site x) = 1
+row_kind (Subscriber x) = 2
+row_kind (AddOn x) = 3
+row_kind (Modem x) = 4
+row_kind (Class x) = 5
+row_kind (Pool x) = 6
+row_kind (Lease x) = 7
+row_kind (Held x) = 8
+row_kind (Batch x) = 9
+
+one_kind : (k : Key) (a b : Row) → IsOfKind k a → IsOfKind k b → row_kind a ≡ row_kind b
+one_kind key.Site (Site a) (Site b) p q = refl
+one_kind (key.Subscriber n) (Subscriber a) (Subscriber b) p q = refl
+one_kind (key.AddOn n i) (AddOn a) (AddOn b) p q = refl
+one_kind (key.Modem m) (Modem a) (Modem b) p q = refl
+one_kind (key.Class n) (Class a) (Class b) p q = refl
+one_kind (key.Pool n) (Pool a) (Pool b) p q = refl
+one_kind (key.Lease i) (Lease a) (Lease b) p q = refl
+one_kind (key.Held m) (Held a) (Held b) p q = refl
+one_kind (key.Batch n) (Batch a) (Batch b) p q = refl
+one_kind key.Site (Site a) _ p q = absurd q
+one_kind (key.Subscriber n) (Subscriber a) _ p q = absurd q
+one_kind (key.AddOn n i) (AddOn a) _ p q = absurd q
+one_kind (key.Modem m) (Modem a) _ p q = absurd q
+one_kind (key.Class n) (Class a) _ p q = absurd q
+one_kind (key.Pool n) (Pool a) _ p q = absurd q
+one_kind (key.Lease i) (Lease a) _ p q = absurd q
+one_kind (key.Held m) (Held a) _ p q = absurd q
+one_kind (key.Batch n) (Batch a) _ p q = absurd q
+one_kind _ _ _ p q = absurd p
+
 pub rows_same : (a b : Row) → row_kind a ≡ row_kind b → RowRanged a → RowRanged b → SettingsStand a → SettingsStand b → values_of a ≡ values_of b → a ≡ b
 rows_same (Site a) (Site b) k p q s t e =
     let server : to_be_bytes w32 a.server.0 ≡ to_be_bytes w32 b.server.0 = cc in
@@ -215,7 +247,7 @@ one_row k a b p q e =
     let left = values_are k a p.kind p.ranged p.stand in
     let right = subst (λ (x : List ℕ). AllFields (fields_of k x) (values_of b)) (sym e) (values_are k b q.kind q.ranged q.stand) in
     let whole = values_joined a ∙ (e ∙ sym (values_joined b)) in
-    rows_same a b (p.kind ∙ sym q.kind) p.ranged q.ranged p.stand q.stand (same_fields (fields_of k (row_bytes a)) (values_of a) (values_of b) left right whole)
+    rows_same a b (one_kind k a b p.kind q.kind) p.ranged q.ranged p.stand q.stand (same_fields (fields_of k (row_bytes a)) (values_of a) (values_of b) left right whole)
 
 -- no row of the key's kind has bytes with a bad place
 pub bad_no_row : (k : Key) (bytes : List ℕ) (place : ℕ) → IsBadAt k bytes place → (row : Row) → IsRowOf k row → row_bytes row ≢ bytes
@@ -236,12 +268,12 @@ only_row k bytes (Err Memory) found row is e = refl
 pub why_no_add_on : (n i : ℕ) (bytes : List ℕ) (err : RowErr) → WhyNoAddOn bytes err → WhyNotRead (key.AddOn n i) bytes err
 why_no_add_on n i bytes err (inl b) = why_bad (key.AddOn n i) bytes err b
 why_no_add_on n i bytes err (inr m) =
-    subst (WhyNotRead (key.AddOn n i) bytes) (sym m.0) (AddOn m.1.0, record { kind = refl; ranged = tt; stand = m.1.1 }, m.1.2)
+    subst (WhyNotRead (key.AddOn n i) bytes) (sym m.0) (AddOn m.1.0, record { kind = tt; ranged = tt; stand = m.1.1 }, m.1.2)
 
 pub why_no_class : (n : ℕ) (bytes : List ℕ) (err : RowErr) → WhyNoClass bytes err → WhyNotRead (key.Class n) bytes err
 why_no_class n bytes err (inl b) = why_bad (key.Class n) bytes err b
 why_no_class n bytes err (inr m) =
-    subst (WhyNotRead (key.Class n) bytes) (sym m.0) (Class m.1.0, record { kind = refl; ranged = m.1.1; stand = m.1.2 }, m.1.3)
+    subst (WhyNotRead (key.Class n) bytes) (sym m.0) (Class m.1.0, record { kind = tt; ranged = m.1.1; stand = m.1.2 }, m.1.3)
 
 pub first_bad : (k : Key) (bytes : List ℕ) (result : Result Row RowErr) → MatchResult result (λ row. IsRowOf k row × (row_bytes row ≡ bytes)) (WhyNotRead k bytes) → (place : ℕ) → IsBadAt k bytes place → result ≡ Err (BadRow place)
 first_bad k bytes (Ok row) found place bad = absurd (bad_no_row k bytes place bad row found.0 found.1)

@@ -15,6 +15,10 @@ use Rattle.off_rows.specs.declared.faults.RowErr.{RowErr}
 abbrev pub OrderedAsBytes : Type 0
 OrderedAsBytes = (a b : Key) → IsRanged a → IsRanged b → slice_cmp nat_cmp (key_bytes a) (key_bytes b) ≡ key_cmp a b
 
+-- Different keys have different bytes.
+abbrev pub OneKey : Type 0
+OneKey = (a b : Key) → IsRanged a → IsRanged b → key_bytes a ≡ key_bytes b → a ≡ b
+
 -- Rows of one key's kind have different bytes, so each has one spelling and each spelling one row.
 abbrev pub OneSpelling : Type 0
 OneSpelling = (key : Key) (a b : Row) → IsRowOf key a → IsRowOf key b → row_bytes a ≡ row_bytes b → a ≡ b

@@ -1,5 +1,6 @@
 pub mod BadRow
 pub mod KeyBytes
+pub mod KeyPads
 pub mod KeyText
 pub mod Laws
 pub mod Left

@@ -4,13 +4,13 @@ use Rattle.std.specs.Int.{to_be_bytes, cast_unsigned, w16, w32, w64}
 use Rattle.off_base.specs.Tree.{Tree, spelling, AllFit}
 use Rattle.off_tlv.specs.Grammar.{in_file, AllStand}
 use Rattle.off_defs.specs.declared.keys.Key.{Key}
+use Rattle.off_defs.specs.declared.keys.Key.TheVariants as key
 use Rattle.off_defs.specs.declared.tables.ImportKind.{ImportKind}
 use Rattle.off_defs.specs.declared.tables.ImportKind.TheVariants.{Subscribers, Modems}
 use Rattle.off_defs.specs.declared.tables.Hold.{Hold}
 use Rattle.off_defs.specs.declared.tables.Hold.TheVariants.{Offered, Bound, Declined}
 use Rattle.off_defs.specs.declared.tables.Row.{Row}
 use Rattle.off_defs.specs.declared.tables.Row.TheVariants.{Site, Subscriber, AddOn, Modem, Class, Pool, Lease, Held, Batch}
-use Rattle.off_rows.specs.KeyBytes.{kind_of}
 
 -- a text or a secret: its length in one byte, and its bytes
 abbrev pub counted : List ℕ → List ℕ
@@ -48,17 +48,18 @@ row_bytes (Lease lease) = hold_bytes lease.hold ++ to_be_bytes w64 lease.expiry.
 row_bytes (Held address) = to_be_bytes w32 address.0
 row_bytes (Batch batch) = import_kind_bytes batch.kind ++ batch.digest ++ to_be_bytes w32 batch.rows
 
--- the number of the kind of keys that have such rows
-abbrev pub row_kind : Row → ℕ
-row_kind (Site site) = 1
-row_kind (Subscriber subscriber) = 2
-row_kind (AddOn settings) = 3
-row_kind (Modem modem) = 4
-row_kind (Class class) = 5
-row_kind (Pool pool) = 6
-row_kind (Lease lease) = 7
-row_kind (Held address) = 8
-row_kind (Batch batch) = 9
+-- a row of the key's kind
+abbrev pub IsOfKind : Key → Row → Type 0
+IsOfKind key.Site (Site site) = Unit {0}
+IsOfKind (key.Subscriber number) (Subscriber subscriber) = Unit {0}
+IsOfKind (key.AddOn subscriber number) (AddOn settings) = Unit {0}
+IsOfKind (key.Modem mac) (Modem modem) = Unit {0}
+IsOfKind (key.Class number) (Class class) = Unit {0}
+IsOfKind (key.Pool number) (Pool pool) = Unit {0}
+IsOfKind (key.Lease address) (Lease lease) = Unit {0}
+IsOfKind (key.Held mac) (Held address) = Unit {0}
+IsOfKind (key.Batch number) (Batch batch) = Unit {0}
+IsOfKind key row = ⊥
 
 -- a text of at most 64 bytes (UTF-8, RFC 3629)
 abbrev pub IsText : List ℕ → Type 0
@@ -111,8 +112,8 @@ SettingsStand (Lease lease) = Unit {0}
 SettingsStand (Held address) = Unit {0}
 SettingsStand (Batch batch) = Unit {0}
 
--- a row of the key's kind
+-- a row of the key's kind, whose values are in range and whose settings stand
 pub record IsRowOf (key : Key) (row : Row) : Type 0 where
-  pub kind : row_kind row ≡ kind_of key
+  pub kind : IsOfKind key row
   pub ranged : RowRanged row
   pub stand : SettingsStand row

@@ -1,6 +1,7 @@
 ghost use Rattle.std.specs.Prelude.{◌≡◌};
 ghost use Rattle.std.specs.List.{list_all};
-ghost use Rattle.off_rows.specs.Sound.{is_sound, is_sound_subscriber, is_add_on_number, is_sound_pool, is_removable, is_shown, is_row_of};
+ghost use Rattle.off_rows.specs.Sound.{is_sound, is_sound_subscriber, is_add_on_number};
+ghost use Rattle.off_rows.specs.Sound.{is_sound_pool, is_removable, is_shown, is_row_of};
 
 use off_defs::{Command, ImportKind, ImportRow, ImportRows, Key, Pool, Subscriber};
 
@@ -10,8 +11,9 @@ const LAST_ADD_ON: u8 = 7;
 // How many rows an import may have.
 const MOST_ROWS: usize = 2_000;
 
-/// Whether a clerk may mean this command: its numbers are in their ranges, an import's rows are all of its kind and at most 2,000,
-/// and the removed or shown key is of a kind that can be removed or shown.
+/// Whether a clerk may mean this command: its numbers are in their ranges, an import's rows are all
+/// of its kind and at most 2,000, and the removed or shown key is of a kind that can be removed or
+/// shown.
 pub fn sound(c: &Command) -> bool
     ensures { result ≡ is_sound c.now }
 {

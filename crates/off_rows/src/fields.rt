@@ -1,8 +1,11 @@
-ghost use Rattle.std.specs.Prelude.{◌≡◌, ◌≢◌, ℕ, ◌+◌, ◌<◌, ◌≤◌, ◌^◌, List, [], ◌∷◌, ◌++◌, length, MatchResult, MatchOption, MatchBool, Contains, FitsSigned};
+ghost use Rattle.std.specs.Prelude.{◌≡◌, ◌≢◌, ℕ, ◌+◌, ◌<◌, ◌≤◌, ◌^◌, List, [], ◌∷◌, ◌++◌, length};
+ghost use Rattle.std.specs.Prelude.{MatchResult, MatchOption, MatchBool, Contains, FitsSigned};
 ghost use Rattle.std.specs.Int.{to_be_bytes, cast_unsigned, w16, w32, w64};
-ghost use Rattle.off_rows.specs.RowBytes.{counted, settings_bytes, flag_bytes, import_kind_bytes, IsText};
+ghost use Rattle.off_rows.specs.RowBytes.{counted, settings_bytes, flag_bytes, import_kind_bytes};
+ghost use Rattle.off_rows.specs.RowBytes.{IsText};
 ghost use Rattle.off_rows.specs.BadRow.{bytes_of, one_of, text, secret, settings, IsField};
-ghost use Rattle.off_rows.specs.Reading.{Takes, TakesCounted, TakesSpelled, Fails, FailsSpelled, IsLeft, IsSettings};
+ghost use Rattle.off_rows.specs.Reading.{Takes, TakesCounted, TakesSpelled, Fails, FailsSpelled};
+ghost use Rattle.off_rows.specs.Reading.{IsLeft, IsSettings};
 ghost use Rattle.off_rows.specs.declared.faults.RowErr.TheVariants.{BadRow};
 
 use crate::faults::RowErr;
@@ -49,7 +52,9 @@ impl<'a> Fields<'a> {
 
     // One byte.
     pub(crate) fn byte(&mut self) -> Result<u8, RowErr>
-        ensures { MatchResult result (λ byte. (byte < 256) × Takes (bytes_of 1) (byte ∷ []) self.old self.new) (Fails (bytes_of 1) self.old) }
+        ensures { MatchResult result
+            (λ byte. (byte < 256) × Takes (bytes_of 1) (byte ∷ []) self.old self.new)
+            (Fails (bytes_of 1) self.old) }
     {
         let bytes = self.array::<1>()?;
         Ok(bytes[0])
@@ -57,7 +62,8 @@ impl<'a> Fields<'a> {
 
     // An array of bytes.
     pub(crate) fn array<const N: usize>(&mut self) -> Result<[u8; N], RowErr>
-        ensures { MatchResult result (λ bytes. Takes (bytes_of N) bytes self.old self.new) (Fails (bytes_of N) self.old) }
+        ensures { MatchResult result (λ bytes. Takes (bytes_of N) bytes self.old self.new)
+            (Fails (bytes_of N) self.old) }
     {
         let place = self.place;
         match self.bytes[place..].first_chunk() {
@@ -71,7 +77,10 @@ impl<'a> Fields<'a> {
 
     // A number of four bytes.
     pub(crate) fn number(&mut self) -> Result<u32, RowErr>
-        ensures { MatchResult result (λ number. (number < 2 ^ 32) × Takes (bytes_of 4) (to_be_bytes w32 number) self.old self.new) (Fails (bytes_of 4) self.old) }
+        ensures { MatchResult result
+            (λ number. (number < 2 ^ 32)
+            × Takes (bytes_of 4) (to_be_bytes w32 number) self.old self.new)
+            (Fails (bytes_of 4) self.old) }
     {
         let bytes = self.array::<4>()?;
         Ok(u32::from_be_bytes(bytes))
@@ -79,7 +88,10 @@ impl<'a> Fields<'a> {
 
     // A number of eight bytes.
     pub(crate) fn long(&mut self) -> Result<u64, RowErr>
-        ensures { MatchResult result (λ number. (number < 2 ^ 64) × Takes (bytes_of 8) (to_be_bytes w64 number) self.old self.new) (Fails (bytes_of 8) self.old) }
+        ensures { MatchResult result
+            (λ number. (number < 2 ^ 64)
+            × Takes (bytes_of 8) (to_be_bytes w64 number) self.old self.new)
+            (Fails (bytes_of 8) self.old) }
     {
         let bytes = self.array::<8>()?;
         Ok(number_of(&bytes))
@@ -87,7 +99,10 @@ impl<'a> Fields<'a> {
 
     // A signed number of four bytes, in two's complement.
     pub(crate) fn offset(&mut self) -> Result<i32, RowErr>
-        ensures { MatchResult result (λ offset. FitsSigned w32 offset × Takes (bytes_of 4) (to_be_bytes w32 (cast_unsigned w32 offset)) self.old self.new) (Fails (bytes_of 4) self.old) }
+        ensures { MatchResult result
+            (λ offset. FitsSigned w32 offset
+            × Takes (bytes_of 4) (to_be_bytes w32 (cast_unsigned w32 offset)) self.old self.new)
+            (Fails (bytes_of 4) self.old) }
     {
         let number = self.number()?;
         Ok(number.cast_signed())
@@ -95,7 +110,10 @@ impl<'a> Fields<'a> {
 
     // An address.
     pub(crate) fn address(&mut self) -> Result<Ip4, RowErr>
-        ensures { MatchResult result (λ address. (address.0 < 2 ^ 32) × Takes (bytes_of 4) (to_be_bytes w32 address.0) self.old self.new) (Fails (bytes_of 4) self.old) }
+        ensures { MatchResult result
+            (λ address. (address.0 < 2 ^ 32)
+            × Takes (bytes_of 4) (to_be_bytes w32 address.0) self.old self.new)
+            (Fails (bytes_of 4) self.old) }
     {
         let number = self.number()?;
         Ok(Ip4(number))
@@ -103,7 +121,9 @@ impl<'a> Fields<'a> {
 
     // A hardware address.
     pub(crate) fn mac(&mut self) -> Result<Mac, RowErr>
-        ensures { MatchResult result (λ mac. (length mac.0 ≡ 6) × Takes (bytes_of 6) mac.0 self.old self.new) (Fails (bytes_of 6) self.old) }
+        ensures { MatchResult result
+            (λ mac. (length mac.0 ≡ 6) × Takes (bytes_of 6) mac.0 self.old self.new)
+            (Fails (bytes_of 6) self.old) }
     {
         let bytes = self.array::<6>()?;
         Ok(Mac(bytes))
@@ -111,7 +131,10 @@ impl<'a> Fields<'a> {
 
     // One byte of these, and its place among them.
     pub(crate) fn one_of(&mut self, marks: &[u8]) -> Result<u8, RowErr>
-        ensures { MatchResult result (λ mark. Contains marks.now mark × Takes (one_of marks.now) (mark ∷ []) self.old self.new) (Fails (one_of marks.now) self.old) }
+        ensures { MatchResult result
+            (λ mark. Contains marks.now mark
+            × Takes (one_of marks.now) (mark ∷ []) self.old self.new)
+            (Fails (one_of marks.now) self.old) }
     {
         let place = self.place;
         if place == self.bytes.len() {
@@ -127,7 +150,9 @@ impl<'a> Fields<'a> {
 
     // Whether a byte is 1, and not 0.
     pub(crate) fn flag(&mut self) -> Result<bool, RowErr>
-        ensures { MatchResult result (λ flag. Takes (one_of (0 ∷ 1 ∷ [])) (flag_bytes flag) self.old self.new) (Fails (one_of (0 ∷ 1 ∷ [])) self.old) }
+        ensures { MatchResult result
+            (λ flag. Takes (one_of (0 ∷ 1 ∷ [])) (flag_bytes flag) self.old self.new)
+            (Fails (one_of (0 ∷ 1 ∷ [])) self.old) }
     {
         let mark = self.one_of(&[0, 1])?;
         Ok(mark == 1)
@@ -135,7 +160,9 @@ impl<'a> Fields<'a> {
 
     // The kind of an import.
     pub(crate) fn import_kind(&mut self) -> Result<ImportKind, RowErr>
-        ensures { MatchResult result (λ kind. Takes (one_of (1 ∷ 2 ∷ [])) (import_kind_bytes kind) self.old self.new) (Fails (one_of (1 ∷ 2 ∷ [])) self.old) }
+        ensures { MatchResult result
+            (λ kind. Takes (one_of (1 ∷ 2 ∷ [])) (import_kind_bytes kind) self.old self.new)
+            (Fails (one_of (1 ∷ 2 ∷ [])) self.old) }
     {
         let mark = self.one_of(&[1, 2])?;
         if mark == 1 {
@@ -147,7 +174,9 @@ impl<'a> Fields<'a> {
 
     // A length in one byte, and so many bytes.
     fn counted(&mut self) -> Result<&'a [u8], RowErr>
-        ensures { MatchResult result (λ held. TakesCounted held.now self.old self.new) (λ err. (err ≡ BadRow self.old.place) × ((held rest : List ℕ) → self.old.rest ≢ counted held ++ rest)) }
+        ensures { MatchResult result (λ held. TakesCounted held.now self.old self.new)
+            (λ err. (err ≡ BadRow self.old.place)
+            × ((held rest : List ℕ) → self.old.rest ≢ counted held ++ rest)) }
     {
         let place = self.place;
         if place == self.bytes.len() {
@@ -164,7 +193,9 @@ impl<'a> Fields<'a> {
 
     // A text.
     pub(crate) fn text(&mut self) -> Result<Short, RowErr>
-        ensures { MatchResult result (λ held. IsText held × Takes text (counted held) self.old self.new) (Fails text self.old) }
+        ensures { MatchResult result
+            (λ held. IsText held × Takes text (counted held) self.old self.new)
+            (Fails text self.old) }
     {
         let place = self.place;
         let held = self.counted()?;
@@ -176,7 +207,9 @@ impl<'a> Fields<'a> {
 
     // A secret.
     pub(crate) fn secret(&mut self) -> Result<Secret, RowErr>
-        ensures { MatchResult result (λ held. (length held ≤ 64) × Takes secret (counted held) self.old self.new) (Fails secret self.old) }
+        ensures { MatchResult result
+            (λ held. (length held ≤ 64) × Takes secret (counted held) self.old self.new)
+            (Fails secret self.old) }
     {
         let place = self.place;
         let held = self.counted()?;
@@ -188,7 +221,9 @@ impl<'a> Fields<'a> {
 
     // The spelling of settings, behind its length in two bytes.
     pub(crate) fn spelling(&mut self) -> Result<&'a [u8], RowErr>
-        ensures { MatchResult result (λ held. IsSettings held.now × (length held.now ≤ 65535) × TakesSpelled held.now self.old self.new) (Fails settings self.old) }
+        ensures { MatchResult result
+            (λ held. IsSettings held.now × (length held.now ≤ 65535)
+            × TakesSpelled held.now self.old self.new) (Fails settings self.old) }
     {
         let place = self.place;
         let held = self.long_counted()?;
@@ -199,9 +234,11 @@ impl<'a> Fields<'a> {
     }
 
     // A length in two bytes, and so many bytes.
-    #[tactic(auto, using(crate::proofs::FieldLemmas::length_cut, crate::proofs::FieldLemmas::held_cut, crate::proofs::FieldLemmas::held_taken))]
+    #[tactic(auto, using(crate::proofs::FieldLemmas::spelled_rules))]
     fn long_counted(&mut self) -> Result<&'a [u8], RowErr>
-        ensures { MatchResult result (λ held. (length held.now ≤ 65535) × TakesSpelled held.now self.old self.new) (FailsSpelled self.old) }
+        ensures { MatchResult result
+            (λ held. (length held.now ≤ 65535) × TakesSpelled held.now self.old self.new)
+            (FailsSpelled self.old) }
     {
         let place = self.place;
         let length = self.length()?;
@@ -213,7 +250,10 @@ impl<'a> Fields<'a> {
 
     // A length in two bytes.
     fn length(&mut self) -> Result<u16, RowErr>
-        ensures { MatchResult result (λ length. (length < 2 ^ 16) × Takes (bytes_of 2) (to_be_bytes w16 length) self.old self.new) (Fails (bytes_of 2) self.old) }
+        ensures { MatchResult result
+            (λ length. (length < 2 ^ 16)
+            × Takes (bytes_of 2) (to_be_bytes w16 length) self.old self.new)
+            (Fails (bytes_of 2) self.old) }
     {
         let bytes = self.array::<2>()?;
         Ok(u16::from_be_bytes(bytes))
@@ -221,7 +261,9 @@ impl<'a> Fields<'a> {
 
     // So many bytes, where there are so many.
     fn front(&mut self, count: usize) -> Option<&'a [u8]>
-        ensures { MatchOption result (length self.old.rest < count) (λ held. (length held.now ≡ count) × (self.old.rest ≡ held.now ++ self.new.rest) × (self.new.place ≡ self.old.place + count)) }
+        ensures { MatchOption result (length self.old.rest < count)
+            (λ held. (length held.now ≡ count) × (self.old.rest ≡ held.now ++ self.new.rest)
+            × (self.new.place ≡ self.old.place + count)) }
     {
         let place = self.place;
         if count > self.bytes.len() - place {
@@ -239,7 +281,8 @@ fn number_of(bytes: &[u8; 8]) -> u64
     u64::from_be_bytes(*bytes)
 }
 
-// Whether settings spell the bytes: then a file of them has no fault but that its end marker is missing.
+// Whether settings spell the bytes: then a file of them has no fault but that its end marker is
+// missing.
 fn is_spelling(bytes: &[u8]) -> bool
     ensures { MatchBool result (IsSettings bytes.now) (¬ IsSettings bytes.now) }
 {

@@ -1,42 +1,60 @@
-ghost use Rattle.std.specs.Prelude.{◌≡◌, ◌≢◌, ◌+◌, ◌-◌, ◌<◌, ◌≤◌, ◌^◌, [], ◌∷◌, ◌++◌, length, take, replicate, MatchOption};
+ghost use Rattle.std.specs.Prelude.{◌≡◌, ◌≢◌, ◌<◌, ◌≤◌, ◌^◌, [], ◌∷◌, length, MatchOption};
 ghost use Rattle.std.specs.Int.{to_be_bytes, w32, w64};
 ghost use Rattle.off_defs.specs.declared.keys.Key.{Key};
 ghost use Rattle.off_rows.specs.KeyBytes.{kind_of, numbers_of, key_bytes, IsRanged};
 
 use off_base::{Ip4, Mac};
 use off_defs::Key;
+use std::marker::Model;
 
-/// The bytes of a key: `len` bytes, and zeros behind them.
+/// The bytes of a key: 1 to 9 bytes, `len` of them, and zeros behind them. Contracts see the bytes
+/// without the zeros.
 #[derive(Clone, Copy, Debug, PartialEq, Eq)]
 pub struct KeyBytes {
     pub bytes: [u8; 9],
     pub len: u8,
 }
 
+impl Model for KeyBytes {
+    ghost use Rattle.std.specs.Prelude.{ℕ, ◌-◌, List, ◌++◌, length, take, replicate};
+    ghost use Rattle.off_rows.specs.KeyPads.{IsPadded, bytes_back, length_back};
+
+    ghost Value = { List ℕ };
+
+    ghost view = { λ k. take k.len k.bytes };
+
+    ghost invariant = { λ k. IsPadded k.bytes k.len };
+
+    ghost inverse = { λ v. record { bytes = v ++ replicate (9 - length v) 0; len = length v } };
+
+    ghost inverse_ok = { λ k h i. record {
+      bytes = bytes_back k.bytes k.len h i;
+      len = length_back k.bytes k.len h i;
+    } };
+}
+
 impl KeyBytes {
     /// The key's bytes without the zeros behind them.
     pub fn as_slice(&self) -> &[u8]
-        requires { self.now.len ≤ 9 }
-        ensures { result.now ≡ take self.now.len self.now.bytes }
+        ensures bytes { result.now ≡ self.now }
+        ensures least { 1 ≤ length self.now }
+        ensures most { length self.now ≤ 9 }
     {
         &self.bytes[..usize::from(self.len)]
     }
 }
 
-/// The bytes of a key: its kind, and then its numbers with the most significant byte first. Keys are ordered as their bytes are.
+/// The bytes of a key: its kind, and then its numbers with the most significant byte first. Keys
+/// are ordered as their bytes are.
 pub fn encode_key(k: &Key) -> KeyBytes
-    ensures bytes { result.bytes ≡ key_bytes k.now ++ replicate (9 - length (key_bytes k.now)) 0 }
-    ensures len { result.len ≡ length (key_bytes k.now) }
-    ensures fits { result.len ≤ 9 }
+    ensures bytes { result ≡ key_bytes k.now }
     ensures ranged { IsRanged k.now }
 {
     spelled(*k)
 }
 
 fn spelled(key: Key) -> KeyBytes
-    ensures bytes { result.bytes ≡ key_bytes key ++ replicate (9 - length (key_bytes key)) 0 }
-    ensures len { result.len ≡ length (key_bytes key) }
-    ensures fits { result.len ≤ 9 }
+    ensures bytes { result ≡ key_bytes key }
     ensures ranged { IsRanged key }
 {
     match key {
@@ -58,8 +76,7 @@ fn spelled(key: Key) -> KeyBytes
 // A kind and numbers.
 fn joined(kind: u8, numbers: &[u8]) -> KeyBytes
     requires { length numbers.now ≤ 8 }
-    ensures bytes { result.bytes ≡ (kind ∷ numbers.now) ++ replicate (9 - length (kind ∷ numbers.now)) 0 }
-    ensures len { result.len ≡ length (kind ∷ numbers.now) }
+    ensures { result ≡ kind ∷ numbers.now }
 {
     let mut bytes = [0; 9];
     bytes[0] = kind;
@@ -72,8 +89,20 @@ fn joined(kind: u8, numbers: &[u8]) -> KeyBytes
 }
 
 /// The key that has these bytes. `None` comes exactly where no key has them.
+#[tactic(auto, using(crate::proofs::KeyOrder::decodes_key))]
 pub fn decode_key(bytes: &[u8]) -> Option<Key>
-    ensures { MatchOption result ((key : Key) → IsRanged key → key_bytes key ≢ bytes.now) (λ key. IsRanged key × (key_bytes key ≡ bytes.now)) }
+    ensures found { MatchOption result
+        ((key : Key) → IsRanged key → key_bytes key ≢ bytes.now)
+        (λ key. IsRanged key × (key_bytes key ≡ bytes.now)) }
+    ensures only { (key : Key) → IsRanged key → key_bytes key ≡ bytes.now → result ≡ Some key }
+{
+    found_key(bytes)
+}
+
+fn found_key(bytes: &[u8]) -> Option<Key>
+    ensures { MatchOption result
+        ((key : Key) → IsRanged key → key_bytes key ≢ bytes.now)
+        (λ key. IsRanged key × (key_bytes key ≡ bytes.now)) }
 {
     let Some((kind, numbers)) = bytes.split_first() else {
         return None;
@@ -83,7 +112,9 @@ pub fn decode_key(bytes: &[u8]) -> Option<Key>
 
 // The key of a kind that has these numbers.
 fn key_of(kind: u8, numbers: &[u8]) -> Option<Key>
-    ensures { MatchOption result ((key : Key) → IsRanged key → kind_of key ≡ kind → numbers_of key ≢ numbers.now) (λ key. IsRanged key × (kind_of key ≡ kind) × (numbers_of key ≡ numbers.now)) }
+    ensures { MatchOption result
+        ((key : Key) → IsRanged key → kind_of key ≡ kind → numbers_of key ≢ numbers.now)
+        (λ key. IsRanged key × (kind_of key ≡ kind) × (numbers_of key ≡ numbers.now)) }
 {
     match kind {
         1 => site_key(numbers),
@@ -110,7 +141,8 @@ fn site_key(numbers: &[u8]) -> Option<Key>
 }
 
 fn add_on_key(numbers: &[u8]) -> Option<Key>
-    ensures { MatchOption result (length numbers.now ≢ 5) (λ key. (kind_of key ≡ 3) × IsRanged key × (numbers_of key ≡ numbers.now)) }
+    ensures { MatchOption result (length numbers.now ≢ 5)
+        (λ key. (kind_of key ≡ 3) × IsRanged key × (numbers_of key ≡ numbers.now)) }
 {
     let [a, b, c, d, number] = *numbers else {
         return None;
@@ -120,7 +152,8 @@ fn add_on_key(numbers: &[u8]) -> Option<Key>
 
 // The number of four bytes.
 fn word_of(numbers: &[u8]) -> Option<u32>
-    ensures { MatchOption result (length numbers.now ≢ 4) (λ number. (number < 2 ^ 32) × (to_be_bytes w32 number ≡ numbers.now)) }
+    ensures { MatchOption result (length numbers.now ≢ 4)
+        (λ number. (number < 2 ^ 32) × (to_be_bytes w32 number ≡ numbers.now)) }
 {
     let [a, b, c, d] = *numbers else {
         return None;
@@ -130,7 +163,8 @@ fn word_of(numbers: &[u8]) -> Option<u32>
 
 // The number of eight bytes.
 fn long_of(numbers: &[u8]) -> Option<u64>
-    ensures { MatchOption result (length numbers.now ≢ 8) (λ number. (number < 2 ^ 64) × (to_be_bytes w64 number ≡ numbers.now)) }
+    ensures { MatchOption result (length numbers.now ≢ 8)
+        (λ number. (number < 2 ^ 64) × (to_be_bytes w64 number ≡ numbers.now)) }
 {
     let [a, b, c, d, e, f, g, h] = *numbers else {
         return None;
@@ -140,7 +174,8 @@ fn long_of(numbers: &[u8]) -> Option<u64>
 
 // The hardware address of six bytes.
 fn mac_of(numbers: &[u8]) -> Option<Mac>
-    ensures { MatchOption result (length numbers.now ≢ 6) (λ mac. (length mac.0 ≡ 6) × (mac.0 ≡ numbers.now)) }
+    ensures { MatchOption result (length numbers.now ≢ 6)
+        (λ mac. (length mac.0 ≡ 6) × (mac.0 ≡ numbers.now)) }
 {
     let [a, b, c, d, e, f] = *numbers else {
         return None;

@@ -4,27 +4,29 @@ ghost use Rattle.off_tlv.specs.Grammar.{in_file, AllStand};
 ghost use Rattle.off_defs.specs.declared.keys.Key.TheVariants as key;
 ghost use Rattle.off_defs.specs.declared.tables.Row.{Row};
 ghost use Rattle.off_defs.specs.declared.tables.Row.TheVariants as row;
-ghost use Rattle.off_rows.specs.RowBytes.{row_bytes, hold_bytes, RowRanged, SettingsStand, OwnerIsMac, IsRowOf};
-ghost use Rattle.off_rows.specs.BadRow.{Field, IsBadAt, bytes_of, hold_fields, site_fields, subscriber_fields, add_on_fields, modem_fields, class_fields, pool_fields, held_fields, batch_fields};
-ghost use Rattle.off_rows.specs.Reading.{WhyNotRead, Gives, BadIn, Passes, WhyNoAddOn, WhyNoClass, IsSettings, from_start};
+ghost use Rattle.off_rows.specs.RowBytes.{row_bytes, hold_bytes, RowRanged, SettingsStand};
+ghost use Rattle.off_rows.specs.RowBytes.{OwnerIsMac, IsRowOf};
+ghost use Rattle.off_rows.specs.BadRow.{Field, IsBadAt, bytes_of, hold_fields, site_fields};
+ghost use Rattle.off_rows.specs.BadRow.{subscriber_fields, add_on_fields, modem_fields};
+ghost use Rattle.off_rows.specs.BadRow.{class_fields, pool_fields, held_fields, batch_fields};
+ghost use Rattle.off_rows.specs.Reading.{WhyNotRead, Gives, BadIn, Passes, WhyNoAddOn, WhyNoClass};
+ghost use Rattle.off_rows.specs.Reading.{IsSettings, from_start};
 ghost use Rattle.off_rows.specs.declared.faults.RowErr.TheVariants.{BadRow};
 
 use crate::faults::RowErr;
 use crate::fields::Fields;
 use off_base::{Bytes, Ip4, Moment, NoMemory, Settings};
 use off_defs::{Batch, Class, Hold, Key, Lease, Modem, Pool, Row, Site, Subscriber};
-use off_tlv::read_settings;
+use off_tlv::{END_MARKER, read_settings};
 use std::alloc::Global;
-
-// The end marker of a configuration file.
-const END: u8 = 255;
 
 /// The row of the key's kind that has these bytes.
 ///
-/// `BadRow` comes exactly where no row of the kind has them, with the place of the first byte that can't be read. Want of memory comes only
-/// where a row has them.
+/// `BadRow` comes exactly where no row of the kind has them, with the place of the first byte that
+/// can't be read. Want of memory comes only where a row has them.
 pub fn decode(alloc: Global, k: &Key, bytes: &[u8]) -> Result<Row, RowErr>
-    ensures found { MatchResult result (λ row. IsRowOf k.now row × (row_bytes row ≡ bytes.now)) (WhyNotRead k.now bytes.now) }
+    ensures found { MatchResult result (λ row. IsRowOf k.now row × (row_bytes row ≡ bytes.now))
+        (WhyNotRead k.now bytes.now) }
     ensures first { (place : ℕ) → IsBadAt k.now bytes.now place → result ≡ Err (BadRow place) }
     ensures only { (row : Row) → IsRowOf k.now row → row_bytes row ≡ bytes.now → Gives row result }
 {
@@ -32,7 +34,8 @@ pub fn decode(alloc: Global, k: &Key, bytes: &[u8]) -> Result<Row, RowErr>
 }
 
 fn found_row(alloc: Global, key: Key, bytes: &[u8]) -> Result<Row, RowErr>
-    ensures { MatchResult result (λ row. IsRowOf key row × (row_bytes row ≡ bytes.now)) (WhyNotRead key bytes.now) }
+    ensures { MatchResult result (λ row. IsRowOf key row × (row_bytes row ≡ bytes.now))
+        (WhyNotRead key bytes.now) }
 {
     match key {
         Key::Site => Ok(Row::Site(site(bytes)?)),
@@ -48,7 +51,9 @@ fn found_row(alloc: Global, key: Key, bytes: &[u8]) -> Result<Row, RowErr>
 }
 
 fn site(bytes: &[u8]) -> Result<Site, RowErr>
-    ensures { MatchResult result (λ site. RowRanged (row.Site site) × (row_bytes (row.Site site) ≡ bytes.now)) (BadIn site_fields (from_start bytes.now)) }
+    ensures { MatchResult result
+        (λ site. RowRanged (row.Site site) × (row_bytes (row.Site site) ≡ bytes.now))
+        (BadIn site_fields (from_start bytes.now)) }
 {
     let mut fields = Fields::over(bytes);
     let server = fields.address()?;
@@ -67,7 +72,10 @@ fn site(bytes: &[u8]) -> Result<Site, RowErr>
 }
 
 fn subscriber(bytes: &[u8]) -> Result<Subscriber, RowErr>
-    ensures { MatchResult result (λ subscriber. RowRanged (row.Subscriber subscriber) × (row_bytes (row.Subscriber subscriber) ≡ bytes.now)) (BadIn subscriber_fields (from_start bytes.now)) }
+    ensures { MatchResult result
+        (λ subscriber. RowRanged (row.Subscriber subscriber)
+        × (row_bytes (row.Subscriber subscriber) ≡ bytes.now))
+        (BadIn subscriber_fields (from_start bytes.now)) }
 {
     let mut fields = Fields::over(bytes);
     let active = fields.flag()?;
@@ -78,7 +86,9 @@ fn subscriber(bytes: &[u8]) -> Result<Subscriber, RowErr>
 }
 
 fn modem(bytes: &[u8]) -> Result<Modem, RowErr>
-    ensures { MatchResult result (λ modem. RowRanged (row.Modem modem) × (row_bytes (row.Modem modem) ≡ bytes.now)) (BadIn modem_fields (from_start bytes.now)) }
+    ensures { MatchResult result
+        (λ modem. RowRanged (row.Modem modem) × (row_bytes (row.Modem modem) ≡ bytes.now))
+        (BadIn modem_fields (from_start bytes.now)) }
 {
     let mut fields = Fields::over(bytes);
     let subscriber = fields.number()?;
@@ -93,7 +103,9 @@ fn modem(bytes: &[u8]) -> Result<Modem, RowErr>
 }
 
 fn pool(bytes: &[u8]) -> Result<Pool, RowErr>
-    ensures { MatchResult result (λ pool. RowRanged (row.Pool pool) × (row_bytes (row.Pool pool) ≡ bytes.now)) (BadIn pool_fields (from_start bytes.now)) }
+    ensures { MatchResult result
+        (λ pool. RowRanged (row.Pool pool) × (row_bytes (row.Pool pool) ≡ bytes.now))
+        (BadIn pool_fields (from_start bytes.now)) }
 {
     let mut fields = Fields::over(bytes);
     let first = fields.address()?;
@@ -112,7 +124,9 @@ fn pool(bytes: &[u8]) -> Result<Pool, RowErr>
 }
 
 fn held(bytes: &[u8]) -> Result<Ip4, RowErr>
-    ensures { MatchResult result (λ address. RowRanged (row.Held address) × (row_bytes (row.Held address) ≡ bytes.now)) (BadIn held_fields (from_start bytes.now)) }
+    ensures { MatchResult result
+        (λ address. RowRanged (row.Held address) × (row_bytes (row.Held address) ≡ bytes.now))
+        (BadIn held_fields (from_start bytes.now)) }
 {
     let mut fields = Fields::over(bytes);
     let address = fields.address()?;
@@ -121,7 +135,9 @@ fn held(bytes: &[u8]) -> Result<Ip4, RowErr>
 }
 
 fn batch(bytes: &[u8]) -> Result<Batch, RowErr>
-    ensures { MatchResult result (λ batch. RowRanged (row.Batch batch) × (row_bytes (row.Batch batch) ≡ bytes.now)) (BadIn batch_fields (from_start bytes.now)) }
+    ensures { MatchResult result
+        (λ batch. RowRanged (row.Batch batch) × (row_bytes (row.Batch batch) ≡ bytes.now))
+        (BadIn batch_fields (from_start bytes.now)) }
 {
     let mut fields = Fields::over(bytes);
     let kind = fields.import_kind()?;
@@ -132,7 +148,9 @@ fn batch(bytes: &[u8]) -> Result<Batch, RowErr>
 }
 
 fn lease(bytes: &[u8]) -> Result<Lease, RowErr>
-    ensures { MatchResult result (λ lease. RowRanged (row.Lease lease) × (row_bytes (row.Lease lease) ≡ bytes.now)) (BadIn (hold_fields bytes.now ++ bytes_of 8 ∷ []) (from_start bytes.now)) }
+    ensures { MatchResult result
+        (λ lease. RowRanged (row.Lease lease) × (row_bytes (row.Lease lease) ≡ bytes.now))
+        (BadIn (hold_fields bytes.now ++ bytes_of 8 ∷ []) (from_start bytes.now)) }
 {
     let mut fields = Fields::over(bytes);
     let hold = hold(&mut fields)?;
@@ -146,7 +164,10 @@ fn lease(bytes: &[u8]) -> Result<Lease, RowErr>
 
 // How an address is held.
 fn hold(fields: &mut Fields) -> Result<Hold, RowErr>
-    ensures { MatchResult result (λ hold. OwnerIsMac hold × Passes (hold_fields fields.old.rest) (hold_bytes hold) fields.old fields.new) (λ err. (more : List Field) → BadIn (hold_fields fields.old.rest ++ more) fields.old err) }
+    ensures { MatchResult result
+        (λ hold. OwnerIsMac hold
+        × Passes (hold_fields fields.old.rest) (hold_bytes hold) fields.old fields.new)
+        (λ err. (more : List Field) → BadIn (hold_fields fields.old.rest ++ more) fields.old err) }
 {
     let mark = fields.one_of(&[1, 2, 3])?;
     if mark == 3 {
@@ -161,7 +182,9 @@ fn hold(fields: &mut Fields) -> Result<Hold, RowErr>
 }
 
 fn add_on(alloc: Global, bytes: &[u8]) -> Result<Settings, RowErr>
-    ensures { MatchResult result (λ settings. SettingsStand (row.AddOn settings) × (row_bytes (row.AddOn settings) ≡ bytes.now)) (WhyNoAddOn bytes.now) }
+    ensures { MatchResult result
+        (λ settings. SettingsStand (row.AddOn settings)
+        × (row_bytes (row.AddOn settings) ≡ bytes.now)) (WhyNoAddOn bytes.now) }
 {
     let mut fields = Fields::over(bytes);
     let spelling = fields.spelling()?;
@@ -173,7 +196,9 @@ fn add_on(alloc: Global, bytes: &[u8]) -> Result<Settings, RowErr>
 }
 
 fn class(alloc: Global, bytes: &[u8]) -> Result<Class, RowErr>
-    ensures { MatchResult result (λ class. RowRanged (row.Class class) × SettingsStand (row.Class class) × (row_bytes (row.Class class) ≡ bytes.now)) (WhyNoClass bytes.now) }
+    ensures { MatchResult result
+        (λ class. RowRanged (row.Class class) × SettingsStand (row.Class class)
+        × (row_bytes (row.Class class) ≡ bytes.now)) (WhyNoClass bytes.now) }
 {
     let mut fields = Fields::over(bytes);
     let name = fields.text()?;
@@ -185,14 +210,16 @@ fn class(alloc: Global, bytes: &[u8]) -> Result<Class, RowErr>
     }
 }
 
-// The settings that spell the bytes. They are read as a file, so that it has no fault but want of memory.
+// The settings that spell the bytes. They are read as a file, so that it has no fault but want of
+// memory.
 fn settings_of(alloc: Global, spelling: &[u8]) -> Result<Settings, NoMemory>
     requires { IsSettings spelling.now }
-    ensures { IfOk result (λ settings. AllStand in_file settings × (spelling.now ≡ spelling_of settings)) }
+    ensures { IfOk result
+        (λ settings. AllStand in_file settings × (spelling.now ≡ spelling_of settings)) }
 {
     let mut file = Bytes::new(alloc);
     file.push_all(spelling)?;
-    file.push_all(&[END])?;
+    file.push_all(&[END_MARKER])?;
     match read_settings(alloc, file.as_slice()) {
         Ok(settings) => Ok(settings),
         Err(_) => Err(NoMemory),

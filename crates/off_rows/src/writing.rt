@@ -1,8 +1,11 @@
-ghost use Rattle.std.specs.Prelude.{◌≡◌, ◌<◌, ◌≤◌, ◌^◌, ◌∷◌, [], ◌++◌, length, IfOk, OnOk, FitsSigned};
+ghost use Rattle.std.specs.Prelude.{◌≡◌, ◌<◌, ◌≤◌, ◌^◌, ◌∷◌, [], ◌++◌, length, IfOk, OnOk};
+ghost use Rattle.std.specs.Prelude.{FitsSigned};
 ghost use Rattle.std.specs.Int.{to_be_bytes, cast_unsigned, w32, w64};
 ghost use Rattle.off_base.specs.Tree.{AllFit};
 ghost use Rattle.off_defs.specs.declared.tables.Row.TheVariants as row;
-ghost use Rattle.off_rows.specs.RowBytes.{row_bytes, counted, settings_bytes, flag_bytes, hold_bytes, import_kind_bytes, RowRanged, CanSpell, IsShortSpelling, OwnerIsMac, IsText};
+ghost use Rattle.off_rows.specs.RowBytes.{row_bytes, counted, settings_bytes, flag_bytes};
+ghost use Rattle.off_rows.specs.RowBytes.{hold_bytes, import_kind_bytes, RowRanged, CanSpell};
+ghost use Rattle.off_rows.specs.RowBytes.{IsShortSpelling, OwnerIsMac, IsText};
 
 use off_base::{Bytes, Ip4, NoMemory, Secret, Settings, Short};
 use off_defs::{Batch, Class, Hold, ImportKind, Lease, Modem, Pool, Row, Site, Subscriber};

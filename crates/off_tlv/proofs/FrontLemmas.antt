@@ -5,8 +5,7 @@ use Rattle.std.proofs.lemmas.List.Concat.{flat_map-append}
 use Rattle.off_base.specs.Tree.{Tree, leaf, group, row_of, spelled, spelled_row, spelling, AllFit}
 use Rattle.off_base.proofs.TreeLemmas.{spelled_row-row_of, RowFits-row_of}
 use Rattle.std.proofs.lemmas.Bool.Decides.{nat_tests}
-use Rattle.off_tlv.specs.declared.levels.TheConstants.{END, PAD}
-use Rattle.off_tlv.specs.Grammar.{EndsAt, Level, in_file, in_group, in_part, is_group, is_code, inside_of, RowShaped, Stands, AllStand, FileOf}
+use Rattle.off_tlv.specs.Grammar.{end_byte, pad_byte, EndsAt, Level, in_file, in_group, in_part, is_group, is_code, inside_of, RowShaped, Stands, AllStand, FileOf}
 use Rattle.off_tlv.specs.Fault.{Behind, IsShort, HasCode, CutAt, passes, within, IsFirstFault}
 use Rattle.off_tlv.specs.declared.faults.ReadFault.{ReadFault}
 use Rattle.off_tlv.proofs.GrammarLemmas.{one_reading}
@@ -90,39 +89,39 @@ front_whole level code value end f =
 pub no_end : (file : List ℕ) (end : ℕ) → Front in_file file end → length file ≤ end → (place : ℕ) × Behind in_file file place []
 no_end file end f all = (end, subst (Behind in_file file end) (drop_all end file all) f.behind)
 
-pub early_pad : (file : List ℕ) (end : ℕ) → Front in_file file end → end < length file → get_or file end 0 ≡ PAD → (more : List ℕ) × Behind in_file file end (PAD ∷ more)
+pub early_pad : (file : List ℕ) (end : ℕ) → Front in_file file end → end < length file → get_or file end 0 ≡ pad_byte → (more : List ℕ) × Behind in_file file end (pad_byte ∷ more)
 early_pad file end f here is =
     (drop (end + 1) file, subst (Behind in_file file end) (drop_more file end 0 here ∙ ap (λ (x : ℕ). x ∷ drop (end + 1) file) is) f.behind)
 
-marker : (code : ℕ) → is_code in_file code ≡ false → code ≢ PAD → code ≡ END
+marker : (code : ℕ) → is_code in_file code ≡ false → code ≢ pad_byte → code ≡ end_byte
 marker code is other = grind (arith, nat_tests)
 
-marked : (file : List ℕ) (end : ℕ) → Front in_file file end → end < length file → get_or file end 0 ≢ PAD → Behind in_file file end (END ∷ drop (end + 1) file)
+marked : (file : List ℕ) (end : ℕ) → Front in_file file end → end < length file → get_or file end 0 ≢ pad_byte → Behind in_file file end (end_byte ∷ drop (end + 1) file)
 marked file end f here other =
     subst (Behind in_file file end) (drop_more file end 0 here ∙ ap (λ (x : ℕ). x ∷ drop (end + 1) file) (marker (get_or file end 0) (f.stops here) other)) f.behind
 
-pub ends_at : (file : List ℕ) (end : ℕ) → Front in_file file end → end < length file → get_or file end 0 ≢ PAD → drop (end + 1) file ≡ replicate (length (drop (end + 1) file)) PAD
+pub ends_at : (file : List ℕ) (end : ℕ) → Front in_file file end → end < length file → get_or file end 0 ≢ pad_byte → drop (end + 1) file ≡ replicate (length (drop (end + 1) file)) pad_byte
     → EndsAt file end
 ends_at file end f here other zeros =
     let b = marked file end f here other in
     record {
       trees = b.before;
-      spells = record { stand = b.stand; pads = length (drop (end + 1) file); whole = b.whole ∙ ap (λ (x : List ℕ). spelling b.before ++ END ∷ x) zeros };
+      spells = record { stand = b.stand; pads = length (drop (end + 1) file); whole = b.whole ∙ ap (λ (x : List ℕ). spelling b.before ++ end_byte ∷ x) zeros };
       here = b.here;
     }
 
-pub after_end : (file : List ℕ) (end pads : ℕ) → Front in_file file end → end < length file → get_or file end 0 ≢ PAD → FirstOther (drop (end + 1) file) pads
-    → (at n byte : ℕ) × (more : List ℕ) × Behind in_file file at (END ∷ replicate n PAD ++ byte ∷ more) × (byte ≢ PAD) × (end + 1 + pads ≡ at + 1 + n)
+pub after_end : (file : List ℕ) (end pads : ℕ) → Front in_file file end → end < length file → get_or file end 0 ≢ pad_byte → FirstOther (drop (end + 1) file) pads
+    → (at n byte : ℕ) × (more : List ℕ) × Behind in_file file at (end_byte ∷ replicate n pad_byte ++ byte ∷ more) × (byte ≢ pad_byte) × (end + 1 + pads ≡ at + 1 + n)
 after_end file end pads f here other first =
     let rest : List ℕ = drop (end + 1) file in
-    let split : drop (end + 1) file ≡ replicate pads PAD ++ get_or (drop (end + 1) file) pads 0 ∷ drop (pads + 1) (drop (end + 1) file) =
+    let split : drop (end + 1) file ≡ replicate pads pad_byte ++ get_or (drop (end + 1) file) pads 0 ∷ drop (pads + 1) (drop (end + 1) file) =
     sym (take-append-drop pads (drop (end + 1) file)) ∙ ap (λ (x : List ℕ). x ++ drop pads (drop (end + 1) file)) first.zeros
-    ∙ ap (λ (x : List ℕ). replicate pads PAD ++ x) (drop_more (drop (end + 1) file) pads 0 first.in_range) in (
+    ∙ ap (λ (x : List ℕ). replicate pads pad_byte ++ x) (drop_more (drop (end + 1) file) pads 0 first.in_range) in (
       end,
       pads,
       get_or (drop (end + 1) file) pads 0,
       drop (pads + 1) (drop (end + 1) file),
-      subst (λ (x : List ℕ). Behind in_file file end (END ∷ x)) split (marked file end f here other),
+      subst (λ (x : List ℕ). Behind in_file file end (end_byte ∷ x)) split (marked file end f here other),
       first.other,
       refl,
     )

@@ -2,9 +2,8 @@
 use Rattle.std.proofs.Common.{◌≡◌, ℕ, zero, suc, ◌+◌, ◌≢◌, true, false, List, [], ◌∷◌, ◌++◌, length, replicate, refl, sym, ap, subst, ◌∙◌, arith, append-nil, append_assoc, length-append, Result, Ok, Err}
 use Rattle.std.specs.List.{AllByRecursion}
 use Rattle.off_base.specs.Tree.{Tree, Row, leaf, group, no_more, followed, row_items, spelled, spelled_row, spelling}
-use Rattle.off_tlv.specs.Grammar.{Level, in_file, is_group, is_code, inside_of, Shaped, RowShaped, AllStand}
+use Rattle.off_tlv.specs.Grammar.{end_byte, pad_byte, Level, in_file, is_group, is_code, inside_of, Shaped, RowShaped, AllStand}
 use Rattle.off_tlv.specs.Fault.{Behind, IsShort, HasCode, CutAt, passes, within, Reads, HasOneReading}
-use Rattle.off_tlv.specs.declared.levels.TheConstants.{END, PAD}
 use Rattle.off_tlv.specs.declared.faults.ReadFault.{ReadFault}
 use Rattle.off_tlv.specs.declared.faults.ReadFault.TheVariants.{Cut, NoEnd, AfterEnd, EarlyPad}
 
@@ -195,12 +194,12 @@ cut_once {level} {bytes} {p} {q} (within code at deeper body more b is grouped c
 
 -- What a reading says of the bytes behind the settings. `rest` stands behind the settings `before`.
 abbrev Says : List ℕ → List Tree → List ℕ → Result (List Tree) ReadFault → Type 0
-Says file before rest (Ok trees) = (trees ≡ before) × (pads : ℕ) × (rest ≡ END ∷ replicate pads PAD)
+Says file before rest (Ok trees) = (trees ≡ before) × (pads : ℕ) × (rest ≡ end_byte ∷ replicate pads pad_byte)
 Says file before rest (Err (Cut place)) = HasCode in_file rest × CutAt in_file file place
 Says file before rest (Err NoEnd) = rest ≡ []
 Says file before rest (Err (AfterEnd place)) =
-    (pads byte : ℕ) × (more : List ℕ) × (rest ≡ END ∷ replicate pads PAD ++ byte ∷ more) × (byte ≢ PAD) × (place ≡ length (spelling before) + 1 + pads)
-Says file before rest (Err (EarlyPad place)) = (more : List ℕ) × (rest ≡ PAD ∷ more) × (place ≡ length (spelling before))
+    (pads byte : ℕ) × (more : List ℕ) × (rest ≡ end_byte ∷ replicate pads pad_byte ++ byte ∷ more) × (byte ≢ pad_byte) × (place ≡ length (spelling before) + 1 + pads)
+Says file before rest (Err (EarlyPad place)) = (more : List ℕ) × (rest ≡ pad_byte ∷ more) × (place ≡ length (spelling before))
 
 record Stopped (file : List ℕ) (reading : Result (List Tree) ReadFault) : Type 0 where
   before : List Tree
@@ -231,10 +230,10 @@ stopped_cut file place (within code at deeper body more b is grouped cut e) = re
 stopped : (file : List ℕ) (reading : Result (List Tree) ReadFault) → Reads file reading → Stopped file reading
 stopped file (Ok trees) r = record {
   before = trees;
-  rest = END ∷ replicate r.pads PAD;
+  rest = end_byte ∷ replicate r.pads pad_byte;
   shaped = shaped_of in_file trees r.stand;
   whole = r.whole;
-  stops = stops_no_code in_file END (replicate r.pads PAD) refl;
+  stops = stops_no_code in_file end_byte (replicate r.pads pad_byte) refl;
   says = (refl, r.pads, refl);
 }
 stopped file (Err (Cut place)) r = stopped_cut file place r
@@ -248,48 +247,48 @@ stopped file (Err NoEnd) r = let b = r.1 in record {
 }
 stopped file (Err (AfterEnd place)) (end, pads, byte, more, b, other, is) = record {
   before = b.before;
-  rest = END ∷ replicate pads PAD ++ byte ∷ more;
+  rest = end_byte ∷ replicate pads pad_byte ++ byte ∷ more;
   shaped = shaped_of in_file b.before b.stand;
   whole = b.whole;
-  stops = stops_no_code in_file END (replicate pads PAD ++ byte ∷ more) refl;
+  stops = stops_no_code in_file end_byte (replicate pads pad_byte ++ byte ∷ more) refl;
   says = (pads, byte, more, refl, other, is ∙ ap (λ (n : ℕ). n + 1 + pads) b.here);
 }
 stopped file (Err (EarlyPad place)) (more, b) = record {
   before = b.before;
-  rest = PAD ∷ more;
+  rest = pad_byte ∷ more;
   shaped = shaped_of in_file b.before b.stand;
   whole = b.whole;
-  stops = stops_no_code in_file PAD more refl;
+  stops = stops_no_code in_file pad_byte more refl;
   says = (more, refl, b.here);
 }
 
 -- the zeros up to another byte are so many, and there is another byte
-pads_once : (m n : ℕ) (a b : ℕ) (xs ys : List ℕ) → replicate m PAD ++ a ∷ xs ≡ replicate n PAD ++ b ∷ ys → a ≢ PAD → b ≢ PAD → m ≡ n
+pads_once : (m n : ℕ) (a b : ℕ) (xs ys : List ℕ) → replicate m pad_byte ++ a ∷ xs ≡ replicate n pad_byte ++ b ∷ ys → a ≢ pad_byte → b ≢ pad_byte → m ≡ n
 pads_once zero zero a b xs ys e na nb = refl
-pads_once zero (suc n) a b xs ys e na nb = let zero_byte : a ≡ PAD = cc in absurd (na zero_byte)
-pads_once (suc m) zero a b xs ys e na nb = let zero_byte : b ≡ PAD = cc in absurd (nb zero_byte)
-pads_once (suc m) (suc n) a b xs ys e na nb = let rest : replicate m PAD ++ a ∷ xs ≡ replicate n PAD ++ b ∷ ys = cc in ap suc (pads_once m n a b xs ys rest na nb)
+pads_once zero (suc n) a b xs ys e na nb = let zero_byte : a ≡ pad_byte = cc in absurd (na zero_byte)
+pads_once (suc m) zero a b xs ys e na nb = let zero_byte : b ≡ pad_byte = cc in absurd (nb zero_byte)
+pads_once (suc m) (suc n) a b xs ys e na nb = let rest : replicate m pad_byte ++ a ∷ xs ≡ replicate n pad_byte ++ b ∷ ys = cc in ap suc (pads_once m n a b xs ys rest na nb)
 
-pads_only : (m n : ℕ) (b : ℕ) (ys : List ℕ) → replicate m PAD ≡ replicate n PAD ++ b ∷ ys → b ≢ PAD → ⊥
+pads_only : (m n : ℕ) (b : ℕ) (ys : List ℕ) → replicate m pad_byte ≡ replicate n pad_byte ++ b ∷ ys → b ≢ pad_byte → ⊥
 pads_only zero zero b ys e nb = cc
 pads_only zero (suc n) b ys e nb = cc
-pads_only (suc m) zero b ys e nb = let zero_byte : b ≡ PAD = cc in nb zero_byte
-pads_only (suc m) (suc n) b ys e nb = let rest : replicate m PAD ≡ replicate n PAD ++ b ∷ ys = cc in pads_only m n b ys rest nb
+pads_only (suc m) zero b ys e nb = let zero_byte : b ≡ pad_byte = cc in nb zero_byte
+pads_only (suc m) (suc n) b ys e nb = let rest : replicate m pad_byte ≡ replicate n pad_byte ++ b ∷ ys = cc in pads_only m n b ys rest nb
 
 not_nil : {X : Type 0} (rest : List ℕ) → HasCode in_file rest → rest ≡ [] → X
 not_nil rest has e = absurd (subst (HasCode in_file) e has)
 
-not_end : {X : Type 0} (rest more : List ℕ) → HasCode in_file rest → rest ≡ END ∷ more → X
+not_end : {X : Type 0} (rest more : List ℕ) → HasCode in_file rest → rest ≡ end_byte ∷ more → X
 not_end rest more has e = let bad : false ≡ true = subst (HasCode in_file) e has in true_not_false (sym bad)
 
-not_pad : {X : Type 0} (rest more : List ℕ) → HasCode in_file rest → rest ≡ PAD ∷ more → X
+not_pad : {X : Type 0} (rest more : List ℕ) → HasCode in_file rest → rest ≡ pad_byte ∷ more → X
 not_pad rest more has e = let bad : false ≡ true = subst (HasCode in_file) e has in true_not_false (sym bad)
 
 says_one : (file : List ℕ) (before : List Tree) (rest : List ℕ) (a b : Result (List Tree) ReadFault) → Says file before rest a → Says file before rest b → a ≡ b
 says_one file before rest (Ok s) (Ok t) a b = let x : s ≡ before = a.0 in let y : t ≡ before = b.0 in cc
 says_one file before rest (Ok s) (Err (Cut q)) a b = not_end rest _ b.0 a.2
 says_one file before rest (Ok s) (Err NoEnd) a b = let x = a.2 in cc
-says_one file before rest (Ok s) (Err (AfterEnd q)) (is, m, x) (n, byte, more, y, other, at) = let e : replicate m PAD ≡ replicate n PAD ++ byte ∷ more = cc in absurd (pads_only m n byte more e other)
+says_one file before rest (Ok s) (Err (AfterEnd q)) (is, m, x) (n, byte, more, y, other, at) = let e : replicate m pad_byte ≡ replicate n pad_byte ++ byte ∷ more = cc in absurd (pads_only m n byte more e other)
 says_one file before rest (Ok s) (Err (EarlyPad q)) a b = let x = a.2 in let y = b.1 in cc
 says_one file before rest (Err (Cut p)) (Ok t) a b = not_end rest _ a.0 b.2
 says_one file before rest (Err (Cut p)) (Err (Cut q)) a b = ap (λ (n : ℕ). Err (Cut n)) (cut_once a.1 b.1)
@@ -301,11 +300,11 @@ says_one file before rest (Err NoEnd) (Err (Cut q)) a b = not_nil rest b.0 a
 says_one file before rest (Err NoEnd) (Err NoEnd) a b = refl
 says_one file before rest (Err NoEnd) (Err (AfterEnd q)) a (n, byte, more, y, other, at) = cc
 says_one file before rest (Err NoEnd) (Err (EarlyPad q)) a b = let y = b.1 in cc
-says_one file before rest (Err (AfterEnd p)) (Ok t) (n, byte, more, y, other, at) (is, m, x) = let e : replicate m PAD ≡ replicate n PAD ++ byte ∷ more = cc in absurd (pads_only m n byte more e other)
+says_one file before rest (Err (AfterEnd p)) (Ok t) (n, byte, more, y, other, at) (is, m, x) = let e : replicate m pad_byte ≡ replicate n pad_byte ++ byte ∷ more = cc in absurd (pads_only m n byte more e other)
 says_one file before rest (Err (AfterEnd p)) (Err (Cut q)) (n, byte, more, y, other, at) b = not_end rest _ b.0 y
 says_one file before rest (Err (AfterEnd p)) (Err NoEnd) (n, byte, more, y, other, at) b = cc
 says_one file before rest (Err (AfterEnd p)) (Err (AfterEnd q)) (n, byte, more, y, other, at) (n', byte', more', y', other', at') =
-    let e : replicate n PAD ++ byte ∷ more ≡ replicate n' PAD ++ byte' ∷ more' = cc in
+    let e : replicate n pad_byte ++ byte ∷ more ≡ replicate n' pad_byte ++ byte' ∷ more' = cc in
     let same : n ≡ n' = pads_once n n' byte byte' more more' e other other' in
     let place : p ≡ q = omega arith in
     cc

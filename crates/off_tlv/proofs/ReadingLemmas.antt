@@ -2,12 +2,11 @@
 use Rattle.std.proofs.Common.{◌≡◌, ℕ, ◌+◌, ◌≤◌, true, false, List, [], ◌∷◌, ◌++◌, length, get_or, take, drop, replicate, refl, sym, ap, subst, ◌∙◌, arith, append_assoc, length-append, Result, Ok, Err, MatchResult}
 use Rattle.std.proofs.lemmas.List.{take_at}
 use Rattle.off_base.specs.Tree.{Tree, Row, leaf, group, no_more, followed, row_items, row_of, spelled, spelled_row, spelling, RowFits}
-use Rattle.off_tlv.specs.declared.levels.TheConstants.{END, PAD}
 use Rattle.off_tlv.specs.declared.faults.ReadFault.{ReadFault}
 use Rattle.off_tlv.specs.declared.faults.FileErr.{FileErr}
 use Rattle.off_tlv.specs.declared.faults.FileErr.TheVariants.{Read, Memory}
-use Rattle.off_tlv.specs.Grammar.{EndsAt, Level, in_file, is_group, is_code, inside_of, RowShaped, Stands, AllStand, FileOf}
-use Rattle.off_tlv.specs.Fault.{IsShort, IsFirstFault}
+use Rattle.off_tlv.specs.Grammar.{end_byte, pad_byte, EndsAt, Level, in_file, is_group, is_code, inside_of, RowShaped, Stands, AllStand, FileOf}
+use Rattle.off_tlv.specs.Fault.{IsShort, IsFirstFault, HasReading}
 use Rattle.off_tlv.specs.Front.{IsSetting, IsSpelled, Spells}
 use Rattle.off_tlv.specs.Told.{WhyNotRead, Gives}
 use Rattle.off_tlv.specs.Walk.{TakesAt}
@@ -116,18 +115,18 @@ built_more level bytes value place settings new t whole stand takes s e =
 
 -- the bytes in front of the end marker are spelled by the settings
 pub front_is_spelling : (file : List ℕ) (end : ℕ) (e : EndsAt file end) → take end file ≡ spelling e.trees
-front_is_spelling file end e = ap (take end) e.spells.whole ∙ take_at (spelling e.trees) (END ∷ replicate e.spells.pads PAD) end (sym e.here)
+front_is_spelling file end e = ap (take end) e.spells.whole ∙ take_at (spelling e.trees) (end_byte ∷ replicate e.spells.pads pad_byte) end (sym e.here)
 
 pub front_spelled : (file : List ℕ) (end : ℕ) → EndsAt file end → IsSpelled in_file (take end file)
 front_spelled file end e = record { trees = e.trees; stand = e.spells.stand; whole = front_is_spelling file end e }
 
 pub end_in_range : (file : List ℕ) (end : ℕ) → EndsAt file end → end ≤ length file
-end_in_range file end e = omega (arith, e.here, ap length e.spells.whole, length-append (spelling e.trees) (END ∷ replicate e.spells.pads PAD))
+end_in_range file end e = omega (arith, e.here, ap length e.spells.whole, length-append (spelling e.trees) (end_byte ∷ replicate e.spells.pads pad_byte))
 
 pub file_of_front : (file : List ℕ) (end : ℕ) (settings : List Tree) → EndsAt file end → AllStand in_file settings → take end file ≡ spelling settings → FileOf file settings
 file_of_front file end settings e stand front =
     let same : spelling e.trees ≡ spelling settings = sym (front_is_spelling file end e) ∙ front in
-    record { stand = stand; pads = e.spells.pads; whole = e.spells.whole ∙ ap (λ (x : List ℕ). x ++ END ∷ replicate e.spells.pads PAD) same }
+    record { stand = stand; pads = e.spells.pads; whole = e.spells.whole ∙ ap (λ (x : List ℕ). x ++ end_byte ∷ replicate e.spells.pads pad_byte) same }
 
 pub settings_only : (file : List ℕ) (result : Result (List Tree) FileErr) → MatchResult result (FileOf file) (WhyNotRead file) → (trees : List Tree) → FileOf file trees → Gives trees result
 settings_only file (Ok given) found trees spells =
@@ -150,3 +149,8 @@ settings_first file (Err (Read other)) found fault is =
 settings_first file (Err Memory) found fault is =
     let clash : Ok found.0 ≡ Err fault = one_reading file (Ok found.0) (Err fault) found.1 is in
     cc
+
+-- what `extent` answers tells that there is a reading or a first fault
+pub has_reading : (file : List ℕ) (found : Result ℕ ReadFault) → MatchResult found (EndsAt file) (IsFirstFault file) → HasReading file
+has_reading file (Ok place) e = (Ok e.trees, e.spells)
+has_reading file (Err fault) e = (Err fault, e)

@@ -1,10 +1,8 @@
 -- Spelling settings one by one.
-use Rattle.std.proofs.Common.{◌≡◌, ℕ, zero, suc, ◌+◌, ◌-◌, ◌*◌, ◌^◌, ◌<◌, ◌≤◌, min, List, [], ◌∷◌, ◌++◌, length, take, sym, ap, subst, ◌∙◌, arith, append_assoc, length-append, Option, Some, None, MatchOption}
+use Rattle.std.proofs.Common.{◌≡◌, ℕ, zero, suc, ◌+◌, ◌-◌, ◌^◌, ◌<◌, ◌≤◌, min, List, [], ◌∷◌, ◌++◌, length, take, sym, ap, subst, ◌∙◌, arith, append_assoc, length-append, Option, Some, None, MatchOption}
 use Rattle.std.specs.List.{slice_get}
-use Rattle.std.proofs.lemmas.List.{take_more}
-use Rattle.std.proofs.lemmas.Option.{slice_get_within, get_or_from_slice_get}
-use Rattle.off_base.specs.Tree.{Tree, group, row_of, spelled, spelled_row, spelling, Fits, RowFits, AllFit, tree_size, trees_size}
-use Rattle.off_base.proofs.TreeLemmas.{spelled_row-row_of, RowFits-row_of, row_size-row_of}
+use Rattle.off_base.specs.Tree.{Tree, group, row_of, spelled, spelled_row, spelling, Fits, RowFits, AllFit}
+use Rattle.off_base.proofs.TreeLemmas.{spelled_row-row_of, RowFits-row_of, taken}
 use Rattle.off_tlv.specs.Front.{Begins}
 use Rattle.off_tlv.proofs.FrontLemmas.{spelling-push}
 
@@ -12,14 +10,6 @@ pub fits_at : (ts : List Tree) (i : ℕ) (t : Tree) → slice_get ts i ≡ Some 
 fits_at [] i t e fits = cc
 fits_at (u ∷ ts) zero t e fits = let same : u ≡ t = cc in subst Fits same fits.0
 fits_at (u ∷ ts) (suc i) t e fits = fits_at ts i t e fits.1
-
-pub size_at : (ts : List Tree) (i : ℕ) (t : Tree) → slice_get ts i ≡ Some t → tree_size t ≤ trees_size ts
-size_at [] i t e = cc
-size_at (u ∷ ts) zero t e = let same : u ≡ t = cc in omega (arith, ap tree_size same)
-size_at (u ∷ ts) (suc i) t e = omega (arith, size_at ts i t e)
-
-pub taken : (ts : List Tree) (i : ℕ) (t : Tree) → slice_get ts i ≡ Some t → take (i + 1) ts ≡ take i ts ++ t ∷ []
-taken ts i t e = take_more ts i t (slice_get_within ts i t e) ∙ ap (λ (x : Tree). take i ts ++ x ∷ []) (get_or_from_slice_get ts i t t e)
 
 fit_push : (ts : List Tree) (t : Tree) → AllFit ts → Fits t → AllFit (ts ++ t ∷ [])
 fit_push [] t fits one = (one, tt)
@@ -56,14 +46,8 @@ group_spelling code parts = ap (λ (x : List ℕ). code ∷ length x ∷ x) (spe
 pub begins_on : (old out new : List ℕ) (front : List ℕ) → out ≡ old ++ front → Begins out new → Begins old new
 begins_on old out new front e b = (front ++ b.0, b.1 ∙ ap (λ (x : List ℕ). x ++ b.0) e ∙ append_assoc old front b.0)
 
-pub parts_size : (code : ℕ) (parts : List Tree) → 2 * trees_size parts + 2 ≤ 2 * tree_size (group code (row_of parts))
-parts_size code parts = omega (arith, row_size-row_of parts)
-
 -- the same of a setting of the code, which is a group
 module _ (code : ℕ) (parts : List Tree) (t : Tree) (is : t ≡ group code (row_of parts)) where
-  pub parts_smaller : 2 * trees_size parts + 2 ≤ 2 * tree_size t
-  parts_smaller = omega (arith, ap tree_size is, row_size-row_of parts)
-
   pub parts_of_fit : Fits t → AllFit parts × (length (spelling parts) ≤ 255)
   parts_of_fit fits = group_parts_fit code parts (subst Fits is fits)
 

@@ -1,8 +1,7 @@
 -- The first fault of a file that no settings spell: what stands behind settings that are as the grammar wants them.
 use Rattle.std.specs.Prelude.{◌≡◌, ℕ, ◌+◌, ◌<◌, ◌≢◌, true, List, [], ◌∷◌, ◌++◌, length, replicate, Result, Ok, Err}
 use Rattle.off_base.specs.Tree.{Tree, spelling}
-use Rattle.off_tlv.specs.Grammar.{Level, in_file, is_group, is_code, inside_of, AllStand, FileOf}
-use Rattle.off_tlv.specs.declared.levels.TheConstants.{END, PAD}
+use Rattle.off_tlv.specs.Grammar.{end_byte, pad_byte, Level, in_file, is_group, is_code, inside_of, AllStand, FileOf}
 use Rattle.off_tlv.specs.declared.faults.ReadFault.{ReadFault}
 use Rattle.off_tlv.specs.declared.faults.ReadFault.TheVariants.{Cut, NoEnd, AfterEnd, EarlyPad}
 
@@ -39,9 +38,9 @@ IsFirstFault file (Cut place) = CutAt in_file file place
 IsFirstFault file NoEnd = (place : ℕ) × Behind in_file file place []
 -- the first byte behind the end marker that is no zero
 IsFirstFault file (AfterEnd place) =
-    (end pads byte : ℕ) × (more : List ℕ) × Behind in_file file end (END ∷ replicate pads PAD ++ byte ∷ more) × (byte ≢ PAD) × (place ≡ end + 1 + pads)
+    (end pads byte : ℕ) × (more : List ℕ) × Behind in_file file end (end_byte ∷ replicate pads pad_byte ++ byte ∷ more) × (byte ≢ pad_byte) × (place ≡ end + 1 + pads)
 -- a zero in the place of a code
-IsFirstFault file (EarlyPad place) = (more : List ℕ) × Behind in_file file place (PAD ∷ more)
+IsFirstFault file (EarlyPad place) = (more : List ℕ) × Behind in_file file place (pad_byte ∷ more)
 
 -- What reading a file gives: the settings that it spells, or its first fault.
 abbrev pub Reads : List ℕ → Result (List Tree) ReadFault → Type 0
@@ -51,3 +50,7 @@ Reads file (Err fault) = IsFirstFault file fault
 -- A file has at most one reading or one first fault, never both and never two.
 abbrev pub HasOneReading : Type 0
 HasOneReading = (file : List ℕ) (one other : Result (List Tree) ReadFault) → Reads file one → Reads file other → one ≡ other
+
+-- A file has one at least.
+abbrev pub HasReading : List ℕ → Type 0
+HasReading file = (found : Result (List Tree) ReadFault) × Reads file found

@@ -1,9 +1,8 @@
 -- What the private functions that go over the bytes say of them.
-use Rattle.std.specs.Prelude.{◌≡◌, ℕ, ◌<◌, ◌≤◌, ◌≢◌, true, false, List, ◌∷◌, ◌++◌, length, take, drop, replicate, slice_index}
-use Rattle.off_base.specs.Tree.{Tree, spelled, spelling}
-use Rattle.off_tlv.specs.Grammar.{Level, is_code, is_group, inside_of, Stands, AllStand}
+use Rattle.std.specs.Prelude.{◌≡◌, ℕ, ◌<◌, ◌≤◌, ◌≢◌, ◌&&◌, not, Bool, true, false, List, ◌∷◌, ◌++◌, length, take, drop, replicate, slice_index}
+use Rattle.off_base.specs.Tree.{Tree, Row, leaf, group, no_more, followed, spelled, spelling}
+use Rattle.off_tlv.specs.Grammar.{pad_byte, Level, is_code, is_group, inside_of, Stands, AllStand}
 use Rattle.off_tlv.specs.Fault.{Behind, CutAt}
-use Rattle.off_tlv.specs.declared.levels.TheConstants.{PAD}
 
 -- the settings of a level reach from the first byte to a place, and there the bytes end, or a byte stands that is no code
 pub record Front (level : Level) (bytes : List ℕ) (end : ℕ) : Type 0 where
@@ -31,8 +30,8 @@ pub record IsSpelled (level : Level) (bytes : List ℕ) : Type 0 where
 -- the first byte that is no zero
 pub record FirstOther (bytes : List ℕ) (place : ℕ) : Type 0 where
   pub in_range : place < length bytes
-  pub zeros : take place bytes ≡ replicate place PAD
-  pub other : slice_index bytes place ≢ PAD
+  pub zeros : take place bytes ≡ replicate place pad_byte
+  pub other : slice_index bytes place ≢ pad_byte
 
 -- a setting of the level has the code and the value
 pub record Spells (level : Level) (code : ℕ) (value : List ℕ) (setting : Tree) : Type 0 where
@@ -42,3 +41,13 @@ pub record Spells (level : Level) (code : ℕ) (value : List ℕ) (setting : Tre
 -- the new bytes are the old ones, and perhaps more
 abbrev pub Begins : List ℕ → List ℕ → Type 0
 Begins old new = (more : List ℕ) × (new ≡ old ++ more)
+
+-- whether settings have their shape, as a test
+abbrev mutual
+  pub is_shaped : Level → Tree → Bool
+  is_shaped level (leaf code value) = is_code level code && not (is_group level code)
+  is_shaped level (group code parts) = is_code level code && (is_group level code && row_is_shaped (inside_of level code) parts)
+
+  pub row_is_shaped : Level → Row → Bool
+  row_is_shaped level no_more = true
+  row_is_shaped level (followed t r) = is_shaped level t && row_is_shaped level r

@@ -1,7 +1,9 @@
-/// Why a file spells no settings: its first fault in the order of reading. Places count bytes from 0.
+/// Why a file spells no settings: its first fault in the order of reading. Places count bytes from
+/// 0.
 #[derive(Clone, Copy, Debug, PartialEq, Eq)]
 pub enum ReadFault {
-    /// The setting whose code stands here passes the end of the file, or of its group; its length byte may be missing.
+    /// The setting whose code stands here passes the end of the file, or of its group; its length
+    /// byte may be missing.
     Cut(usize),
     /// The settings reach the end of the file, and no end marker is there.
     NoEnd,

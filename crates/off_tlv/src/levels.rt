@@ -3,7 +3,7 @@ ghost use Rattle.off_tlv.specs.Grammar.{is_code, is_group, inside_of};
 ghost use Rattle.off_tlv.specs.Seen.{level_of};
 
 /// The end marker of a file.
-pub const END: u8 = 255;
+pub const END_MARKER: u8 = 255;
 
 /// What a file is filled up with behind its end marker.
 pub const PAD: u8 = 0;
@@ -34,7 +34,7 @@ impl Level {
         ensures { result ≡ is_code (level_of self) code }
     {
         match self {
-            Level::File => code != END && code != PAD,
+            Level::File => code != END_MARKER && code != PAD,
             Level::Group(_) | Level::Part => true,
         }
     }

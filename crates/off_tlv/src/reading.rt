@@ -16,7 +16,8 @@ use crate::walks::value_at;
 use off_base::{Bytes, NoMemory, Setting, Settings};
 use std::alloc::Global;
 
-/// The settings that a file spells, or why there are none (CM-SP-MULPIv3.1, annex D.1). Want of memory comes only where the file is good.
+/// The settings that a file spells, or why there are none (CM-SP-MULPIv3.1, annex D.1). Want of
+/// memory comes only where the file is good.
 pub fn read_settings(alloc: Global, file: &[u8]) -> Result<Settings, FileErr>
     ensures found { MatchResult result (FileOf file.now) (WhyNotRead file.now) }
     ensures only { (trees : List Tree) → FileOf file.now trees → Gives trees result }
@@ -42,7 +43,8 @@ fn found_settings(alloc: Global, file: &[u8]) -> Result<Settings, FileErr>
 #[cycle(settings)]
 fn settings_of(alloc: Global, level: Level, bytes: &[u8]) -> Result<Settings, NoMemory>
     requires { IsSpelled (level_of level) bytes.now }
-    ensures { IfOk result (λ settings. AllStand (level_of level) settings × (bytes.now ≡ spelling settings)) }
+    ensures { IfOk result
+        (λ settings. AllStand (level_of level) settings × (bytes.now ≡ spelling settings)) }
 {
     let mut settings = Settings::new(alloc);
     let mut place = 0;

@@ -1,10 +1,12 @@
-ghost use Rattle.std.specs.Prelude.{◌≡◌, ◌+◌, ◌<◌, ◌≤◌, [], ◌∷◌, ◌++◌, length, drop, MatchOption, IfOk, IfErr, IfSome, IfNone, slice_index};
+ghost use Rattle.std.specs.Prelude.{◌≡◌, ◌+◌, ◌<◌, ◌≤◌, [], ◌∷◌, ◌++◌, length, drop, MatchOption};
+ghost use Rattle.std.specs.Prelude.{IfOk, IfErr, IfSome, IfNone, slice_index};
 ghost use Rattle.off_tlv.specs.Fault.{IsShort};
 ghost use Rattle.off_tlv.specs.Walk.{Takes, TakesAt};
 
 use std::marker::Model;
 
-/// A setting as it stands in the bytes that a walk goes over: its code, its value, and the place of its code.
+/// A setting as it stands in the bytes that a walk goes over: its code, its value, and the place of
+/// its code.
 #[derive(Clone, Copy, Debug)]
 pub struct Tlv<'a> {
     pub code: u8,
@@ -12,7 +14,8 @@ pub struct Tlv<'a> {
     pub place: usize,
 }
 
-/// A walk over the settings of one level, in which every code has a length. It lends parts of the bytes.
+/// A walk over the settings of one level, in which every code has a length. It lends parts of the
+/// bytes.
 #[derive(Drop)]
 pub struct Tlvs<'a> {
     bytes: &'a [u8],
@@ -42,10 +45,13 @@ impl<'a> Tlvs<'a> {
     ///
     /// The `Err` is the place of a setting that passes the end. After it the walk is as before.
     pub fn next(&mut self) -> Result<Option<Tlv<'a>>, usize>
-        ensures taken { IfOk result (λ found. IfSome found (λ tlv. Takes self.old tlv.code tlv.value.now self.new)) }
+        ensures taken { IfOk result
+            (λ found. IfSome found (λ tlv. Takes self.old tlv.code tlv.value.now self.new)) }
         ensures place { IfOk result (λ found. IfSome found (λ tlv. tlv.place ≡ self.old.place)) }
-        ensures end { IfOk result (λ found. IfNone found ((self.old.rest ≡ []) × (self.new ≡ self.old))) }
-        ensures cut { IfErr result (λ place. IsShort self.old.rest × (place ≡ self.old.place) × (self.new ≡ self.old)) }
+        ensures end { IfOk result
+            (λ found. IfNone found ((self.old.rest ≡ []) × (self.new ≡ self.old))) }
+        ensures cut { IfErr result
+            (λ place. IsShort self.old.rest × (place ≡ self.old.place) × (self.new ≡ self.old)) }
     {
         let place = self.place;
         if place == self.bytes.len() {
@@ -68,7 +74,8 @@ impl<'a> Tlvs<'a> {
 // The value of the setting whose code stands at a place, where it is whole.
 pub(crate) fn value_at(bytes: &[u8], place: usize) -> Option<&[u8]>
     requires { place < length bytes.now }
-    ensures { MatchOption result (IsShort (drop place bytes.now)) (λ value. TakesAt bytes.now place value.now) }
+    ensures { MatchOption result (IsShort (drop place bytes.now))
+        (λ value. TakesAt bytes.now place value.now) }
 {
     if place + 1 == bytes.len() {
         return None;

@@ -1,16 +1,21 @@
-ghost use Rattle.std.specs.Prelude.{◌≡◌, ◌+◌, ◌^◌, ◌<◌, ◌≤◌, ◌++◌, ◌-◌, ◌∷◌, [], min, length, OnOk, OnErr, MatchOption};
+ghost use Rattle.std.specs.Prelude.{◌≡◌, ◌+◌, ◌^◌, ◌<◌, ◌≤◌, ◌++◌, ◌-◌, ◌∷◌, [], min, length, OnOk};
+ghost use Rattle.std.specs.Prelude.{OnErr, MatchOption};
+ghost use Rattle.off_base.specs.Number.{greatest_u64};
 ghost use Rattle.off_base.specs.Tree.{spelling, spelled, AllFit, Fits};
 ghost use Rattle.off_base.specs.Setting.{tree_of};
 ghost use Rattle.off_tlv.specs.Front.{Begins};
 
 use off_base::{Bytes, NoMemory, Setting, Settings};
 
-/// The number of bytes that the settings are spelled with, or the greatest `usize` where that is less.
+/// The number of bytes that the settings are spelled with, or the greatest `usize` where that is
+/// less.
 ///
-/// `None` comes exactly where some value, or the spelling of some group's parts, has more than 255 bytes. It takes no memory.
+/// `None` comes exactly where some value, or the spelling of some group's parts, has more than 255
+/// bytes. It takes no memory.
 #[cycle(spelled_len)]
 pub fn spelled_len(settings: &Settings) -> Option<usize>
-    ensures { MatchOption result (¬ AllFit settings.now) (λ n. AllFit settings.now × (n ≡ min (length (spelling settings.now)) (2 ^ 64 - 1))) }
+    ensures { MatchOption result (¬ AllFit settings.now)
+        (λ n. AllFit settings.now × (n ≡ min (length (spelling settings.now)) greatest_u64)) }
 {
     let mut sum: usize = 0;
     for place in 0..settings.len() {
@@ -25,7 +30,9 @@ pub fn spelled_len(settings: &Settings) -> Option<usize>
 // The length of a setting's value, where a byte can say it.
 #[cycle(spelled_len)]
 fn value_len(setting: &Setting) -> Option<usize>
-    ensures { MatchOption result (¬ Fits (tree_of setting.now)) (λ n. Fits (tree_of setting.now) × (n ≤ 255) × (length (spelled (tree_of setting.now)) ≡ 2 + n)) }
+    ensures { MatchOption result (¬ Fits (tree_of setting.now))
+        (λ n. Fits (tree_of setting.now) × (n ≤ 255)
+        × (length (spelled (tree_of setting.now)) ≡ 2 + n)) }
 {
     match setting {
         Setting::Leaf { value, .. } => in_a_byte(value.len()),
@@ -43,7 +50,8 @@ fn in_a_byte(length: usize) -> Option<usize>
     if length <= 255 { Some(length) } else { None }
 }
 
-/// Appends the spelling of the settings (CM-SP-MULPIv3.1, annex C). After `NoMemory` the bytes are as before.
+/// Appends the spelling of the settings (CM-SP-MULPIv3.1, annex C). After `NoMemory` the bytes are
+/// as before.
 pub fn write_settings(settings: &Settings, out: &mut Bytes) -> Result<(), NoMemory>
     requires { AllFit settings.now }
     ensures ok { OnOk result (out.new ≡ out.old ++ spelling settings.now) }

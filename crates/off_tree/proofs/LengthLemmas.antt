@@ -7,7 +7,7 @@ use Rattle.off_base.specs.Tree.{Tree, leaf, group, row_of, tree_length, trees_le
 use Rattle.off_base.proofs.TreeLemmas.{row_length-row_of, row_size-row_of}
 use Rattle.off_tree.specs.Fault.{or_else, too_many, long_setting, long_part}
 use Rattle.off_tree.specs.Length.{value_length, at_most_u32}
-use Rattle.off_tree.proofs.ShapeLemmas.{taken}
+use Rattle.off_base.proofs.TreeLemmas.{taken}
 
 length_push : (ts : List Tree) (t : Tree) → trees_length (ts ++ t ∷ []) ≡ trees_length ts + tree_length t
 length_push [] t = omega arith

@@ -7,7 +7,7 @@ use Rattle.std.proofs.lemmas.Option.{slice_get-get_or}
 use Rattle.off_base.specs.Tree.{Tree, leaf}
 use Rattle.off_tree.specs.Fault.{or_else, contains, as_list, numbers, first_repeat}
 use Rattle.off_tree.specs.Reference.{repeat_here, is_same}
-use Rattle.off_tree.proofs.ShapeLemmas.{taken, dropped}
+use Rattle.off_base.proofs.TreeLemmas.{taken, dropped}
 
 front_by : (b x y : Bool) → (b || x) ≡ true → (x ≡ true → y ≡ true) → (b || y) ≡ true
 front_by true x y h f = refl

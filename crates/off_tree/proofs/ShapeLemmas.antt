@@ -1,30 +1,19 @@
 -- Going over settings one by one against the walk of the definition.
-use Rattle.std.proofs.Common.{◌≡◌, ◌≢◌, ℕ, zero, suc, ◌+◌, ◌*◌, ◌<◌, ◌≤◌, Bool, true, false, eqb, List, [], ◌∷◌, ◌++◌, length, map, get_or, take, drop, refl, sym, ap, ◌∙◌, arith, Option, Some, None}
+use Rattle.std.proofs.Common.{◌≡◌, ◌≢◌, ℕ, zero, suc, ◌+◌, ◌*◌, ◌<◌, Bool, true, false, eqb, List, [], ◌∷◌, ◌++◌, length, map, get_or, take, drop, refl, sym, ap, ◌∙◌, arith, Option, Some, None}
 use Rattle.std.specs.Prelude.{◌||◌}
 use Rattle.std.specs.List.{slice_get}
 use Rattle.std.proofs.lemmas.Bool.Decides.{nat_tests}
-use Rattle.std.proofs.lemmas.List.{take_more, drop_more, map-append}
-use Rattle.std.proofs.lemmas.Option.{slice_get_within, get_or_from_slice_get, slice_get-get_or}
+use Rattle.std.proofs.lemmas.List.{map-append}
+use Rattle.std.proofs.lemmas.Option.{slice_get-get_or}
 use Rattle.off_base.specs.Tree.{Tree, leaf, group, code_of, row_of, tree_size, trees_size}
-use Rattle.off_base.proofs.TreeLemmas.{row_size-row_of}
+use Rattle.off_base.proofs.TreeLemmas.{row_size-row_of, size_at, taken, dropped}
 use Rattle.off_tree.specs.Fault.{or_else, contains, setting_fault, parts_fault}
 use Rattle.off_tree.specs.declared.tables.Level.{Level}
 use Rattle.off_tree.specs.declared.paths.Path.{Path}
 use Rattle.off_tree.specs.declared.paths.TreeFault.{TreeFault}
 
-pub size_at : (ts : List Tree) (i : ℕ) (t : Tree) → slice_get ts i ≡ Some t → tree_size t ≤ trees_size ts
-size_at [] i t e = cc
-size_at (u ∷ ts) zero t e = let same : u ≡ t = cc in omega (arith, ap tree_size same)
-size_at (u ∷ ts) (suc i) t e = omega (arith, size_at ts i t e)
-
 pub parts_smaller : (ts : List Tree) (i : ℕ) (t : Tree) (code : ℕ) (parts : List Tree) → slice_get ts i ≡ Some t → t ≡ group code (row_of parts) → 2 * trees_size parts + 1 < 2 * trees_size ts
 parts_smaller ts i t code parts e is = omega (arith, size_at ts i t e, ap tree_size is, row_size-row_of parts)
-
-pub taken : (ts : List Tree) (i : ℕ) (t : Tree) → slice_get ts i ≡ Some t → take (i + 1) ts ≡ take i ts ++ t ∷ []
-taken ts i t e = take_more ts i t (slice_get_within ts i t e) ∙ ap (λ (x : Tree). take i ts ++ x ∷ []) (get_or_from_slice_get ts i t t e)
-
-pub dropped : (ts : List Tree) (i : ℕ) (t : Tree) → slice_get ts i ≡ Some t → drop i ts ≡ t ∷ drop (i + 1) ts
-dropped ts i t e = drop_more ts i t (slice_get_within ts i t e) ∙ ap (λ (x : Tree). x ∷ drop (i + 1) ts) (get_or_from_slice_get ts i t t e)
 
 pub codes_more : (ts : List Tree) (i : ℕ) (t : Tree) → slice_get ts i ≡ Some t → map code_of (take (i + 1) ts) ≡ map code_of (take i ts) ++ code_of t ∷ []
 codes_more ts i t e = ap (map code_of) (taken ts i t e) ∙ map-append code_of (take i ts) (t ∷ [])

@@ -1,7 +1,9 @@
 ghost use Rattle.std.specs.Prelude.{◌≡◌, ◌↔◌, IsOk, option_map};
-ghost use Rattle.off_tree.specs.Fault.{first_fault, flow_fault, classifier_fault, length_fault, limit_of};
+ghost use Rattle.off_tree.specs.Fault.{first_fault, flow_fault, classifier_fault, length_fault};
+ghost use Rattle.off_tree.specs.Fault.{limit_of};
 ghost use Rattle.off_tree.specs.Good.{Good, checked};
-ghost use Rattle.off_tree.specs.declared.tables.Kind.TheVariants.{Class as a_class, AddOn as an_add_on};
+ghost use Rattle.off_tree.specs.declared.tables.Kind.TheVariants.{Class as a_class};
+ghost use Rattle.off_tree.specs.declared.tables.Kind.TheVariants.{AddOn as an_add_on};
 
 use crate::lengths::{long_part, spelled_length, too_many};
 use crate::paths::{Path, TreeFault};
@@ -10,9 +12,11 @@ use crate::shapes::parts_fault;
 use crate::tables::{Kind, Level};
 use off_base::Settings;
 
-/// Whether a class's settings are good by the tables, or their first broken rule. It takes no memory.
+/// Whether a class's settings are good by the tables, or their first broken rule. It takes no
+/// memory.
 ///
-/// A number of settings that are compared with one another is squared in its time; there are at most 300 in a good class.
+/// A number of settings that are compared with one another is squared in its time; there are at
+/// most 300 in a good class.
 pub fn check_class(settings: &Settings) -> Result<(), TreeFault>
     ensures first { result ≡ checked (first_fault a_class settings.now) }
     ensures good { IsOk result ↔ Good a_class settings.now }
@@ -20,7 +24,8 @@ pub fn check_class(settings: &Settings) -> Result<(), TreeFault>
     check(Kind::Class, settings)
 }
 
-/// Whether an add-on's settings are good by the tables, or their first broken rule. It takes no memory.
+/// Whether an add-on's settings are good by the tables, or their first broken rule. It takes no
+/// memory.
 pub fn check_addon(settings: &Settings) -> Result<(), TreeFault>
     ensures first { result ≡ checked (first_fault an_add_on settings.now) }
     ensures good { IsOk result ↔ Good an_add_on settings.now }

@@ -11,6 +11,3 @@ mod values;
 
 pub use checking::{check_addon, check_class};
 pub use paths::{Path, TreeFault};
-
-#[cfg(test)]
-mod tests;

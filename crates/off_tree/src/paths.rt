@@ -1,7 +1,8 @@
 ghost use Rattle.std.specs.Prelude.{◌≡◌};
 ghost use Rattle.off_tree.specs.Place.{below};
 
-/// Where a setting stands: its code and those of the groups around it, from the outermost on. Codes that aren't used are 0.
+/// Where a setting stands: its code and those of the groups around it, from the outermost on. Codes
+/// that aren't used are 0.
 #[derive(Clone, Copy, Debug, PartialEq, Eq)]
 pub struct Path {
     /// How many codes there are.
@@ -14,7 +15,8 @@ pub struct Path {
 /// The first broken rule of a class's or an add-on's settings.
 #[derive(Clone, Copy, Debug, PartialEq, Eq)]
 pub enum TreeFault {
-    /// No setting of this code may stand here, or it's a group in place of a leaf or the other way round.
+    /// No setting of this code may stand here, or it's a group in place of a leaf or the other way
+    /// round.
     UnknownCode(Path),
     /// A value is too short or too long.
     Length(Path),
@@ -24,11 +26,13 @@ pub enum TreeFault {
     Missing(Path),
     /// A setting that stands at most once stands a second time.
     Twice(Path),
-    /// A flow has the reference of an earlier flow, or a classifier names this flow and there is none of its direction.
+    /// A flow has the reference of an earlier flow, or a classifier names this flow and there is
+    /// none of its direction.
     FlowReference(u16),
     /// A classifier has the reference of an earlier one.
     ClassifierReference(u8),
-    /// A value, the parts of a group or the whole have so many bytes, which are too many; at most the greatest `u32`.
+    /// A value, the parts of a group or the whole have so many bytes, which are too many; at most
+    /// the greatest `u32`.
     TooLong(u32),
 }
 

@@ -1,7 +1,11 @@
-ghost use Rattle.std.specs.Prelude.{◌≡◌, ◌<◌, ◌≤◌, [], Some, List, ℕ, length, take, option_map, slice_get};
+ghost use Rattle.std.specs.Prelude.{◌≡◌, ◌<◌, ◌≤◌, [], Some, List, ℕ, length, take, option_map};
+ghost use Rattle.std.specs.Prelude.{slice_get};
 ghost use Rattle.off_base.specs.Tree.{Tree, code_of};
 ghost use Rattle.off_base.specs.Setting.{tree_of};
-ghost use Rattle.off_tree.specs.Fault.{contains, leaf_value, value_in, part_of, pair, single, flow_number, classifier_number, named_flow, is_classifier, direction_of, both_directions, numbers, first_repeat, lost_flow, first_lost, lost_number};
+ghost use Rattle.off_tree.specs.Fault.{contains, leaf_value, value_in, part_of, pair, single};
+ghost use Rattle.off_tree.specs.Fault.{flow_number, classifier_number, named_flow, is_classifier};
+ghost use Rattle.off_tree.specs.Fault.{direction_of, both_directions, numbers, first_repeat};
+ghost use Rattle.off_tree.specs.Fault.{lost_flow, first_lost, lost_number};
 ghost use Rattle.off_tree.specs.Reference.{directions_of, repeat_here, is_same};
 
 use crate::shapes::code_of;
@@ -55,7 +59,8 @@ pub(crate) fn repeated_flow(settings: &Settings) -> Option<u16>
 fn repeats_flow(settings: &Settings, place: usize) -> Option<u16>
     requires { place < length settings.now }
     ensures { (t : Tree) → slice_get settings.now place ≡ Some t
-        → result ≡ repeat_here (numbers (flow_number both_directions) (take place settings.now)) (flow_number both_directions t) }
+        → result ≡ repeat_here (numbers (flow_number both_directions) (take place settings.now))
+        (flow_number both_directions t) }
 {
     let Some(number) = Flows::Both.number(settings.get(place)) else {
         return None;
@@ -70,7 +75,8 @@ fn repeats_flow(settings: &Settings, place: usize) -> Option<u16>
 // Whether a flow before a place has the reference.
 fn has_flow(flows: Flows, settings: &Settings, end: usize, number: u16) -> bool
     requires { end ≤ length settings.now }
-    ensures { result ≡ contains number (numbers (flow_number (directions_of flows)) (take end settings.now)) }
+    ensures { result ≡ contains number
+        (numbers (flow_number (directions_of flows)) (take end settings.now)) }
 {
     for place in 0..end {
         if is_same(flows.number(settings.get(place)), number) {
@@ -152,7 +158,8 @@ pub(crate) fn repeated_classifier(settings: &Settings) -> Option<u8>
 fn repeats_classifier(settings: &Settings, place: usize) -> Option<u8>
     requires { place < length settings.now }
     ensures { (t : Tree) → slice_get settings.now place ≡ Some t
-        → result ≡ repeat_here (numbers classifier_number (take place settings.now)) (classifier_number t) }
+        → result ≡ repeat_here (numbers classifier_number (take place settings.now))
+        (classifier_number t) }
 {
     let Some(number) = classifier_number(settings.get(place)) else {
         return None;

@@ -1,8 +1,11 @@
-ghost use Rattle.std.specs.Prelude.{◌≡◌, ◌<◌, ◌≤◌, ◌&&◌, not, [], Some, length, map, take, slice_get};
+ghost use Rattle.std.specs.Prelude.{◌≡◌, ◌<◌, ◌≤◌, ◌&&◌, not, [], Some, length, map, take};
+ghost use Rattle.std.specs.Prelude.{slice_get};
 ghost use Rattle.off_base.specs.Tree.{Tree, code_of, row_of};
 ghost use Rattle.off_base.specs.Setting.{tree_of};
 ghost use Rattle.off_tree.specs.Table.{is_needed};
-ghost use Rattle.off_tree.specs.Fault.{contains, leaf_fault, group_fault, missing_in, setting_fault, parts_fault};
+ghost use Rattle.off_tree.specs.Good.{single_rule};
+ghost use Rattle.off_tree.specs.Fault.{contains, leaf_fault, group_fault, missing_in};
+ghost use Rattle.off_tree.specs.Fault.{setting_fault, parts_fault};
 
 use crate::paths::{Path, TreeFault};
 use crate::tables::{Form, Level, Rule};
@@ -25,15 +28,17 @@ pub(crate) fn parts_fault(level: Level, path: Path, settings: &Settings) -> Opti
 #[cycle(shapes)]
 fn setting_fault(level: Level, path: Path, settings: &Settings, place: usize) -> Option<TreeFault>
     requires { place < length settings.now }
-    ensures { (t : Tree) → slice_get settings.now place ≡ Some t → result ≡ setting_fault level path (map code_of (take place settings.now)) t }
+    ensures { (t : Tree) → slice_get settings.now place ≡ Some t
+        → result ≡ setting_fault level path (map code_of (take place settings.now)) t }
 {
     let setting = settings.get(place);
     let code = code_of(setting);
-    let seen = stands(settings, place, code);
+    let rule = level.rule(code);
+    let again = is_again(rule, settings, place, code);
     let path = path.below(code);
     match setting {
-        Setting::Leaf { value, .. } => leaf_fault(level.rule(code), path, seen, value.as_slice()),
-        Setting::Group { parts, .. } => match group_fault(level.rule(code), path, seen) {
+        Setting::Leaf { value, .. } => leaf_fault(rule, path, again, value.as_slice()),
+        Setting::Group { parts, .. } => match group_fault(rule, path, again) {
             Some(fault) => Some(fault),
             None => parts_fault(level.inside(code), path, parts),
         },
@@ -46,6 +51,19 @@ pub(crate) fn code_of(setting: &Setting) -> u8
     match setting {
         Setting::Leaf { code, .. } => *code,
         Setting::Group { code, .. } => *code,
+    }
+}
+
+// Whether a setting that may not stand twice stands before a place. Only for such codes are the
+// earlier settings looked at: a list has a few of them before its first fault, so all of these
+// looks together take a time in proportion to the list's length.
+fn is_again(rule: Option<Rule>, settings: &Settings, end: usize, code: u8) -> bool
+    requires { end ≤ length settings.now }
+    ensures { result ≡ (single_rule rule && contains code (map code_of (take end settings.now))) }
+{
+    match rule {
+        Some(rule) => rule.times.is_single() && stands(settings, end, code),
+        None => false,
     }
 }
 
@@ -75,7 +93,8 @@ fn missing(table: &[Rule], path: Path, settings: &Settings) -> Option<TreeFault>
 }
 
 fn is_missing(rule: Rule, settings: &Settings) -> bool
-    ensures { result ≡ (is_needed rule.times && not (contains rule.code (map code_of settings.now))) }
+    ensures { result ≡
+        (is_needed rule.times && not (contains rule.code (map code_of settings.now))) }
 {
     rule.times.is_needed() && !stands(settings, settings.len(), rule.code)
 }

@@ -1,4 +1,5 @@
-//! Which settings a class or an add-on may have: this project's profile of CM-SP-MULPIv3.1, annex C.
+//! Which settings a class or an add-on may have: this project's profile of CM-SP-MULPIv3.1, annex
+//! C.
 ghost use Rattle.std.specs.Prelude.{◌≡◌, ◌==◌};
 ghost use Rattle.off_tree.specs.Table.{table_of, rule_of, line_of, inside_of, is_single, is_needed};
 

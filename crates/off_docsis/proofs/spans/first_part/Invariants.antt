@@ -6,7 +6,7 @@ use Rattle.off_docsis.proofs.spans.first_part.Given as goal
 
 abbrev pub invariant-parts : goal.invariant-parts
 invariant-parts l =
-    (l.at ≤ length (bytes_of l.value)) × (l.span.there ≡ false → (l.span.at ≡ 0) × (l.span.len ≡ 0)) × (span_before l.span (span_in l.wanted (left l.marked l.at (bytes_of l.value))) ≡ span_in l.wanted (parts_in l.marked (bytes_of l.value)))
+    (l.bytes ≡ bytes_of l.value) × (l.at ≤ length (bytes_of l.value)) × (l.span.there ≡ false → (l.span.at ≡ 0) × (l.span.len ≡ 0)) × (span_before l.span (span_in l.wanted (left l.marked l.at (bytes_of l.value))) ≡ span_in l.wanted (parts_in l.marked (bytes_of l.value)))
 
 abbrev pub decreases-parts : goal.decreases-parts
 decreases-parts l = length (bytes_of l.value) - l.at

@@ -1,7 +1,8 @@
 use Rattle.std.proofs.Common.{◌+◌, length, take, ap, arith}
 use Rattle.off_base.specs.Tree.{spelling}
 use Rattle.off_base.specs.Setting.{tree_of}
-use Rattle.off_tlv.proofs.WritingLemmas.{size_at, fits_at, fits_more, length_more, parts_smaller, parts_of_fit, group_answers, sum_more}
+use Rattle.off_base.proofs.TreeLemmas.{size_at, parts_smaller}
+use Rattle.off_tlv.proofs.WritingLemmas.{fits_at, fits_more, length_more, parts_of_fit, group_answers, sum_more}
 use Rattle.off_tlv.proofs.writing.+spelled_len.Goals as goal
 
 pub spelled_len-value_len-requires : goal.spelled_len-value_len-requires

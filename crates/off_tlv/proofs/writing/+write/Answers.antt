@@ -2,7 +2,8 @@ use Rattle.std.proofs.Common.{ℕ, List, ◌++◌, take, ap, sym, ◌∙◌, app
 use Rattle.std.proofs.lemmas.Result.{on_ok_weaker}
 use Rattle.off_base.specs.Tree.{spelling, spelled}
 use Rattle.off_base.specs.Setting.{tree_of}
-use Rattle.off_tlv.proofs.WritingLemmas.{size_at, fits_at, spelled_more, parts_smaller, parts_of_fit, group_pushed}
+use Rattle.off_base.proofs.TreeLemmas.{size_at, parts_smaller}
+use Rattle.off_tlv.proofs.WritingLemmas.{fits_at, spelled_more, parts_of_fit, group_pushed}
 use Rattle.off_tlv.proofs.writing.+write.Goals as goal
 
 pub push_setting-unreachable-requires : goal.push_setting-unreachable-requires

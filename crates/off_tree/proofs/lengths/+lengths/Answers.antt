@@ -1,7 +1,7 @@
 use Rattle.std.proofs.Common.{ℕ, ◌+◌, ap, ◌∙◌, arith}
 use Rattle.off_base.specs.Setting.{tree_of}
 use Rattle.off_tree.specs.Length.{at_most_u32}
-use Rattle.off_tree.proofs.ShapeLemmas.{size_at}
+use Rattle.off_base.proofs.TreeLemmas.{size_at}
 use Rattle.off_tree.proofs.LengthLemmas.{length_more, parts_smaller, parts_length}
 use Rattle.off_tree.proofs.lengths.+lengths.Goals as goal
 

@@ -4,7 +4,7 @@ use Rattle.off_base.specs.Tree.{Tree, row_of}
 use Rattle.off_base.specs.Setting.{tree_of}
 use Rattle.off_tree.specs.Fault.{long_setting, long_part}
 use Rattle.off_tree.specs.Length.{at_most_u32}
-use Rattle.off_tree.proofs.ShapeLemmas.{size_at}
+use Rattle.off_base.proofs.TreeLemmas.{size_at}
 use Rattle.off_tree.proofs.ReferenceLemmas.{search_found, search_none}
 use Rattle.off_tree.proofs.LengthLemmas.{parts_smaller, map_or_else, long_itself, long_leaf, long_group}
 use Rattle.off_tree.proofs.lengths.+long.Goals as goal

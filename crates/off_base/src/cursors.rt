@@ -1,0 +1,112 @@
+ghost use Rattle.std.specs.Prelude.{◌≡◌, ◌<◌, ◌≤◌, true, length, IsOk};
+ghost use Rattle.off_base.specs.Parts.{parts_in};
+ghost use Rattle.off_base.specs.Walk.{all_values, Stands, Holds, Finds};
+
+use crate::joined::counted;
+use crate::parts::{Step, next_in, next_part};
+use crate::readable::Readable;
+use std::marker::Model;
+
+/// A place among options: that of an option's code, and how many joined bytes lie before its value.
+#[derive(Clone, Copy, Debug)]
+pub struct Cursor {
+    at: usize,
+    before: usize,
+}
+
+/// A joined value, to be read from the front on: one walk over its bytes is one walk over the
+/// options.
+///
+/// Contracts see its bytes. It lies where the options lie, and takes no memory.
+#[derive(Debug, Drop)]
+pub struct JoinedBytes<'a> {
+    options: &'a [u8],
+    code: u8,
+    len: usize,
+    cursor: Cursor,
+}
+
+impl<'a> Model for JoinedBytes<'a> {
+    ghost use Rattle.std.specs.Prelude.{List, ℕ, ◌≡◌, length, true, IsOk};
+    ghost use Rattle.off_base.specs.Parts.{parts_in};
+    ghost use Rattle.off_base.specs.Walk.{all_values, Stands};
+
+    ghost Value = { List ℕ };
+
+    ghost view = { λ b. all_values b.code b.options.now };
+
+    ghost invariant = { λ b. IsOk (parts_in true b.options.now)
+        × (b.len ≡ length (all_values b.code b.options.now))
+        × Stands b.options.now b.code b.cursor };
+}
+
+impl<'a> JoinedBytes<'a> {
+    // The joined values of a code, of which there are so many bytes.
+    pub(crate) fn over(options: &'a [u8], code: u8, len: usize) -> JoinedBytes<'a>
+        requires read { IsOk (parts_in true options.now) }
+        requires counted { len ≡ length (all_values code options.now) }
+        ensures { result ≡ all_values code options.now }
+    {
+        JoinedBytes {
+            options,
+            code,
+            len,
+            cursor: FRONT,
+        }
+    }
+
+    /// The next part of the value from a place on.
+    pub fn next_part(&mut self, from: usize, marked: bool) -> Step
+        requires { from ≤ length self.old }
+        ensures found { Finds marked self.old from result }
+        ensures same { self.new ≡ self.old }
+    {
+        next_in(self, from, marked)
+    }
+}
+
+impl<'a> Readable for JoinedBytes<'a> {
+    ghost bytes = { λ joined. joined };
+
+    fn len(&self) -> usize {
+        self.len
+    }
+
+    fn byte(&mut self, place: usize) -> u8 {
+        let near = if place < self.cursor.before {
+            FRONT
+        } else {
+            self.cursor
+        };
+        let cursor = holder(self.options, self.code, near, place);
+        self.cursor = cursor;
+        self.options[cursor.at + 2 + (place - cursor.before)]
+    }
+}
+
+const FRONT: Cursor = Cursor { at: 0, before: 0 };
+
+// Where the option stands that has a joined byte, from a cursor on.
+fn holder(options: &[u8], wanted: u8, from: Cursor, i: usize) -> Cursor
+    requires stands { Stands options.now wanted from }
+    requires behind { from.before ≤ i }
+    requires within { i < length (all_values wanted options.now) }
+    ensures { Holds options.now wanted i result }
+{
+    let mut at = from.at;
+    let mut before = from.before;
+    'options: loop {
+        match next_part(options, at, true) {
+            Step::Found(code, place, len) => {
+                let here = counted(code == wanted, len);
+                if i - before < here {
+                    return Cursor { at: place, before };
+                }
+                before += here;
+                at = place + 2 + len;
+            }
+            Step::End => unreachable!(),
+            Step::Cut(_) => unreachable!(),
+        }
+    }
+}
