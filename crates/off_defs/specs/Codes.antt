@@ -19,10 +19,10 @@ abbrev pub transfer_code : Coded Transfer
 transfer_code =
     code_by (((Bytes × Bytes) × (ℕ × Bytes)) × (((ℕ × Bytes) × (ℕ × Bool)) × (ℕ × ℕ)))
     (coded× (coded× (coded× bytes_code bytes_code) (coded× coded_ℕ bytes_code)) (coded× (coded× (coded× coded_ℕ bytes_code) (coded× coded_ℕ coded_bool)) (coded× coded_ℕ coded_ℕ)))
-    (λ t. (((t.name, t.modem), (t.subscriber, t.file)), (((t.size, t.request), (t.sent, t.is_acknowledged)), (t.last_send, t.resends))))
+    (λ t. (((t.name, t.modem.0), (t.subscriber, t.file)), (((t.size, t.request), (t.sent, t.is_acknowledged)), (t.last_send, t.resends))))
     (λ p. record {
       name = p.0.0.0;
-      modem = p.0.0.1;
+      modem = record { 0 = p.0.0.1 };
       subscriber = p.0.1.0;
       file = p.0.1.1;
       size = p.1.0.0.0;

@@ -5,3 +5,6 @@ pub mod Codes
 pub mod Keys
 pub mod Tables
 pub mod Events
+pub mod Clock
+pub mod KeyText
+pub mod Kinds

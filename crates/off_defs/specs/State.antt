@@ -4,8 +4,10 @@ use Rattle.std.specs.Ordering.{nat_cmp, ordering_then}
 use Rattle.std.specs.declared.cmp.Ordering.{Ordering}
 use Rattle.std.specs.FinMap as map
 use Rattle.off_base.specs.declared.addresses.Peer.{Peer}
+use Rattle.off_base.specs.declared.macs.Mac.{Mac}
 use Rattle.off_defs.specs.declared.results.Sent.{Sent}
 use Rattle.off_defs.specs.declared.tables.Row.{Row}
+use Rattle.off_defs.specs.declared.orders.Write.{Write}
 use Rattle.off_defs.specs.Keys.{key_cmp}
 
 -- The tables that clerks keep, by key: the site, subscribers and their add-ons, modems, classes, pools, leases and who holds them, and
@@ -16,7 +18,7 @@ Tables = map.FinMap key_cmp Row
 -- A file on its way to a modem (RFC 1350). No service makes one yet.
 pub record Transfer : Type 0 where
   pub name : List ℕ
-  pub modem : List ℕ
+  pub modem : Mac
   pub subscriber : ℕ
   pub file : List ℕ
   pub size : ℕ
@@ -68,14 +70,15 @@ pub record Said : Type 0 where
 abbrev pub says_nothing : Said
 says_nothing = record { items = []; line = [] }
 
--- what an event has the office say, and the state that it leaves
+-- what an event has the office say; what it writes to the tables, in one commit, and nothing where there is none; and the state that it leaves
 pub record Effect : Type 0 where
   pub said : Said
+  pub commit : List Write
   pub after : State
 
 -- a line alone: nothing is sent, and the state stays
 abbrev pub only_line : State → List ℕ → Effect
-only_line s words = record { said = record { items = []; line = words }; after = s }
+only_line s words = record { said = record { items = []; line = words }; commit = []; after = s }
 
 -- nothing at all
 abbrev pub silence : State → Effect

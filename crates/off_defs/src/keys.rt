@@ -1,6 +1,7 @@
 use off_base::{Ip4, Mac};
 
-/// The key of a row in the office's tables. Keys are ordered by kind, in this order, and then by their numbers.
+/// The key of a row in the office's tables. Keys are ordered by kind, in this order, and then by
+/// their numbers.
 #[derive(Clone, Copy, Debug, PartialEq, Eq, PartialOrd, Ord)]
 pub enum Key {
     /// The office's one site.

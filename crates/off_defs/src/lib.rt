@@ -1,20 +1,24 @@
-//! What the office speaks of: events, keys, rows, writes, commands and the rules that refuse them, as plain types, with how the
-//! tables are read and written (`specs/`).
+//! What the office speaks of: events, keys, rows, writes, commands and the rules that refuse them,
+//! as plain types, with how the tables are read and written (`specs/`).
 //!
-//! What the office does stands in `off_rules`, when tables are good and what each command does, and in `off_book`, one event
-//! and a run of them.
+//! What the office does stands in `off_rules`, when tables are good and what each command does, and
+//! in `off_book`, one event and a run of them.
 #![tactic(auto)]
 
+mod copies;
 mod events;
 mod keys;
+mod labels;
 mod orders;
 mod results;
 mod rules;
 mod tables;
 
+pub use copies::copy_row;
 pub use events::{Event, Service, What};
 pub use keys::Key;
+pub use labels::{KeyText, key_text};
 pub use orders::{Command, ImportRow, ImportRows, Kind, Reply, Write, Writes};
 pub use results::{Outcome, Sent};
-pub use rules::{Rule, SiteField};
+pub use rules::Rule;
 pub use tables::{Batch, Class, Hold, ImportKind, Lease, Modem, Pool, Row, Site, Subscriber};

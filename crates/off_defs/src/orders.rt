@@ -1,4 +1,16 @@
-ghost use Rattle.std.specs.Prelude.{◌≡◌, ◌==◌, ◌<◌, ◌++◌, [], ◌∷◌, length, Some, slice_get, OnOk, OnErr};
+ghost use Rattle.std.specs.Prelude.{
+  ◌≡◌,
+  ◌==◌,
+  ◌<◌,
+  ◌++◌,
+  [],
+  ◌∷◌,
+  length,
+  Some,
+  slice_get,
+  OnOk,
+  OnErr,
+};
 
 use crate::keys::Key;
 use crate::tables::{Class, ImportKind, Modem, Pool, Row, Site, Subscriber};

@@ -2,19 +2,6 @@ use crate::orders::Kind;
 use off_base::Ip4;
 use off_tree::TreeFault;
 
-/// A value of a site that can be out of its range.
-#[derive(Clone, Copy, Debug, PartialEq, Eq)]
-pub enum SiteField {
-    /// The office's address is 0.0.0.0.
-    Server,
-    /// The secret has no bytes.
-    Secret,
-    /// The time of a lease isn't 60 to 604,800 seconds.
-    Lease,
-    /// The time zone isn't -86,400 to 86,400 seconds.
-    Offset,
-}
-
 /// Why a clerk's command is refused: the first of the command's rules that is broken.
 #[derive(Clone, Copy, Debug, PartialEq, Eq)]
 pub enum Rule {
@@ -42,6 +29,8 @@ pub enum Rule {
     NoRow,
     /// There are as many rows of the kind as there may be.
     Limit(Kind, u32),
-    /// A value of the site is out of its range.
-    Site(SiteField),
+    /// A value of the site is out of its range: 1, its address is 0.0.0.0; 2, its secret has no
+    /// bytes; 3, the time of a lease isn't 60 to 604,800 seconds; 4, the time zone isn't -86,400 to
+    /// 86,400 seconds.
+    Site(u8),
 }

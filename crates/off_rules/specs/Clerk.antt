@@ -29,7 +29,6 @@ use Rattle.off_defs.specs.declared.orders.Write.{Write}
 use Rattle.off_defs.specs.declared.orders.Write.TheVariants.{Put, Drop}
 use Rattle.off_defs.specs.declared.rules.Rule.{Rule}
 use Rattle.off_defs.specs.declared.rules.Rule.TheVariants as rule
-use Rattle.off_defs.specs.declared.rules.SiteField.TheVariants.{Server, Secret, Lease as LeaseTime, Offset}
 use Rattle.off_defs.specs.State.{Tables}
 use Rattle.off_defs.specs.Tables.{write_all}
 use Rattle.off_rules.specs.Rows.{is_offset, is_lease_time, has_pool_size, seen_at, subscriber_in, class_in, pool_in, batch_in, modems, pools, leases, has_address, overlaps, count_of}
@@ -108,15 +107,20 @@ abbrev pub removal_rules : Tables → ℕ → Key → List (Option Rule)
 removal_rules tables now (key.Subscriber n) = no_row tables (key.Subscriber n) ∷ has_modems tables n ∷ []
 removal_rules tables now (key.Class n) = no_row tables (key.Class n) ∷ class_in_use tables n ∷ []
 removal_rules tables now (key.Pool n) = no_row tables (key.Pool n) ∷ pool_has_leases tables now n None ∷ []
-removal_rules tables now removed = no_row tables removed ∷ []
+removal_rules tables now (key.AddOn n number) = no_row tables (key.AddOn n number) ∷ []
+removal_rules tables now (key.Modem mac) = no_row tables (key.Modem mac) ∷ []
+removal_rules tables now key.Site = no_row tables key.Site ∷ []
+removal_rules tables now (key.Lease address) = no_row tables (key.Lease address) ∷ []
+removal_rules tables now (key.Held mac) = no_row tables (key.Held mac) ∷ []
+removal_rules tables now (key.Batch n) = no_row tables (key.Batch n) ∷ []
 
 -- the rules of a command in their order. An import has rules for each of its rows, below
 abbrev pub rules_of : Tables → ℕ → Command → List (Option Rule)
 rules_of tables now (SetSite site) =
-    when (site.server.0 == 0) (rule.Site Server)
-    ∷ when (length site.secret == 0) (rule.Site Secret)
-    ∷ when (not (is_lease_time site.lease)) (rule.Site LeaseTime)
-    ∷ when (not (is_offset site.offset)) (rule.Site Offset)
+    when (site.server.0 == 0) (rule.Site 1)
+    ∷ when (length site.secret == 0) (rule.Site 2)
+    ∷ when (not (is_lease_time site.lease)) (rule.Site 3)
+    ∷ when (not (is_offset site.offset)) (rule.Site 4)
     ∷ []
 rules_of tables now (PutSubscriber n subscriber) = limit tables (key.Subscriber n) Subscribers ∷ []
 rules_of tables now (PutAddOn n number settings) =
@@ -150,7 +154,13 @@ add_on_keys n = map (key.AddOn n) (0 ∷ 1 ∷ 2 ∷ 3 ∷ 4 ∷ 5 ∷ 6 ∷ 7 �
 abbrev pub removal_writes : Tables → Key → List Write
 removal_writes tables (key.Subscriber n) = Drop (key.Subscriber n) ∷ map Drop (add_on_keys n)
 removal_writes tables (key.Pool n) = Drop (key.Pool n) ∷ flat_map lease_drops (lost_leases tables n None)
-removal_writes tables removed = Drop removed ∷ []
+removal_writes tables (key.AddOn n number) = Drop (key.AddOn n number) ∷ []
+removal_writes tables (key.Modem mac) = Drop (key.Modem mac) ∷ []
+removal_writes tables (key.Class n) = Drop (key.Class n) ∷ []
+removal_writes tables key.Site = Drop key.Site ∷ []
+removal_writes tables (key.Lease address) = Drop (key.Lease address) ∷ []
+removal_writes tables (key.Held mac) = Drop (key.Held mac) ∷ []
+removal_writes tables (key.Batch n) = Drop (key.Batch n) ∷ []
 
 -- what a command writes that no rule refuses
 abbrev pub writes_of : Tables → Command → List Write
@@ -204,12 +214,19 @@ abbrev pub unless_broken : ℕ → Option Rule → Result (List Write) Refusal �
 unless_broken at None rest = rest
 unless_broken at (Some broken) rest = Err (refusal at broken)
 
+-- what a row writes, and which rule it breaks first
+abbrev pub row_writes : Tables → ImportRow → List Write
+row_writes tables first = writes_of tables (command_of first)
+
+abbrev pub row_breaks : Tables → ℕ → ImportRow → Option Rule
+row_breaks tables now first = first_broken (rules_of tables now (command_of first))
+
 -- the rows from row number `at` on
 abbrev pub rows_written : Tables → ℕ → ℕ → List ImportRow → Result (List Write) Refusal
 rows_written tables now at [] = Ok []
 rows_written tables now at (first ∷ rest) =
-    unless_broken at (first_broken (rules_of tables now (command_of first)))
-    (then_writes (writes_of tables (command_of first)) (rows_written (write_all tables (writes_of tables (command_of first))) now (at + 1) rest))
+    unless_broken at (row_breaks tables now first)
+    (then_writes (row_writes tables first) (rows_written (write_all tables (row_writes tables first)) now (at + 1) rest))
 
 abbrev pub is_kind : ImportKind → ImportKind → Bool
 is_kind import.Subscribers import.Subscribers = true
@@ -237,31 +254,25 @@ import_decided tables now kind batch digest rows None = imported_as tables kind 
 abbrev pub decided : Tables → ℕ → Command → Decision
 decided tables now (Show key) = shown key (seen_at tables key)
 decided tables now (Import kind batch digest rows) = import_decided tables now kind batch digest rows (batch_in tables batch)
-decided tables now (SetSite site) = by_rule 0 (accepted (writes_of tables (SetSite site)) Done) (first_broken (rules_of tables now (SetSite site)))
-decided tables now (PutSubscriber n subscriber) =
-    by_rule 0 (accepted (writes_of tables (PutSubscriber n subscriber)) Done) (first_broken (rules_of tables now (PutSubscriber n subscriber)))
-decided tables now (PutAddOn n number settings) =
-    by_rule 0 (accepted (writes_of tables (PutAddOn n number settings)) Done) (first_broken (rules_of tables now (PutAddOn n number settings)))
-decided tables now (PutModem mac modem) = by_rule 0 (accepted (writes_of tables (PutModem mac modem)) Done) (first_broken (rules_of tables now (PutModem mac modem)))
-decided tables now (PutClass n class) = by_rule 0 (accepted (writes_of tables (PutClass n class)) Done) (first_broken (rules_of tables now (PutClass n class)))
-decided tables now (PutPool n pool) = by_rule 0 (accepted (writes_of tables (PutPool n pool)) Done) (first_broken (rules_of tables now (PutPool n pool)))
-decided tables now (Remove removed) = by_rule 0 (accepted (writes_of tables (Remove removed)) Done) (first_broken (rules_of tables now (Remove removed)))
+decided tables now command = by_rule 0 (accepted (writes_of tables command) Done) (first_broken (rules_of tables now command))
 
--- The step of a command at a moment: the answer, and the tables after it, which are as before where it was refused
+-- The step of a command at a moment: what is written, the tables after it, and the answer. Where it was refused, nothing is written, and the
+-- tables are as before
 pub record Stepped : Type 0 where
+  pub writes : List Write
   pub tables : Tables
   pub answer : Result Reply Refusal
 
 abbrev pub stepped_by : Tables → Decision → Stepped
-stepped_by tables (Ok done) = record { tables = write_all tables done.writes; answer = Ok done.reply }
-stepped_by tables (Err refused) = record { tables = tables; answer = Err refused }
+stepped_by tables (Ok done) = record { writes = done.writes; tables = write_all tables done.writes; answer = Ok done.reply }
+stepped_by tables (Err refused) = record { writes = []; tables = tables; answer = Err refused }
 
 unfoldable pub clerk_step : Tables → ℕ → Command → Stepped
 clerk_step tables now command = stepped_by tables (decided tables now command)
 
--- a step that was answered so, and left these tables; one that a rule refused, and that left the tables as they were
-abbrev pub IsAnswered : Tables → Reply → Stepped → Type 0
-IsAnswered tables done step = step ≡ record { tables = tables; answer = Ok done }
+-- what becomes of tables in a step that was done with these writes and this answer, and in one that a rule refused
+abbrev pub step_done : Tables → List Write → Reply → Stepped
+step_done tables writes reply = record { writes = writes; tables = write_all tables writes; answer = Ok reply }
 
-abbrev pub IsRefused : Tables → ℕ → Rule → Stepped → Type 0
-IsRefused tables at broken step = step ≡ record { tables = tables; answer = Err (refusal at broken) }
+abbrev pub step_refused : Tables → ℕ → Rule → Stepped
+step_refused tables at broken = record { writes = []; tables = tables; answer = Err (refusal at broken) }

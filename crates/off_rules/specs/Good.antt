@@ -1,6 +1,6 @@
 -- When tables are good: each key's row is possible and stands in the right relations to the other rows. Here rows are read as they are,
 -- also impossible ones, so that the least bad key is named and not one that stands on it.
-use Rattle.std.specs.Prelude.{◌≡◌, ◌==◌, Bool, true, false, not, ◌&&◌, ◌||◌, IsTrue, List, Option, Some, None, is_some, option_and_then, option_map, unwrap_or}
+use Rattle.std.specs.Prelude.{◌≡◌, ◌==◌, Bool, true, false, not, ◌&&◌, ◌||◌, IsTrue, List, Option, Some, None, is_some, option_and_then}
 use Rattle.std.specs.List.{filter_map, list_all, count_by}
 use Rattle.std.specs.Ordering.{eq_by_cmp, nat_cmp}
 use Rattle.std.specs.Cmp.Lexicographic.{slice_cmp}
@@ -19,7 +19,9 @@ use Rattle.off_defs.specs.declared.tables.Hold.TheVariants.{Offered, Bound, Decl
 use Rattle.off_defs.specs.Keys.{key_cmp}
 use Rattle.off_defs.specs.State.{Tables}
 use Rattle.off_defs.specs.Tables.{row_at}
-use Rattle.off_rules.specs.Rows.{is_possible, has_address, overlaps, as_lease, as_held}
+use Rattle.off_defs.specs.declared.tables.Modem.{Modem}
+use Rattle.off_defs.specs.declared.tables.Lease.{Lease}
+use Rattle.off_rules.specs.Rows.{passes, is_possible, has_address, overlaps, as_modem, as_pool, as_lease, as_held}
 
 abbrev pub is_there : Tables → Key → Bool
 is_there tables key = is_some (row_at tables key)
@@ -50,8 +52,14 @@ abbrev pub is_mac : Mac → Mac → Bool
 is_mac mac other = eq_by_cmp (slice_cmp nat_cmp) mac.0 other.0
 
 -- the modem holds this address; this modem owns the lease of an address
+abbrev pub is_address : Ip4 → Ip4 → Bool
+is_address address other = other.0 == address.0
+
+abbrev pub held_at : Tables → Mac → Option Ip4
+held_at tables mac = option_and_then as_held (row_at tables (key.Held mac))
+
 abbrev pub holds : Tables → Ip4 → Mac → Bool
-holds tables address mac = unwrap_or (option_map (λ (held : Ip4). held.0 == address.0) (option_and_then as_held (row_at tables (key.Held mac)))) false
+holds tables address mac = passes (is_address address) (held_at tables mac)
 
 abbrev pub owner_holds : Tables → Ip4 → Option Mac → Bool
 owner_holds tables address None = true
@@ -61,18 +69,28 @@ abbrev pub owner_at : Tables → Ip4 → Option Mac
 owner_at tables address = option_and_then (λ lease. owner_of lease.hold) (option_and_then as_lease (row_at tables (key.Lease address)))
 
 abbrev pub owns : Tables → Mac → Ip4 → Bool
-owns tables mac address = unwrap_or (option_map (is_mac mac) (owner_at tables address)) false
+owns tables mac address = passes (is_mac mac) (owner_at tables address)
 
--- an add-on has its subscriber, a modem its subscriber and its class, a lease its site and its pool; a lease and the row of who holds it
--- name each other
-abbrev pub stands_right : Tables → Key → Row → Bool
-stands_right tables (key.AddOn n number) held = is_there tables (key.Subscriber n)
-stands_right tables (key.Modem mac) (row.Modem modem) = is_there tables (key.Subscriber modem.subscriber) && is_there tables (key.Class modem.class)
-stands_right tables (key.Pool n) (row.Pool pool) = list_all (is_apart n pool) (raw_pools tables)
-stands_right tables (key.Lease address) (row.Lease lease) =
+-- a modem has its subscriber and its class
+abbrev pub modem_stands : Tables → Modem → Bool
+modem_stands tables modem = is_there tables (key.Subscriber modem.subscriber) && is_there tables (key.Class modem.class)
+
+-- a lease has its site and its one pool, and its owner holds its address
+abbrev pub lease_stands : Tables → Ip4 → Lease → Bool
+lease_stands tables address lease =
     is_there tables key.Site && ((pools_around tables address == 1) && owner_holds tables address (owner_of lease.hold))
-stands_right tables (key.Held mac) (row.Held address) = owns tables mac address
-stands_right tables key held = true
+
+-- an add-on has its subscriber; no pool has an address or the relay of another; who holds an address owns its lease
+abbrev pub stands_right : Tables → Key → Row → Bool
+stands_right tables key.Site held = true
+stands_right tables (key.Subscriber n) held = true
+stands_right tables (key.AddOn n number) held = is_there tables (key.Subscriber n)
+stands_right tables (key.Modem mac) held = passes (modem_stands tables) (as_modem held)
+stands_right tables (key.Class n) held = true
+stands_right tables (key.Pool n) held = passes (λ pool. list_all (is_apart n pool) (raw_pools tables)) (as_pool held)
+stands_right tables (key.Lease address) held = passes (lease_stands tables address) (as_lease held)
+stands_right tables (key.Held mac) held = passes (owns tables mac) (as_held held)
+stands_right tables (key.Batch n) held = true
 
 abbrev pub keeps : Tables → Key → Row → Bool
 keeps tables key held = is_possible key held && stands_right tables key held

@@ -1,6 +1,6 @@
 -- Rows of the tables, by kind. A row is possible at a key where it's of the key's kind and its own values are in their ranges, whatever
 -- the other rows are. Whoever reads a row takes an impossible one as one that isn't there; only the test of good tables doesn't.
-use Rattle.std.specs.Prelude.{ℕ, ℤ, pos, neg_ℤ, ◌-◌, ◌==◌, Bool, true, false, not, ◌&&◌, nat_le, nat_lt, int_le, min, max, List, length, Option, Some, None, is_none, option_and_then, if◌then◌else◌}
+use Rattle.std.specs.Prelude.{ℕ, ℤ, pos, neg_ℤ, ◌-◌, ◌==◌, Bool, true, false, not, ◌&&◌, nat_le, nat_lt, int_le, min, max, List, length, Option, Some, None, is_some, is_none, option_and_then, if◌then◌else◌}
 use Rattle.std.specs.List.{filter_map, count_by}
 use Rattle.std.specs.Int.{is_in_range}
 use Rattle.std.specs.FinMap as map
@@ -54,26 +54,7 @@ has_pool_size pool = nat_le pool.first.0 pool.last.0 && nat_lt (pool.last.0 - po
 abbrev pub pool_fits : Pool → Bool
 pool_fits pool = has_pool_size pool && (is_in_range 8 30 pool.prefix && not (pool.relay.0 == 0))
 
-abbrev pub is_possible : Key → Row → Bool
-is_possible key.Site (row.Site site) = site_fits site
-is_possible (key.Subscriber n) (row.Subscriber subscriber) = subscriber_fits subscriber
-is_possible (key.AddOn n number) (row.AddOn settings) = nat_le number 7 && add_on_is_good settings
-is_possible (key.Modem mac) (row.Modem modem) = true
-is_possible (key.Class n) (row.Class class) = class_is_good class.settings
-is_possible (key.Pool n) (row.Pool pool) = pool_fits pool
-is_possible (key.Lease address) (row.Lease lease) = true
-is_possible (key.Held mac) (row.Held address) = true
-is_possible (key.Batch n) (row.Batch batch) = true
-is_possible key row = false
-
--- the row of a key, as whoever reads it takes it
-abbrev pub possible : Key → Option Row → Option Row
-possible key None = None
-possible key (Some row) = if is_possible key row then Some row else None
-
-abbrev pub seen_at : Tables → Key → Option Row
-seen_at tables key = possible key (row_at tables key)
-
+-- the row, where it is of the kind; each reader takes the rows of its own kind and no others
 abbrev pub as_site : Row → Option Site
 as_site (row.Site site) = Some site
 as_site row = None
@@ -109,6 +90,30 @@ as_held row = None
 abbrev pub as_batch : Row → Option Batch
 as_batch (row.Batch batch) = Some batch
 as_batch row = None
+
+-- the row is of the wanted kind, and passes the test
+abbrev pub passes : {X : Type 0} → (X → Bool) → Option X → Bool
+passes test None = false
+passes test (Some x) = test x
+
+abbrev pub is_possible : Key → Row → Bool
+is_possible key.Site held = passes site_fits (as_site held)
+is_possible (key.Subscriber n) held = passes subscriber_fits (as_subscriber held)
+is_possible (key.AddOn n number) held = passes (λ settings. nat_le number 7 && add_on_is_good settings) (as_add_on held)
+is_possible (key.Modem mac) held = is_some (as_modem held)
+is_possible (key.Class n) held = passes (λ class. class_is_good class.settings) (as_class held)
+is_possible (key.Pool n) held = passes pool_fits (as_pool held)
+is_possible (key.Lease address) held = is_some (as_lease held)
+is_possible (key.Held mac) held = is_some (as_held held)
+is_possible (key.Batch n) held = is_some (as_batch held)
+
+-- the row of a key, as whoever reads it takes it
+abbrev pub possible : Key → Option Row → Option Row
+possible key None = None
+possible key (Some row) = if is_possible key row then Some row else None
+
+abbrev pub seen_at : Tables → Key → Option Row
+seen_at tables key = possible key (row_at tables key)
 
 abbrev pub site_in : Tables → Option Site
 site_in tables = option_and_then as_site (seen_at tables key.Site)
@@ -186,7 +191,11 @@ is_counted kind entry = is_of_kind kind entry.0 && is_possible entry.0 entry.1
 abbrev pub count_of : Kind → Tables → ℕ
 count_of kind tables = count_by (is_counted kind) (map.entries tables)
 
--- All counts as the office keeps them. There are fewer keys of each kind but the last than 2^64; as many as 2^64 batches count as 2^64 - 1.
+-- the greatest count of batches, 2^64 - 1: as many or more count as that one
+abbrev pub greatest_count : ℕ
+greatest_count = 18446744073709551615
+
+-- All counts as the office keeps them. There are fewer keys of each kind but the last than 2^64.
 abbrev pub counts_of : Tables → Counts
 counts_of tables = record {
   subscribers = count_of Subscribers tables;
@@ -194,5 +203,5 @@ counts_of tables = record {
   modems = count_of Modems tables;
   classes = count_of Classes tables;
   pools = count_of Pools tables;
-  batches = min 18446744073709551615 (count_of Batches tables);
+  batches = min greatest_count (count_of Batches tables);
 }

@@ -15,8 +15,8 @@ use Rattle.off_defs.specs.declared.tables.Lease.{Lease}
 use Rattle.off_defs.specs.State.{Tables}
 use Rattle.off_defs.specs.Tables.{row_at}
 use Rattle.off_defs.proofs.TableLemmas.{same_key, own_key}
-use Rattle.off_rules.specs.Rows.{is_possible, has_address, as_lease, as_held}
-use Rattle.off_rules.specs.Good.{is_there, raw_pool_of, raw_pools, is_apart, pools_around, owner_of, is_mac, holds, owner_holds, owns, stands_right, Good}
+use Rattle.off_rules.specs.Rows.{passes, is_possible, has_address, as_lease, as_held}
+use Rattle.off_rules.specs.Good.{is_address, is_there, raw_pool_of, raw_pools, is_apart, pools_around, owner_of, is_mac, holds, owner_holds, owns, stands_right, Good}
 use Rattle.off_table_laws.proofs.ListLemmas.{In, Distinct, all_in, in_all, one_counted, counted_one, in_made, made_in, distinct_made}
 use Rattle.off_table_laws.proofs.EntryRows.{row_in, in_row, distinct_entries}
 use Rattle.off_table_laws.proofs.GoodRows.{OnePool, OwnedBy, GoodRows}
@@ -76,7 +76,7 @@ mac_own : (mac : Mac) → is_mac mac mac ≡ true
 mac_own mac = own_key (key.Modem mac)
 
 -- who holds an address
-held_same : (o : Option Row) (address : Ip4) → unwrap_or (option_map (λ (held : Ip4). eqb held.0 address.0) (option_and_then as_held o)) false ≡ true → o ≡ Some (row.Held address)
+held_same : (o : Option Row) (address : Ip4) → passes (is_address address) (option_and_then as_held o) ≡ true → o ≡ Some (row.Held address)
 held_same (Some (row.Held held)) address e = let n = eqb-true held.0 address.0 e in λ i. Some (row.Held (record { 0 = n i }))
 held_same o address e = cc
 
@@ -85,14 +85,14 @@ holds_row t address mac e = held_same (row_at t (key.Held mac)) address e
 
 row_holds : (t : Tables) (address : Ip4) (mac : Mac) → row_at t (key.Held mac) ≡ Some (row.Held address) → holds t address mac ≡ true
 row_holds t address mac e =
-    ap (λ (o : Option Row). unwrap_or (option_map (λ (held : Ip4). eqb held.0 address.0) (option_and_then as_held o)) false) e ∙ eq-eqb address.0 address.0 refl
+    ap (λ (o : Option Row). passes (is_address address) (option_and_then as_held o)) e ∙ eq-eqb address.0 address.0 refl
 
 -- who owns a lease
-owned_same : (o : Option Row) (mac : Mac) → unwrap_or (option_map (is_mac mac) (option_and_then (λ (lease : Lease). owner_of lease.hold) (option_and_then as_lease o))) false ≡ true
+owned_same : (o : Option Row) (mac : Mac) → passes (is_mac mac) (option_and_then (λ (lease : Lease). owner_of lease.hold) (option_and_then as_lease o)) ≡ true
     → (lease : Lease) × (o ≡ Some (row.Lease lease)) × (owner_of lease.hold ≡ Some mac)
 owned_same (Some (row.Lease lease)) mac e = (lease, refl, by_owner (owner_of lease.hold) e)
   where
-    by_owner : (o : Option Mac) → unwrap_or (option_map (is_mac mac) o) false ≡ true → o ≡ Some mac
+    by_owner : (o : Option Mac) → passes (is_mac mac) o ≡ true → o ≡ Some mac
     by_owner None e = cc
     by_owner (Some other) e = ap Some (sym (mac_same mac other e))
 owned_same o mac e = cc
@@ -102,8 +102,8 @@ owns_row t mac address e = let o = owned_same (row_at t (key.Lease address)) mac
 
 row_owns : (t : Tables) (mac : Mac) (address : Ip4) → OwnedBy (row_at t) mac address → owns t mac address ≡ true
 row_owns t mac address o =
-    ap (λ (r : Option Row). unwrap_or (option_map (is_mac mac) (option_and_then (λ (lease : Lease). owner_of lease.hold) (option_and_then as_lease r))) false) o.there
-    ∙ ap (λ (r : Option Mac). unwrap_or (option_map (is_mac mac) r) false) o.owner
+    ap (λ (r : Option Row). passes (is_mac mac) (option_and_then (λ (lease : Lease). owner_of lease.hold) (option_and_then as_lease r))) o.there
+    ∙ ap (λ (r : Option Mac). passes (is_mac mac) r) o.owner
     ∙ mac_own mac
 
 -- the parts of a lease's line
@@ -149,4 +149,11 @@ good_tables t g q held e = and_from (is_possible q held) (stands_right t q held)
         and_from _ _ (g.site address lease e)
         (and_from _ _ (eq-eqb _ _ (one_around t address (g.one_pool address lease e))) (owner_right address (owner_of lease.hold) (λ mac o. g.holder address lease mac e o)))
     right (key.Held mac) (row.Held address) e = row_owns t mac address (g.owner mac address e)
-    right q held e = refl
+    right (key.Modem mac) held e = let fits = g.possible (key.Modem mac) held e in cc
+    right (key.Pool n) held e = let fits = g.possible (key.Pool n) held e in cc
+    right (key.Lease address) held e = let fits = g.possible (key.Lease address) held e in cc
+    right (key.Held mac) held e = let fits = g.possible (key.Held mac) held e in cc
+    right key.Site held e = refl
+    right (key.Subscriber n) held e = refl
+    right (key.Class n) held e = refl
+    right (key.Batch n) held e = refl

@@ -1,11 +1,15 @@
-//! Laws of good tables and of what a clerk's command makes of them, over the definitions alone. Each function here does nothing: its
-//! contract is the law.
+//! Laws of good tables and of what a clerk's command makes of them, over the definitions alone.
+//! Each function here does nothing: its contract is the law.
 #![tactic(auto)]
 
-ghost use Rattle.off_table_laws.specs.Laws.{StepKeepsGood, RefusedChangesNothing, OneLeaseAModem, OwnersHold, PoolsAreApart, ModemsStand, AddOnsStand, LeasesStand, GoodHaveNoBadKey, OneJudgement, SeenAsTheyStand};
+ghost use Rattle.off_table_laws.specs.Laws.{StepKeepsGood, RefusedChangesNothing, OneLeaseAModem};
+ghost use Rattle.off_table_laws.specs.Laws.{OwnersHold, PoolsAreApart, ModemsStand, AddOnsStand};
+ghost use Rattle.off_table_laws.specs.Laws.{LeasesStand, GoodHaveNoBadKey, OneJudgement};
+ghost use Rattle.off_table_laws.specs.Laws.{SeenAsTheyStand};
 
-/// What a clerk's command leaves of good tables is good, for each command that is sound, an import too. The premise that a new site's
-/// secret has at most 64 bytes holds of each site that a program has, by the secret's type.
+/// What a clerk's command leaves of good tables is good, for each command that is sound, an import
+/// too. The premise that a new site's secret has at most 64 bytes holds of each site that a program
+/// has, by the secret's type.
 pub fn a_step_keeps_good_tables()
     ensures { StepKeepsGood }
 {}
@@ -40,7 +44,8 @@ pub fn an_add_on_has_its_subscriber()
     ensures { AddOnsStand }
 {}
 
-/// In good tables with a lease there is a site, and the lease's address lies in one pool and in no other.
+/// In good tables with a lease there is a site, and the lease's address lies in one pool and in no
+/// other.
 pub fn a_lease_lies_in_one_pool()
     ensures { LeasesStand }
 {}
