@@ -1,38 +1,254 @@
 -- Calls of a keeper in a row.
-use Rattle.std.proofs.Common.{arith}
+use Rattle.std.proofs.Common.{◌≡◌, ℕ, ◌+◌, ◌<◌, ◌≤◌, ◌⊎◌, List, [], ◌∷◌, length, refl, sym, ap, ◌∙◌, subst, inl, inr, arith}
+use Rattle.std.proofs.lemmas.Bool.{cases_lt}
+use Rattle.off_defs.specs.declared.orders.Write.{Write}
 use Rattle.off_defs.specs.State.{Tables}
-use Rattle.off_defs.specs.Told.{Told}
-use Rattle.off_defs.proofs.CountLemmas.{later_grew}
+use Rattle.off_defs.specs.Tables.{doubt_behind}
+use Rattle.off_defs.specs.Told.{Told, Stays}
+use Rattle.off_defs.specs.Counts.{Grew, commits_after}
+use Rattle.off_defs.proofs.CountLemmas.{grew_self}
+use Rattle.off_defs.proofs.ToldLemmas.{told_self}
 use Rattle.off_outside.specs.declared.keeper.KeepErr.{KeepErr}
-use Rattle.off_outside.specs.KeeperSeen.{KeeperSeen}
-use Rattle.off_outside.specs.KeeperCalls.{Reads, NotDone}
+use Rattle.off_outside.specs.declared.keeper.KeepErr.TheVariants.{Memory, Failed}
+use Rattle.off_outside.specs.KeeperSeen.{KeeperSeen, Rests}
+use Rattle.off_outside.specs.KeeperCalls.{Still, Crash, Quiet, Reads, NotDone, Committed, NotCommitted, Settled, StaysUp, begun_by, Spent, WasCounted, Unasked}
+
+-- at one moment
+at_same : (seen : KeeperSeen) (m n : ℕ) (u : Tables) → m ≡ n → seen.opened m u → seen.opened n u
+at_same seen m n u e opened = subst (λ k. seen.opened k u) e opened
+
+pub still_self : (a : KeeperSeen) → Still a a
+still_self a = record {
+  later = omega arith;
+  past = λ m u before opened. opened;
+  within = λ m u behind before opened. at_same a m a.moment u (omega arith) opened;
+  doubts = λ u doubt. doubt;
+}
+
+still_within : {a b c : KeeperSeen} → Still a b → Still b c → (m : ℕ) (u : Tables) → a.moment ≤ m → m ≤ c.moment → c.opened m u
+    → (m < b.moment) ⊎ (b.moment ≤ m) → a.opened a.moment u
+still_within {a} {b} {c} p q m u behind before opened (inl first) = p.within m u behind (omega arith) (q.past m u (omega arith) opened)
+still_within {a} {b} {c} p q m u behind before opened (inr second) = p.within b.moment u p.later (omega arith) (q.within m u second before opened)
+
+pub still_then : {a b c : KeeperSeen} → Still a b → Still b c → Still a c
+still_then {a} {b} {c} p q = record {
+  later = omega (arith, p.later, q.later);
+  past = λ m u before opened. p.past m u before (q.past m u (omega (arith, p.later)) opened);
+  within = λ m u behind before opened. still_within p q m u behind before opened (cases_lt m b.moment);
+  doubts = λ u doubt. p.doubts u (q.doubts u doubt);
+}
+
+pub quiet_self : (a : KeeperSeen) → Quiet a a
+quiet_self a = record { up = λ up. up; faults = refl; commits = refl; still = still_self a }
+
+pub quiet_then : {a b c : KeeperSeen} → Quiet a b → Quiet b c → Quiet a c
+quiet_then p q = record {
+  up = λ up. q.up (p.up up);
+  faults = q.faults ∙ p.faults;
+  commits = q.commits ∙ p.commits;
+  still = still_then p.still q.still;
+}
+
+-- a fault that was counted behind quiet calls
+pub grew_behind : {n a b c : ℕ} → b ≡ a → Grew n b c → Grew n a c
+grew_behind {n} {a} {b} {c} same grew = subst (λ k. Grew n k c) same grew
+
+up_either : (a b c : KeeperSeen) → b.faults ≡ a.faults → c.up ⊎ Grew 1 b.faults c.faults → c.up ⊎ Grew 1 a.faults c.faults
+up_either a b c same (inl up) = inl up
+up_either a b c same (inr grew) = inr (grew_behind same grew)
+
+pub stays_up_then : (a b c : KeeperSeen) → Quiet a b → StaysUp b c → StaysUp a c
+stays_up_then a b c p q = λ up. up_either a b c p.faults (q (p.up up))
 
 -- one reading, then another
 pub reads_then : {P Q R : Tables → Type 0} {a b c : KeeperSeen} → Reads P a b → Reads Q b c → ((t : Tables) → P t → Q t → R t) → Reads R a c
 reads_then p q join = record {
   tables = λ t told. let one = p.tables t told in let other = q.tables t one.0 in (other.0, join t one.1 other.1);
-  faults = omega (arith, p.faults, q.faults);
+  quiet = quiet_then p.quiet q.quiet;
 }
 
 -- a reading, then a call that wasn't done
 pub failed_then : {P : Tables → Type 0} {err : KeepErr} {a b c : KeeperSeen} → Reads P a b → NotDone err b c → NotDone err a c
-failed_then p q = record {
+failed_then {P} {err} {a} {b} {c} p q = record {
   tables = λ t told. q.tables t (p.tables t told).0;
-  faults = later_grew p.faults q.faults;
+  up = stays_up_then a b c p.quiet q.up;
+  faults = grew_behind p.quiet.faults q.faults;
+  commits = q.commits ∙ p.quiet.commits;
+  still = still_then p.quiet.still q.still;
 }
 
 pub reads_as : {P Q : Tables → Type 0} {a b : KeeperSeen} → Reads P a b → ((t : Tables) → P t → Q t) → Reads Q a b
 reads_as p weaker = record {
   tables = λ t told. let one = p.tables t told in (one.0, weaker t one.1);
-  faults = p.faults;
+  quiet = p.quiet;
 }
 
 -- no call at all
 pub reads_none : {P : Tables → Type 0} {a : KeeperSeen} → ((t : Tables) → P t) → Reads P a a
-reads_none always = record { tables = λ t told. (told, always t); faults = omega arith }
+reads_none {P} {a} always = record { tables = λ t told. (told, always t); quiet = quiet_self a }
+
+pub wants_memory : (a : KeeperSeen) → NotDone Memory a a
+wants_memory a = record {
+  tables = λ t told. told;
+  up = λ up. inl up;
+  faults = grew_self a.faults;
+  commits = refl;
+  still = still_self a;
+}
+
+-- a reading behind which memory was wanted
+pub reads_forgotten : {P : Tables → Type 0} {a b : KeeperSeen} → Reads P a b → NotDone Memory a b
+reads_forgotten {P} {a} {b} p = failed_then p (wants_memory b)
+
+-- no call begins nothing
+pub crash_self : {P : Tables → Tables → Type 0} (a : KeeperSeen) → Crash P a a
+crash_self a = record {
+  later = omega arith;
+  past = λ m u before opened. opened;
+  within = λ t told m u behind before opened. absurd (omega arith);
+  doubts = λ t told u doubt. inl doubt;
+}
+
+-- memory was wanted before any call
+pub nothing_begun : {P : Tables → Tables → Type 0} (a : KeeperSeen) → NotCommitted P Memory a a
+nothing_begun a = record { tables = λ t told. told; up = λ up. inl up; faults = grew_self a.faults; commits = refl; crash = crash_self a }
+
+-- nothing to write is done by nothing, and writes by their commit
+pub settled_none : (writes : List Write) (a : KeeperSeen) → length writes ≡ 0 → Settled writes a a
+settled_none [] a none = record {
+  tables = told_self (λ t. refl);
+  up = λ up. up;
+  faults = refl;
+  commits = refl;
+  crash = crash_self a;
+  doubts = λ t told u doubt. doubt;
+}
+settled_none (write ∷ writes) a none = absurd (omega (arith, none))
+
+pub settled_commit : (writes : List Write) {a b : KeeperSeen} → (length writes ≡ 0 → ⊥) → Committed writes a b → Settled writes a b
+settled_commit [] some done = absurd (some refl)
+settled_commit (write ∷ writes) some done = record {
+  tables = done.tables;
+  up = done.up;
+  faults = done.faults;
+  commits = done.commits;
+  crash = done.crash;
+  doubts = done.sure;
+}
 
 -- a reading, as what is told across it
 pub reads_told : {P : Tables → Type 0} {Q : Tables → Tables → Type 0} {a b : KeeperSeen} → Reads P a b → ((t : Tables) → P t → Q t t) → Told a.tables b.tables Q
 reads_told p weaker = record {
   each = λ t told. let one = p.tables t told in record { value = t; told = one.0; fits = weaker t one.1 };
+}
+
+-- calls are counted through
+pub spent_none : (a : KeeperSeen) → Spent 0 a a
+spent_none a = record { later = omega arith; most = omega arith }
+
+pub spent_one : {a b : KeeperSeen} → WasCounted a b → Spent 1 a b
+spent_one p = record { later = p.later; most = omega (arith, p.one) }
+
+pub spent_then : {m n : ℕ} {a b c : KeeperSeen} → Spent m a b → Spent n b c → Spent (m + n) a c
+spent_then p q = record { later = omega (arith, p.later, q.later); most = omega (arith, p.most, q.most) }
+
+pub spent_within : {m n : ℕ} {a b : KeeperSeen} → Spent m a b → m ≤ n → Spent n a b
+spent_within p fits = record { later = p.later; most = omega (arith, p.most) }
+
+pub unasked_stays : {a b : KeeperSeen} → Unasked a b → Stays a.tables b.tables
+unasked_stays p = record { each = λ t told. record { value = t; told = p.tables t told; fits = refl } }
+
+pub unasked_self : (a : KeeperSeen) → Unasked a a
+unasked_self a = record { tables = λ t told. told; quiet = quiet_self a; calls = refl }
+
+-- what is open where nothing was begun is open where something may have been
+open_more : (P : Tables → Tables → Type 0) (t u : Tables) {old : Type 0} → (u ≡ t) ⊎ old → (u ≡ t) ⊎ (old ⊎ P t u)
+open_more P t u (inl same) = inl same
+open_more P t u (inr doubt) = inr (inl doubt)
+
+pub still_crash : {P : Tables → Tables → Type 0} {a b : KeeperSeen} → Rests a → Still a b → Crash P a b
+still_crash {P} {a} {b} rests still = record {
+  later = still.later;
+  past = still.past;
+  within = λ t told m u behind before opened. open_more P t u (rests t told u (still.within m u (omega arith) before opened));
+  doubts = λ t told u doubt. inl (still.doubts u doubt);
+}
+
+-- a commit that may have been begun, as one of those that are allowed
+doubt_through : {old p q : Type 0} → (q → p) → old ⊎ q → old ⊎ p
+doubt_through more (inl doubt) = inl doubt
+doubt_through more (inr begun) = inr (more begun)
+
+pub crash_weaker : {P Q : Tables → Tables → Type 0} {a b : KeeperSeen} → Crash Q a b → ((t : Tables) → a.tables t → (u : Tables) → Q t u → P t u) → Crash P a b
+crash_weaker c more = record {
+  later = c.later;
+  past = c.past;
+  within = λ t told m u behind before opened. doubt_through (doubt_through (more t told u)) (c.within t told m u behind before opened);
+  doubts = λ t told u doubt. doubt_through (more t told u) (c.doubts t told u doubt);
+}
+
+-- what was in doubt behind a reading was so before
+early_doubt : (P : Tables → Tables → Type 0) (t u : Tables) {old new : Type 0} → (new → old) → new ⊎ P t u → old ⊎ P t u
+early_doubt P t u before (inl doubt) = inl (before doubt)
+early_doubt P t u before (inr begun) = inr begun
+
+doubt_early : (writes : List Write) {old new : Type 0} → (new → old) → doubt_behind writes new → doubt_behind writes old
+doubt_early [] before doubt = before doubt
+doubt_early (write ∷ writes) before doubt = doubt
+
+-- a reading, then calls that may have begun something
+read_within : {P : Tables → Tables → Type 0} {Q : Tables → Type 0} {a b c : KeeperSeen} → Rests a → Reads Q a b → Crash P b c
+    → (t : Tables) → a.tables t → (m : ℕ) (u : Tables) → a.moment < m → m ≤ c.moment → c.opened m u → (b.moment < m) ⊎ (m ≤ b.moment)
+    → (u ≡ t) ⊎ (a.doubt u ⊎ P t u)
+read_within {P} rests reads crash t told m u behind before opened (inl second) =
+    doubt_through (early_doubt P t u (reads.quiet.still.doubts u)) (crash.within t (reads.tables t told).0 m u second before opened)
+read_within {P} rests reads crash t told m u behind before opened (inr first) =
+    open_more P t u (rests t told u (reads.quiet.still.within m u (omega arith) first (crash.past m u first opened)))
+
+pub read_crash : {P : Tables → Tables → Type 0} {Q : Tables → Type 0} {a b c : KeeperSeen} → Rests a → Reads Q a b → Crash P b c → Crash P a c
+read_crash {P} {Q} {a} {b} {c} rests reads crash = record {
+  later = omega (arith, reads.quiet.still.later, crash.later);
+  past = λ m u before opened. reads.quiet.still.past m u before (crash.past m u (omega (arith, reads.quiet.still.later)) opened);
+  within = λ t told m u behind before opened. read_within rests reads crash t told m u behind before opened (cases_lt b.moment m);
+  doubts = λ t told u doubt. early_doubt P t u (reads.quiet.still.doubts u) (crash.doubts t (reads.tables t told).0 u doubt);
+}
+
+-- a call that wasn't done, as one that may have begun something
+pub not_begun : {P : Tables → Tables → Type 0} {err : KeepErr} {a b : KeeperSeen} → Rests a → NotDone err a b → NotCommitted P err a b
+not_begun rests p = record { tables = p.tables; up = p.up; faults = p.faults; commits = p.commits; crash = still_crash rests p.still }
+
+pub not_begun_then : {P : Tables → Tables → Type 0} {Q : Tables → Type 0} {err : KeepErr} {a b c : KeeperSeen} → Rests a → Reads Q a b → NotCommitted P err b c
+    → NotCommitted P err a c
+not_begun_then {P} {Q} {err} {a} {b} {c} rests p q = record {
+  tables = λ t told. q.tables t (p.tables t told).0;
+  up = stays_up_then a b c p.quiet q.up;
+  faults = grew_behind p.quiet.faults q.faults;
+  commits = q.commits ∙ p.quiet.commits;
+  crash = read_crash rests p q.crash;
+}
+
+-- what an error has begun, as what is allowed
+begun_weaker : (err : KeepErr) (P Q : Tables → Tables → Type 0) (t u : Tables) → (P t u → Q t u) → begun_by err P t u → begun_by err Q t u
+begun_weaker Memory P Q t u more begun = begun
+begun_weaker Failed P Q t u more begun = more begun
+
+pub not_committed_as : {P Q : Tables → Tables → Type 0} {err : KeepErr} {a b : KeeperSeen} → NotCommitted P err a b
+    → ((t : Tables) → a.tables t → (u : Tables) → P t u → Q t u) → NotCommitted Q err a b
+not_committed_as {P} {Q} {err} p more = record {
+  tables = p.tables;
+  up = p.up;
+  faults = p.faults;
+  commits = p.commits;
+  crash = crash_weaker p.crash (λ t told u begun. begun_weaker err P Q t u (more t told u) begun);
+}
+
+-- what was done behind a reading
+pub settled_then : {Q : Tables → Type 0} {writes : List Write} {a b c : KeeperSeen} → Rests a → Reads Q a b → Settled writes b c → Settled writes a c
+settled_then {Q} {writes} {a} {b} {c} rests p q = record {
+  tables = record { each = λ t told. q.tables.each t (p.tables t told).0 };
+  up = λ up. q.up (p.quiet.up up);
+  faults = q.faults ∙ p.quiet.faults;
+  commits = q.commits ∙ ap (commits_after writes) p.quiet.commits;
+  crash = read_crash rests p q.crash;
+  doubts = λ t told u doubt. doubt_early writes (p.quiet.still.doubts u) (q.doubts t (p.tables t told).0 u doubt);
 }

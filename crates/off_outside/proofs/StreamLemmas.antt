@@ -1,5 +1,5 @@
 -- What a source in memory gives is what it tells of it.
-use Rattle.std.proofs.Common.{◌≡◌, ℕ, ◌≤◌, List, [], ◌∷◌, ◌++◌, Result, Ok, Err, MatchResult, IfOk, length, take, drop, refl, sym, ap, ◌∙◌, subst, arith, length-take}
+use Rattle.std.proofs.Common.{◌≡◌, ℕ, ◌≤◌, List, [], ◌∷◌, ◌++◌, Result, Ok, Err, MatchResult, IfOk, length, take, drop, refl, sym, ap, ◌∙◌, subst, inl, arith, length-take}
 use Rattle.std.proofs.Math.Seq.{take-append_seam}
 use Rattle.std.proofs.lemmas.List.{take-append-drop}
 use Rattle.off_defs.proofs.ToldLemmas.{told_known}
@@ -26,13 +26,17 @@ mem_gave_tells {n} {before} {after} {old} {new} gave same = record {
         subst (λ (m : MemSourceHeld). old.left ≡ take n after ++ m.left) (sym gave.after_it) whole,
         λ zero some. none_of old.left (omega (arith, gave.count)),
       ));
-  faults = subst (λ (m : MemSourceHeld). old.faults ≤ m.faults) (sym gave.after_it) (omega arith);
+  up = λ up. up;
+  faults = ap (λ (m : MemSourceHeld). m.faults) gave.after_it;
+  calls = ap (λ (m : MemSourceHeld). m.calls.made) gave.after_it;
 }
 
 not_given_tells : {before after : List ℕ} {old new : MemSourceHeld} → MemNotGiven before after old new → NotGiven (source_seen old) (source_seen new)
 not_given_tells {old = old} {new = new} not_given = record {
   left = told_known (ap (λ (m : MemSourceHeld). m.left) not_given.after_it);
+  up = λ up. inl up;
   faults = subst (λ (m : MemSourceHeld). Grew 1 old.faults m.faults) (sym not_given.after_it) (record { later = omega (arith, not_given.fits); grew = omega arith });
+  calls = ap (λ (m : MemSourceHeld). m.calls.made) not_given.after_it;
 }
 
 pub read_tells : (r : Result ℕ Failed) (before after : List ℕ) (old new : MemSourceHeld)

@@ -1,5 +1,5 @@
 -- The forms in memory: what each holds, and exactly what each call makes of it.
-use Rattle.std.specs.Prelude.{◌≡◌, ℕ, ◌-◌, ◌<◌, ◌≤◌, List, [], ◌∷◌, ◌++◌, drop, take, length, min, Contains, ◌⊎◌}
+use Rattle.std.specs.Prelude.{◌≡◌, ℕ, ◌-◌, ◌<◌, ◌≤◌, List, [], ◌∷◌, ◌++◌, drop, take, length, min, Contains, ◌⊎◌, Result, MatchResult}
 use Rattle.off_defs.specs.declared.events.Event.{Event}
 use Rattle.off_defs.specs.declared.results.Sent.{Sent}
 use Rattle.off_defs.specs.Counts.{one_more, most_count}
@@ -7,6 +7,7 @@ use Rattle.off_outside.specs.LinkSeen.{LinkSeen}
 use Rattle.off_outside.specs.LinkCalls.{first_event}
 use Rattle.off_outside.specs.Streams.{SourceSeen, SinkSeen}
 use Rattle.off_outside.specs.declared.link.LinkErr.{LinkErr}
+use Rattle.off_outside.specs.declared.link.Failed.{Failed}
 use Rattle.off_outside.specs.declared.link.LinkErr.TheVariants as link_err
 
 -- the calls that are to fail, by number, and how many have been made; they count from 1
@@ -53,6 +54,7 @@ abbrev pub link_seen : MemLinkHeld → LinkSeen
 link_seen m = record {
   left = λ events. events ≡ m.left;
   sent = λ items. items ≡ m.outbox.sent;
+  up = Unit {0};
   missed = m.missed;
   faults = m.faults;
   unsent = m.unsent;
@@ -62,6 +64,7 @@ link_seen m = record {
 pub record LinkTells (m : MemLinkHeld) (seen : LinkSeen) : Type 0 where
   pub left : seen.left m.left
   pub sent : seen.sent m.outbox.sent
+  pub up : seen.up
   pub missed : seen.missed ≡ m.missed
   pub faults : seen.faults ≡ m.faults
   pub unsent : seen.unsent ≡ m.unsent
@@ -91,6 +94,24 @@ pub record MemNotSent (len : ℕ) (old new : MemLinkHeld) : Type 0 where
   pub cause : IsToFail old.calls ⊎ (¬ (HasRoom old.outbox len))
   pub after : new ≡ record (link_called old) { unsent = one_more old.unsent }
 
+-- what `next` of a link in memory does, and what a call that sends does, by the answer
+abbrev pub MemTakes : Result Event LinkErr → MemLinkHeld → MemLinkHeld → Type 0
+MemTakes result old new = MatchResult result (λ event. MemTook event old new) (λ err. MemNotTook err old new)
+
+abbrev pub MemSends : Result (Unit {0}) Failed → Sent → ℕ → MemLinkHeld → MemLinkHeld → Type 0
+MemSends result item len old new = MatchResult result (λ _. MemSent item len old new) (λ _. MemNotSent len old new)
+
+-- a link that has just been made
+abbrev pub new_link : List Event → ℕ → ℕ → List ℕ → MemLinkHeld
+new_link events items octets fails = record {
+  left = events;
+  outbox = empty_outbox items octets;
+  calls = record { listed = fails; made = 0 };
+  missed = 0;
+  faults = 0;
+  unsent = 0;
+}
+
 -- a source in memory
 pub record MemSourceHeld : Type 0 where
   pub left : List ℕ
@@ -98,12 +119,14 @@ pub record MemSourceHeld : Type 0 where
   pub faults : ℕ
 
 abbrev pub source_seen : MemSourceHeld → SourceSeen
-source_seen m = record { left = λ bytes. bytes ≡ m.left; faults = m.faults }
+source_seen m = record { left = λ bytes. bytes ≡ m.left; up = Unit {0}; faults = m.faults; calls = m.calls.made }
 
 -- what is seen of a source in memory is all that it holds
 pub record SourceTells (m : MemSourceHeld) (seen : SourceSeen) : Type 0 where
   pub left : seen.left m.left
+  pub up : seen.up
   pub faults : seen.faults ≡ m.faults
+  pub calls : seen.calls ≡ m.calls.made
 
 -- `read` fills `out` as far as there are bytes, exactly where the call isn't listed
 pub record MemGave (n : ℕ) (before after : List ℕ) (old new : MemSourceHeld) : Type 0 where
@@ -118,6 +141,13 @@ pub record MemNotGiven (before after : List ℕ) (old new : MemSourceHeld) : Typ
   pub fits : old.faults ≤ most_count
   pub after_it : new ≡ record old { calls = one_called old.calls; faults = one_more old.faults }
 
+-- what `read` of a source in memory does, by the answer
+abbrev pub MemDraws : Result ℕ Failed → List ℕ → List ℕ → MemSourceHeld → MemSourceHeld → Type 0
+MemDraws result before after old new = MatchResult result (λ n. MemGave n before after old new) (λ _. MemNotGiven before after old new)
+
+abbrev pub new_source : List ℕ → List ℕ → MemSourceHeld
+new_source bytes fails = record { left = bytes; calls = record { listed = fails; made = 0 }; faults = 0 }
+
 -- a sink in memory
 pub record MemSinkHeld : Type 0 where
   pub written : List ℕ
@@ -126,12 +156,14 @@ pub record MemSinkHeld : Type 0 where
   pub faults : ℕ
 
 abbrev pub sink_seen : MemSinkHeld → SinkSeen
-sink_seen m = record { written = λ bytes. bytes ≡ m.written; faults = m.faults }
+sink_seen m = record { written = λ bytes. bytes ≡ m.written; up = Unit {0}; faults = m.faults; calls = m.calls.made }
 
 -- what is seen of a sink in memory is all that it holds
 pub record SinkTells (m : MemSinkHeld) (seen : SinkSeen) : Type 0 where
   pub written : seen.written m.written
+  pub up : seen.up
   pub faults : seen.faults ≡ m.faults
+  pub calls : seen.calls ≡ m.calls.made
 
 -- `write` takes the whole piece exactly where the call isn't listed and there is room
 pub record MemWrote (piece : List ℕ) (old new : MemSinkHeld) : Type 0 where
@@ -152,3 +184,10 @@ pub record MemFilled (piece : List ℕ) (old new : MemSinkHeld) : Type 0 where
 
 abbrev pub MemNotWritten : List ℕ → MemSinkHeld → MemSinkHeld → Type 0
 MemNotWritten piece old new = MemFailed old new ⊎ MemFilled piece old new
+
+-- what `write` of a sink in memory does, by the answer
+abbrev pub MemAppends : Result (Unit {0}) Failed → List ℕ → MemSinkHeld → MemSinkHeld → Type 0
+MemAppends result piece old new = MatchResult result (λ _. MemWrote piece old new) (λ _. MemNotWritten piece old new)
+
+abbrev pub new_sink : ℕ → List ℕ → MemSinkHeld
+new_sink room fails = record { written = []; room = room; calls = record { listed = fails; made = 0 }; faults = 0 }

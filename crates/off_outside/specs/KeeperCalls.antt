@@ -1,10 +1,10 @@
 -- What each call of a keeper does to each of its meanings.
-use Rattle.std.specs.Prelude.{◌≡◌, ℕ, ◌≤◌, List}
+use Rattle.std.specs.Prelude.{◌≡◌, ℕ, ◌+◌, ◌<◌, ◌≤◌, ◌⊎◌, List, Result, MatchResult}
 use Rattle.off_defs.specs.declared.orders.Write.{Write}
 use Rattle.off_defs.specs.State.{Tables}
-use Rattle.off_defs.specs.Tables.{write_all}
+use Rattle.off_defs.specs.Tables.{write_all, doubt_behind}
 use Rattle.off_defs.specs.Told.{Told}
-use Rattle.off_defs.specs.Counts.{Grew, one_more}
+use Rattle.off_defs.specs.Counts.{Grew, one_more, commits_after}
 use Rattle.off_outside.specs.KeeperSeen.{KeeperSeen}
 use Rattle.off_outside.specs.declared.keeper.KeepErr.{KeepErr}
 use Rattle.off_outside.specs.declared.keeper.KeepErr.TheVariants.{Memory, Failed}
@@ -14,21 +14,100 @@ abbrev pub keeper_faults_in : KeepErr → ℕ
 keeper_faults_in Memory = 0
 keeper_faults_in Failed = 1
 
+-- the keeper stays up, or has counted a fault
+abbrev pub StaysUp : KeeperSeen → KeeperSeen → Type 0
+StaysUp old new = old.up → new.up ⊎ Grew 1 old.faults new.faults
+
+-- Nothing was begun: a crash meanwhile leaves what one before could, and nothing more is in doubt.
+pub record Still (old new : KeeperSeen) : Type 0 where
+  pub later : old.moment ≤ new.moment
+  pub past : (m : ℕ) (u : Tables) → m ≤ old.moment → new.opened m u → old.opened m u
+  pub within : (m : ℕ) (u : Tables) → old.moment ≤ m → m ≤ new.moment → new.opened m u → old.opened old.moment u
+  pub doubts : (u : Tables) → new.doubt u → old.doubt u
+
+-- A commit was begun that makes tables u of tables t as P says: a crash meanwhile leaves the tables, or what was in doubt, or u.
+pub record Crash (P : Tables → Tables → Type 0) (old new : KeeperSeen) : Type 0 where
+  pub later : old.moment ≤ new.moment
+  pub past : (m : ℕ) (u : Tables) → m ≤ old.moment → new.opened m u → old.opened m u
+  pub within : (t : Tables) → old.tables t → (m : ℕ) (u : Tables) → old.moment < m → m ≤ new.moment → new.opened m u
+      → (u ≡ t) ⊎ (old.doubt u ⊎ P t u)
+  pub doubts : (t : Tables) → old.tables t → (u : Tables) → new.doubt u → old.doubt u ⊎ P t u
+
+-- nothing was written, no fault was counted, and the keeper stays up
+pub record Quiet (old new : KeeperSeen) : Type 0 where
+  pub up : old.up → new.up
+  pub faults : new.faults ≡ old.faults
+  pub commits : new.commits ≡ old.commits
+  pub still : Still old new
+
 -- The tables were read: P holds of them, and they are told still. It holds of one call, and of several in a row.
 pub record Reads (P : Tables → Type 0) (old new : KeeperSeen) : Type 0 where
   pub tables : (t : Tables) → old.tables t → new.tables t × P t
-  pub faults : old.faults ≤ new.faults
-
--- the writes were done, all of them
-pub record Committed (writes : List Write) (old new : KeeperSeen) : Type 0 where
-  pub tables : Told old.tables new.tables (λ before after. after ≡ write_all before writes)
-  pub faults : old.faults ≤ new.faults
+  pub quiet : Quiet old new
 
 -- nothing was done: the tables are as before
 pub record NotDone (err : KeepErr) (old new : KeeperSeen) : Type 0 where
   pub tables : (t : Tables) → old.tables t → new.tables t
+  pub up : StaysUp old new
   pub faults : Grew (keeper_faults_in err) old.faults new.faults
+  pub commits : new.commits ≡ old.commits
+  pub still : Still old new
+
+-- what writes make of tables
+abbrev pub IsWritten : List Write → Tables → Tables → Type 0
+IsWritten writes before after = after ≡ write_all before writes
+
+-- the writes were done, all of them; no commit is in doubt any more
+pub record Committed (writes : List Write) (old new : KeeperSeen) : Type 0 where
+  pub tables : Told old.tables new.tables (IsWritten writes)
+  pub up : old.up → new.up
+  pub faults : new.faults ≡ old.faults
+  pub commits : new.commits ≡ one_more old.commits
+  pub crash : Crash (IsWritten writes) old new
+  pub sure : (t : Tables) → old.tables t → (u : Tables) → new.doubt u → ⊥
+
+-- what a commit has begun that wasn't done: nothing, where memory was wanted
+abbrev pub begun_by : KeepErr → (Tables → Tables → Type 0) → Tables → Tables → Type 0
+begun_by Memory P before after = ⊥
+begun_by Failed P before after = P before after
+
+-- none of the writes was done: the tables are as before
+pub record NotCommitted (P : Tables → Tables → Type 0) (err : KeepErr) (old new : KeeperSeen) : Type 0 where
+  pub tables : (t : Tables) → old.tables t → new.tables t
+  pub up : StaysUp old new
+  pub faults : Grew (keeper_faults_in err) old.faults new.faults
+  pub commits : new.commits ≡ old.commits
+  pub crash : Crash (begun_by err P) old new
+
+-- a call that looks at the tables, and one that commits writes, by the answer
+abbrev pub Looks : {A : Type 0} → Result A KeepErr → KeeperSeen → KeeperSeen → (A → Tables → Type 0) → Type 0
+Looks result old new P = MatchResult result (λ x. Reads (P x) old new) (λ err. NotDone err old new)
+
+abbrev pub Commits : Result (Unit {0}) KeepErr → KeeperSeen → KeeperSeen → List Write → Type 0
+Commits result old new writes =
+    MatchResult result (λ _. Committed writes old new) (λ err. NotCommitted (IsWritten writes) err old new)
+
+-- at most n calls were made
+pub record Spent (n : ℕ) (old new : KeeperSeen) : Type 0 where
+  pub later : old.calls ≤ new.calls
+  pub most : new.calls ≤ old.calls + n
 
 -- the call was counted, whatever it answered
-abbrev pub WasCounted : KeeperSeen → KeeperSeen → Type 0
-WasCounted old new = new.calls ≡ one_more old.calls
+pub record WasCounted (old new : KeeperSeen) : Type 0 where
+  pub later : old.calls ≤ new.calls
+  pub one : new.calls ≡ one_more old.calls
+
+-- no call was made: all is as it was
+pub record Unasked (old new : KeeperSeen) : Type 0 where
+  pub tables : (t : Tables) → old.tables t → new.tables t
+  pub quiet : Quiet old new
+  pub calls : new.calls ≡ old.calls
+
+-- What was planned was done: the writes in one commit, where there are any, and else nothing.
+pub record Settled (writes : List Write) (old new : KeeperSeen) : Type 0 where
+  pub tables : Told old.tables new.tables (IsWritten writes)
+  pub up : old.up → new.up
+  pub faults : new.faults ≡ old.faults
+  pub commits : new.commits ≡ commits_after writes old.commits
+  pub crash : Crash (IsWritten writes) old new
+  pub doubts : (t : Tables) → old.tables t → (u : Tables) → new.doubt u → doubt_behind writes (old.doubt u)

@@ -1,13 +1,14 @@
 -- What each call of a link does to each of its meanings.
-use Rattle.std.specs.Prelude.{◌≡◌, ℕ, ◌≤◌, List, [], ◌∷◌, ◌++◌, drop}
+use Rattle.std.specs.Prelude.{◌≡◌, ℕ, ◌⊎◌, List, [], ◌∷◌, ◌++◌, drop, Result, MatchResult}
 use Rattle.off_defs.specs.declared.events.Event.{Event}
 use Rattle.off_defs.specs.declared.results.Sent.{Sent}
 use Rattle.off_defs.specs.Told.{Told, Stays}
 use Rattle.off_defs.specs.Counts.{Grew, one_more}
 use Rattle.off_defs.specs.Events.{end_event}
 use Rattle.off_outside.specs.LinkSeen.{LinkSeen}
+use Rattle.off_outside.specs.declared.link.Failed.{Failed}
 use Rattle.off_outside.specs.declared.link.LinkErr.{LinkErr}
-use Rattle.off_outside.specs.declared.link.LinkErr.TheVariants.{Memory, Failed}
+use Rattle.off_outside.specs.declared.link.LinkErr.TheVariants as link_err
 
 -- the first event to come, and an End at moment 0 where none is left
 abbrev pub first_event : List Event → Event
@@ -18,23 +19,25 @@ first_event (event ∷ events) = event
 pub record Took (event : Event) (old new : LinkSeen) : Type 0 where
   pub left : Told old.left new.left (λ before after. (event ≡ first_event before) × (after ≡ drop 1 before))
   pub sent : Stays old.sent new.sent
+  pub up : old.up → new.up
   pub missed : new.missed ≡ 0
-  pub faults : old.faults ≤ new.faults
+  pub faults : new.faults ≡ old.faults
   pub unsent : new.unsent ≡ old.unsent
 
 -- how many faults an error counts, and what it makes of the failures in a row: want of memory is no failure
 abbrev pub faults_in : LinkErr → ℕ
-faults_in Memory = 0
-faults_in Failed = 1
+faults_in link_err.Memory = 0
+faults_in link_err.Failed = 1
 
 abbrev pub missed_after : LinkErr → ℕ → ℕ
-missed_after Memory missed = missed
-missed_after Failed missed = one_more missed
+missed_after link_err.Memory missed = missed
+missed_after link_err.Failed missed = one_more missed
 
 -- no event was taken
 pub record NotTook (err : LinkErr) (old new : LinkSeen) : Type 0 where
   pub left : Stays old.left new.left
   pub sent : Stays old.sent new.sent
+  pub up : old.up → new.up ⊎ Grew 1 old.faults new.faults
   pub missed : new.missed ≡ missed_after err old.missed
   pub faults : Grew (faults_in err) old.faults new.faults
   pub unsent : new.unsent ≡ old.unsent
@@ -43,14 +46,32 @@ pub record NotTook (err : LinkErr) (old new : LinkSeen) : Type 0 where
 pub record WasSent (item : Sent) (old new : LinkSeen) : Type 0 where
   pub left : Stays old.left new.left
   pub sent : Told old.sent new.sent (λ before after. after ≡ before ++ item ∷ [])
+  pub up : old.up → new.up
   pub missed : new.missed ≡ old.missed
   pub faults : new.faults ≡ old.faults
-  pub unsent : old.unsent ≤ new.unsent
+  pub unsent : new.unsent ≡ old.unsent
 
 -- an item wasn't sent
 pub record NotSent (old new : LinkSeen) : Type 0 where
   pub left : Stays old.left new.left
   pub sent : Stays old.sent new.sent
+  pub up : old.up → new.up ⊎ Grew 1 old.unsent new.unsent
   pub missed : new.missed ≡ old.missed
   pub faults : new.faults ≡ old.faults
   pub unsent : Grew 1 old.unsent new.unsent
+
+-- no call was made: all is as it was
+pub record LinkUnasked (old new : LinkSeen) : Type 0 where
+  pub left : Stays old.left new.left
+  pub sent : Stays old.sent new.sent
+  pub up : old.up → new.up
+  pub missed : new.missed ≡ old.missed
+  pub faults : new.faults ≡ old.faults
+  pub unsent : new.unsent ≡ old.unsent
+
+-- what `next` does, and what a call that sends an item does, by the answer
+abbrev pub Takes : Result Event LinkErr → LinkSeen → LinkSeen → Type 0
+Takes result old new = MatchResult result (λ event. Took event old new) (λ err. NotTook err old new)
+
+abbrev pub Sends : Result (Unit {0}) Failed → Sent → LinkSeen → LinkSeen → Type 0
+Sends result item old new = MatchResult result (λ _. WasSent item old new) (λ _. NotSent old new)

@@ -1,12 +1,13 @@
-ghost use Rattle.std.specs.Prelude.{◌≡◌, ◌↔◌, [], ◌∷◌, ◌++◌, OnOk, OnErr, IsTrue, Contains};
-ghost use Rattle.off_defs.specs.Counts.{one_more};
+ghost use Rattle.std.specs.Prelude.{◌≡◌, ◌≤◌, ◌↔◌, [], ◌∷◌, ◌++◌, OnOk, OnErr, IsTrue, Contains};
+ghost use Rattle.off_defs.specs.Counts.{one_more, most_count};
 ghost use Rattle.off_outside.specs.InMemory.{one_called, IsToFail};
 
 use off_base::NoMemory;
 use std::alloc::Global;
 use std::marker::Model;
 
-/// The numbers of the calls that are to fail. All calls of one object are numbered together, from 1.
+/// The numbers of the calls that are to fail. All calls of one object are numbered together, from
+/// 1.
 #[derive(Debug, Drop)]
 pub struct Calls {
     numbers: Vec<u64>,
@@ -83,6 +84,7 @@ impl Failing {
     pub fn call(&mut self) -> bool
         ensures after { self.new ≡ one_called self.old }
         ensures fails { IsTrue result ↔ IsToFail self.old }
+        ensures fits { self.old.made ≤ most_count }
     {
         self.made = one_more(self.made);
         self.listed.has(self.made)

@@ -1,9 +1,9 @@
-ghost use Rattle.std.specs.Prelude.{◌≡◌, MatchResult};
+ghost use Rattle.std.specs.Prelude.{◌≡◌};
 ghost use Rattle.std.specs.Option.{option_map};
 ghost use Rattle.off_defs.specs.Told.{IsOne};
 ghost use Rattle.off_defs.specs.Tables.{row_at, next_entry};
-ghost use Rattle.off_outside.specs.KeeperSeen.{KeeperSeen};
-ghost use Rattle.off_outside.specs.KeeperCalls.{Reads, Committed, NotDone, WasCounted};
+ghost use Rattle.off_outside.specs.KeeperSeen.{KeeperSeen, Rests};
+ghost use Rattle.off_outside.specs.KeeperCalls.{Looks, Commits, WasCounted};
 
 use off_defs::{Key, Row, Writes};
 use std::alloc::Global;
@@ -17,30 +17,35 @@ pub enum KeepErr {
     Failed,
 }
 
-/// Where the office's tables stand. After an error the tables are as before, and `Failed` has raised the faults.
+/// Where the office's tables stand. After an error the tables are as before, and `Failed` has
+/// raised the faults.
 pub trait Keeper {
-    // What it tells: its tables, perhaps untold; its faults; and how many calls it has had.
+    // What it tells: its tables, perhaps untold; its faults; how many calls and commits it has had;
+    // and what a crash may leave.
     ghost seen: { Self → KeeperSeen };
 
     /// The row of a key, or `None` where the key has none.
     fn get(&mut self, alloc: Global, key: &Key) -> Result<Option<Row>, KeepErr>
-        ensures told { MatchResult result (λ row. Reads (λ tables. row ≡ row_at tables key.now) (seen self.old) (seen self.new))
-            (λ err. NotDone err (seen self.old) (seen self.new)) }
+        ensures told { Looks result (seen self.old) (seen self.new)
+            (λ row tables. row ≡ row_at tables key.now) }
         ensures counted { WasCounted (seen self.old) (seen self.new) };
 
-    /// The entry of the least key, or of the least key above `after`, or `None` where there is none.
+    /// The entry of the least key, or of the least key above `after`, or `None` where there is
+    /// none.
     fn next(&mut self, alloc: Global, after: Option<&Key>) -> Result<Option<(Key, Row)>, KeepErr>
-        ensures told { MatchResult result (λ entry. Reads (λ tables. entry ≡ next_entry (option_map (λ key. key.now) after.entry) tables)
-            (seen self.old) (seen self.new))
-            (λ err. NotDone err (seen self.old) (seen self.new)) }
+        ensures told { Looks result (seen self.old) (seen self.new)
+            (λ entry tables. entry ≡ next_entry (option_map (λ key. key.now) after.entry) tables) }
         ensures counted { WasCounted (seen self.old) (seen self.new) };
 
-    /// Does all the writes, in order, or none of them. To drop a key that has no row changes nothing.
+    /// Does all the writes, in order, or none of them. To drop a key that has no row changes
+    /// nothing.
     fn commit(&mut self, alloc: Global, writes: &Writes) -> Result<(), KeepErr>
-        ensures told { MatchResult result (λ _. Committed writes.now (seen self.old) (seen self.new))
-            (λ err. NotDone err (seen self.old) (seen self.new)) }
+        ensures told { Commits result (seen self.old) (seen self.new) writes.now }
         ensures counted { WasCounted (seen self.old) (seen self.new) };
 
-    // What is told is one value.
-    ghost one_tables: { (s : Self) → IsOne (seen s).tables };
+    // What is told is one value, as long as the keeper is up.
+    ghost one_tables: { (s : Self) → (seen s).up → IsOne (seen s).tables };
+
+    // Between two calls a crash leaves what is told, or a commit in doubt besides.
+    ghost rests: { (s : Self) → Rests (seen s) };
 }

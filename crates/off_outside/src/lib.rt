@@ -1,8 +1,9 @@
-//! The outside of the office: what it takes events from, sends by, reads from and writes to, as traits with their
-//! meanings and counts, and a form of each in memory.
+//! The outside of the office: what it takes events from, sends by, reads from and writes to, as
+//! traits with their meanings and counts, and a form of each in memory.
 //!
-//! A meaning such as the events still to come may be told or not. What is told before a call is told after it, and each
-//! call leaves it as it was but for what its clause says. Counters are kept in 64 bits and stand still at the greatest.
+//! A meaning such as the events still to come may be told or not. What is told before a call is
+//! told after it, and each call leaves it as it was but for what its clause says. Counters are kept
+//! in 64 bits and stand still at the greatest.
 #![tactic(auto)]
 
 mod failing;

@@ -1,8 +1,7 @@
-ghost use Rattle.std.specs.Prelude.{MatchResult};
 ghost use Rattle.off_defs.specs.Told.{IsOne};
 ghost use Rattle.off_defs.specs.declared.results.Sent.TheVariants as sent;
 ghost use Rattle.off_outside.specs.LinkSeen.{LinkSeen};
-ghost use Rattle.off_outside.specs.LinkCalls.{Took, NotTook, WasSent, NotSent};
+ghost use Rattle.off_outside.specs.LinkCalls.{Takes, Sends};
 
 use off_base::Peer;
 use off_defs::{Event, Service};
@@ -23,33 +22,31 @@ pub struct Failed;
 
 /// Where events come from, and by what the office sends.
 pub trait Link {
-    // What it tells: the events still to come and what was sent, each perhaps untold; how many `next` failed in a row;
-    // its faults; and its items that weren't sent.
+    // What it tells: the events still to come and what was sent, each perhaps untold; how many
+    // `next` failed in a row; its faults; and its items that weren't sent.
     ghost seen: { Self → LinkSeen };
 
-    /// Takes the first event to come, or gives End at moment 0 where none is left. After an error the events to come
-    /// are as before, and `Failed` has raised `faults`.
+    /// Takes the first event to come, or gives End at moment 0 where none is left. After an error
+    /// the events to come are as before, and `Failed` has raised `faults`.
     fn next(&mut self, alloc: Global) -> Result<Event, LinkErr>
-        ensures { MatchResult result (λ event. Took event (seen self.old) (seen self.new))
-            (λ err. NotTook err (seen self.old) (seen self.new)) };
+        ensures { Takes result (seen self.old) (seen self.new) };
 
-    /// Sends a datagram from the service's port. It takes no memory. After `Failed` nothing was sent, and `unsent` rose.
+    /// Sends a datagram from the service's port. It takes no memory. After `Failed` nothing was
+    /// sent, and `unsent` rose.
     fn send(&mut self, service: Service, to: Peer, bytes: &[u8]) -> Result<(), Failed>
-        ensures { MatchResult result (λ _. WasSent (sent.Datagram service to bytes.now) (seen self.old) (seen self.new))
-            (λ _. NotSent (seen self.old) (seen self.new)) };
+        ensures { Sends result (sent.Datagram service to bytes.now)
+            (seen self.old) (seen self.new) };
 
     /// Sends bytes on a clerk's connection, as `send` does.
     fn answer(&mut self, conn: u32, bytes: &[u8]) -> Result<(), Failed>
-        ensures { MatchResult result (λ _. WasSent (sent.Answer conn bytes.now) (seen self.old) (seen self.new))
-            (λ _. NotSent (seen self.old) (seen self.new)) };
+        ensures { Sends result (sent.Answer conn bytes.now) (seen self.old) (seen self.new) };
 
     /// Closes a clerk's connection, as `send` does.
     fn close(&mut self, conn: u32) -> Result<(), Failed>
-        ensures { MatchResult result (λ _. WasSent (sent.Close conn) (seen self.old) (seen self.new))
-            (λ _. NotSent (seen self.old) (seen self.new)) };
+        ensures { Sends result (sent.Close conn) (seen self.old) (seen self.new) };
 
-    // What is told is one value.
-    ghost one_left: { (s : Self) → IsOne (seen s).left };
+    // What is told is one value, as long as the link is up.
+    ghost one_left: { (s : Self) → (seen s).up → IsOne (seen s).left };
 
-    ghost one_sent: { (s : Self) → IsOne (seen s).sent };
+    ghost one_sent: { (s : Self) → (seen s).up → IsOne (seen s).sent };
 }

@@ -1,8 +1,9 @@
-ghost use Rattle.std.specs.Prelude.{◌≡◌, ◌<◌, length, [], slice_get, Some, MatchResult, IfOk};
+ghost use Rattle.std.specs.Prelude.{◌≡◌, ◌<◌, ◌≤◌, length, slice_get, Some, IfOk};
 ghost use Rattle.off_defs.specs.Told.{one_exact};
+ghost use Rattle.off_defs.specs.Counts.{one_more, most_count};
 ghost use Rattle.off_defs.specs.declared.results.Sent.TheVariants as sent;
-ghost use Rattle.off_outside.specs.LinkCalls.{Took, NotTook, WasSent, NotSent};
-ghost use Rattle.off_outside.specs.InMemory.{link_seen, LinkTells, empty_outbox, MemTook, MemNotTook, MemSent, MemNotSent};
+ghost use Rattle.off_outside.specs.LinkCalls.{Takes, Sends};
+ghost use Rattle.off_outside.specs.InMemory.{link_seen, LinkTells, new_link, MemTakes, MemSends};
 ghost use Rattle.off_outside.specs.Outboxes.{lent_item};
 
 use crate::failing::{Calls, Failing, one_more};
@@ -30,11 +31,19 @@ impl Model for MemLink {
 
     ghost Value = { MemLinkHeld };
 
-    ghost view = { λ m. record { left = m.events; outbox = m.outbox; calls = m.failing; missed = m.missed; faults = m.faults; unsent = m.unsent } };
+    ghost view = { λ m. record {
+      left = m.events;
+      outbox = m.outbox;
+      calls = m.failing;
+      missed = m.missed;
+      faults = m.faults;
+      unsent = m.unsent;
+    } };
 }
 
 impl MemLink {
-    /// Takes room for `items` sent items of `octets` bytes in all. A send past that room fails, and is counted.
+    /// Takes room for `items` sent items of `octets` bytes in all. A send past that room fails, and
+    /// is counted.
     pub fn new(
         alloc: Global,
         events: Events,
@@ -42,14 +51,8 @@ impl MemLink {
         octets: usize,
         fails: Calls,
     ) -> Result<MemLink, NoMemory>
-        ensures { IfOk result (λ link. link ≡ record {
-          left = events;
-          outbox = empty_outbox items octets;
-          calls = record { listed = fails; made = 0 };
-          missed = 0;
-          faults = 0;
-          unsent = 0;
-        }) }
+        ensures holds { IfOk result (λ link. link ≡ new_link events items octets fails) }
+        ensures tells { IfOk result (λ link. LinkTells link (⟦<MemLink as Link>⟧.seen link)) }
     {
         let outbox = Outbox::new(alloc, items, octets)?;
         Ok(MemLink {
@@ -78,16 +81,23 @@ impl MemLink {
     {
         self.outbox.get(i)
     }
+
+    // Counts an item that isn't sent.
+    fn lose(&mut self) -> Failed
+        ensures counted { self.new ≡ record self.old { unsent = one_more self.old.unsent } }
+        ensures fits { self.old.unsent ≤ most_count }
+    {
+        self.unsent = one_more(self.unsent);
+        Failed
+    }
 }
 
 impl Link for MemLink {
     ghost seen = { λ m. link_seen m };
 
     fn next(&mut self, alloc: Global) -> Result<Event, LinkErr>
-        ensures told { MatchResult result (λ event. Took event (link_seen self.old) (link_seen self.new))
-            (λ err. NotTook err (link_seen self.old) (link_seen self.new)) }
-        ensures exact { MatchResult result (λ event. MemTook event self.old self.new)
-            (λ err. MemNotTook err self.old self.new) }
+        ensures told { Takes result (link_seen self.old) (link_seen self.new) }
+        ensures exact { MemTakes result self.old self.new }
     {
         if self.failing.call() {
             self.missed = one_more(self.missed);
@@ -105,63 +115,55 @@ impl Link for MemLink {
     }
 
     fn send(&mut self, service: Service, to: Peer, bytes: &[u8]) -> Result<(), Failed>
-        ensures told { MatchResult result (λ _. WasSent (sent.Datagram service to bytes.now) (link_seen self.old) (link_seen self.new))
-            (λ _. NotSent (link_seen self.old) (link_seen self.new)) }
-        ensures exact { MatchResult result (λ _. MemSent (sent.Datagram service to bytes.now) (length bytes.now) self.old self.new)
-            (λ _. MemNotSent (length bytes.now) self.old self.new) }
+        ensures told { Sends result (sent.Datagram service to bytes.now)
+            (link_seen self.old) (link_seen self.new) }
+        ensures exact { MemSends result (sent.Datagram service to bytes.now) (length bytes.now)
+            self.old self.new }
     {
         let listed = self.failing.call();
         if listed {
-            self.unsent = one_more(self.unsent);
-            return Err(Failed);
+            return Err(self.lose());
         }
         if !self.outbox.has_room(bytes.len()) {
-            self.unsent = one_more(self.unsent);
-            return Err(Failed);
+            return Err(self.lose());
         }
         self.outbox.datagram(service, to, bytes);
         Ok(())
     }
 
     fn answer(&mut self, conn: u32, bytes: &[u8]) -> Result<(), Failed>
-        ensures told { MatchResult result (λ _. WasSent (sent.Answer conn bytes.now) (link_seen self.old) (link_seen self.new))
-            (λ _. NotSent (link_seen self.old) (link_seen self.new)) }
-        ensures exact { MatchResult result (λ _. MemSent (sent.Answer conn bytes.now) (length bytes.now) self.old self.new)
-            (λ _. MemNotSent (length bytes.now) self.old self.new) }
+        ensures told { Sends result (sent.Answer conn bytes.now)
+            (link_seen self.old) (link_seen self.new) }
+        ensures exact { MemSends result (sent.Answer conn bytes.now) (length bytes.now)
+            self.old self.new }
     {
         let listed = self.failing.call();
         if listed {
-            self.unsent = one_more(self.unsent);
-            return Err(Failed);
+            return Err(self.lose());
         }
         if !self.outbox.has_room(bytes.len()) {
-            self.unsent = one_more(self.unsent);
-            return Err(Failed);
+            return Err(self.lose());
         }
         self.outbox.answer(conn, bytes);
         Ok(())
     }
 
     fn close(&mut self, conn: u32) -> Result<(), Failed>
-        ensures told { MatchResult result (λ _. WasSent (sent.Close conn) (link_seen self.old) (link_seen self.new))
-            (λ _. NotSent (link_seen self.old) (link_seen self.new)) }
-        ensures exact { MatchResult result (λ _. MemSent (sent.Close conn) 0 self.old self.new)
-            (λ _. MemNotSent 0 self.old self.new) }
+        ensures told { Sends result (sent.Close conn) (link_seen self.old) (link_seen self.new) }
+        ensures exact { MemSends result (sent.Close conn) 0 self.old self.new }
     {
         let listed = self.failing.call();
         if listed {
-            self.unsent = one_more(self.unsent);
-            return Err(Failed);
+            return Err(self.lose());
         }
         if !self.outbox.has_room(0) {
-            self.unsent = one_more(self.unsent);
-            return Err(Failed);
+            return Err(self.lose());
         }
         self.outbox.close(conn);
         Ok(())
     }
 
-    ghost one_left = { λ m. one_exact m.left };
+    ghost one_left = { λ m up. one_exact m.left };
 
-    ghost one_sent = { λ m. one_exact m.outbox.sent };
+    ghost one_sent = { λ m up. one_exact m.outbox.sent };
 }

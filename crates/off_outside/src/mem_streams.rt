@@ -1,7 +1,8 @@
-ghost use Rattle.std.specs.Prelude.{◌≡◌, ◌≤◌, [], length, MatchResult, IfOk};
+ghost use Rattle.std.specs.Prelude.{◌≡◌, ◌≤◌, length, IfOk};
 ghost use Rattle.off_defs.specs.Told.{one_exact};
-ghost use Rattle.off_outside.specs.Streams.{Gave, NotGiven, Wrote, NotWritten};
-ghost use Rattle.off_outside.specs.InMemory.{source_seen, sink_seen, SourceTells, SinkTells, MemGave, MemNotGiven, MemWrote, MemNotWritten};
+ghost use Rattle.off_outside.specs.Streams.{Draws, Appends};
+ghost use Rattle.off_outside.specs.InMemory.{source_seen, sink_seen, SourceTells, SinkTells};
+ghost use Rattle.off_outside.specs.InMemory.{new_source, new_sink, MemDraws, MemAppends};
 
 use crate::failing::{Calls, Failing, one_more};
 use crate::link::Failed;
@@ -33,7 +34,7 @@ impl Model for MemSource {
 impl MemSource {
     /// A source of these bytes. It takes no memory.
     pub fn new(_alloc: Global, bytes: Bytes, fails: Calls) -> MemSource
-        ensures holds { result ≡ record { left = bytes; calls = record { listed = fails; made = 0 }; faults = 0 } }
+        ensures holds { result ≡ new_source bytes fails }
         ensures tells { SourceTells result (⟦<MemSource as Source>⟧.seen result) }
     {
         MemSource {
@@ -48,8 +49,7 @@ impl MemSource {
 impl MemSource {
     // Fills `out` as far as there are bytes.
     fn fill(&mut self, out: &mut [u8]) -> Result<usize, Failed>
-        ensures { MatchResult result (λ n. MemGave n out.old out.new self.old self.new)
-            (λ _. MemNotGiven out.old out.new self.old self.new) }
+        ensures { MemDraws result out.old out.new self.old self.new }
     {
         if self.failing.call() {
             self.faults = one_more(self.faults);
@@ -69,15 +69,13 @@ impl Source for MemSource {
 
     fn read(&mut self, out: &mut [u8]) -> Result<usize, Failed>
         ensures room { IfOk result (λ n. n ≤ length out.new) }
-        ensures gave { MatchResult result (λ n. Gave n out.new (source_seen self.old) (source_seen self.new))
-            (λ _. NotGiven (source_seen self.old) (source_seen self.new)) }
-        ensures exact { MatchResult result (λ n. MemGave n out.old out.new self.old self.new)
-            (λ _. MemNotGiven out.old out.new self.old self.new) }
+        ensures gave { Draws result out.new (source_seen self.old) (source_seen self.new) }
+        ensures exact { MemDraws result out.old out.new self.old self.new }
     {
         self.fill(out)
     }
 
-    ghost one_left = { λ m. one_exact m.left };
+    ghost one_left = { λ m up. one_exact m.left };
 }
 
 /// A sink that keeps what is written, in room that was taken when it was made.
@@ -96,7 +94,12 @@ impl Model for MemSink {
 
     ghost Value = { MemSinkHeld };
 
-    ghost view = { λ m. record { written = m.bytes.items; room = m.room; calls = m.failing; faults = m.faults } };
+    ghost view = { λ m. record {
+      written = m.bytes.items;
+      room = m.room;
+      calls = m.failing;
+      faults = m.faults;
+    } };
 
     ghost invariant = { λ m. vec_len m.bytes + m.room ≤ vec_capacity m.bytes };
 }
@@ -104,7 +107,7 @@ impl Model for MemSink {
 impl MemSink {
     /// Takes room for `room` bytes. A write past it fills the room, fails, and is counted.
     pub fn new(alloc: Global, room: usize, fails: Calls) -> Result<MemSink, NoMemory>
-        ensures holds { IfOk result (λ sink. sink ≡ record { written = []; room = room; calls = record { listed = fails; made = 0 }; faults = 0 }) }
+        ensures holds { IfOk result (λ sink. sink ≡ new_sink room fails) }
         ensures tells { IfOk result (λ sink. SinkTells sink (⟦<MemSink as Sink>⟧.seen sink)) }
     {
         let Ok(bytes) = Vec::with_capacity(alloc, room) else {
@@ -131,10 +134,8 @@ impl Sink for MemSink {
     ghost seen = { λ m. sink_seen m };
 
     fn write(&mut self, piece: &[u8]) -> Result<(), Failed>
-        ensures told { MatchResult result (λ _. Wrote piece.now (sink_seen self.old) (sink_seen self.new))
-            (λ _. NotWritten piece.now (sink_seen self.old) (sink_seen self.new)) }
-        ensures exact { MatchResult result (λ _. MemWrote piece.now self.old self.new)
-            (λ _. MemNotWritten piece.now self.old self.new) }
+        ensures told { Appends result piece.now (sink_seen self.old) (sink_seen self.new) }
+        ensures exact { MemAppends result piece.now self.old self.new }
     {
         if self.failing.call() {
             self.faults = one_more(self.faults);
@@ -151,5 +152,5 @@ impl Sink for MemSink {
         Ok(())
     }
 
-    ghost one_written = { λ m. one_exact m.written };
+    ghost one_written = { λ m up. one_exact m.written };
 }

@@ -1,4 +1,21 @@
-ghost use Rattle.std.specs.Prelude.{◌≡◌, ◌+◌, ◌<◌, ◌≤◌, ◌↔◌, [], ◌∷◌, ◌++◌, length, take, drop, slice_get, Some, IfOk, IsTrue, vec_len};
+ghost use Rattle.std.specs.Prelude.{
+  ◌≡◌,
+  ◌+◌,
+  ◌<◌,
+  ◌≤◌,
+  ◌↔◌,
+  [],
+  ◌∷◌,
+  ◌++◌,
+  length,
+  take,
+  drop,
+  slice_get,
+  Some,
+  IfOk,
+  IsTrue,
+  vec_len,
+};
 ghost use Rattle.std.specs.Vec.{vec_capacity};
 ghost use Rattle.off_defs.specs.declared.results.Sent.TheVariants as sent;
 ghost use Rattle.off_outside.specs.InMemory.{HasRoom, with_item};
@@ -63,7 +80,11 @@ impl Model for Outbox {
 
     ghost use Rattle.off_outside.specs.Outboxes.{item_in, IsWithin};
 
-    ghost view = { λ b. record { sent = map (item_in b.octets.items) b.items.items; item_room = b.item_room; octet_room = b.octet_room } };
+    ghost view = { λ b. record {
+      sent = map (item_in b.octets.items) b.items.items;
+      item_room = b.item_room;
+      octet_room = b.octet_room;
+    } };
 
     ghost invariant = { λ b. All (IsWithin b.octets.items) b.items.items
         × (vec_len b.items + b.item_room ≤ vec_capacity b.items)
@@ -73,7 +94,8 @@ impl Model for Outbox {
 impl Outbox {
     /// Takes room for `items` items of `octets` bytes in all.
     pub fn new(alloc: Global, items: usize, octets: usize) -> Result<Outbox, NoMemory>
-        ensures { IfOk result (λ box. box ≡ record { sent = []; item_room = items; octet_room = octets }) }
+        ensures { IfOk result (λ box. box
+            ≡ record { sent = []; item_room = items; octet_room = octets }) }
     {
         let Ok(room) = Vec::with_capacity(alloc, items) else {
             return Err(NoMemory);
@@ -99,7 +121,8 @@ impl Outbox {
     /// Keeps a datagram.
     pub fn datagram(&mut self, service: Service, to: Peer, bytes: &[u8])
         requires { HasRoom self.old (length bytes.now) }
-        ensures { self.new ≡ with_item self.old (sent.Datagram service to bytes.now) (length bytes.now) }
+        ensures { self.new
+            ≡ with_item self.old (sent.Datagram service to bytes.now) (length bytes.now) }
     {
         let at = self.octets.len();
         let len = bytes.len();

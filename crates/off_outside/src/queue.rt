@@ -1,4 +1,16 @@
-ghost use Rattle.std.specs.Prelude.{◌≡◌, ◌==◌, [], ◌∷◌, ◌++◌, length, drop, OnOk, OnErr, IfNone, IfSome};
+ghost use Rattle.std.specs.Prelude.{
+  ◌≡◌,
+  ◌==◌,
+  [],
+  ◌∷◌,
+  ◌++◌,
+  length,
+  drop,
+  OnOk,
+  OnErr,
+  IfNone,
+  IfSome,
+};
 ghost use Rattle.off_outside.specs.LinkCalls.{first_event};
 
 use off_base::NoMemory;

@@ -1,4 +1,17 @@
-ghost use Rattle.std.specs.Prelude.{◌≡◌, ◌==◌, ◌<◌, ◌≤◌, [], ◌∷◌, ◌++◌, length, OnOk, OnErr, slice_get, Some};
+ghost use Rattle.std.specs.Prelude.{
+  ◌≡◌,
+  ◌==◌,
+  ◌<◌,
+  ◌≤◌,
+  [],
+  ◌∷◌,
+  ◌++◌,
+  length,
+  OnOk,
+  OnErr,
+  slice_get,
+  Some,
+};
 ghost use Rattle.off_defs.specs.State.{says_nothing};
 
 use arrayvec::ArrayVec;
@@ -7,7 +20,8 @@ use off_defs::Sent;
 use std::alloc::Global;
 use std::marker::Model;
 
-/// What the office says of one event: the things to send, and one line of at most 80 bytes, held in place.
+/// What the office says of one event: the things to send, and one line of at most 80 bytes, held in
+/// place.
 #[derive(Drop)]
 pub struct Replies {
     items: Vec<Sent>,
@@ -35,7 +49,8 @@ impl Replies {
 
     /// Adds a thing to send. After `NoMemory` all is as before.
     pub fn push(&mut self, item: Sent) -> Result<(), NoMemory>
-        ensures ok { OnOk result (self.new ≡ record self.old { items = self.old.items ++ item ∷ [] }) }
+        ensures ok { OnOk result (self.new
+            ≡ record self.old { items = self.old.items ++ item ∷ [] }) }
         ensures err { OnErr result (self.new ≡ self.old) }
     {
         match self.items.push(item) {

@@ -1,35 +1,34 @@
-ghost use Rattle.std.specs.Prelude.{MatchResult, ◌≤◌, length, IfOk};
+ghost use Rattle.std.specs.Prelude.{◌≤◌, length, IfOk};
 ghost use Rattle.off_defs.specs.Told.{IsOne};
-ghost use Rattle.off_outside.specs.Streams.{SourceSeen, SinkSeen, Gave, NotGiven, Wrote, NotWritten};
+ghost use Rattle.off_outside.specs.Streams.{SourceSeen, SinkSeen, Draws, Appends};
 
 use crate::link::Failed;
 
 /// Where a job reads its bytes.
 pub trait Source {
-    // What it tells: the bytes that are left, perhaps untold, and its faults.
+    // What it tells: the bytes that are left, perhaps untold, its faults and its calls.
     ghost seen: { Self → SourceSeen };
 
-    /// Puts the next bytes at the front of `out`, and answers how many: at most the length of `out`, for every source.
-    /// 0 with a non-empty `out` comes exactly at the end. After `Failed` the bytes left are as before, and `faults` rose.
+    /// Puts the next bytes at the front of `out`, and answers how many: at most the length of
+    /// `out`, for every source. 0 with a non-empty `out` comes exactly at the end. After `Failed`
+    /// the bytes left are as before, and `faults` rose.
     fn read(&mut self, out: &mut [u8]) -> Result<usize, Failed>
         ensures room { IfOk result (λ n. n ≤ length out.new) }
-        ensures gave { MatchResult result (λ n. Gave n out.new (seen self.old) (seen self.new))
-            (λ _. NotGiven (seen self.old) (seen self.new)) };
+        ensures gave { Draws result out.new (seen self.old) (seen self.new) };
 
-    // What is told is one value.
-    ghost one_left: { (s : Self) → IsOne (seen s).left };
+    // What is told is one value, as long as the source is up.
+    ghost one_left: { (s : Self) → (seen s).up → IsOne (seen s).left };
 }
 
 /// Where lines are written.
 pub trait Sink {
-    // What it tells: the bytes written, perhaps untold, and its faults.
+    // What it tells: the bytes written, perhaps untold, its faults and its calls.
     ghost seen: { Self → SinkSeen };
 
     /// Appends the whole piece. After `Failed` a front of it was appended, and `faults` rose.
     fn write(&mut self, piece: &[u8]) -> Result<(), Failed>
-        ensures { MatchResult result (λ _. Wrote piece.now (seen self.old) (seen self.new))
-            (λ _. NotWritten piece.now (seen self.old) (seen self.new)) };
+        ensures { Appends result piece.now (seen self.old) (seen self.new) };
 
-    // What is told is one value.
-    ghost one_written: { (s : Self) → IsOne (seen s).written };
+    // What is told is one value, as long as the sink is up.
+    ghost one_written: { (s : Self) → (seen s).up → IsOne (seen s).written };
 }
