@@ -1,3 +1,4 @@
 pub mod EntryTrees
+pub mod HeightLemmas
 pub mod MemKeeperLemmas
 pub mod TreeLemmas

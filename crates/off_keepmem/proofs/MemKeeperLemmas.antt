@@ -1,5 +1,5 @@
 -- A keeper in memory: its entries as tables, and what it tells of a call.
-use Rattle.std.proofs.Common.{◌≡◌, ℕ, ◌≤◌, not, Option, Some, List, [], ◌∷◌, Result, Ok, Err, MatchResult, length, refl, sym, ap, subst, ◌∙◌, arith, suc, zero, ◌+◌, ◌++◌, take, slice_get, add-one}
+use Rattle.std.proofs.Common.{◌≡◌, ℕ, ◌≤◌, not, Option, Some, List, [], ◌∷◌, Result, Ok, Err, inl, length, refl, sym, ap, subst, ◌∙◌, arith, suc, zero, ◌+◌, ◌++◌, take, slice_get, add-one}
 use Rattle.std.specs.List.{filter, find}
 use Rattle.std.specs.Ordering.{eq_by_cmp}
 use Rattle.std.specs.FinMap as map
@@ -15,10 +15,14 @@ use Rattle.off_defs.proofs.TableLemmas.{entries_with, entries_without}
 use Rattle.off_defs.proofs.ToldLemmas.{told_known}
 use Rattle.off_outside.specs.declared.keeper.KeepErr.{KeepErr}
 use Rattle.off_outside.specs.declared.keeper.KeepErr.TheVariants.{Memory, Failed}
-use Rattle.off_outside.specs.KeeperCalls.{Reads, Committed, NotDone, WasCounted}
-use Rattle.off_keepmem.specs.KeeperInMemory.{MemKeeperHeld, keeper_seen, MemRead, MemCommitted, MemUndone}
+use Rattle.off_defs.specs.Counts.{Grew, one_more, most_count}
+use Rattle.off_outside.specs.InMemory.{CallsHeld}
+use Rattle.off_outside.specs.KeeperCalls.{Still, Crash, Reads, NotDone, Looks, Commits, WasCounted, keeper_faults_in}
+use Rattle.off_keepmem.specs.KeeperInMemory.{MemKeeperHeld, keeper_seen, MemRead, MemUndone, MemLooks, MemCommits, IsShallow}
 use Rattle.off_keepmem.specs.Trees.{Rises, row_in, put_entry, but_key, next_in, entries_written, rows_after}
+use Rattle.off_keepmem.specs.Heights.{TreeHeld, Fits, least_entries}
 use Rattle.off_keepmem.proofs.TreeLemmas.{put_rises, drop_rises}
+use Rattle.off_keepmem.proofs.HeightLemmas.{few_in_45}
 
 abbrev tables_of : List (Key × Row) → Tables
 tables_of entries = map.from_sorted {R = key_cmp} entries
@@ -33,6 +37,23 @@ row_held es key h = sym (map.get-from_sorted key_cmp es key h)
 pub next_held : (es : List (Key × Row)) (place : Option Key) → Rises es → next_in place es ≡ next_entry place (tables_of es)
 unfolding Rises next_in
 next_held es place h = ap (λ (v : List (Key × Row)). find (is_after place) v) (sym (map.entries-from_sorted key_cmp es h))
+
+pub shallow_held : (m : MemKeeperHeld) (rows : TreeHeld) → Rises rows.entries → Fits rows → m.tables ≡ tables_of rows.entries → m.depth ≡ rows.depth → IsShallow m
+unfolding Rises
+shallow_held m rows rises fits tables depth =
+    let len : map.len m.tables ≡ length rows.entries = ap (λ (t : Tables). map.len t) tables
+    ∙ map.len-entries (tables_of rows.entries)
+    ∙ ap (λ (es : List (Key × Row)). length es) (map.entries-from_sorted key_cmp rows.entries rises) in
+    let least : least_entries m.depth ≤ map.len m.tables = omega (arith, fits.least, ap least_entries depth) in
+    record { least = least; few = λ below. few_in_45 m.depth (map.len m.tables) least below }
+
+pub shallow_same : (old new : MemKeeperHeld) → IsShallow old → new.tables ≡ old.tables → new.depth ≡ old.depth → IsShallow new
+shallow_same old new shallow tables depth =
+    let len : map.len new.tables ≡ map.len old.tables = ap (λ (t : Tables). map.len t) tables in
+    record {
+      least = omega (arith, len, shallow.least, ap least_entries depth);
+      few = λ below. let low : old.depth ≤ 45 = shallow.few (omega (arith, len)) in omega arith;
+    }
 
 put_held : (es : List (Key × Row)) (key : Key) (row : Row) → Rises es → Rises (put_entry key row es) → tables_of (put_entry key row es) ≡ with_row (tables_of es) key row
 unfolding Rises put_entry
@@ -61,45 +82,84 @@ all_held es [] h = refl
 all_held es (write ∷ writes) h =
     all_held (entries_written es write) writes (written_rises es write h) ∙ ap (λ (t : Tables). write_all t writes) (write_held es write h)
 
+-- a keeper in memory says nothing of a crash
+still_seen : (old new : MemKeeperHeld) → Still (keeper_seen old) (keeper_seen new)
+still_seen old new = record {
+  later = omega arith;
+  past = λ m u before opened. opened;
+  within = λ m u behind before opened. opened;
+  doubts = λ u doubt. doubt;
+}
+
+crash_seen : {P : Tables → Tables → Type 0} (old new : MemKeeperHeld) → Crash P (keeper_seen old) (keeper_seen new)
+crash_seen old new = record {
+  later = omega arith;
+  past = λ m u before opened. opened;
+  within = λ t told m u behind before opened. absurd opened;
+  doubts = λ t told u doubt. absurd doubt;
+}
+
 read_tells : {P : Tables → Type 0} {old new : MemKeeperHeld} → P old.tables → MemRead old new → Reads P (keeper_seen old) (keeper_seen new)
 read_tells {P} {old} {new} p read = record {
   tables = λ t told. (told ∙ sym (ap (λ (m : MemKeeperHeld). m.tables) read.after), subst P (sym told) p);
-  faults = subst (λ (m : MemKeeperHeld). old.faults ≤ m.faults) (sym read.after) (omega arith);
+  quiet = record {
+    up = λ up. up;
+    faults = ap (λ (m : MemKeeperHeld). m.faults) read.after;
+    commits = ap (λ (m : MemKeeperHeld). m.commits) read.after;
+    still = still_seen old new;
+  };
 }
 
-undone_grew : (err : KeepErr) (old new : MemKeeperHeld) → MemUndone err old new → NotDone err (keeper_seen old) (keeper_seen new)
-undone_grew Memory old new undone = record {
+undone_grew : (err : KeepErr) (old new : MemKeeperHeld) → MemUndone err old new → Grew (keeper_faults_in err) old.faults new.faults
+undone_grew Memory old new undone = record { later = omega (arith, undone.faults); grew = omega (arith, undone.faults, undone.fits) }
+undone_grew Failed old new undone = record { later = omega (arith, undone.faults, undone.fits); grew = omega (arith, undone.faults) }
+
+undone_tells : (err : KeepErr) (old new : MemKeeperHeld) → MemUndone err old new → NotDone err (keeper_seen old) (keeper_seen new)
+undone_tells err old new undone = record {
   tables = λ t told. told ∙ sym undone.tables;
-  faults = record { later = omega (arith, undone.faults); grew = omega (arith, undone.faults, undone.fits) };
-}
-undone_grew Failed old new undone = record {
-  tables = λ t told. told ∙ sym undone.tables;
-  faults = record { later = omega (arith, undone.faults, undone.fits); grew = omega (arith, undone.faults) };
+  up = λ up. inl up;
+  faults = undone_grew err old new undone;
+  commits = undone.commits;
+  still = still_seen old new;
 }
 
 -- what a reading tells, and that it was counted
 pub reads_told : {A : Type 0} (Q : A → Tables → Type 0) (r : Result A KeepErr) (old new : MemKeeperHeld)
-    → MatchResult r (λ a. Q a old.tables × MemRead old new) (λ err. MemUndone err old new)
-    → MatchResult r (λ a. Reads (Q a) (keeper_seen old) (keeper_seen new)) (λ err. NotDone err (keeper_seen old) (keeper_seen new))
+    → MemLooks r old new Q → Looks r (keeper_seen old) (keeper_seen new) Q
 reads_told Q (Ok a) old new h = read_tells {P = Q a} h.0 h.1
-reads_told Q (Err err) old new h = undone_grew err old new h
+reads_told Q (Err err) old new h = undone_tells err old new h
+
+counted_by : (old new : MemKeeperHeld) → old.calls.made ≤ most_count → new.calls.made ≡ one_more old.calls.made → WasCounted (keeper_seen old) (keeper_seen new)
+counted_by old new fits one = record { later = omega (arith, fits, one); one = one }
 
 pub reads_counted : {A : Type 0} (Q : A → Tables → Type 0) (r : Result A KeepErr) (old new : MemKeeperHeld)
-    → MatchResult r (λ a. Q a old.tables × MemRead old new) (λ err. MemUndone err old new) → WasCounted (keeper_seen old) (keeper_seen new)
-reads_counted Q (Ok a) old new h = ap (λ (m : MemKeeperHeld). m.calls.made) h.1.after
-reads_counted Q (Err err) old new h = ap (λ v. v.made) h.calls
+    → MemLooks r old new Q → WasCounted (keeper_seen old) (keeper_seen new)
+reads_counted Q (Ok a) old new h = counted_by old new h.1.fits (ap (λ (m : MemKeeperHeld). m.calls.made) h.1.after)
+reads_counted Q (Err err) old new h = counted_by old new h.calls_fit (ap (λ (v : CallsHeld). v.made) h.calls)
 
 -- likewise of a commit
-pub commit_told : {A : Type 0} (writes : List Write) (r : Result A KeepErr) (old new : MemKeeperHeld)
-    → MatchResult r (λ _. MemCommitted writes old new) (λ err. MemUndone err old new)
-    → MatchResult r (λ _. Committed writes (keeper_seen old) (keeper_seen new)) (λ err. NotDone err (keeper_seen old) (keeper_seen new))
-commit_told writes (Ok a) old new h = record { tables = told_known h.tables; faults = omega (arith, h.faults) }
-commit_told writes (Err err) old new h = undone_grew err old new h
+pub commit_told : (writes : List Write) (r : Result (Unit {0}) KeepErr) (old new : MemKeeperHeld)
+    → MemCommits r old new writes → Commits r (keeper_seen old) (keeper_seen new) writes
+commit_told writes (Ok a) old new h = record {
+  tables = told_known h.tables;
+  up = λ up. up;
+  faults = h.faults;
+  commits = h.commits;
+  crash = crash_seen old new;
+  sure = λ t told u doubt. doubt;
+}
+commit_told writes (Err err) old new h = record {
+  tables = λ t told. told ∙ sym h.tables;
+  up = λ up. inl up;
+  faults = undone_grew err old new h;
+  commits = h.commits;
+  crash = crash_seen old new;
+}
 
-pub commit_counted : {A : Type 0} (writes : List Write) (r : Result A KeepErr) (old new : MemKeeperHeld)
-    → MatchResult r (λ _. MemCommitted writes old new) (λ err. MemUndone err old new) → WasCounted (keeper_seen old) (keeper_seen new)
-commit_counted writes (Ok a) old new h = ap (λ v. v.made) h.calls
-commit_counted writes (Err err) old new h = ap (λ v. v.made) h.calls
+pub commit_counted : (writes : List Write) (r : Result (Unit {0}) KeepErr) (old new : MemKeeperHeld)
+    → MemCommits r old new writes → WasCounted (keeper_seen old) (keeper_seen new)
+commit_counted writes (Ok a) old new h = counted_by old new h.fits (ap (λ (v : CallsHeld). v.made) h.calls)
+commit_counted writes (Err err) old new h = counted_by old new h.calls_fit (ap (λ (v : CallsHeld). v.made) h.calls)
 
 -- one more item of a list that is read by places
 take_got : {A : Type 0} (xs : List A) (i : ℕ) (x : A) → slice_get xs i ≡ Some x → take (suc i) xs ≡ take i xs ++ x ∷ []

@@ -1,5 +1,5 @@
 -- The keeper in memory: what it holds, and exactly what each call makes of it.
-use Rattle.std.specs.Prelude.{◌≡◌, ℕ, ◌≤◌, List}
+use Rattle.std.specs.Prelude.{◌≡◌, ℕ, ◌<◌, ◌≤◌, ◌^◌, max, List, Result, MatchResult}
 use Rattle.std.specs.FinMap as map
 use Rattle.off_defs.specs.declared.orders.Write.{Write}
 use Rattle.off_defs.specs.State.{Tables}
@@ -9,27 +9,47 @@ use Rattle.off_outside.specs.InMemory.{CallsHeld, one_called, IsToFail}
 use Rattle.off_outside.specs.KeeperSeen.{KeeperSeen}
 use Rattle.off_outside.specs.declared.keeper.KeepErr.{KeepErr}
 use Rattle.off_outside.specs.declared.keeper.KeepErr.TheVariants.{Memory, Failed}
+use Rattle.off_keepmem.specs.Heights.{least_entries}
 
--- its tables, and how many boxes it has in stock for rows to come
+-- its tables, how many of the boxes of its tree of rows stand one below another, and how many it has in stock for rows to come
 pub record MemKeeperHeld : Type 0 where
   pub tables : Tables
+  pub depth : ℕ
   pub spare : ℕ
   pub calls : CallsHeld
   pub faults : ℕ
+  pub commits : ℕ
+
+-- It has at least as many rows as a balanced tree of its depth (Adelson-Velsky and Landis, 1962). So fewer than 2 ^ 32 rows stand in
+-- 45 levels at most
+pub record IsShallow (m : MemKeeperHeld) : Type 0 where
+  pub least : least_entries m.depth ≤ map.len m.tables
+  pub few : map.len m.tables < 2 ^ 32 → m.depth ≤ 45
 
 -- a new one
 abbrev pub empty_keeper : List ℕ → MemKeeperHeld
-empty_keeper fails = record { tables = map.empty; spare = 0; calls = record { listed = fails; made = 0 }; faults = 0 }
+empty_keeper fails = record { tables = map.empty; depth = 0; spare = 0; calls = record { listed = fails; made = 0 }; faults = 0; commits = 0 }
 
--- it tells its tables
+-- it tells its tables, and is always up. Its tables don't outlive the program, so it says nothing of a crash
 abbrev pub keeper_seen : MemKeeperHeld → KeeperSeen
-keeper_seen m = record { tables = λ tables. tables ≡ m.tables; faults = m.faults; calls = m.calls.made }
+keeper_seen m = record {
+  tables = λ tables. tables ≡ m.tables;
+  up = Unit {0};
+  faults = m.faults;
+  calls = m.calls.made;
+  commits = m.commits;
+  moment = 0;
+  opened = λ moment tables. ⊥;
+  doubt = λ tables. ⊥;
+}
 
 -- what is seen of a keeper in memory is all that it holds
 pub record KeeperTells (m : MemKeeperHeld) (seen : KeeperSeen) : Type 0 where
   pub tables : seen.tables m.tables
+  pub up : seen.up
   pub faults : seen.faults ≡ m.faults
   pub calls : seen.calls ≡ m.calls.made
+  pub commits : seen.commits ≡ m.commits
 
 -- the call counted, and nothing else
 abbrev pub keeper_called : MemKeeperHeld → MemKeeperHeld
@@ -38,14 +58,17 @@ keeper_called m = record m { calls = one_called m.calls }
 -- the tables are read where the call isn't listed
 pub record MemRead (old new : MemKeeperHeld) : Type 0 where
   pub unlisted : ¬ (IsToFail old.calls)
+  pub fits : old.calls.made ≤ most_count
   pub after : new ≡ keeper_called old
 
 -- all writes are done where the call isn't listed
 pub record MemCommitted (writes : List Write) (old new : MemKeeperHeld) : Type 0 where
   pub unlisted : ¬ (IsToFail old.calls)
+  pub fits : old.calls.made ≤ most_count
   pub tables : new.tables ≡ write_all old.tables writes
   pub calls : new.calls ≡ one_called old.calls
   pub faults : new.faults ≡ old.faults
+  pub commits : new.commits ≡ one_more old.commits
 
 -- a listed call fails, and no other
 abbrev pub IsCause : KeepErr → CallsHeld → Type 0
@@ -59,13 +82,26 @@ faults_after Failed faults = one_more faults
 pub record MemUndone (err : KeepErr) (old new : MemKeeperHeld) : Type 0 where
   pub cause : IsCause err old.calls
   pub tables : new.tables ≡ old.tables
+  pub depth : new.depth ≡ old.depth
   pub calls : new.calls ≡ one_called old.calls
+  pub calls_fit : old.calls.made ≤ most_count
   pub fits : old.faults ≤ most_count
   pub faults : new.faults ≡ faults_after err old.faults
+  pub commits : new.commits ≡ old.commits
 
--- all but the stock of boxes is as before
-pub record SameButSpare (old new : MemKeeperHeld) : Type 0 where
+-- All but the stock of boxes is as before, and that has as many as are wanted at most, unless it had more
+pub record SameButSpare (wanted : ℕ) (old new : MemKeeperHeld) : Type 0 where
   pub tables : new.tables ≡ old.tables
+  pub depth : new.depth ≡ old.depth
   pub calls : new.calls ≡ old.calls
   pub faults : new.faults ≡ old.faults
+  pub commits : new.commits ≡ old.commits
   pub spare : old.spare ≤ new.spare
+  pub most : new.spare ≤ max old.spare wanted
+
+-- what each call does, by the answer
+abbrev pub MemLooks : {A : Type 0} → Result A KeepErr → MemKeeperHeld → MemKeeperHeld → (A → Tables → Type 0) → Type 0
+MemLooks result old new P = MatchResult result (λ x. P x old.tables × MemRead old new) (λ err. MemUndone err old new)
+
+abbrev pub MemCommits : Result (Unit {0}) KeepErr → MemKeeperHeld → MemKeeperHeld → List Write → Type 0
+MemCommits result old new writes = MatchResult result (λ _. MemCommitted writes old new) (λ err. MemUndone err old new)

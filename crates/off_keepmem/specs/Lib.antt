@@ -1,6 +1,9 @@
+pub mod Heights
+pub mod Inside
 pub mod KeeperCode
 pub mod KeeperInMemory
 pub mod NodeFalls
 pub mod Nodes
 pub mod Puts
+pub mod Taken
 pub mod Trees

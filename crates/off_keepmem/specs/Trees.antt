@@ -1,5 +1,5 @@
 -- The entries of a keeper in memory, in the order of their keys.
-use Rattle.std.specs.Prelude.{Bool, true, not, Option, Some, None, List, [], ◌∷◌, ◌++◌}
+use Rattle.std.specs.Prelude.{Bool, true, not, Option, Some, None, List, [], ◌∷◌}
 use lib.Dec.{T}
 use Rattle.std.specs.List.{filter, find}
 use Rattle.std.specs.Ordering.{eq_by_cmp, is_lt}
@@ -11,7 +11,6 @@ use Rattle.off_defs.specs.declared.orders.Write.{Write}
 use Rattle.off_defs.specs.declared.orders.Write.TheVariants.{Put, Drop}
 use Rattle.off_defs.specs.Keys.{key_cmp}
 use Rattle.off_defs.specs.Tables.{is_after}
-use Rattle.off_keepmem.specs.declared.tree.Branch.{Branch}
 use Rattle.off_keepmem.specs.declared.tree.EntryRef.{EntryRef}
 
 -- the keys rise
@@ -49,9 +48,6 @@ abbrev pub rows_after : List (Key × Row) → List Write → List (Key × Row)
 rows_after entries [] = entries
 rows_after entries (write ∷ writes) = rows_after (entries_written entries write) writes
 
--- the entries of a box, and an entry that is lent
-abbrev pub branch_entries : Branch → List (Key × Row)
-branch_entries b = b.left ++ (b.key, b.row) ∷ b.right
-
+-- an entry that is lent
 abbrev pub lent_entry : EntryRef → Key × Row
 lent_entry e = (e.key, e.row.now)

@@ -1,4 +1,5 @@
-ghost use Rattle.std.specs.Prelude.{◌≡◌, ◌+◌, ◌<◌, ◌≤◌, [], ◌∷◌};
+ghost use Rattle.std.specs.Prelude.{◌≡◌, ◌+◌, ◌<◌, ◌≤◌, ◌^◌, [], ◌∷◌, length};
+ghost use Rattle.off_keepmem.specs.Heights.{Fits, HigherBy, LowerBy};
 ghost use Rattle.off_keepmem.specs.Trees.{Rises, put_entry, but_key, entries_written, rows_after};
 ghost use Rattle.off_keepmem.specs.Puts.{puts_in};
 
@@ -9,14 +10,19 @@ use off_defs::{Key, Row, Write};
 use std::cmp::Ordering;
 use std::mem;
 
-/// Gives the key this row, in place. The row is taken out from behind its reference, and so isn't moved at each step down. It takes a
-/// spare box where the key had none. Says whether the height is another one, since the nodes above need no look where it isn't.
-#[tactic(auto, using(crate::proofs::TreeLemmas::left_rises, crate::proofs::TreeLemmas::right_rises, crate::proofs::TreeLemmas::put_left, crate::proofs::TreeLemmas::put_here, crate::proofs::TreeLemmas::put_right, crate::proofs::TreeLemmas::put_none))]
+/// Gives the key this row, in place. The row is taken out from behind its reference, and so isn't
+/// moved at each step down. It takes a spare box where the key had none. Says whether the height is
+/// another one, since the nodes above need no look where it isn't.
+#[tactic(auto, using(crate::proofs::TreeLemmas::left_rises, crate::proofs::TreeLemmas::right_rises, crate::proofs::TreeLemmas::put_left, crate::proofs::TreeLemmas::put_here, crate::proofs::TreeLemmas::put_right, crate::proofs::TreeLemmas::put_none, crate::proofs::HeightLemmas::node_fits))]
 pub(crate) fn put(tree: &mut Tree, key: Key, row: &mut Row, spare: &mut Spare) -> bool
     requires room { 0 < spare.old }
-    requires rises { Rises tree.old }
-    ensures entries { tree.new ≡ put_entry key row.old tree.old }
+    requires rises { Rises tree.old.entries }
+    requires few { length tree.old.entries < 2 ^ 66 }
+    ensures entries { tree.new.entries ≡ put_entry key row.old tree.old.entries }
     ensures spent { spare.old ≤ spare.new + 1 }
+    ensures boxes { length tree.new.entries + spare.new ≤ length tree.old.entries + spare.old }
+    ensures depth { HigherBy result tree.old.depth tree.new.depth }
+    ensures fits { Fits tree.new }
 {
     let mut is_higher = false;
     if let Node::Fork(_, branch) = &mut tree.node {
@@ -29,17 +35,19 @@ pub(crate) fn put(tree: &mut Tree, key: Key, row: &mut Row, spare: &mut Spare) -
         *tree = single(key, row, spare);
         return true;
     }
-    is_higher && settle(tree)
+    is_higher && settle(&mut tree.node)
 }
 
 /// The tree of one entry.
 fn single(key: Key, row: &mut Row, spare: &mut Spare) -> Tree
     requires { 0 < spare.old }
-    ensures entries { result ≡ (key, row.old) ∷ [] }
-    ensures spent { spare.old ≤ spare.new + 1 }
+    ensures entries { result.entries ≡ (key, row.old) ∷ [] }
+    ensures depth { result.depth ≡ 1 }
+    ensures fits { Fits result }
+    ensures spent { spare.old ≡ spare.new + 1 }
 {
     let Some(mut frame) = spare.take() else {
-        return Tree::new();
+        unreachable!()
     };
     *frame = Branch {
         left: Tree::new(),
@@ -50,11 +58,16 @@ fn single(key: Key, row: &mut Row, spare: &mut Spare) -> Tree
     Tree::over(frame)
 }
 
-/// Takes the key's row away, in place. The box is given back to memory. Says whether the height may be another one.
-#[tactic(auto, using(crate::proofs::TreeLemmas::left_rises, crate::proofs::TreeLemmas::right_rises, crate::proofs::TreeLemmas::drop_left, crate::proofs::TreeLemmas::drop_here, crate::proofs::TreeLemmas::drop_right, crate::proofs::TreeLemmas::drop_none))]
+/// Takes the key's row away, in place. The box is given back to memory. Says whether the height may
+/// be another one.
+#[tactic(auto, using(crate::proofs::TreeLemmas::left_rises, crate::proofs::TreeLemmas::right_rises, crate::proofs::TreeLemmas::drop_left, crate::proofs::TreeLemmas::drop_here, crate::proofs::TreeLemmas::drop_right, crate::proofs::TreeLemmas::drop_none, crate::proofs::HeightLemmas::node_fits))]
 pub(crate) fn remove(tree: &mut Tree, key: Key) -> bool
-    requires { Rises tree.old }
-    ensures { tree.new ≡ but_key key tree.old }
+    requires rises { Rises tree.old.entries }
+    requires few { length tree.old.entries < 2 ^ 66 }
+    ensures entries { tree.new.entries ≡ but_key key tree.old.entries }
+    ensures boxes { length tree.new.entries ≤ length tree.old.entries }
+    ensures depth { LowerBy result tree.old.depth tree.new.depth }
+    ensures fits { Fits tree.new }
 {
     let mut is_lower = false;
     if let Node::Fork(_, branch) = &mut tree.node {
@@ -67,17 +80,20 @@ pub(crate) fn remove(tree: &mut Tree, key: Key) -> bool
             Ordering::Greater => is_lower = remove(&mut branch.right, key),
         }
     }
-    is_lower && settle(tree)
+    is_lower && settle(&mut tree.node)
 }
 
 /// Does one write.
 #[tactic(auto, using(crate::proofs::TreeLemmas::put_rises, crate::proofs::TreeLemmas::drop_rises))]
 fn do_write(tree: &mut Tree, write: Write, spare: &mut Spare)
     requires room { puts_in (write ∷ []) ≤ spare.old }
-    requires rises { Rises tree.old }
-    ensures entries { tree.new ≡ entries_written tree.old write }
-    ensures rises { Rises tree.new }
+    requires rises { Rises tree.old.entries }
+    requires few { length tree.old.entries < 2 ^ 66 }
+    ensures entries { tree.new.entries ≡ entries_written tree.old.entries write }
+    ensures rises { Rises tree.new.entries }
     ensures spent { spare.old ≤ spare.new + puts_in (write ∷ []) }
+    ensures boxes { length tree.new.entries + spare.new ≤ length tree.old.entries + spare.old }
+    ensures fits { Fits tree.new }
 {
     match write {
         Write::Put(key, row) => {
@@ -93,10 +109,14 @@ fn do_write(tree: &mut Tree, write: Write, spare: &mut Spare)
 /// Does writes in order.
 pub(crate) fn write_all(tree: Tree, writes: Vec<Write>, spare: &mut Spare) -> Tree
     requires room { puts_in writes.items ≤ spare.old }
-    requires rises { Rises tree }
-    ensures entries { result ≡ rows_after tree writes.items }
-    ensures rises { Rises result }
+    requires rises { Rises tree.entries }
+    requires few { length tree.entries + spare.old < 2 ^ 66 }
+    requires fits { Fits tree }
+    ensures entries { result.entries ≡ rows_after tree.entries writes.items }
+    ensures rises { Rises result.entries }
     ensures spent { spare.old ≤ spare.new + puts_in writes.items }
+    ensures boxes { length result.entries + spare.new ≤ length tree.entries + spare.old }
+    ensures fits { Fits result }
 {
     let mut grown = tree;
     for write in writes {

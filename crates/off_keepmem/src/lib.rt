@@ -1,6 +1,7 @@
 //! The tables in memory: a keeper over a balanced tree.
 //!
-//! A commit first takes all the memory that it wants, and then makes its change without any, so it does all of its writes or none.
+//! A commit first takes all the memory that it wants, and then makes its change without any, so it
+//! does all of its writes or none.
 #![tactic(auto)]
 
 mod balance;

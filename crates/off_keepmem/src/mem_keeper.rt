@@ -1,10 +1,12 @@
-ghost use Rattle.std.specs.Prelude.{◌≡◌, ◌+◌, ◌≤◌, [], ◌∷◌, ◌++◌, MatchResult, IfOk, OnOk};
+ghost use Rattle.std.specs.Prelude.{◌≡◌, ◌+◌, ◌≤◌, ◌∷◌, ◌++◌, [], MatchResult, IfOk, OnOk};
 ghost use Rattle.std.specs.Option.{option_map};
-ghost use Rattle.off_defs.specs.Counts.{most_count};
+ghost use Rattle.off_defs.specs.Counts.{most_count, one_more};
 ghost use Rattle.off_defs.specs.Told.{one_exact};
 ghost use Rattle.off_defs.specs.Tables.{row_at, next_entry, write_all};
-ghost use Rattle.off_outside.specs.KeeperCalls.{Reads, Committed, NotDone, WasCounted};
-ghost use Rattle.off_keepmem.specs.KeeperInMemory.{keeper_seen, KeeperTells, empty_keeper, MemRead, MemCommitted, MemUndone, SameButSpare};
+ghost use Rattle.off_outside.specs.KeeperCalls.{Looks, Commits, WasCounted};
+ghost use Rattle.off_keepmem.specs.KeeperInMemory.{keeper_seen, KeeperTells, empty_keeper};
+ghost use Rattle.off_keepmem.specs.KeeperInMemory.{MemRead, MemUndone, MemLooks, MemCommits};
+ghost use Rattle.off_keepmem.specs.KeeperInMemory.{SameButSpare, IsShallow};
 ghost use Rattle.off_keepmem.specs.Puts.{puts_in, is_put};
 
 use crate::copies::copy_write;
@@ -19,28 +21,40 @@ use std::alloc::Global;
 use std::marker::Model;
 use std::mem;
 
-/// A keeper that holds its tables in memory, in a balanced tree. A call takes time that grows as the logarithm of the rows.
+/// How high the tree of rows may be when more are to come.
+const MOST_LEVELS: u8 = 64;
+
+/// A keeper that holds its tables in memory, in a balanced tree. A call takes time that grows as
+/// the logarithm of the rows.
 #[derive(Drop)]
 pub struct MemKeeper {
     rows: Tree,
     spare: Spare,
     failing: Failing,
     faults: u64,
+    commits: u64,
 }
 
 impl Model for MemKeeper {
     ghost use Rattle.std.specs.FinMap as map;
     ghost use Rattle.off_keepmem.specs.KeeperInMemory.{MemKeeperHeld};
     ghost use Rattle.off_keepmem.specs.KeeperCode.{keeper_code};
-    ghost use Rattle.off_keepmem.specs.Trees.{Rises};
+    ghost use Rattle.off_keepmem.specs.Inside.{RowsHeld};
 
     ghost Value = { MemKeeperHeld };
 
     ghost coded = { keeper_code };
 
-    ghost view = { λ m. record { tables = map.from_sorted m.rows; spare = m.spare; calls = m.failing; faults = m.faults } };
+    ghost view = { λ m. record {
+      tables = map.from_sorted m.rows.entries;
+      depth = m.rows.depth;
+      spare = m.spare;
+      calls = m.failing;
+      faults = m.faults;
+      commits = m.commits;
+    } };
 
-    ghost invariant = { λ m. Rises m.rows };
+    ghost invariant = { λ m. RowsHeld m.rows m.spare };
 }
 
 /// Writes for which a keeper has taken all memory. Contracts see the list of them.
@@ -64,7 +78,7 @@ impl Model for Plan {
 
 impl MemKeeper {
     /// A keeper of empty tables, whose calls of the listed numbers fail. It takes no memory.
-    #[tactic(auto, using(crate::proofs::MemKeeperLemmas::none_held, crate::proofs::TreeLemmas::rises_none))]
+    #[tactic(auto, using(crate::proofs::MemKeeperLemmas::none_held, crate::proofs::TreeLemmas::rises_none, crate::proofs::HeightLemmas::fits_bare))]
     pub fn new(alloc: Global, fails: Calls) -> MemKeeper
         ensures empty { result ≡ empty_keeper fails }
         ensures tells { KeeperTells result (⟦<MemKeeper as Keeper>⟧.seen result) }
@@ -74,6 +88,7 @@ impl MemKeeper {
             spare: Spare::new(alloc),
             failing: Failing::new(fails),
             faults: 0,
+            commits: 0,
         }
     }
 
@@ -85,12 +100,30 @@ impl MemKeeper {
         self.failing.made()
     }
 
-    /// Takes all the memory that these writes want, and changes no tables, also after `NoMemory`. It isn't counted as a call.
+    /// How many boxes of the tree of rows stand one below another. A call goes down as many at
+    /// most, and its stack grows with them.
+    #[tactic(auto, using(crate::proofs::MemKeeperLemmas::shallow_held))]
+    pub fn depth(&self) -> u8
+        ensures depth { result ≡ self.now.depth }
+        ensures shallow { IsShallow self.now }
+    {
+        self.rows.height()
+    }
+
+    /// Takes all the memory that these writes want, and changes no tables, also after `NoMemory`.
+    /// It isn't counted as a call.
+    ///
+    /// A tree of more than 64 levels has over 2^45 rows, and gets no more (`NoMemory`): no machine
+    /// has the memory for their boxes.
+    #[tactic(auto, using(crate::proofs::HeightLemmas::most_in_64))]
     pub fn plan(&mut self, alloc: Global, writes: &Writes) -> Result<Plan, NoMemory>
         ensures plan { IfOk result (λ plan. plan ≡ writes.now) }
         ensures room { OnOk result (puts_in writes.now ≤ self.new.spare) }
-        ensures rest { SameButSpare self.old self.new }
+        ensures rest { SameButSpare (puts_in writes.now) self.old self.new }
     {
+        if self.rows.height() > MOST_LEVELS {
+            return Err(NoMemory);
+        }
         let copies = copied(alloc, writes)?;
         let puts = count_puts(&copies);
         self.spare.reserve(alloc, puts)?;
@@ -104,7 +137,9 @@ impl MemKeeper {
         ensures tables { self.new.tables ≡ write_all self.old.tables plan }
         ensures calls { self.new.calls ≡ self.old.calls }
         ensures faults { self.new.faults ≡ self.old.faults }
+        ensures commits { self.new.commits ≡ self.old.commits }
         ensures spent { self.old.spare ≤ self.new.spare + puts_in plan }
+        ensures shallow { IsShallow self.new }
     {
         let rows = mem::replace(&mut self.rows, Tree::new());
         self.rows = write_all(rows, plan.writes, &mut self.spare);
@@ -112,8 +147,10 @@ impl MemKeeper {
 
     /// Counts a call, and fails where it is listed.
     fn count_call(&mut self) -> Result<(), KeepErr>
-        ensures did { MatchResult result (λ _. MemRead self.old self.new) (λ err. MemUndone err self.old self.new) }
+        ensures did { MatchResult result (λ _. MemRead self.old self.new)
+            (λ err. MemUndone err self.old self.new) }
         ensures fits { self.old.faults ≤ most_count }
+        ensures shallow { IsShallow self.new }
     {
         let faults = self.faults;
         if self.failing.call() {
@@ -150,8 +187,7 @@ impl MemKeeper {
     }
 
     fn look_up(&mut self, alloc: Global, key: Key) -> Result<Option<Row>, KeepErr>
-        ensures { MatchResult result (λ row. (row ≡ row_at self.old.tables key) × MemRead self.old self.new)
-            (λ err. MemUndone err self.old self.new) }
+        ensures { MemLooks result self.old self.new (λ row tables. row ≡ row_at tables key) }
     {
         self.count_call()?;
         match self.row(alloc, key) {
@@ -161,8 +197,8 @@ impl MemKeeper {
     }
 
     fn walk_on(&mut self, alloc: Global, place: Option<Key>) -> Result<Option<(Key, Row)>, KeepErr>
-        ensures { MatchResult result (λ entry. (entry ≡ next_entry place self.old.tables) × MemRead self.old self.new)
-            (λ err. MemUndone err self.old self.new) }
+        ensures { MemLooks result self.old self.new
+            (λ entry tables. entry ≡ next_entry place tables) }
     {
         self.count_call()?;
         match self.entry_behind(alloc, place) {
@@ -171,15 +207,17 @@ impl MemKeeper {
         }
     }
 
+    #[tactic(auto, using(crate::proofs::MemKeeperLemmas::shallow_same))]
     fn do_all(&mut self, alloc: Global, writes: &Writes) -> Result<(), KeepErr>
-        ensures { MatchResult result (λ _. MemCommitted writes.now self.old self.new)
-            (λ err. MemUndone err self.old self.new) }
+        ensures did { MemCommits result self.old self.new writes.now }
+        ensures shallow { IsShallow self.new }
     {
         self.count_call()?;
         let Ok(plan) = self.plan(alloc, writes) else {
             return Err(KeepErr::Memory);
         };
         self.apply(plan);
+        self.commits = one_more(self.commits);
         Ok(())
     }
 }
@@ -188,37 +226,37 @@ impl Keeper for MemKeeper {
     ghost seen = { λ m. keeper_seen m };
 
     fn get(&mut self, alloc: Global, key: &Key) -> Result<Option<Row>, KeepErr>
-        ensures told { MatchResult result (λ row. Reads (λ tables. row ≡ row_at tables key.now) (keeper_seen self.old) (keeper_seen self.new))
-            (λ err. NotDone err (keeper_seen self.old) (keeper_seen self.new)) }
+        ensures told { Looks result (keeper_seen self.old) (keeper_seen self.new)
+            (λ row tables. row ≡ row_at tables key.now) }
         ensures counted { WasCounted (keeper_seen self.old) (keeper_seen self.new) }
-        ensures exact { MatchResult result (λ row. (row ≡ row_at self.old.tables key.now) × MemRead self.old self.new)
-            (λ err. MemUndone err self.old self.new) }
+        ensures exact { MemLooks result self.old self.new
+            (λ row tables. row ≡ row_at tables key.now) }
     {
         self.look_up(alloc, *key)
     }
 
     fn next(&mut self, alloc: Global, after: Option<&Key>) -> Result<Option<(Key, Row)>, KeepErr>
-        ensures told { MatchResult result (λ entry. Reads (λ tables. entry ≡ next_entry (option_map (λ key. key.now) after.entry) tables)
-            (keeper_seen self.old) (keeper_seen self.new))
-            (λ err. NotDone err (keeper_seen self.old) (keeper_seen self.new)) }
+        ensures told { Looks result (keeper_seen self.old) (keeper_seen self.new)
+            (λ entry tables. entry ≡ next_entry (option_map (λ key. key.now) after.entry) tables) }
         ensures counted { WasCounted (keeper_seen self.old) (keeper_seen self.new) }
-        ensures exact { MatchResult result (λ entry. (entry ≡ next_entry (option_map (λ key. key.now) after.entry) self.old.tables) × MemRead self.old self.new)
-            (λ err. MemUndone err self.old self.new) }
+        ensures exact { MemLooks result self.old self.new
+            (λ entry tables. entry ≡ next_entry (option_map (λ key. key.now) after.entry) tables) }
     {
         self.walk_on(alloc, after.copied())
     }
 
     fn commit(&mut self, alloc: Global, writes: &Writes) -> Result<(), KeepErr>
-        ensures told { MatchResult result (λ _. Committed writes.now (keeper_seen self.old) (keeper_seen self.new))
-            (λ err. NotDone err (keeper_seen self.old) (keeper_seen self.new)) }
+        ensures told { Commits result (keeper_seen self.old) (keeper_seen self.new) writes.now }
         ensures counted { WasCounted (keeper_seen self.old) (keeper_seen self.new) }
-        ensures exact { MatchResult result (λ _. MemCommitted writes.now self.old self.new)
-            (λ err. MemUndone err self.old self.new) }
+        ensures exact { MemCommits result self.old self.new writes.now }
+        ensures shallow { IsShallow self.new }
     {
         self.do_all(alloc, writes)
     }
 
-    ghost one_tables = { λ m. one_exact m.tables };
+    ghost one_tables = { λ m up. one_exact m.tables };
+
+    ghost rests = { λ m tables told opened might. absurd might };
 }
 
 /// The same writes again.

@@ -1,4 +1,4 @@
-ghost use Rattle.std.specs.Prelude.{◌≡◌, ◌+◌, ◌≤◌, MatchOption, OnOk};
+ghost use Rattle.std.specs.Prelude.{◌≡◌, ◌+◌, ◌≤◌, max, MatchOption, OnOk};
 
 use crate::tree::{Branch, vacant};
 use off_base::NoMemory;
@@ -33,6 +33,7 @@ impl Spare {
     pub(crate) fn reserve(&mut self, alloc: Global, wanted: usize) -> Result<(), NoMemory>
         ensures enough { OnOk result (wanted ≤ self.new) }
         ensures kept { self.old ≤ self.new }
+        ensures most { self.new ≤ max self.old wanted }
     {
         while self.boxes.len() < wanted {
             let Ok(fresh) = Box::new(alloc, vacant()) else {
@@ -47,7 +48,8 @@ impl Spare {
 
     /// Takes a box, if there is one.
     pub(crate) fn take(&mut self) -> Option<Box<Branch>>
-        ensures { MatchOption result ((self.old ≡ 0) × (self.new ≡ 0)) (λ _. self.old ≡ self.new + 1) }
+        ensures { MatchOption result ((self.old ≡ 0) × (self.new ≡ 0))
+            (λ _. self.old ≡ self.new + 1) }
     {
         self.boxes.pop()
     }

@@ -1,21 +1,25 @@
-ghost use Rattle.std.specs.Prelude.{◌≡◌, [], MatchOption};
+ghost use Rattle.std.specs.Prelude.{◌≡◌, ◌≤◌, MatchOption};
 ghost use Rattle.std.specs.Option.{option_map};
-ghost use Rattle.off_keepmem.specs.Trees.{Rises, row_in, next_in, compared, key_after, branch_entries, lent_entry};
+ghost use Rattle.off_keepmem.specs.Heights.{bare, Fits, Near};
+ghost use Rattle.off_keepmem.specs.Nodes.{branch_held, branch_depth, held_in, SidesEven};
+ghost use Rattle.off_keepmem.specs.Nodes.{IsBalanced};
+ghost use Rattle.off_keepmem.specs.Trees.{Rises, row_in, next_in, compared, key_after, lent_entry};
 
 use off_base::Ip4;
 use off_defs::{Key, Row};
 use std::cmp::Ordering;
 use std::marker::Model;
 
-/// Entries in the order of their keys, as a tree of boxes. Contracts see the list of them.
+/// Entries in the order of their keys, as a balanced tree of boxes. Contracts see the list of them,
+/// and how many boxes stand one below another.
 #[cycle(tree)]
 #[derive(Drop)]
 pub(crate) struct Tree {
     pub(crate) node: Node,
 }
 
-/// A box has beside it how many boxes stand one below another, itself the first, 255 at most. That keeps the tree balanced, and
-/// no contract sees it. It isn't in the box, so that a change on one side of a node never reads the box of the other side.
+/// A box has beside it how many boxes stand one below another, itself the first. That isn't in the
+/// box, so that a change on one side of a node never reads the box of the other side.
 #[cycle(tree)]
 #[derive(Drop)]
 pub(crate) enum Node {
@@ -23,7 +27,8 @@ pub(crate) enum Node {
     Fork(u8, Box<Branch>),
 }
 
-/// What a box of the tree holds. What the way down reads of it stands together in front, and the row behind.
+/// What a box of the tree holds. What the way down reads of it stands together in front, and the
+/// row behind.
 #[cycle(tree)]
 #[derive(Drop)]
 pub(crate) struct Branch {
@@ -34,22 +39,23 @@ pub(crate) struct Branch {
 }
 
 impl Model for Tree {
-    ghost use Rattle.std.specs.Prelude.{List, length};
+    ghost use Rattle.std.specs.Prelude.{length};
     ghost use Rattle.std.specs.Coded.{codes};
-    ghost use Rattle.off_defs.specs.declared.keys.Key.{Key};
-    ghost use Rattle.off_defs.specs.declared.tables.Row.{Row};
     ghost use Rattle.off_defs.specs.contracts.keys.Key as key;
     ghost use Rattle.off_defs.specs.contracts.tables.Row as row;
+    ghost use Rattle.off_keepmem.specs.Heights.{TreeHeld};
 
-    ghost Value = { List (Key × Row) };
+    ghost Value = { TreeHeld };
 
     ghost coded = { Prim.hlevel (codes, key.the_row.coded, row.the_row.coded) };
 
-    ghost use Rattle.off_keepmem.specs.Nodes.{entries_in};
+    ghost use Rattle.off_keepmem.specs.Nodes.{held_in, IsBalanced};
 
-    ghost view = { λ t. entries_in t.node };
+    ghost view = { λ t. held_in t.node };
 
-    ghost size = { length };
+    ghost invariant = { λ t. IsBalanced t.node };
+
+    ghost size = { λ t. length t.entries };
 
     ghost use Rattle.off_keepmem.specs.NodeFalls.{sides_below};
 
@@ -66,31 +72,40 @@ pub(crate) struct EntryRef<'a> {
 impl Tree {
     /// No entries.
     pub(crate) fn new() -> Tree
-        ensures { result ≡ [] }
+        ensures { result ≡ bare }
     {
         Tree { node: Node::Leaf }
     }
 
-    /// How many boxes stand one below another, 255 at most.
-    pub(crate) fn height(&self) -> u8 {
+    /// How many boxes stand one below another.
+    #[tactic(auto, using(crate::proofs::HeightLemmas::node_fits))]
+    pub(crate) fn height(&self) -> u8
+        ensures height { result ≡ self.now.depth }
+        ensures fits { Fits self.now }
+    {
         match self.node {
             Node::Leaf => 0,
             Node::Fork(height, _) => height,
         }
     }
 
-    /// A tree with this box above, however high its sides are.
+    /// A tree with this box above.
+    #[tactic(auto, using(crate::proofs::HeightLemmas::node_fits))]
     pub(crate) fn over(branch: Box<Branch>) -> Tree
-        ensures { result ≡ branch_entries branch.value }
+        requires near { Near 1 branch.value.left.depth branch.value.right.depth }
+        requires low { branch_depth branch.value ≤ 255 }
+        ensures held { result ≡ branch_held branch.value }
+        ensures fits { Fits result }
     {
         Tree {
-            node: Node::Fork(height_over(&branch), branch),
+            node: Node::over(branch),
         }
     }
 
     /// The uppermost box, if there is one.
     pub(crate) fn into_box(self) -> Option<Box<Branch>>
-        ensures { MatchOption result (self ≡ []) (λ branch. self ≡ branch_entries branch.value) }
+        ensures { MatchOption result (self ≡ bare)
+            (λ branch. (self ≡ branch_held branch.value) × SidesEven branch.value) }
     {
         match self.node {
             Node::Leaf => None,
@@ -101,8 +116,8 @@ impl Tree {
     /// The row of a key.
     #[tactic(auto, using(crate::proofs::TreeLemmas::left_rises, crate::proofs::TreeLemmas::right_rises, crate::proofs::TreeLemmas::row_left, crate::proofs::TreeLemmas::row_here, crate::proofs::TreeLemmas::row_right, crate::proofs::TreeLemmas::row_none))]
     pub(crate) fn find(&self, key: Key) -> Option<&Row>
-        requires { Rises self.now }
-        ensures { option_map (λ row. row.now) result ≡ row_in key self.now }
+        requires { Rises self.now.entries }
+        ensures { option_map (λ row. row.now) result ≡ row_in key self.now.entries }
     {
         let Node::Fork(_, branch) = &self.node else {
             return None;
@@ -117,8 +132,8 @@ impl Tree {
     /// The first entry behind a place of a walk.
     #[tactic(auto, using(crate::proofs::TreeLemmas::left_rises, crate::proofs::TreeLemmas::right_rises, crate::proofs::TreeLemmas::next_none, crate::proofs::TreeLemmas::next_right, crate::proofs::TreeLemmas::next_left, crate::proofs::TreeLemmas::next_here))]
     pub(crate) fn next(&self, place: Option<Key>) -> Option<EntryRef<'_>>
-        requires { Rises self.now }
-        ensures { option_map lent_entry result ≡ next_in place self.now }
+        requires { Rises self.now.entries }
+        ensures { option_map lent_entry result ≡ next_in place self.now.entries }
     {
         let Node::Fork(_, branch) = &self.node else {
             return None;
@@ -133,6 +148,20 @@ impl Tree {
                 row: &branch.row,
             }),
         }
+    }
+}
+
+impl Node {
+    /// A node with this box above, and the height beside it.
+    pub(crate) fn over(branch: Box<Branch>) -> Node
+        requires near { Near 1 branch.value.left.depth branch.value.right.depth }
+        requires low { branch_depth branch.value ≤ 255 }
+        ensures balanced { IsBalanced result }
+        ensures held { held_in result ≡ branch_held branch.value }
+    {
+        let left = branch.left.height();
+        let right = branch.right.height();
+        Node::Fork(left.max(right) + 1, branch)
     }
 }
 
@@ -153,15 +182,6 @@ pub(crate) fn compared(a: Key, b: Key) -> Ordering
     ensures { result ≡ compared a b }
 {
     a.cmp(&b)
-}
-
-/// The height of a tree with this box above.
-pub(crate) fn height_over(branch: &Branch) -> u8 {
-    branch
-        .left
-        .height()
-        .max(branch.right.height())
-        .saturating_add(1)
 }
 
 /// What a box holds that isn't in use.
