@@ -27,15 +27,15 @@ use Rattle.off_defs.specs.declared.tables.Row.TheVariants as row
 use Rattle.off_defs.specs.declared.orders.Command.TheVariants.{PutSubscriber, PutModem}
 use Rattle.off_rows.specs.RowBytes.{RowRanged}
 use Rattle.off_rows.specs.Sound.{is_sound_subscriber}
-use Rattle.off_clerk.specs.declared.faults.ClerkErr.{ClerkErr}
-use Rattle.off_clerk.specs.declared.faults.ClerkErr.TheVariants.{Value}
-use Rattle.off_clerk.specs.declared.names.Name.TheVariants as field
-use Rattle.off_clerk.specs.Commands.{◌>>=◌, object_in, modem_in, subscriber_in, put_read}
-use Rattle.off_clerk.specs.Fields.{number_in, text_in, only_if}
-use Rattle.off_clerk.specs.Paths.{last_number}
-use Rattle.off_clerk.specs.Replies.{row_text, flag_text}
+use Rattle.off_clerk_rules.specs.declared.faults.ClerkErr.{ClerkErr}
+use Rattle.off_clerk_rules.specs.declared.faults.ClerkErr.TheVariants.{Value}
+use Rattle.off_clerk_rules.specs.declared.names.Name.TheVariants as field
+use Rattle.off_clerk_rules.specs.Commands.{◌>>=◌, object_in, modem_in, subscriber_in, put_read}
+use Rattle.off_clerk_rules.specs.Fields.{number_in, text_in, only_if}
+use Rattle.off_clerk_rules.specs.Paths.{last_number}
+use Rattle.off_clerk_rules.specs.Replies.{row_text, flag_text}
 use Rattle.off_clerk.specs.Laws.{ShownReadBack}
-use Rattle.off_clerk.proofs.BodyLemmas.{an_object}
+use Rattle.off_clerk_rules.proofs.BodyLemmas.{an_object}
 
 -- a value's text is read back
 read_compact : (d : Data) → ArePrintable (tree.json_tokens (outline d)) → of_json (outline d) ≡ Some d → tree.depth (outline d) ≤ max_depth → read (compact_text d) ≡ Some d

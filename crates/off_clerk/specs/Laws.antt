@@ -8,8 +8,8 @@ use Rattle.off_defs.specs.declared.tables.Row.TheVariants as row
 use Rattle.off_defs.specs.declared.orders.Command.TheVariants.{PutSubscriber, PutModem}
 use Rattle.off_rows.specs.RowBytes.{RowRanged}
 use Rattle.off_rows.specs.Sound.{is_sound_subscriber}
-use Rattle.off_clerk.specs.Commands.{put_read}
-use Rattle.off_clerk.specs.Replies.{row_text}
+use Rattle.off_clerk_rules.specs.Commands.{put_read}
+use Rattle.off_clerk_rules.specs.Replies.{row_text}
 
 -- what a clerk is shown of a subscriber or a modem is a body that puts the same row
 pub record ShownReadBack : Type 0 where

@@ -1,0 +1,125 @@
+ghost use Rattle.std.specs.Prelude.{IsTrue, IfOk};
+ghost use Rattle.off_rows.specs.Sound.{is_sound, is_shown, is_add_on_number};
+ghost use Rattle.off_clerk_rules.specs.Commands.{Answers, command_read, asked_of, put_read};
+ghost use Rattle.off_clerk_rules.specs.Paths.{IsNamed};
+ghost use Rattle.off_defs.specs.declared.keys.Key.TheVariants as key;
+
+use crate::bodies::{add_on_of, class_of, modem_of, object_of, pool_of, site_of, subscriber_of};
+use crate::paths::{path_of, place_at};
+use off_base::Mac;
+use off_clerk_rules::{ClerkErr, Place};
+use off_defs::{Command, Key};
+use std::alloc::Global;
+
+/// The command that a request means: its method (RFC 9110, section 9), its target's path up to the
+/// first `?`, and its body.
+///
+/// The path is tested before the method, and both before the body is read. The body of a PUT is
+/// one JSON object (RFC 8259), of which the first field in the order of the row's kind that is
+/// missing or wrong is named; other fields are passed over. Bodies of GET and DELETE aren't read.
+/// `Memory` is want of memory.
+pub fn command_of(
+    alloc: Global,
+    method: &[u8],
+    path: &[u8],
+    body: &[u8],
+) -> Result<Command, ClerkErr>
+    ensures exact { Answers (command_read method.now path.now body.now) result }
+    ensures sound { IfOk result (λ command. IsTrue (is_sound command)) }
+{
+    match place_at(path_of(path)) {
+        Some(place) => asked(alloc, place, method, body),
+        None => Err(ClerkErr::NoPath),
+    }
+}
+
+// What a method asks of the row that a path names.
+fn asked(alloc: Global, place: Place, method: &[u8], body: &[u8]) -> Result<Command, ClerkErr>
+    requires { IsNamed place }
+    ensures exact { Answers (asked_of place method.now body.now) result }
+    ensures sound { IfOk result (λ command. IsTrue (is_sound command)) }
+{
+    if method == b"GET".as_slice() {
+        return Ok(Command::Show(place.key));
+    }
+    if method == b"PUT".as_slice() {
+        return put(alloc, place.key, body);
+    }
+    if method == b"DELETE".as_slice() && place.deletes {
+        return Ok(Command::Remove(place.key));
+    }
+    Err(ClerkErr::NoMethod)
+}
+
+fn put(alloc: Global, key: Key, body: &[u8]) -> Result<Command, ClerkErr>
+    requires { IsTrue (is_shown key) }
+    ensures exact { Answers (put_read key body.now) result }
+    ensures sound { IfOk result (λ command. IsTrue (is_sound command)) }
+{
+    match key {
+        Key::Site => put_site(alloc, body),
+        Key::Subscriber(number) => put_subscriber(alloc, number, body),
+        Key::AddOn(owner, number) => put_add_on(alloc, owner, number, body),
+        Key::Modem(mac) => put_modem(alloc, mac, body),
+        Key::Class(number) => put_class(alloc, number, body),
+        Key::Pool(number) => put_pool(alloc, number, body),
+        Key::Lease(_) => Err(ClerkErr::NoMethod),
+        Key::Held(_) => Err(ClerkErr::NoMethod),
+        Key::Batch(_) => Err(ClerkErr::NoMethod),
+    }
+}
+
+fn put_site(alloc: Global, body: &[u8]) -> Result<Command, ClerkErr>
+    ensures exact { Answers (put_read key.Site body.now) result }
+    ensures sound { IfOk result (λ command. IsTrue (is_sound command)) }
+{
+    let fields = object_of(alloc, body)?;
+    let site = site_of(&fields)?;
+    Ok(Command::SetSite(site))
+}
+
+fn put_subscriber(alloc: Global, number: u32, body: &[u8]) -> Result<Command, ClerkErr>
+    ensures exact { Answers (put_read (key.Subscriber number) body.now) result }
+    ensures sound { IfOk result (λ command. IsTrue (is_sound command)) }
+{
+    let fields = object_of(alloc, body)?;
+    let subscriber = subscriber_of(&fields)?;
+    Ok(Command::PutSubscriber(number, subscriber))
+}
+
+fn put_add_on(alloc: Global, owner: u32, number: u8, body: &[u8]) -> Result<Command, ClerkErr>
+    requires { IsTrue (is_add_on_number number) }
+    ensures exact { Answers (put_read (key.AddOn owner number) body.now) result }
+    ensures sound { IfOk result (λ command. IsTrue (is_sound command)) }
+{
+    let fields = object_of(alloc, body)?;
+    let settings = add_on_of(alloc, &fields)?;
+    Ok(Command::PutAddOn(owner, number, settings))
+}
+
+fn put_modem(alloc: Global, mac: Mac, body: &[u8]) -> Result<Command, ClerkErr>
+    ensures exact { Answers (put_read (key.Modem mac) body.now) result }
+    ensures sound { IfOk result (λ command. IsTrue (is_sound command)) }
+{
+    let fields = object_of(alloc, body)?;
+    let modem = modem_of(&fields)?;
+    Ok(Command::PutModem(mac, modem))
+}
+
+fn put_class(alloc: Global, number: u32, body: &[u8]) -> Result<Command, ClerkErr>
+    ensures exact { Answers (put_read (key.Class number) body.now) result }
+    ensures sound { IfOk result (λ command. IsTrue (is_sound command)) }
+{
+    let fields = object_of(alloc, body)?;
+    let class = class_of(alloc, &fields)?;
+    Ok(Command::PutClass(number, class))
+}
+
+fn put_pool(alloc: Global, number: u32, body: &[u8]) -> Result<Command, ClerkErr>
+    ensures exact { Answers (put_read (key.Pool number) body.now) result }
+    ensures sound { IfOk result (λ command. IsTrue (is_sound command)) }
+{
+    let fields = object_of(alloc, body)?;
+    let pool = pool_of(&fields)?;
+    Ok(Command::PutPool(number, pool))
+}

@@ -1,0 +1,203 @@
+ghost use Rattle.std.specs.Prelude.{◌≡◌, ◌==◌, ◌≤◌, codes, length, drop, option_map, option_copied};
+ghost use Rattle.std.specs.Prelude.{Some, IfSome};
+ghost use Rattle.std.specs.List.{position};
+ghost use Rattle.off_base.specs.Number.{number_read};
+ghost use Rattle.off_clerk_rules.specs.Paths.{path_of, length_before, behind, last_number};
+ghost use Rattle.off_clerk_rules.specs.Paths.{add_on_named, site_at, subscriber_at, add_on_at};
+ghost use Rattle.off_clerk_rules.specs.Paths.{modem_at, class_at, pool_at, lease_at, place_at};
+ghost use Rattle.off_clerk_rules.specs.Paths.{kept, removable, IsNamed};
+
+use off_base::{read_ip, read_mac, read_number};
+use off_clerk_rules::Place;
+use off_defs::Key;
+
+// The greatest number of 32 bits.
+pub(crate) const LAST_NUMBER: u64 = 4_294_967_295;
+
+const LAST_ADD_ON: u64 = 7;
+
+// The path of a request's target: what stands before its first `?`.
+pub(crate) fn path_of(target: &[u8]) -> &[u8]
+    ensures { result.now ≡ path_of target.now }
+{
+    &target[..length_before(target, b'?')]
+}
+
+// What a path names.
+pub(crate) fn place_at(path: &[u8]) -> Option<Place>
+    ensures exact { result ≡ place_at path.now }
+    ensures named { IfSome result IsNamed }
+{
+    site_at(path)
+        .or(subscriber_at(path))
+        .or(add_on_at(path))
+        .or(modem_at(path))
+        .or(class_at(path))
+        .or(pool_at(path))
+        .or(lease_at(path))
+}
+
+// A path at which a row is kept.
+fn kept(key: Key) -> Place
+    ensures { result ≡ kept key }
+{
+    Place {
+        key,
+        deletes: false,
+    }
+}
+
+// A path at which a row may be removed as well.
+fn removable(key: Key) -> Place
+    ensures { result ≡ removable key }
+{
+    Place { key, deletes: true }
+}
+
+// The number of bytes before the first mark, or of all.
+fn length_before(text: &[u8], mark: u8) -> usize
+    ensures exact { result ≡ length_before mark text.now }
+    ensures within { result ≤ length text.now }
+{
+    place_of(text, mark).unwrap_or(text.len())
+}
+
+fn place_of(text: &[u8], mark: u8) -> Option<usize>
+    ensures exact { result ≡ position (λ byte. byte == mark) text.now }
+    ensures within { IfSome result (λ place. place ≤ length text.now) }
+{
+    text.iter().position(|byte| *byte == mark)
+}
+
+// What stands behind a front, where the text begins so.
+fn behind<'a>(front: &[u8], text: &'a [u8]) -> Option<&'a [u8]>
+    ensures { option_copied result ≡ behind front.now Some text.now }
+{
+    if text.starts_with(front) {
+        Some(&text[front.len()..])
+    } else {
+        None
+    }
+}
+
+fn number_of(text: &[u8]) -> Option<u32>
+    ensures { result ≡ number_read last_number text.now }
+{
+    match read_number(text, LAST_NUMBER) {
+        Some(number) => Some(number as u32),
+        None => None,
+    }
+}
+
+fn add_on_of(text: &[u8]) -> Option<u8>
+    ensures exact { result ≡ number_read 7 text.now }
+    ensures within { IfSome result (λ number. number ≤ 7) }
+{
+    match read_number(text, LAST_ADD_ON) {
+        Some(number) => Some(number as u8),
+        None => None,
+    }
+}
+
+fn site_at(path: &[u8]) -> Option<Place>
+    ensures exact { result ≡ site_at path.now }
+    ensures named { IfSome result IsNamed }
+{
+    if path == b"/site".as_slice() {
+        Some(kept(Key::Site))
+    } else {
+        None
+    }
+}
+
+fn subscriber_at(path: &[u8]) -> Option<Place>
+    ensures exact { result ≡ subscriber_at path.now }
+    ensures named { IfSome result IsNamed }
+{
+    let Some(text) = behind(b"/subscribers/", path) else {
+        return None;
+    };
+    let Some(number) = number_of(text) else {
+        return None;
+    };
+    Some(removable(Key::Subscriber(number)))
+}
+
+fn add_on_at(path: &[u8]) -> Option<Place>
+    ensures exact { result ≡ add_on_at path.now }
+    ensures named { IfSome result IsNamed }
+{
+    match behind(b"/subscribers/", path) {
+        Some(text) => add_on_named(text),
+        None => None,
+    }
+}
+
+fn add_on_named(text: &[u8]) -> Option<Place>
+    ensures exact { result ≡ add_on_named text.now }
+    ensures named { IfSome result IsNamed }
+{
+    let cut = length_before(text, b'/');
+    let Some(subscriber) = number_of(&text[..cut]) else {
+        return None;
+    };
+    let Some(text) = behind(b"/addons/", &text[cut..]) else {
+        return None;
+    };
+    let Some(number) = add_on_of(text) else {
+        return None;
+    };
+    Some(removable(Key::AddOn(subscriber, number)))
+}
+
+fn modem_at(path: &[u8]) -> Option<Place>
+    ensures exact { result ≡ modem_at path.now }
+    ensures named { IfSome result IsNamed }
+{
+    let Some(text) = behind(b"/modems/", path) else {
+        return None;
+    };
+    match read_mac(text) {
+        Ok(mac) => Some(removable(Key::Modem(mac))),
+        Err(_) => None,
+    }
+}
+
+fn class_at(path: &[u8]) -> Option<Place>
+    ensures exact { result ≡ class_at path.now }
+    ensures named { IfSome result IsNamed }
+{
+    let Some(text) = behind(b"/classes/", path) else {
+        return None;
+    };
+    let Some(number) = number_of(text) else {
+        return None;
+    };
+    Some(removable(Key::Class(number)))
+}
+
+fn pool_at(path: &[u8]) -> Option<Place>
+    ensures exact { result ≡ pool_at path.now }
+    ensures named { IfSome result IsNamed }
+{
+    let Some(text) = behind(b"/pools/", path) else {
+        return None;
+    };
+    let Some(number) = number_of(text) else {
+        return None;
+    };
+    Some(removable(Key::Pool(number)))
+}
+
+fn lease_at(path: &[u8]) -> Option<Place>
+    ensures exact { result ≡ lease_at path.now }
+    ensures named { IfSome result IsNamed }
+{
+    let Some(text) = behind(b"/leases/", path) else {
+        return None;
+    };
+    match read_ip(text) {
+        Ok(address) => Some(kept(Key::Lease(address))),
+        Err(_) => None,
+    }
+}

@@ -1,0 +1,100 @@
+ghost use Rattle.std.specs.Prelude.{◌≡◌, codes, option_map, option_and_then, IfOk};
+ghost use Rattle.serde_json.specs.View.{view};
+ghost use Rattle.serde_json.specs.Find.{get};
+ghost use Rattle.off_base.specs.Tree.{leaf};
+ghost use Rattle.off_base.specs.Setting.{tree_of};
+ghost use Rattle.off_clerk_rules.specs.Fields.{number_in, hex_in, list_in, tree_in, field_in};
+ghost use Rattle.off_clerk_rules.specs.Fields.{settings_in};
+ghost use Rattle.off_clerk_rules.specs.Commands.{Answers};
+
+use crate::fields::member;
+use crate::values::{hex_into, number_of};
+use off_base::{Bytes, NoMemory, Setting, Settings};
+use off_clerk_rules::{ClerkErr, Name};
+use serde_json::Value;
+use std::alloc::Global;
+
+// How many settings may stand within one another.
+const DEPTH: u8 = 3;
+
+// Reads the field of a body that has settings.
+pub(crate) fn settings(alloc: Global, body: &Value, name: Name) -> Result<Settings, ClerkErr>
+    ensures { Answers (field_in name settings_in (view body.now)) result }
+{
+    let value = member(body, name)?;
+    match settings_within(alloc, DEPTH, value) {
+        Ok(Some(settings)) => Ok(settings),
+        Ok(None) => Err(ClerkErr::Value(name)),
+        Err(NoMemory) => Err(ClerkErr::Memory),
+    }
+}
+
+// The settings of an array, or None where some element is none. They have at most so many settings
+// within one another.
+#[cycle(trees)]
+fn settings_within(alloc: Global, depth: u8, value: &Value) -> Result<Option<Settings>, NoMemory>
+    ensures { IfOk result (λ read. read ≡ list_in (tree_in depth) (view value.now)) }
+{
+    let Some(elements) = value.as_array() else {
+        return Ok(None);
+    };
+    let mut settings = Settings::new(alloc);
+    for element in elements {
+        match setting_within(alloc, depth, element)? {
+            Some(setting) => settings.push(setting)?,
+            None => return Ok(None),
+        }
+    }
+    Ok(Some(settings))
+}
+
+#[cycle(trees)]
+fn setting_within(alloc: Global, depth: u8, value: &Value) -> Result<Option<Setting>, NoMemory>
+    ensures { IfOk result (λ read. option_map tree_of read ≡ tree_in depth (view value.now)) }
+{
+    if depth == 0 {
+        return Ok(None);
+    }
+    let Some(code) = code_of(value) else {
+        return Ok(None);
+    };
+    let parts = value.get("parts");
+    match value.get("hex") {
+        Some(hex) => match parts {
+            Some(_) => Ok(None),
+            None => leaf(alloc, code, hex),
+        },
+        None => match parts {
+            Some(parts) => match settings_within(alloc, depth - 1, parts)? {
+                Some(parts) => Ok(Some(Setting::Group { code, parts })),
+                None => Ok(None),
+            },
+            None => Ok(None),
+        },
+    }
+}
+
+fn code_of(value: &Value) -> Option<u8>
+    ensures { result ≡ option_and_then (number_in 0 255) (get (codes "code") (view value.now)) }
+{
+    let Some(code) = value.get("code") else {
+        return None;
+    };
+    match number_of(code, 0, 255) {
+        Some(code) => Some(code as u8),
+        None => None,
+    }
+}
+
+fn leaf(alloc: Global, code: u8, hex: &Value) -> Result<Option<Setting>, NoMemory>
+    ensures { IfOk result (λ read.
+        option_map tree_of read ≡ option_map (leaf code) (hex_in 255 (view hex.now))) }
+{
+    let mut room = [0; 255];
+    let Some(count) = hex_into(hex, &mut room) else {
+        return Ok(None);
+    };
+    let mut value = Bytes::new(alloc);
+    value.push_all(&room[..count])?;
+    Ok(Some(Setting::Leaf { code, value }))
+}

@@ -1,0 +1,4 @@
+pub mod PathLemmas
+pub mod BodyLemmas
+pub mod ReplyLemmas
+mod Examples

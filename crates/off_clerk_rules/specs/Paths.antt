@@ -1,0 +1,81 @@
+-- Which row a request is about: the path of its target (RFC 9112, section 3.2), and whether the row may be removed there.
+use Rattle.std.specs.Prelude.{ℕ, ◌-◌, ◌^◌, ◌==◌, true, false, List, [], ◌∷◌, length, take, drop, codes, nat_eq, bytes_eq, Option, Some, None, option_map, option_and_then, IsTrue, if◌then◌else◌}
+use Rattle.std.specs.List.{starts_with, position_or_len, fold}
+use Rattle.std.specs.Option.{option_or}
+use Rattle.off_base.specs.AddressText.{ip_of, mac_of}
+use Rattle.off_base.specs.Number.{number_read}
+use Rattle.off_base.specs.declared.addresses.Ip4.{Ip4}
+use Rattle.off_base.specs.declared.macs.Mac.{Mac}
+use Rattle.off_defs.specs.declared.keys.Key.{Key}
+use Rattle.off_defs.specs.declared.keys.Key.TheVariants as key
+use Rattle.off_rows.specs.Sound.{is_shown, is_removable}
+use Rattle.off_clerk_rules.specs.declared.places.Place.{Place}
+
+-- the number of bytes before the first mark, or of all
+abbrev pub length_before : ℕ → List ℕ → ℕ
+length_before mark text = position_or_len (λ c. c == mark) text
+
+-- the path of a target: what stands before its first `?`
+abbrev pub path_of : List ℕ → List ℕ
+path_of target = take (length_before 63 target) target
+
+-- what is read behind a front, where the text begins so
+abbrev pub behind : {A : Type 0} → List ℕ → (List ℕ → Option A) → List ℕ → Option A
+behind front read text = if starts_with nat_eq text front then read (drop (length front) text) else None
+
+-- the greatest number of a subscriber, a class or a pool
+abbrev pub last_number : ℕ
+last_number = 2 ^ 32 - 1
+
+-- a path at which a row is kept, and one at which it may be removed as well (DELETE, RFC 9110, section 9.3.5)
+abbrev pub kept : Key → Place
+kept row = record { key = row; deletes = false }
+
+abbrev pub removable : Key → Place
+removable row = record { key = row; deletes = true }
+
+abbrev pub numbered : (ℕ → Key) → List ℕ → Option Place
+numbered named text = option_map (λ number. removable (named number)) (number_read last_number text)
+
+abbrev pub mac_with : List ℕ → Mac
+mac_with bytes = record { 0 = bytes }
+
+abbrev pub ip_with : ℕ → Ip4
+ip_with number = record { 0 = number }
+
+-- a subscriber's number, `/addons/`, and the number of an add-on
+abbrev pub add_on_named : List ℕ → Option Place
+add_on_named text =
+    let cut = length_before 47 text in
+    option_and_then (λ subscriber. option_map (λ number. removable (key.AddOn subscriber number)) (behind (codes "/addons/") (number_read 7) (drop cut text))) (number_read last_number (take cut text))
+
+-- the paths, and what each names. A site and a lease aren't removed
+abbrev pub site_at : List ℕ → Option Place
+site_at path = if bytes_eq path (codes "/site") then Some (kept key.Site) else None
+
+abbrev pub subscriber_at : List ℕ → Option Place
+subscriber_at path = behind (codes "/subscribers/") (numbered key.Subscriber) path
+
+abbrev pub add_on_at : List ℕ → Option Place
+add_on_at path = behind (codes "/subscribers/") add_on_named path
+
+abbrev pub modem_at : List ℕ → Option Place
+modem_at path = behind (codes "/modems/") (λ text. option_map (λ bytes. removable (key.Modem (mac_with bytes))) (mac_of text)) path
+
+abbrev pub class_at : List ℕ → Option Place
+class_at path = behind (codes "/classes/") (numbered key.Class) path
+
+abbrev pub pool_at : List ℕ → Option Place
+pool_at path = behind (codes "/pools/") (numbered key.Pool) path
+
+abbrev pub lease_at : List ℕ → Option Place
+lease_at path = behind (codes "/leases/") (λ text. option_map (λ number. kept (key.Lease (ip_with number))) (ip_of text)) path
+
+-- the one that the path is of
+abbrev pub place_at : List ℕ → Option Place
+place_at path =
+    fold option_or (site_at path) (subscriber_at path ∷ add_on_at path ∷ modem_at path ∷ class_at path ∷ pool_at path ∷ lease_at path ∷ [])
+
+-- a clerk may be shown the row, and remove it where its path has DELETE
+abbrev pub IsNamed : Place → Type 0
+IsNamed place = IsTrue (is_shown place.key) × (IsTrue place.deletes → IsTrue (is_removable place.key))

@@ -1,0 +1,179 @@
+ghost use Rattle.std.specs.Prelude.{◌≡◌, ◌++◌, codes, decimal, IfOk, OnOk};
+ghost use Rattle.off_defs.specs.declared.tables.Row.TheVariants as row;
+ghost use Rattle.off_clerk_rules.specs.Replies.{reply_text, row_text, owner_text, state_text};
+ghost use Rattle.off_clerk_rules.specs.Replies.{IsRightReply, IsSeen};
+
+use crate::arrays::push_settings;
+use crate::texts::{push_address, push_flag, push_mac, push_number, push_signed, push_text};
+use off_base::{Bytes, NoMemory, Settings};
+use off_defs::{Class, Hold, Lease, Modem, Pool, Reply, Row, Site, Subscriber};
+use std::alloc::Global;
+
+/// The reply as a JSON object (RFC 8259) without white space, its keys in ascending order:
+/// `{"ok":true}`, the number of an import's rows, or the fields of a row. A site's secret isn't
+/// shown.
+///
+/// The only error is want of memory.
+pub fn reply_json(alloc: Global, r: &Reply) -> Result<Bytes, NoMemory>
+    requires { IsRightReply r.now }
+    ensures { IfOk result (λ text. text ≡ reply_text r.now) }
+{
+    match r {
+        Reply::Done => done(alloc),
+        Reply::Shown(_, row) => shown(alloc, row),
+        Reply::Rows(count) => counted(alloc, *count),
+    }
+}
+
+fn done(alloc: Global) -> Result<Bytes, NoMemory>
+    ensures { IfOk result (λ text. text ≡ codes "{\"ok\":true}") }
+{
+    let mut text = Bytes::new(alloc);
+    text.push_all(b"{\"ok\":true}")?;
+    Ok(text)
+}
+
+fn counted(alloc: Global, count: u32) -> Result<Bytes, NoMemory>
+    ensures { IfOk result (λ text. text ≡ codes "{\"rows\":" ++ decimal count ++ codes "}") }
+{
+    let mut text = Bytes::new(alloc);
+    text.push_all(b"{\"rows\":")?;
+    push_number(&mut text, u64::from(count))?;
+    text.push_all(b"}")?;
+    Ok(text)
+}
+
+fn shown(alloc: Global, row: &Row) -> Result<Bytes, NoMemory>
+    requires { IsSeen row.now }
+    ensures { IfOk result (λ text. text ≡ row_text row.now) }
+{
+    match row {
+        Row::Site(site) => site_json(alloc, site),
+        Row::Subscriber(subscriber) => subscriber_json(alloc, subscriber),
+        Row::AddOn(settings) => add_on_json(alloc, settings),
+        Row::Modem(modem) => modem_json(alloc, modem),
+        Row::Class(class) => class_json(alloc, class),
+        Row::Pool(pool) => pool_json(alloc, pool),
+        Row::Lease(lease) => lease_json(alloc, lease),
+        Row::Held(_) => unreachable!(),
+        Row::Batch(_) => unreachable!(),
+    }
+}
+
+fn site_json(alloc: Global, site: &Site) -> Result<Bytes, NoMemory>
+    ensures { IfOk result (λ text. text ≡ row_text (row.Site site.now)) }
+{
+    let mut text = Bytes::new(alloc);
+    text.push_all(b"{\"lease\":")?;
+    push_number(&mut text, u64::from(site.lease))?;
+    text.push_all(b",\"log\":\"")?;
+    push_address(&mut text, site.log)?;
+    text.push_all(b"\",\"offset\":")?;
+    push_signed(&mut text, site.offset)?;
+    text.push_all(b",\"server\":\"")?;
+    push_address(&mut text, site.server)?;
+    text.push_all(b"\"}")?;
+    Ok(text)
+}
+
+fn subscriber_json(alloc: Global, subscriber: &Subscriber) -> Result<Bytes, NoMemory>
+    ensures { IfOk result (λ text. text ≡ row_text (row.Subscriber subscriber.now)) }
+{
+    let mut text = Bytes::new(alloc);
+    text.push_all(b"{\"active\":")?;
+    push_flag(&mut text, subscriber.active)?;
+    text.push_all(b",\"cpes\":")?;
+    push_number(&mut text, u64::from(subscriber.cpes))?;
+    text.push_all(b",\"name\":")?;
+    push_text(alloc, &mut text, &subscriber.name)?;
+    text.push_all(b"}")?;
+    Ok(text)
+}
+
+fn add_on_json(alloc: Global, settings: &Settings) -> Result<Bytes, NoMemory>
+    ensures { IfOk result (λ text. text ≡ row_text (row.AddOn settings.now)) }
+{
+    let mut text = Bytes::new(alloc);
+    text.push_all(b"{\"settings\":")?;
+    push_settings(alloc, &mut text, settings)?;
+    text.push_all(b"}")?;
+    Ok(text)
+}
+
+fn modem_json(alloc: Global, modem: &Modem) -> Result<Bytes, NoMemory>
+    ensures { IfOk result (λ text. text ≡ row_text (row.Modem modem.now)) }
+{
+    let mut text = Bytes::new(alloc);
+    text.push_all(b"{\"class\":")?;
+    push_number(&mut text, u64::from(modem.class))?;
+    text.push_all(b",\"serial\":")?;
+    push_text(alloc, &mut text, &modem.serial)?;
+    text.push_all(b",\"subscriber\":")?;
+    push_number(&mut text, u64::from(modem.subscriber))?;
+    text.push_all(b"}")?;
+    Ok(text)
+}
+
+fn class_json(alloc: Global, class: &Class) -> Result<Bytes, NoMemory>
+    ensures { IfOk result (λ text. text ≡ row_text (row.Class class.now)) }
+{
+    let mut text = Bytes::new(alloc);
+    text.push_all(b"{\"name\":")?;
+    push_text(alloc, &mut text, &class.name)?;
+    text.push_all(b",\"settings\":")?;
+    push_settings(alloc, &mut text, &class.settings)?;
+    text.push_all(b"}")?;
+    Ok(text)
+}
+
+fn pool_json(alloc: Global, pool: &Pool) -> Result<Bytes, NoMemory>
+    ensures { IfOk result (λ text. text ≡ row_text (row.Pool pool.now)) }
+{
+    let mut text = Bytes::new(alloc);
+    text.push_all(b"{\"first\":\"")?;
+    push_address(&mut text, pool.first)?;
+    text.push_all(b"\",\"last\":\"")?;
+    push_address(&mut text, pool.last)?;
+    text.push_all(b"\",\"prefix\":")?;
+    push_number(&mut text, u64::from(pool.prefix))?;
+    text.push_all(b",\"relay\":\"")?;
+    push_address(&mut text, pool.relay)?;
+    text.push_all(b"\",\"router\":\"")?;
+    push_address(&mut text, pool.router)?;
+    text.push_all(b"\"}")?;
+    Ok(text)
+}
+
+fn lease_json(alloc: Global, lease: &Lease) -> Result<Bytes, NoMemory>
+    ensures { IfOk result (λ text. text ≡ row_text (row.Lease lease.now)) }
+{
+    let mut text = Bytes::new(alloc);
+    text.push_all(b"{\"expiry\":")?;
+    push_number(&mut text, lease.expiry.0)?;
+    text.push_all(b",\"owner\":\"")?;
+    push_owner(&mut text, lease.hold)?;
+    text.push_all(b"\",\"state\":\"")?;
+    text.push_all(state(lease.hold))?;
+    text.push_all(b"\"}")?;
+    Ok(text)
+}
+
+fn push_owner(text: &mut Bytes, hold: Hold) -> Result<(), NoMemory>
+    ensures { OnOk result (text.new ≡ text.old ++ owner_text hold) }
+{
+    match hold {
+        Hold::Offered(owner) => push_mac(text, owner),
+        Hold::Bound(owner) => push_mac(text, owner),
+        Hold::Declined => text.push_all(b""),
+    }
+}
+
+fn state(hold: Hold) -> &'static [u8]
+    ensures { result.now ≡ state_text hold }
+{
+    match hold {
+        Hold::Offered(_) => b"offered",
+        Hold::Bound(_) => b"bound",
+        Hold::Declined => b"declined",
+    }
+}
