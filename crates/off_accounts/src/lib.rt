@@ -1,28 +1,9 @@
 //! What a clerk's commands do to the tables, and the test of the tables when the office opens.
+//!
+//! A command is decided by `off_deciding`, and the opening is tested by `off_opening`; both read
+//! the tables by `off_readers`.
 #![tactic(auto)]
 
-mod counting;
-mod deciding;
-mod dropping;
-mod gathering;
-mod limits;
-mod lost;
-mod opening;
-mod planning;
-mod pools;
-mod possible;
-mod putting;
-mod reading;
-mod removing;
-mod results;
-mod rules;
-mod searching;
-mod standing;
-mod values;
-mod walking;
-mod wanted;
-
-pub use counting::count_rows;
-pub use deciding::decide;
-pub use opening::first_bad;
-pub use results::{AccountErr, Planned};
+pub use off_deciding::{AccountErr, Planned, decide};
+pub use off_opening::{count_rows, first_bad};
+pub use off_rules::Counts;

@@ -1,0 +1,5 @@
+pub mod After
+pub mod Changes
+pub mod Deciding
+pub mod Searches
+pub mod Tests

@@ -1,0 +1,4 @@
+pub mod CountingLemmas
+pub mod OpeningLemmas
+pub mod OrderLemmas
+pub mod PoolLemmas

@@ -1,0 +1,243 @@
+//! The rows of each kind by their keys. Each function is one call of the keeper, and takes an
+//! impossible row as none.
+
+ghost use Rattle.std.specs.Prelude.{◌≡◌, option_and_then};
+ghost use Rattle.off_rules.specs.Rows.{site_in, subscriber_in, add_on_in, modem_in, class_in};
+ghost use Rattle.off_rules.specs.Rows.{pool_in, lease_in, held_in, batch_in};
+ghost use Rattle.off_rules.specs.Rows.{as_site, as_subscriber, as_add_on, as_modem, as_class};
+ghost use Rattle.off_rules.specs.Rows.{as_pool, as_lease, as_held, as_batch};
+ghost use Rattle.off_outside.specs.KeeperCalls.{Looks, WasCounted};
+
+use crate::reading::read_row;
+use off_base::{Ip4, Mac, Settings};
+use off_defs::{Batch, Class, Key, Lease, Modem, Pool, Row, Site, Subscriber};
+use off_outside::{KeepErr, Keeper};
+use std::alloc::Global;
+
+/// The site, or `None` where there is none.
+pub fn read_site<K: Keeper>(alloc: Global, keeper: &mut K) -> Result<Option<Site>, KeepErr>
+    ensures told { Looks result (K.seen keeper.old) (K.seen keeper.new)
+        (λ site t. site ≡ site_in t) }
+    ensures counted { WasCounted (K.seen keeper.old) (K.seen keeper.new) }
+{
+    Ok(as_site(read_row(alloc, keeper, &Key::Site)?))
+}
+
+/// The subscriber of a number, or `None` where there is none.
+pub fn read_subscriber<K: Keeper>(
+    alloc: Global,
+    keeper: &mut K,
+    n: u32,
+) -> Result<Option<Subscriber>, KeepErr>
+    ensures told { Looks result (K.seen keeper.old) (K.seen keeper.new)
+        (λ subscriber t. subscriber ≡ subscriber_in t n) }
+    ensures counted { WasCounted (K.seen keeper.old) (K.seen keeper.new) }
+{
+    Ok(as_subscriber(read_row(alloc, keeper, &Key::Subscriber(n))?))
+}
+
+/// The settings of a subscriber's add-on, or `None` where there is none.
+pub fn read_add_on<K: Keeper>(
+    alloc: Global,
+    keeper: &mut K,
+    n: u32,
+    number: u8,
+) -> Result<Option<Settings>, KeepErr>
+    ensures told { Looks result (K.seen keeper.old) (K.seen keeper.new)
+        (λ add_on t. add_on ≡ add_on_in t n number) }
+    ensures counted { WasCounted (K.seen keeper.old) (K.seen keeper.new) }
+{
+    Ok(as_add_on(read_row(alloc, keeper, &Key::AddOn(n, number))?))
+}
+
+/// The modem of a hardware address, or `None` where there is none.
+pub fn read_modem<K: Keeper>(
+    alloc: Global,
+    keeper: &mut K,
+    mac: Mac,
+) -> Result<Option<Modem>, KeepErr>
+    ensures told { Looks result (K.seen keeper.old) (K.seen keeper.new)
+        (λ modem t. modem ≡ modem_in t mac) }
+    ensures counted { WasCounted (K.seen keeper.old) (K.seen keeper.new) }
+{
+    Ok(as_modem(read_row(alloc, keeper, &Key::Modem(mac))?))
+}
+
+/// The class of a number, or `None` where there is none.
+pub fn read_class<K: Keeper>(
+    alloc: Global,
+    keeper: &mut K,
+    n: u32,
+) -> Result<Option<Class>, KeepErr>
+    ensures told { Looks result (K.seen keeper.old) (K.seen keeper.new)
+        (λ class t. class ≡ class_in t n) }
+    ensures counted { WasCounted (K.seen keeper.old) (K.seen keeper.new) }
+{
+    Ok(as_class(read_row(alloc, keeper, &Key::Class(n))?))
+}
+
+/// The pool of a number, or `None` where there is none.
+pub fn read_pool<K: Keeper>(alloc: Global, keeper: &mut K, n: u32) -> Result<Option<Pool>, KeepErr>
+    ensures told { Looks result (K.seen keeper.old) (K.seen keeper.new)
+        (λ pool t. pool ≡ pool_in t n) }
+    ensures counted { WasCounted (K.seen keeper.old) (K.seen keeper.new) }
+{
+    Ok(as_pool(read_row(alloc, keeper, &Key::Pool(n))?))
+}
+
+/// The lease of an address, or `None` where there is none.
+pub fn read_lease<K: Keeper>(
+    alloc: Global,
+    keeper: &mut K,
+    address: Ip4,
+) -> Result<Option<Lease>, KeepErr>
+    ensures told { Looks result (K.seen keeper.old) (K.seen keeper.new)
+        (λ lease t. lease ≡ lease_in t address) }
+    ensures counted { WasCounted (K.seen keeper.old) (K.seen keeper.new) }
+{
+    Ok(as_lease(read_row(alloc, keeper, &Key::Lease(address))?))
+}
+
+/// The address that a modem holds, or `None` where it holds none.
+pub fn read_held<K: Keeper>(alloc: Global, keeper: &mut K, mac: Mac) -> Result<Option<Ip4>, KeepErr>
+    ensures told { Looks result (K.seen keeper.old) (K.seen keeper.new)
+        (λ held t. held ≡ held_in t mac) }
+    ensures counted { WasCounted (K.seen keeper.old) (K.seen keeper.new) }
+{
+    Ok(as_held(read_row(alloc, keeper, &Key::Held(mac))?))
+}
+
+/// The import of a number, or `None` where there is none.
+pub fn read_batch<K: Keeper>(
+    alloc: Global,
+    keeper: &mut K,
+    n: u64,
+) -> Result<Option<Batch>, KeepErr>
+    ensures told { Looks result (K.seen keeper.old) (K.seen keeper.new)
+        (λ batch t. batch ≡ batch_in t n) }
+    ensures counted { WasCounted (K.seen keeper.old) (K.seen keeper.new) }
+{
+    Ok(as_batch(read_row(alloc, keeper, &Key::Batch(n))?))
+}
+
+fn as_site(row: Option<Row>) -> Option<Site>
+    ensures { result ≡ option_and_then as_site row }
+{
+    let Some(row) = row else { return None };
+    match &row {
+        Row::Site(site) => Some(copy_site(site)),
+        _ => None,
+    }
+}
+
+fn as_subscriber(row: Option<Row>) -> Option<Subscriber>
+    ensures { result ≡ option_and_then as_subscriber row }
+{
+    let Some(row) = row else { return None };
+    match &row {
+        Row::Subscriber(subscriber) => Some(copy_subscriber(subscriber)),
+        _ => None,
+    }
+}
+
+fn as_add_on(row: Option<Row>) -> Option<Settings>
+    ensures { result ≡ option_and_then as_add_on row }
+{
+    let Some(row) = row else { return None };
+    match row {
+        Row::AddOn(settings) => Some(settings),
+        _ => None,
+    }
+}
+
+fn as_modem(row: Option<Row>) -> Option<Modem>
+    ensures { result ≡ option_and_then as_modem row }
+{
+    let Some(row) = row else { return None };
+    match &row {
+        Row::Modem(modem) => Some(copy_modem(modem)),
+        _ => None,
+    }
+}
+
+fn as_class(row: Option<Row>) -> Option<Class>
+    ensures { result ≡ option_and_then as_class row }
+{
+    let Some(row) = row else { return None };
+    match row {
+        Row::Class(class) => Some(class),
+        _ => None,
+    }
+}
+
+fn as_pool(row: Option<Row>) -> Option<Pool>
+    ensures { result ≡ option_and_then as_pool row }
+{
+    let Some(row) = row else { return None };
+    match row {
+        Row::Pool(pool) => Some(pool),
+        _ => None,
+    }
+}
+
+fn as_lease(row: Option<Row>) -> Option<Lease>
+    ensures { result ≡ option_and_then as_lease row }
+{
+    let Some(row) = row else { return None };
+    match row {
+        Row::Lease(lease) => Some(lease),
+        _ => None,
+    }
+}
+
+fn as_held(row: Option<Row>) -> Option<Ip4>
+    ensures { result ≡ option_and_then as_held row }
+{
+    let Some(row) = row else { return None };
+    match row {
+        Row::Held(held) => Some(held),
+        _ => None,
+    }
+}
+
+fn as_batch(row: Option<Row>) -> Option<Batch>
+    ensures { result ≡ option_and_then as_batch row }
+{
+    let Some(row) = row else { return None };
+    match row {
+        Row::Batch(batch) => Some(batch),
+        _ => None,
+    }
+}
+
+fn copy_site(site: &Site) -> Site
+    ensures { result ≡ site.now }
+{
+    Site {
+        server: site.server,
+        secret: site.secret.copy(),
+        offset: site.offset,
+        lease: site.lease,
+        log: site.log,
+    }
+}
+
+fn copy_subscriber(subscriber: &Subscriber) -> Subscriber
+    ensures { result ≡ subscriber.now }
+{
+    Subscriber {
+        active: subscriber.active,
+        cpes: subscriber.cpes,
+        name: subscriber.name.copy(),
+    }
+}
+
+fn copy_modem(modem: &Modem) -> Modem
+    ensures { result ≡ modem.now }
+{
+    Modem {
+        subscriber: modem.subscriber,
+        class: modem.class,
+        serial: modem.serial.copy(),
+    }
+}
