@@ -1,0 +1,6 @@
+-- What is written to the front of a buffer.
+use Rattle.std.specs.Prelude.{◌≡◌, ℕ, List, ◌++◌, length, drop}
+
+-- a piece stands in front, and what was behind it stays
+abbrev pub IsWritten : List ℕ → List ℕ → List ℕ → Type 0
+IsWritten piece old new = new ≡ piece ++ drop (length piece) old

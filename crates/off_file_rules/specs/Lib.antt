@@ -1,0 +1,4 @@
+pub mod Name
+pub mod Profile
+pub mod File
+pub mod Block
