@@ -1,13 +1,17 @@
 -- Worked examples, evaluated: the definitions say what was meant.
 use Rattle.std.proofs.Common.{◌≡◌, [], ◌∷◌, refl, codes, Some, None}
 use Rattle.off_base.specs.Number.{number_read}
-use Rattle.off_book.specs.Time.{time_bytes}
+use Rattle.off_defs.specs.Clock.{time_bytes}
 use Rattle.hex.proofs.OnLiterals.{hex_on_literals}
 use Rattle.off_book.specs.Words.{serve_of, secret_of, job_of, to_seal}
 
 -- 1 January 1970: 2,208,988,800 seconds
 time_at_zero : time_bytes 0 ≡ 0x83 ∷ 0xaa ∷ 0x7e ∷ 0x80 ∷ []
 time_at_zero = refl
+
+-- the sum stops at the greatest moment
+time_stops : time_bytes 18446744073709551615 ≡ 0xff ∷ 0xff ∷ 0xff ∷ 0xff ∷ []
+time_stops = refl
 
 -- 7 February 2036, 06:28:16 UTC: the number begins again
 time_wraps : time_bytes 2085978496 ≡ 0 ∷ 0 ∷ 0 ∷ 0 ∷ []

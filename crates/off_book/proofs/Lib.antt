@@ -1,3 +1,4 @@
 pub mod RunLemmas
 pub mod StepLemmas
 mod Examples
+pub mod CrashLemmas

@@ -4,12 +4,13 @@ use Rattle.std.proofs.lemmas.List.Sums.{sum_by-append}
 use Rattle.off_defs.specs.declared.results.Sent.{Sent}
 use Rattle.off_defs.specs.State.{State}
 use Rattle.off_book.specs.Step.{Step}
-use Rattle.off_book.specs.Run.{Turn, Run, marked, sent_in, sent_by, lost_in, lost_by, keeper_failures, failures_by, line_of, lines_from, events_of, all_went}
+use Rattle.off_defs.specs.Counts.{commits_after, calls_after}
+use Rattle.off_book.specs.Run.{Turn, Run, effect_of, marked, sent_in, sent_by, lost_in, lost_by, keeper_failures, failures_by, trouble, troubles_by, commits_by, writes_by, line_of, lines_from, events_of, all_went}
 
 pub run_push : (s : State) (turns : List Turn) (mid last : State) (turn : Turn) → Run s turns mid
-    → Step mid turn.event turn.outcome (record { said = turn.said; after = last }) → Run s (turns ++ turn ∷ []) last
+    → Step mid turn.event turn.outcome (effect_of turn last) → Run s (turns ++ turn ∷ []) last
 run_push s [] mid last turn run step =
-    (last, (subst (λ v. Step v turn.event turn.outcome (record { said = turn.said; after = last })) run step, refl))
+    (last, (subst (λ v. Step v turn.event turn.outcome (effect_of turn last)) run step, refl))
 run_push s (first ∷ turns) mid last turn run step = (run.0, (run.1.0, run_push run.0 turns mid last turn run.1.1 step))
 
 pub sent_by_push : (turns : List Turn) (turn : Turn) → sent_by (turns ++ turn ∷ []) ≡ sent_by turns ++ sent_in turn
@@ -23,6 +24,18 @@ lost_by_push (first ∷ turns) turn = omega (arith, lost_by_push turns turn)
 pub failures_by_push : (turns : List Turn) (turn : Turn) → failures_by (turns ++ turn ∷ []) ≡ failures_by turns + keeper_failures turn.outcome
 failures_by_push [] turn = omega arith
 failures_by_push (first ∷ turns) turn = omega (arith, failures_by_push turns turn)
+
+pub troubles_by_push : (turns : List Turn) (turn : Turn) → troubles_by (turns ++ turn ∷ []) ≡ troubles_by turns + trouble turn.outcome
+troubles_by_push [] turn = omega arith
+troubles_by_push (first ∷ turns) turn = omega (arith, troubles_by_push turns turn)
+
+pub commits_by_push : (turns : List Turn) (turn : Turn) (n : ℕ) → commits_by (turns ++ turn ∷ []) n ≡ commits_after turn.commit (commits_by turns n)
+commits_by_push [] turn n = refl
+commits_by_push (first ∷ turns) turn n = commits_by_push turns turn (commits_after first.commit n)
+
+pub writes_by_push : (turns : List Turn) (turn : Turn) (n : ℕ) → writes_by (turns ++ turn ∷ []) n ≡ calls_after turn.said.line (writes_by turns n)
+writes_by_push [] turn n = refl
+writes_by_push (first ∷ turns) turn n = writes_by_push turns turn (calls_after first.said.line n)
 
 pub events_of_push : (turns : List Turn) (turn : Turn) → events_of (turns ++ turn ∷ []) ≡ events_of turns ++ turn.event ∷ []
 events_of_push [] turn = refl

@@ -9,14 +9,16 @@ use Rattle.off_defs.specs.declared.orders.Command.{Command}
 use Rattle.off_defs.specs.declared.orders.Reply.{Reply}
 use Rattle.off_defs.specs.declared.results.Sent.{Sent}
 use Rattle.off_defs.specs.declared.results.Sent.TheVariants.{Answer, Close}
+use Rattle.off_defs.specs.declared.orders.Write.{Write}
 use Rattle.off_defs.specs.State.{Tables, State, Held, Effect, state_of, only_line}
+use Rattle.off_defs.specs.Tables.{write_all}
 use Rattle.off_rules.specs.Clerk.{Stepped, Refusal, clerk_step}
-use Rattle.off_clerk.specs.declared.faults.ClerkErr.{ClerkErr}
-use Rattle.off_clerk.specs.declared.faults.Fault.{Fault}
-use Rattle.off_clerk.specs.declared.faults.Fault.TheVariants as fault
-use Rattle.off_clerk.specs.Faults.{word_of, status_of, fault_text}
-use Rattle.off_clerk.specs.Replies.{reply_text}
-use Rattle.off_clerk.specs.Commands.{command_read}
+use Rattle.off_clerk_rules.specs.declared.faults.ClerkErr.{ClerkErr}
+use Rattle.off_clerk_rules.specs.declared.faults.Fault.{Fault}
+use Rattle.off_clerk_rules.specs.declared.faults.Fault.TheVariants as fault
+use Rattle.off_clerk_rules.specs.Faults.{word_of, status_of, fault_text}
+use Rattle.off_clerk_rules.specs.Replies.{reply_text}
+use Rattle.off_clerk_rules.specs.Commands.{command_read}
 
 -- how many connections may be live
 abbrev pub most_connections : ℕ
@@ -39,31 +41,30 @@ close_connection s conn = record s { held = without_connection s.held conn }
 abbrev pub answer_and_close : ℕ → List ℕ → List Sent
 answer_and_close conn bytes = Answer conn bytes ∷ Close conn ∷ []
 
--- What a clerk is answered: a status and a body, with the words for the line of the log, and the tables behind it
+-- What a clerk is answered: a status and a body, with the words for the line of the log; and what is written to the tables
 pub record Answered : Type 0 where
-  pub tables : Tables
+  pub writes : List Write
   pub status : ℕ
   pub body : List ℕ
   pub words : List ℕ
 
-abbrev pub answer_done : Tables → Reply → Answered
-answer_done tables done = record { tables = tables; status = 200; body = reply_text done; words = codes "200" }
+abbrev pub answer_done : List Write → Reply → Answered
+answer_done writes done = record { writes = writes; status = 200; body = reply_text done; words = codes "200" }
 
-abbrev pub answer_fault : Tables → Fault → Answered
-answer_fault tables f =
-    record { tables = tables; status = status_of f; body = fault_text f; words = decimal (status_of f) ++ codes " " ++ word_of f }
+abbrev pub answer_fault : Fault → Answered
+answer_fault f = record { writes = []; status = status_of f; body = fault_text f; words = decimal (status_of f) ++ codes " " ++ word_of f }
 
-abbrev pub answer_result : Tables → Result Reply Refusal → Answered
-answer_result tables (Ok done) = answer_done tables done
-answer_result tables (Err refused) = answer_fault tables (fault.Rule refused.row refused.broken)
+abbrev pub answer_result : List Write → Result Reply Refusal → Answered
+answer_result writes (Ok done) = answer_done writes done
+answer_result writes (Err refused) = answer_fault (fault.Rule refused.row refused.broken)
 
 abbrev pub answer_step : Stepped → Answered
-answer_step step = answer_result step.tables step.answer
+answer_step step = answer_result step.writes step.answer
 
 -- a request is a command, which is done or refused, or it's at fault by itself
 abbrev pub answer_command : Tables → ℕ → Result Command ClerkErr → Answered
 answer_command tables now (Ok command) = answer_step (clerk_step tables now command)
-answer_command tables now (Err err) = answer_fault tables (fault.Clerk err)
+answer_command tables now (Err err) = answer_fault (fault.Clerk err)
 
 abbrev pub answer_request : Tables → ℕ → List ℕ → List ℕ → List ℕ → Answered
 answer_request tables now method target body = answer_command tables now (command_read method target body)
@@ -73,13 +74,14 @@ abbrev pub answered : State → ℕ → Answered → Effect
 answered s conn answer =
     record {
       said = record { items = answer_and_close conn (reply answer.status answer.body); line = codes "http " ++ answer.words };
-      after = state_of answer.tables (without_connection s.held conn);
+      commit = answer.writes;
+      after = state_of (write_all s.tables answer.writes) (without_connection s.held conn);
     }
 
 -- what the bytes of a connection have the office do
 abbrev pub by_meaning : State → ℕ → List ℕ → Meaning → Effect
 by_meaning s conn bytes Waits = only_line (record s { held = with_connection s.held conn bytes }) (codes "http wait")
-by_meaning s conn bytes (Refused f) = answered s conn (answer_fault s.tables (fault.Http f))
+by_meaning s conn bytes (Refused f) = answered s conn (answer_fault (fault.Http f))
 by_meaning s conn bytes (Asked method target body) = answered s conn (answer_request s.tables s.held.now method target body)
 
 -- a connection that is new comes while as many are live as may be
@@ -87,7 +89,7 @@ abbrev pub is_full : map.FinMap nat_cmp (List ℕ) → ℕ → Bool
 is_full connections conn = is_none (map.get connections conn) && nat_le most_connections (map.len connections)
 
 abbrev pub closed_as_busy : State → ℕ → Effect
-closed_as_busy s conn = record { said = record { items = Close conn ∷ []; line = codes "http busy" }; after = s }
+closed_as_busy s conn = record { said = record { items = Close conn ∷ []; line = codes "http busy" }; commit = []; after = s }
 
 -- the bytes so far say this, and the office does what it asks
 pub record ByMeaning (s : State) (conn : ℕ) (bytes : List ℕ) (effect : Effect) : Type 0 where
@@ -124,4 +126,4 @@ no_keeper_reply = bare_reply (codes "500 Internal Server Error")
 -- The office couldn't act on a piece: the connection is answered, closed and forgotten, and all else is as before.
 abbrev pub PieceFailed : State → ℕ → List ℕ → List ℕ → Effect → Type 0
 PieceFailed s conn bytes line effect =
-    effect ≡ record { said = record { items = answer_and_close conn bytes; line = line }; after = close_connection s conn }
+    effect ≡ record { said = record { items = answer_and_close conn bytes; line = line }; commit = []; after = close_connection s conn }

@@ -2,4 +2,5 @@ pub mod Time
 pub mod Http
 pub mod Step
 pub mod Run
+pub mod Crashes
 pub mod Words

@@ -1,6 +1,6 @@
 -- A run of the office: a list of turns, each an event with its outcome, what was said and which of the things to send went
 -- out. The states between the turns aren't in the list; Run says that there are some.
-use Rattle.std.specs.Prelude.{◌≡◌, ℕ, ◌+◌, ◌-◌, Bool, true, false, cond, not, List, [], ◌∷◌, ◌++◌, length, take, All, ◌==◌, decimal, codes, count_by}
+use Rattle.std.specs.Prelude.{◌≡◌, ℕ, ◌+◌, ◌-◌, Bool, true, false, cond, not, List, [], ◌∷◌, ◌++◌, length, take, All, ◌==◌, decimal, codes, count_by, max}
 use Rattle.off_defs.specs.declared.events.Event.{Event}
 use Rattle.off_defs.specs.declared.events.What.{What}
 use Rattle.off_defs.specs.declared.events.What.TheVariants.{Datagram, Piece, Closed, Tick, End}
@@ -8,21 +8,43 @@ use Rattle.off_defs.specs.declared.results.Outcome.{Outcome}
 use Rattle.off_defs.specs.declared.results.Outcome.TheVariants.{Did, Memory, Keeper}
 use Rattle.off_defs.specs.declared.results.Sent.{Sent}
 use Rattle.off_defs.specs.Events.{end_event}
-use Rattle.off_defs.specs.State.{State, Said}
+use Rattle.off_defs.specs.declared.orders.Write.{Write}
+use Rattle.off_defs.specs.State.{Tables, State, Said, Effect}
+use Rattle.off_defs.specs.Tables.{write_all}
+use Rattle.off_defs.specs.Counts.{commits_after, calls_after}
 use Rattle.off_book.specs.Step.{Step, TellsOutcome, service_word}
 
--- One turn. `went` tells of each item whether it was sent.
+-- One turn. `commit` is what was written to the tables, in one commit, and `went` tells of each item whether it was sent.
 pub record Turn : Type 0 where
   pub event : Event
   pub outcome : Outcome
   pub said : Said
+  pub commit : List Write
   pub went : List Bool
+
+-- what a turn does, with the state that it leaves
+abbrev pub effect_of : Turn → State → Effect
+effect_of turn after = record { said = turn.said; commit = turn.commit; after = after }
 
 -- Step along the turns, each from the state that the one before it left
 abbrev pub Run : State → List Turn → State → Type 0
 Run s [] last = last ≡ s
 Run s (turn ∷ turns) last =
-    (after : State) × (Step s turn.event turn.outcome (record { said = turn.said; after = after }) × Run after turns last)
+    (after : State) × (Step s turn.event turn.outcome (effect_of turn after) × Run after turns last)
+
+-- The tables at a place of a run are those of its beginning, with what each turn so far has committed; the moment there is the greatest so far.
+abbrev pub tables_after : Tables → List Turn → Tables
+tables_after tables [] = tables
+tables_after tables (turn ∷ turns) = tables_after (write_all tables turn.commit) turns
+
+abbrev pub moment_after : ℕ → List Turn → ℕ
+moment_after now [] = now
+moment_after now (turn ∷ turns) = moment_after (max now turn.event.at.0) turns
+
+-- a counter of commits behind the turns: each makes one commit at most
+abbrev pub commits_by : List Turn → ℕ → ℕ
+commits_by [] commits = commits
+commits_by (turn ∷ turns) commits = commits_by turns (commits_after turn.commit commits)
 
 -- the items that are marked as sent
 abbrev pub marked : List Sent → List Bool → List Sent
@@ -64,6 +86,16 @@ abbrev pub failures_by : List Turn → ℕ
 failures_by [] = 0
 failures_by (turn ∷ turns) = keeper_failures turn.outcome + failures_by turns
 
+-- and in how many an event wasn't acted on
+abbrev pub trouble : Outcome → ℕ
+trouble Did = 0
+trouble Memory = 1
+trouble Keeper = 1
+
+abbrev pub troubles_by : List Turn → ℕ
+troubles_by [] = 0
+troubles_by (turn ∷ turns) = trouble turn.outcome + troubles_by turns
+
 abbrev pub all_went : List Bool → Bool
 all_went [] = true
 all_went (mark ∷ marks) = cond mark (all_went marks) false
@@ -81,6 +113,11 @@ line_of n turn = line_text n turn.event.what turn.said.line (all_went turn.went)
 abbrev pub lines_from : ℕ → List Turn → List ℕ
 lines_from n [] = []
 lines_from n (turn ∷ turns) = line_of n turn ++ lines_from (n + 1) turns
+
+-- a counter of writes behind the turns: each has one line at most
+abbrev pub writes_by : List Turn → ℕ → ℕ
+writes_by [] calls = calls
+writes_by (turn ∷ turns) calls = writes_by turns (calls_after turn.said.line calls)
 
 abbrev pub is_end : What → Bool
 is_end (Datagram service from bytes) = false

@@ -1,5 +1,5 @@
--- What a clerk is answered: the words of the line, and the tables behind it.
-use Rattle.std.proofs.Common.{◌≡◌, ℕ, ◌<◌, ◌⊎◌, inl, inr, List, [], ◌∷◌, ◌++◌, codes, decimal, Result, Ok, Err, IfOk, refl, arith}
+-- What a clerk is answered: the words of the line, and what is written.
+use Rattle.std.proofs.Common.{◌≡◌, ℕ, ◌<◌, ◌⊎◌, inl, inr, List, [], ◌∷◌, ◌++◌, codes, decimal, Result, Ok, Err, IfOk, refl, subst, arith}
 use Rattle.std.specs.Prelude.{slice_index}
 use Rattle.std.specs.Char.{digit_value}
 use Rattle.std.specs.Str.Parse.{IsNumeral}
@@ -8,18 +8,20 @@ use Rattle.off_defs.specs.declared.orders.Command.{Command}
 use Rattle.off_defs.specs.declared.orders.Reply.{Reply}
 use Rattle.off_defs.specs.declared.rules.Rule.{Rule}
 use Rattle.off_defs.specs.declared.rules.Rule.TheVariants as rule
+use Rattle.off_defs.specs.declared.orders.Write.{Write}
 use Rattle.off_defs.specs.State.{Tables}
+use Rattle.off_defs.specs.Tables.{write_all}
 use Rattle.off_rules.specs.Good.{Good}
-use Rattle.off_rules.specs.Clerk.{Refusal, clerk_step}
+use Rattle.off_rules.specs.Clerk.{Refusal, Decision, decided, stepped_by, clerk_step}
 use Rattle.off_http.specs.declared.answers.HttpFault.{HttpFault}
 use Rattle.off_http.specs.declared.answers.HttpFault.TheVariants as http
-use Rattle.off_clerk.specs.declared.faults.ClerkErr.{ClerkErr}
-use Rattle.off_clerk.specs.declared.faults.ClerkErr.TheVariants as clerk
-use Rattle.off_clerk.specs.declared.faults.Fault.{Fault}
-use Rattle.off_clerk.specs.declared.faults.Fault.TheVariants as fault
-use Rattle.off_clerk.specs.Faults.{status_of, clerk_status, http_status, rule_status, word_of}
-use Rattle.off_clerk.specs.Commands.{command_read}
-use Rattle.off_table_laws.proofs.StepLaws.{step_keeps_good, refused_changes_nothing}
+use Rattle.off_clerk_rules.specs.declared.faults.ClerkErr.{ClerkErr}
+use Rattle.off_clerk_rules.specs.declared.faults.ClerkErr.TheVariants as clerk
+use Rattle.off_clerk_rules.specs.declared.faults.Fault.{Fault}
+use Rattle.off_clerk_rules.specs.declared.faults.Fault.TheVariants as fault
+use Rattle.off_clerk_rules.specs.Faults.{status_of, clerk_status, http_status, rule_status, word_of}
+use Rattle.off_clerk_rules.specs.Commands.{command_read}
+use Rattle.off_table_laws.proofs.StepLaws.{step_keeps_good}
 use Rattle.off_book.specs.Http.{Answered, answer_fault, answer_result, answer_command, answer_request}
 use Rattle.off_laws.proofs.Requests.{MayBe, request_may}
 
@@ -64,44 +66,54 @@ status_small (fault.Clerk err) = clerk_small err
 status_small (fault.Http f) = http_small f
 status_small (fault.Rule row broken) = rule_small broken
 
-pub fault_digit : (t : Tables) (f : Fault) → BeginsWithDigit (answer_fault t f).words
-fault_digit t f = digits_first (decimal (status_of f)) (codes " ") (word_of f) (decimal_is_IsNumeral (status_of f) (omega (arith, status_small f))).0
+pub fault_digit : (f : Fault) → BeginsWithDigit (answer_fault f).words
+fault_digit f = digits_first (decimal (status_of f)) (codes " ") (word_of f) (decimal_is_IsNumeral (status_of f) (omega (arith, status_small f))).0
 
-result_digit : (t : Tables) (r : Result Reply Refusal) → BeginsWithDigit (answer_result t r).words
-result_digit t (Ok reply) = omega arith
-result_digit t (Err refused) = fault_digit t (fault.Rule refused.row refused.broken)
+result_digit : (writes : List Write) (r : Result Reply Refusal) → BeginsWithDigit (answer_result writes r).words
+result_digit writes (Ok reply) = omega arith
+result_digit writes (Err refused) = fault_digit (fault.Rule refused.row refused.broken)
 
 command_digit : (t : Tables) (now : ℕ) (r : Result Command ClerkErr) → BeginsWithDigit (answer_command t now r).words
-command_digit t now (Ok command) = result_digit (clerk_step t now command).tables (clerk_step t now command).answer
-command_digit t now (Err err) = fault_digit t (fault.Clerk err)
+command_digit t now (Ok command) = result_digit (clerk_step t now command).writes (clerk_step t now command).answer
+command_digit t now (Err err) = fault_digit (fault.Clerk err)
 
 pub request_digit : (t : Tables) (now : ℕ) (method target body : List ℕ) → BeginsWithDigit (answer_request t now method target body).words
 request_digit t now method target body = command_digit t now (command_read method target body)
 
--- the tables are as before, or the words say that the command was done
-abbrev pub StaysOrDone : Tables → Answered → Type 0
-StaysOrDone t answer = (answer.tables ≡ t) ⊎ (answer.words ≡ codes "200")
+-- nothing is written, or the words say that the command was done
+abbrev pub WritesNothingOrDone : Answered → Type 0
+WritesNothingOrDone answer = (answer.writes ≡ []) ⊎ (answer.words ≡ codes "200")
 
-result_changes : (t u : Tables) (r : Result Reply Refusal) → ((refused : Refusal) → r ≡ Err refused → u ≡ t) → StaysOrDone t (answer_result u r)
-result_changes t u (Ok reply) same = inr refl
-result_changes t u (Err refused) same = inl (same refused refl)
+result_writes : (writes : List Write) (r : Result Reply Refusal) → WritesNothingOrDone (answer_result writes r)
+result_writes writes (Ok reply) = inr refl
+result_writes writes (Err refused) = inl refl
 
-command_changes : (t : Tables) (now : ℕ) (r : Result Command ClerkErr) → StaysOrDone t (answer_command t now r)
-command_changes t now (Ok command) = result_changes t (clerk_step t now command).tables (clerk_step t now command).answer (refused_changes_nothing t now command)
-command_changes t now (Err err) = inl refl
+command_writes : (t : Tables) (now : ℕ) (r : Result Command ClerkErr) → WritesNothingOrDone (answer_command t now r)
+command_writes t now (Ok command) = result_writes (clerk_step t now command).writes (clerk_step t now command).answer
+command_writes t now (Err err) = inl refl
 
-pub request_changes : (t : Tables) (now : ℕ) (method target body : List ℕ) → StaysOrDone t (answer_request t now method target body)
-request_changes t now method target body = command_changes t now (command_read method target body)
+pub request_writes : (t : Tables) (now : ℕ) (method target body : List ℕ) → WritesNothingOrDone (answer_request t now method target body)
+request_writes t now method target body = command_writes t now (command_read method target body)
+
+-- the tables behind a command are those with its writes
+stepped_tables : (t : Tables) (decision : Decision) → (stepped_by t decision).tables ≡ write_all t (stepped_by t decision).writes
+stepped_tables t (Ok done) = refl
+stepped_tables t (Err refused) = refl
+
+step_tables : (t : Tables) (now : ℕ) (command : Command) → (clerk_step t now command).tables ≡ write_all t (clerk_step t now command).writes
+unfolding clerk_step
+step_tables t now command = stepped_tables t (decided t now command)
 
 -- good tables stay good
-result_good : (u : Tables) (r : Result Reply Refusal) → Good u → Good (answer_result u r).tables
-result_good u (Ok reply) good = good
-result_good u (Err refused) good = good
+result_good : (t : Tables) (writes : List Write) (r : Result Reply Refusal) → Good t → Good (write_all t writes) → Good (write_all t (answer_result writes r).writes)
+result_good t writes (Ok reply) good after = after
+result_good t writes (Err refused) good after = good
 
-command_good : (t : Tables) (now : ℕ) (r : Result Command ClerkErr) → IfOk r MayBe → Good t → Good (answer_command t now r).tables
+command_good : (t : Tables) (now : ℕ) (r : Result Command ClerkErr) → IfOk r MayBe → Good t → Good (write_all t (answer_command t now r).writes)
 command_good t now (Ok command) may good =
-    result_good (clerk_step t now command).tables (clerk_step t now command).answer (step_keeps_good t now command may.0 may.1 good)
+    result_good t (clerk_step t now command).writes (clerk_step t now command).answer good
+    (subst (λ (u : Tables). Good u) (step_tables t now command) (step_keeps_good t now command may.0 may.1 good))
 command_good t now (Err err) may good = good
 
-pub request_good : (t : Tables) (now : ℕ) (method target body : List ℕ) → Good t → Good (answer_request t now method target body).tables
+pub request_good : (t : Tables) (now : ℕ) (method target body : List ℕ) → Good t → Good (write_all t (answer_request t now method target body).writes)
 request_good t now method target body good = command_good t now (command_read method target body) (request_may method target body) good

@@ -14,13 +14,14 @@ use Rattle.off_defs.specs.declared.tables.Site.{Site}
 use Rattle.off_defs.specs.declared.tables.Subscriber.{Subscriber}
 use Rattle.off_defs.specs.declared.tables.Pool.{Pool}
 use Rattle.off_rows.specs.Sound.{is_sound_subscriber, is_sound_pool}
-use Rattle.off_clerk.specs.declared.faults.ClerkErr.{ClerkErr}
-use Rattle.off_clerk.specs.declared.names.Name.{Name}
-use Rattle.off_clerk.specs.declared.names.Name.TheVariants as field
-use Rattle.off_clerk.specs.Commands.{◌>>=◌, site_in, subscriber_in, pool_in}
-use Rattle.off_clerk.specs.Fields.{member_in, field_in, only_if, number_in, offset_in, text_in, address_in, relay_in, hex_of, hex_in}
-use Rattle.off_clerk.specs.Names.{name_text}
-use Rattle.off_clerk.specs.Paths.{last_number}
+use Rattle.off_clerk_rules.specs.declared.faults.ClerkErr.{ClerkErr}
+use Rattle.off_clerk_rules.specs.declared.faults.ClerkErr.TheVariants.{Field}
+use Rattle.off_clerk_rules.specs.declared.names.Name.{Name}
+use Rattle.off_clerk_rules.specs.declared.names.Name.TheVariants as field
+use Rattle.off_clerk_rules.specs.Commands.{◌>>=◌, site_in, subscriber_in, pool_in}
+use Rattle.off_clerk_rules.specs.Fields.{member_in, field_in, only_if, number_in, offset_in, text_in, address_in, relay_in, hex_of, hex_in}
+use Rattle.off_clerk_rules.specs.Names.{name_text}
+use Rattle.off_clerk_rules.specs.Paths.{last_number}
 
 -- a field has what each value that is read for it has
 read_ok : {A : Type 0} (P : A → Type 0) (which : Name) (read : Option A) (err : ClerkErr) → IfSome read P → IfOk (ok_or read err) P
@@ -28,7 +29,7 @@ read_ok P which (Some x) err h = h
 read_ok P which None err h = tt
 
 member_ok : {A : Type 0} (P : A → Type 0) (which : Name) (read : Data → Option A) (held : Option Data) → ((d : Data) → IfSome (read d) P)
-    → IfOk (member_in which read held) P
+    → IfOk (member_in (Err (Field which)) which read held) P
 member_ok P which read (Some d) all = read_ok P which (read d) _ (all d)
 member_ok P which read None all = tt
 

@@ -40,9 +40,9 @@ abbrev pub AreFew : State → Type 0
 AreFew s = map.len s.held.connections ≤ most_connections
 
 way_few : (s : State) (what : What) (outcome : Outcome) (effect : Effect) → Way s what outcome effect → AreFew s → AreFew effect.after
-way_few s what outcome effect (stays is) few = subst (λ (u : State). AreFew u) (sym is) few
-way_few s what outcome effect (forgets conn is) few = subst (λ (u : State). AreFew u) (sym is) (removed_few s.held.connections conn few)
-way_few s what outcome effect (hears conn bytes room is) few = subst (λ (u : State). AreFew u) (sym is) (inserted_few s.held.connections conn bytes room few)
+way_few s what outcome effect (stays is none) few = subst (λ (u : State). AreFew u) (sym is) few
+way_few s what outcome effect (forgets conn is none) few = subst (λ (u : State). AreFew u) (sym is) (removed_few s.held.connections conn few)
+way_few s what outcome effect (hears conn bytes room is none) few = subst (λ (u : State). AreFew u) (sym is) (inserted_few s.held.connections conn bytes room few)
 way_few s what outcome effect (answers conn piece method target body came acted is) few =
     subst (λ (e : Effect). AreFew e.after) (sym is) (removed_few s.held.connections conn few)
 

@@ -7,3 +7,4 @@ pub mod StepLaws
 pub mod Lines
 pub mod Connections
 pub mod RunLaws
+pub mod Existence

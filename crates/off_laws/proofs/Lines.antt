@@ -11,7 +11,7 @@ use Rattle.off_defs.specs.declared.results.Outcome.{Outcome}
 use Rattle.off_defs.specs.declared.results.Outcome.TheVariants.{Did, Memory, Keeper}
 use Rattle.off_defs.specs.State.{State, Effect}
 use Rattle.off_http.specs.Request.{Meaning, Waits, Refused, Asked}
-use Rattle.off_clerk.specs.declared.faults.Fault.TheVariants as fault
+use Rattle.off_clerk_rules.specs.declared.faults.Fault.TheVariants as fault
 use Rattle.off_book.specs.Http.{by_meaning, is_full, TakesPiece}
 use Rattle.off_book.specs.Step.{Step, Does, TellsOutcome, service_word}
 use Rattle.off_book.proofs.StepLemmas.{step_tells}
@@ -44,7 +44,7 @@ digit_says conn piece words effect digit is =
 meaning_line : (s : State) (conn : ℕ) (piece bytes : List ℕ) (effect : Effect) (meaning : Meaning) → effect ≡ by_meaning s conn bytes meaning
     → NoFailure effect.said.line (Piece conn piece)
 meaning_line s conn piece bytes effect Waits is = says (Piece conn piece) effect (codes "http wait") refl refl (line_is effect _ is)
-meaning_line s conn piece bytes effect (Refused f) is = digit_says conn piece _ effect (fault_digit s.tables (fault.Http f)) (line_is effect _ is)
+meaning_line s conn piece bytes effect (Refused f) is = digit_says conn piece _ effect (fault_digit (fault.Http f)) (line_is effect _ is)
 meaning_line s conn piece bytes effect (Asked method target body) is =
     digit_says conn piece _ effect (request_digit s.tables s.held.now method target body) (line_is effect _ is)
 

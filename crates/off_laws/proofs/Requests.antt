@@ -7,13 +7,14 @@ use Rattle.off_defs.specs.declared.keys.Key.TheVariants as key
 use Rattle.off_defs.specs.declared.orders.Command.{Command}
 use Rattle.off_defs.specs.declared.orders.Command.TheVariants.{SetSite, PutSubscriber, PutAddOn, PutModem, PutClass, PutPool, Remove, Show}
 use Rattle.off_rows.specs.Sound.{is_sound, is_shown}
-use Rattle.off_clerk.specs.declared.faults.ClerkErr.{ClerkErr}
-use Rattle.off_clerk.specs.declared.faults.ClerkErr.TheVariants.{NoMethod}
-use Rattle.off_clerk.specs.Commands.{◌>>=◌, site_in, subscriber_in, add_on_in, modem_in, class_in, pool_in, object_in, put_read, asked_at, command_read}
-use Rattle.off_clerk.specs.Paths.{path_of, key_at, has_delete}
-use Rattle.off_clerk.proofs.PathLemmas.{IsShown}
+use Rattle.off_clerk_rules.specs.declared.faults.ClerkErr.{ClerkErr}
+use Rattle.off_clerk_rules.specs.declared.faults.ClerkErr.TheVariants.{NoMethod}
+use Rattle.off_clerk_rules.specs.Commands.{◌>>=◌, site_in, subscriber_in, add_on_in, modem_in, class_in, pool_in, object_in, put_read, asked_at, command_read}
+use Rattle.off_clerk_rules.specs.Paths.{path_of, place_at, IsNamed}
+use Rattle.off_clerk_rules.specs.declared.places.Place.{Place}
+use Rattle.off_clerk_rules.proofs.PathLemmas.{NamesOne}
 use Rattle.off_table_laws.specs.Laws.{secret_fits}
-use Rattle.off_laws.proofs.Paths.{path_shown, deleted_removable}
+use Rattle.off_laws.proofs.Paths.{path_named}
 use Rattle.off_laws.proofs.Bodies.{subscriber_sound, pool_sound, site_fits}
 
 abbrev pub MayBe : Command → Type 0
@@ -46,20 +47,22 @@ put_may (key.Lease address) body shown = tt
 put_may (key.Held mac) body shown = tt
 put_may (key.Batch n) body shown = tt
 
-delete_may : (row : Key) (b : Bool) → has_delete row ≡ b → (named : Bool) → is_shown row ≡ true → IfOk (cond (named && b) (Ok (Remove row)) (Err NoMethod)) MayBe
-delete_may row true e true shown = (deleted_removable row shown e, refl)
-delete_may row false e true shown = tt
-delete_may row b e false shown = tt
+delete_may : (place : Place) (b : Bool) → place.deletes ≡ b → (named : Bool) → IsNamed place
+    → IfOk (cond (named && b) (Ok (Remove place.key)) (Err NoMethod)) MayBe
+delete_may place true e true may = (may.1 e, refl)
+delete_may place false e true may = tt
+delete_may place b e false may = tt
 
-by_method : (row : Key) (body : List ℕ) (get put delete : Bool) → is_shown row ≡ true
-    → IfOk (cond get (Ok (Show row)) (cond put (put_read row body) (cond (delete && has_delete row) (Ok (Remove row)) (Err NoMethod)))) MayBe
-by_method row body true put delete shown = (shown, refl)
-by_method row body false true delete shown = put_may row body shown
-by_method row body false false delete shown = delete_may row _ refl delete shown
+by_method : (place : Place) (body : List ℕ) (get put delete : Bool) → IsNamed place
+    → IfOk (cond get (Ok (Show place.key)) (cond put (put_read place.key body) (cond (delete && place.deletes) (Ok (Remove place.key)) (Err NoMethod)))) MayBe
+by_method place body true put delete may = (may.0, refl)
+by_method place body false true delete may = put_may place.key body may.0
+by_method place body false false delete may = delete_may place _ refl delete may
 
-at_key : (found : Option Key) (method body : List ℕ) → IsShown found → IfOk (asked_at found method body) MayBe
-at_key (Some row) method body shown = by_method row body (bytes_eq method (codes "GET")) (bytes_eq method (codes "PUT")) (bytes_eq method (codes "DELETE")) shown
-at_key None method body shown = tt
+at_place : (found : Option Place) (method body : List ℕ) → NamesOne found → IfOk (asked_at found method body) MayBe
+at_place (Some place) method body may =
+    by_method place body (bytes_eq method (codes "GET")) (bytes_eq method (codes "PUT")) (bytes_eq method (codes "DELETE")) may
+at_place None method body may = tt
 
 pub request_may : (method target body : List ℕ) → IfOk (command_read method target body) MayBe
-request_may method target body = at_key (key_at (path_of target)) method body (path_shown (path_of target))
+request_may method target body = at_place (place_at (path_of target)) method body (path_named (path_of target))

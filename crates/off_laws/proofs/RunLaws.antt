@@ -5,14 +5,14 @@ use Rattle.std.specs.FinMap as map
 use Rattle.off_defs.specs.State.{Tables, State, Effect, start}
 use Rattle.off_rules.specs.Good.{Good}
 use Rattle.off_book.specs.Step.{Step}
-use Rattle.off_book.specs.Run.{Turn, Run}
-use Rattle.off_laws.specs.Laws.{OneEnd, MomentNeverFalls, RunKeepsGood, FewAreLive}
-use Rattle.off_laws.proofs.StepLaws.{one_result, moment_is_greatest, step_good}
+use Rattle.off_book.specs.Run.{Turn, Run, effect_of, tables_after, moment_after}
+use Rattle.off_laws.specs.Laws.{OneEnd, MomentNeverFalls, RunKeepsGood, FewAreLive, RunTells}
+use Rattle.off_laws.proofs.StepLaws.{one_result, moment_is_greatest, step_good, tables_by_commit}
 use Rattle.off_laws.proofs.Connections.{AreFew, step_few}
 
 -- what a turn said, and a state after it
 abbrev turned : Turn → State → Effect
-turned turn after = record { said = turn.said; after = after }
+turned turn after = effect_of turn after
 
 pub one_end : OneEnd
 one_end s one other [] p q = p ∙ sym q
@@ -44,3 +44,12 @@ none_live tables = omega (arith, map.len-empty nat_cmp (List ℕ))
 pub few_are_live : FewAreLive
 few_are_live tables last turns p =
     kept AreFew (λ u turn after step few. step_few u turn.event turn.outcome (turned turn after) step few) (start tables) last turns p (none_live tables)
+
+-- the tables and the moment at the end are told by the turns
+pub run_tells : RunTells
+run_tells s last [] p = (ap (λ (m : State). m.tables) p, ap (λ (m : State). m.held.now) p)
+run_tells s last (turn ∷ turns) p =
+    let tables = tables_by_commit s turn.event turn.outcome (turned turn p.0) p.1.0 in
+    let moment = moment_is_greatest s turn.event turn.outcome (turned turn p.0) p.1.0 in
+    let rest = run_tells p.0 last turns p.1.1 in
+    (rest.0 ∙ ap (λ (t : Tables). tables_after t turns) tables, rest.1 ∙ ap (λ n. moment_after n turns) moment)

@@ -1,5 +1,7 @@
 -- The laws of one event: what it gives, the moment and the tables.
-use Rattle.std.proofs.Common.{◌≡◌, ℕ, ◌⊎◌, inl, inr, Bool, true, false, List, ◌++◌, codes, sym, ap, ◌∙◌, subst}
+use Rattle.std.proofs.Common.{◌≡◌, ℕ, ◌⊎◌, inl, inr, Bool, true, false, List, [], ◌++◌, codes, refl, sym, ap, ◌∙◌, subst}
+use Rattle.std.specs.Ordering.{nat_cmp}
+use Rattle.std.specs.FinMap as map
 use Rattle.off_defs.specs.declared.events.Service.TheVariants.{Dhcp, Time, Tftp}
 use Rattle.off_defs.specs.declared.events.What.{What}
 use Rattle.off_defs.specs.declared.events.What.TheVariants.{Datagram, Piece, Closed, Tick, End}
@@ -7,12 +9,15 @@ use Rattle.off_defs.specs.declared.events.Event.{Event}
 use Rattle.off_defs.specs.declared.results.Outcome.{Outcome}
 use Rattle.off_defs.specs.declared.results.Outcome.TheVariants.{Did, Memory, Keeper}
 use Rattle.off_defs.specs.State.{State, Effect, at_moment}
+use Rattle.off_defs.specs.Tables.{write_all}
 use Rattle.off_rules.specs.Good.{Good}
 use Rattle.off_http.proofs.Meanings.{one_meaning}
-use Rattle.off_book.specs.Http.{heard_of, answer_request, by_meaning, is_full, TakesPiece}
+use Rattle.off_http.specs.Request.{Meaning, Waits, Refused, Asked}
+use Rattle.off_book.specs.Http.{Answered, heard_of, answer_request, by_meaning, is_full, TakesPiece}
 use Rattle.off_book.specs.Step.{Step, Does}
-use Rattle.off_laws.specs.Laws.{OneResult, MomentIsGreatest, IsDone, OnlyDoneChanges}
-use Rattle.off_laws.proofs.Answers.{StaysOrDone, request_changes, request_good}
+use Rattle.off_laws.specs.Parts.{Changes, untouched, a_connection, by_request, part_of}
+use Rattle.off_laws.specs.Laws.{OneResult, MomentIsGreatest, TablesByCommit, ChangesItsPart}
+use Rattle.off_laws.proofs.Answers.{WritesNothingOrDone, request_writes, request_good}
 use Rattle.off_laws.proofs.Ways.{Way, stays, forgets, hears, answers, way}
 
 -- an event with an outcome gives one thing
@@ -51,42 +56,93 @@ one_result s event outcome one other p q = does_one _ event.what outcome one oth
 
 -- the moment stays at what the event has set
 way_now : (s : State) (what : What) (outcome : Outcome) (effect : Effect) → Way s what outcome effect → effect.after.held.now ≡ s.held.now
-way_now s what outcome effect (stays is) = ap (λ (u : State). u.held.now) is
-way_now s what outcome effect (forgets conn is) = ap (λ (u : State). u.held.now) is
-way_now s what outcome effect (hears conn bytes room is) = ap (λ (u : State). u.held.now) is
+way_now s what outcome effect (stays is none) = ap (λ (u : State). u.held.now) is
+way_now s what outcome effect (forgets conn is none) = ap (λ (u : State). u.held.now) is
+way_now s what outcome effect (hears conn bytes room is none) = ap (λ (u : State). u.held.now) is
 way_now s what outcome effect (answers conn piece method target body came acted is) = ap (λ (e : Effect). e.after.held.now) is
 
 pub moment_is_greatest : MomentIsGreatest
 unfolding Step
 moment_is_greatest s event outcome effect p = way_now (at_moment s event.at.0) event.what outcome effect (way _ event.what outcome effect p)
 
--- the tables stay, or a request was done
-done_by : (s : State) (what : What) (outcome : Outcome) (effect : Effect) (conn : ℕ) (piece method target body : List ℕ) → what ≡ Piece conn piece → outcome ≡ Did
-    → effect.after.tables ≡ (answer_request s.tables s.held.now method target body).tables
-    → effect.said.line ≡ codes "http " ++ (answer_request s.tables s.held.now method target body).words
-    → StaysOrDone s.tables (answer_request s.tables s.held.now method target body)
-    → (effect.after.tables ≡ s.tables) ⊎ IsDone what outcome effect.said.line
-done_by s what outcome effect conn piece method target body came acted tables line (inl same) = inl (tables ∙ same)
-done_by s what outcome effect conn piece method target body came acted tables line (inr is) =
-    inr (record { conn = conn; piece = piece; came = came; acted = acted; says = line ∙ ap (λ (words : List ℕ). codes "http " ++ words) is })
+-- the tables are those with what was committed
+way_by_commit : (s : State) (what : What) (outcome : Outcome) (effect : Effect) → Way s what outcome effect → effect.after.tables ≡ write_all s.tables effect.commit
+way_by_commit s what outcome effect (stays is none) = ap (λ (u : State). u.tables) is ∙ sym (ap (λ ws. write_all s.tables ws) none)
+way_by_commit s what outcome effect (forgets conn is none) = ap (λ (u : State). u.tables) is ∙ sym (ap (λ ws. write_all s.tables ws) none)
+way_by_commit s what outcome effect (hears conn bytes room is none) = ap (λ (u : State). u.tables) is ∙ sym (ap (λ ws. write_all s.tables ws) none)
+way_by_commit s what outcome effect (answers conn piece method target body came acted is) =
+    ap (λ (e : Effect). e.after.tables) is ∙ sym (ap (λ (e : Effect). write_all s.tables e.commit) is)
 
-way_tables : (s : State) (what : What) (outcome : Outcome) (effect : Effect) → Way s what outcome effect → (effect.after.tables ≡ s.tables) ⊎ IsDone what outcome effect.said.line
-way_tables s what outcome effect (stays is) = inl (ap (λ (u : State). u.tables) is)
-way_tables s what outcome effect (forgets conn is) = inl (ap (λ (u : State). u.tables) is)
-way_tables s what outcome effect (hears conn bytes room is) = inl (ap (λ (u : State). u.tables) is)
-way_tables s what outcome effect (answers conn piece method target body came acted is) =
-    done_by s what outcome effect conn piece method target body came acted (ap (λ (e : Effect). e.after.tables) is) (ap (λ (e : Effect). e.said.line) is)
-    (request_changes s.tables s.held.now method target body)
-
-pub only_done_changes : OnlyDoneChanges
+pub tables_by_commit : TablesByCommit
 unfolding Step
-only_done_changes s event outcome effect p = way_tables (at_moment s event.at.0) event.what outcome effect (way _ event.what outcome effect p)
+tables_by_commit s event outcome effect p = way_by_commit (at_moment s event.at.0) event.what outcome effect (way _ event.what outcome effect p)
+
+-- an event changes what it may of the state: the three lines of a step that isn't a request
+quiet_part : (s : State) (effect : Effect) → effect.after ≡ s → effect.commit ≡ [] → Changes untouched s effect
+quiet_part s effect is none = record {
+  commit = none;
+  connections = ap (λ (u : State). u.held.connections) is;
+  transfers = ap (λ (u : State). u.held.transfers) is;
+}
+
+heard_part : (s : State) (effect : Effect) (connections : map.FinMap nat_cmp (List ℕ)) → effect.after ≡ record s { held = record s.held { connections = connections } }
+    → effect.commit ≡ [] → Changes a_connection s effect
+heard_part s effect connections is none = record { commit = none; transfers = ap (λ (u : State). u.held.transfers) is }
+
+said_done : (answer : Answered) → WritesNothingOrDone answer → (answer.writes ≡ []) ⊎ (codes "http " ++ answer.words ≡ codes "http 200")
+said_done answer (inl none) = inl none
+said_done answer (inr done) = inr (ap (λ (words : List ℕ). codes "http " ++ words) done)
+
+meaning_part : (s : State) (conn : ℕ) (bytes : List ℕ) (meaning : Meaning) → Changes by_request s (by_meaning s conn bytes meaning)
+meaning_part s conn bytes Waits = record { commit = inl refl; transfers = refl }
+meaning_part s conn bytes (Refused f) = record { commit = inl refl; transfers = refl }
+meaning_part s conn bytes (Asked method target body) = record {
+  commit = said_done (answer_request s.tables s.held.now method target body) (request_writes s.tables s.held.now method target body);
+  transfers = refl;
+}
+
+takes_part : (full : Bool) (s : State) (conn : ℕ) (piece : List ℕ) (effect : Effect) → TakesPiece full s conn piece effect → Changes by_request s effect
+takes_part true s conn piece effect takes = subst (λ (e : Effect). Changes by_request s e) (sym takes) (record { commit = inl refl; transfers = refl })
+takes_part false s conn piece effect takes = subst (λ (e : Effect). Changes by_request s e) (sym takes.does) (meaning_part s conn _ takes.meaning)
+
+after_of : (one other : Effect) → one ≡ other → one.after ≡ other.after
+after_of one other is = ap (λ (e : Effect). e.after) is
+
+commit_of : (one other : Effect) → one ≡ other → one.commit ≡ other.commit
+commit_of one other is = ap (λ (e : Effect). e.commit) is
+
+does_part : (s : State) (what : What) (outcome : Outcome) (effect : Effect) → Does s what outcome effect → Changes (part_of what outcome) s effect
+does_part s (Datagram Dhcp from bytes) Did effect p = quiet_part s effect (after_of effect _ p) (commit_of effect _ p)
+does_part s (Datagram Dhcp from bytes) Memory effect p = absurd p
+does_part s (Datagram Dhcp from bytes) Keeper effect p = absurd p
+does_part s (Datagram Time from bytes) Did effect p = quiet_part s effect (after_of effect _ p) (commit_of effect _ p)
+does_part s (Datagram Time from bytes) Memory effect p = quiet_part s effect (after_of effect _ p) (commit_of effect _ p)
+does_part s (Datagram Time from bytes) Keeper effect p = absurd p
+does_part s (Datagram Tftp from bytes) Did effect p = quiet_part s effect (after_of effect _ p) (commit_of effect _ p)
+does_part s (Datagram Tftp from bytes) Memory effect p = absurd p
+does_part s (Datagram Tftp from bytes) Keeper effect p = absurd p
+does_part s (Piece conn piece) Did effect p = takes_part (is_full s.held.connections conn) s conn piece effect p
+does_part s (Piece conn piece) Memory effect p = heard_part s effect _ (after_of effect _ p) (commit_of effect _ p)
+does_part s (Piece conn piece) Keeper effect p = heard_part s effect _ (after_of effect _ p) (commit_of effect _ p)
+does_part s (Closed conn) Did effect p = heard_part s effect _ (after_of effect _ p) (commit_of effect _ p)
+does_part s (Closed conn) Memory effect p = absurd p
+does_part s (Closed conn) Keeper effect p = absurd p
+does_part s Tick Did effect p = quiet_part s effect (after_of effect _ p) (commit_of effect _ p)
+does_part s Tick Memory effect p = absurd p
+does_part s Tick Keeper effect p = absurd p
+does_part s End Did effect p = quiet_part s effect (after_of effect _ p) (commit_of effect _ p)
+does_part s End Memory effect p = absurd p
+does_part s End Keeper effect p = absurd p
+
+pub changes_its_part : ChangesItsPart
+unfolding Step
+changes_its_part s event outcome effect p = does_part (at_moment s event.at.0) event.what outcome effect p
 
 -- good tables stay good
 way_good : (s : State) (what : What) (outcome : Outcome) (effect : Effect) → Way s what outcome effect → Good s.tables → Good effect.after.tables
-way_good s what outcome effect (stays is) good = subst (λ (u : State). Good u.tables) (sym is) good
-way_good s what outcome effect (forgets conn is) good = subst (λ (u : State). Good u.tables) (sym is) good
-way_good s what outcome effect (hears conn bytes room is) good = subst (λ (u : State). Good u.tables) (sym is) good
+way_good s what outcome effect (stays is none) good = subst (λ (u : State). Good u.tables) (sym is) good
+way_good s what outcome effect (forgets conn is none) good = subst (λ (u : State). Good u.tables) (sym is) good
+way_good s what outcome effect (hears conn bytes room is none) good = subst (λ (u : State). Good u.tables) (sym is) good
 way_good s what outcome effect (answers conn piece method target body came acted is) good =
     subst (λ (e : Effect). Good e.after.tables) (sym is) (request_good s.tables s.held.now method target body good)
 

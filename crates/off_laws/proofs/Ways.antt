@@ -1,7 +1,7 @@
 -- What an event makes of the state, in four ways: it stays, it forgets a connection, it hears more of one, or it does what a clerk asked.
 -- What a law says of the states alone goes by these four. A service that is built changes lines of `way`, and of the two laws that go
 -- through the cases of a step themselves: that an event gives one thing, and what its line says.
-use Rattle.std.proofs.Common.{◌≡◌, ℕ, Bool, true, false, List, ◌++◌, refl, ap}
+use Rattle.std.proofs.Common.{◌≡◌, ℕ, Bool, true, false, List, [], ◌++◌, refl, ap}
 use Rattle.off_defs.specs.declared.events.Service.TheVariants.{Dhcp, Time, Tftp}
 use Rattle.off_defs.specs.declared.events.What.{What}
 use Rattle.off_defs.specs.declared.events.What.TheVariants.{Datagram, Piece, Closed, Tick, End}
@@ -16,45 +16,48 @@ abbrev pub hear : State → ℕ → List ℕ → State
 hear s conn bytes = record s { held = with_connection s.held conn bytes }
 
 pub data Way (s : State) (what : What) (outcome : Outcome) (effect : Effect) : Type 0 where
-  stays : effect.after ≡ s → Way s what outcome effect
-  forgets : (conn : ℕ) → effect.after ≡ close_connection s conn → Way s what outcome effect
-  hears : (conn : ℕ) (bytes : List ℕ) → is_full s.held.connections conn ≡ false → effect.after ≡ hear s conn bytes → Way s what outcome effect
+  stays : effect.after ≡ s → effect.commit ≡ [] → Way s what outcome effect
+  forgets : (conn : ℕ) → effect.after ≡ close_connection s conn → effect.commit ≡ [] → Way s what outcome effect
+  hears : (conn : ℕ) (bytes : List ℕ) → is_full s.held.connections conn ≡ false → effect.after ≡ hear s conn bytes → effect.commit ≡ [] → Way s what outcome effect
   answers : (conn : ℕ) (piece method target body : List ℕ) → what ≡ Piece conn piece → outcome ≡ Did
       → effect ≡ answered s conn (answer_request s.tables s.held.now method target body) → Way s what outcome effect
 
 after_is : (one other : Effect) → one ≡ other → one.after ≡ other.after
 after_is one other is = ap (λ (e : Effect). e.after) is
 
+commit_is : (one other : Effect) → one ≡ other → one.commit ≡ other.commit
+commit_is one other is = ap (λ (e : Effect). e.commit) is
+
 meaning_way : (s : State) (conn : ℕ) (piece bytes : List ℕ) (effect : Effect) (meaning : Meaning) → is_full s.held.connections conn ≡ false
     → effect ≡ by_meaning s conn bytes meaning → Way s (Piece conn piece) Did effect
-meaning_way s conn piece bytes effect Waits room is = hears conn bytes room (after_is effect _ is)
-meaning_way s conn piece bytes effect (Refused f) room is = forgets conn (after_is effect _ is)
+meaning_way s conn piece bytes effect Waits room is = hears conn bytes room (after_is effect _ is) (commit_is effect _ is)
+meaning_way s conn piece bytes effect (Refused f) room is = forgets conn (after_is effect _ is) (commit_is effect _ is)
 meaning_way s conn piece bytes effect (Asked method target body) room is = answers conn piece method target body refl refl is
 
 piece_way : (s : State) (conn : ℕ) (piece : List ℕ) (effect : Effect) (full : Bool) → is_full s.held.connections conn ≡ full
     → TakesPiece full s conn piece effect → Way s (Piece conn piece) Did effect
-piece_way s conn piece effect true full takes = stays (after_is effect _ takes)
+piece_way s conn piece effect true full takes = stays (after_is effect _ takes) (commit_is effect _ takes)
 piece_way s conn piece effect false room takes = meaning_way s conn piece (heard_of s.held conn ++ piece) effect takes.meaning room takes.does
 
 pub way : (s : State) (what : What) (outcome : Outcome) (effect : Effect) → Does s what outcome effect → Way s what outcome effect
-way s (Datagram Dhcp from bytes) Did effect p = stays (after_is effect _ p)
+way s (Datagram Dhcp from bytes) Did effect p = stays (after_is effect _ p) (commit_is effect _ p)
 way s (Datagram Dhcp from bytes) Memory effect p = absurd p
 way s (Datagram Dhcp from bytes) Keeper effect p = absurd p
-way s (Datagram Time from bytes) Did effect p = stays (after_is effect _ p)
-way s (Datagram Time from bytes) Memory effect p = stays (after_is effect _ p)
+way s (Datagram Time from bytes) Did effect p = stays (after_is effect _ p) (commit_is effect _ p)
+way s (Datagram Time from bytes) Memory effect p = stays (after_is effect _ p) (commit_is effect _ p)
 way s (Datagram Time from bytes) Keeper effect p = absurd p
-way s (Datagram Tftp from bytes) Did effect p = stays (after_is effect _ p)
+way s (Datagram Tftp from bytes) Did effect p = stays (after_is effect _ p) (commit_is effect _ p)
 way s (Datagram Tftp from bytes) Memory effect p = absurd p
 way s (Datagram Tftp from bytes) Keeper effect p = absurd p
 way s (Piece conn piece) Did effect p = piece_way s conn piece effect _ refl p
-way s (Piece conn piece) Memory effect p = forgets conn (after_is effect _ p)
-way s (Piece conn piece) Keeper effect p = forgets conn (after_is effect _ p)
-way s (Closed conn) Did effect p = forgets conn (after_is effect _ p)
+way s (Piece conn piece) Memory effect p = forgets conn (after_is effect _ p) (commit_is effect _ p)
+way s (Piece conn piece) Keeper effect p = forgets conn (after_is effect _ p) (commit_is effect _ p)
+way s (Closed conn) Did effect p = forgets conn (after_is effect _ p) (commit_is effect _ p)
 way s (Closed conn) Memory effect p = absurd p
 way s (Closed conn) Keeper effect p = absurd p
-way s Tick Did effect p = stays (after_is effect _ p)
+way s Tick Did effect p = stays (after_is effect _ p) (commit_is effect _ p)
 way s Tick Memory effect p = absurd p
 way s Tick Keeper effect p = absurd p
-way s End Did effect p = stays (after_is effect _ p)
+way s End Did effect p = stays (after_is effect _ p) (commit_is effect _ p)
 way s End Memory effect p = absurd p
 way s End Keeper effect p = absurd p

@@ -4,20 +4,34 @@ use Rattle.std.specs.List.{list_any}
 use Rattle.std.specs.FinMap as map
 use Rattle.off_defs.specs.declared.events.Event.{Event}
 use Rattle.off_defs.specs.declared.events.What.{What}
-use Rattle.off_defs.specs.declared.events.What.TheVariants.{Piece}
+use Rattle.off_defs.specs.declared.events.What.TheVariants.{Datagram as Came, Piece, Closed, Tick, End}
 use Rattle.off_defs.specs.declared.results.Outcome.{Outcome}
 use Rattle.off_defs.specs.declared.results.Outcome.TheVariants.{Did, Memory, Keeper}
 use Rattle.off_defs.specs.declared.results.Sent.{Sent}
 use Rattle.off_defs.specs.declared.results.Sent.TheVariants.{Datagram, Answer, Close}
-use Rattle.off_defs.specs.State.{Tables, State, Effect, start}
+use Rattle.off_defs.specs.State.{Tables, State, Effect, start, at_moment}
+use Rattle.off_defs.specs.Tables.{write_all}
 use Rattle.off_rules.specs.Good.{Good}
-use Rattle.off_book.specs.Http.{most_connections}
+use Rattle.off_book.specs.Http.{most_connections, heard_of}
 use Rattle.off_book.specs.Step.{Step, service_word}
-use Rattle.off_book.specs.Run.{Turn, Run}
+use Rattle.off_book.specs.Run.{Turn, Run, tables_after, moment_after}
+use Rattle.off_laws.specs.Parts.{part_of, Changes}
 
 -- an event with an outcome gives one thing
 abbrev pub OneResult : Type 0
 OneResult = (s : State) (event : Event) (outcome : Outcome) (one other : Effect) → Step s event outcome one → Step s event outcome other → one ≡ other
+
+-- And it gives something: for each state and each event there is an effect with which the office acts on it. Whether the bytes of a connection
+-- are a request's head is known by reading them, so the law is told of the bytes that have come with the event.
+abbrev pub Brings : State → What → List ℕ → Type 0
+Brings s (Came service from bytes) heard = Unit {0}
+Brings s (Piece conn piece) heard = heard ≡ heard_of s.held conn ++ piece
+Brings s (Closed conn) heard = Unit {0}
+Brings s Tick heard = Unit {0}
+Brings s End heard = Unit {0}
+
+abbrev pub SomeResult : List ℕ → Type 0
+SomeResult heard = (s : State) (event : Event) → Brings s event.what heard → (effect : Effect) × Step s event Did effect
 
 -- a run has one end
 abbrev pub OneEnd : Type 0
@@ -44,20 +58,24 @@ MomentNeverFalls = (s last : State) (turns : List Turn) → Run s turns last →
 abbrev pub RunKeepsGood : Type 0
 RunKeepsGood = (s last : State) (turns : List Turn) → Run s turns last → Good s.tables → Good last.tables
 
--- a clerk's request was done: a piece came, the office acted on it, and the line says `http 200`
-pub record IsDone (what : What) (outcome : Outcome) (line : List ℕ) : Type 0 where
-  pub conn : ℕ
-  pub piece : List ℕ
-  pub came : what ≡ Piece conn piece
-  pub acted : outcome ≡ Did
-  pub says : line ≡ codes "http 200"
-
--- The tables stay, or a clerk's request was done. So datagrams, ticks and the ends of connections leave the tables, and pieces too that
--- are waited behind, refused, or couldn't be acted on.
-abbrev pub OnlyDoneChanges : Type 0
-OnlyDoneChanges =
+-- What an event makes of the tables is what it commits, and nothing else.
+abbrev pub TablesByCommit : Type 0
+TablesByCommit =
     (s : State) (event : Event) (outcome : Outcome) (effect : Effect) → Step s event outcome effect
-    → (effect.after.tables ≡ s.tables) ⊎ IsDone event.what outcome effect.said.line
+    → effect.after.tables ≡ write_all s.tables effect.commit
+
+-- So the tables and the moment at the end of a run are told by its turns.
+abbrev pub RunTells : Type 0
+RunTells =
+    (s last : State) (turns : List Turn) → Run s turns last
+    → (last.tables ≡ tables_after s.tables turns) × (last.held.now ≡ moment_after s.held.now turns)
+
+-- An event changes no more than its part of the state. So datagrams, ticks and the ends of connections leave the tables, and pieces too that
+-- are waited behind, refused, or couldn't be acted on.
+abbrev pub ChangesItsPart : Type 0
+ChangesItsPart =
+    (s : State) (event : Event) (outcome : Outcome) (effect : Effect) → Step s event outcome effect
+    → Changes (part_of event.what outcome) (at_moment s event.at.0) effect
 
 -- an answer; and what ends a connection, an answer or a close
 abbrev pub is_answer : Sent → Bool

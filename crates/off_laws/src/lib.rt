@@ -1,19 +1,35 @@
-//! Laws of the abstract office, over its definitions alone. Each function here does nothing: its contract is the law.
+//! Laws of the abstract office, over its definitions alone. Each function here does nothing: its
+//! contract is the law.
 #![tactic(auto)]
 
-ghost use Rattle.off_laws.specs.Laws.{OneResult, OneEnd, LineTellsOutcome, MomentIsGreatest, MomentNeverFalls, RunKeepsGood, OnlyDoneChanges, AnsweredOnce, FewAreLive};
+ghost use Rattle.off_laws.specs.Laws.{OneResult, SomeResult, OneEnd, LineTellsOutcome};
+ghost use Rattle.off_laws.specs.Laws.{MomentIsGreatest};
+ghost use Rattle.off_laws.specs.Laws.{MomentNeverFalls, RunKeepsGood, TablesByCommit, RunTells};
+ghost use Rattle.off_laws.specs.Laws.{ChangesItsPart, AnsweredOnce, FewAreLive};
 
-/// For a state, an event and an outcome there is one thing that the office says, and one state after it.
+use off_http::some_answer;
+
+/// For a state, an event and an outcome there is one thing that the office says, and one state
+/// after it.
 pub fn an_event_gives_one_thing()
     ensures { OneResult }
 {}
+
+/// For a state and an event there is something that the office does. `heard` is what has come of
+/// the event's connection, with what it brings; it is read without memory.
+pub fn an_event_gives_something(heard: &[u8])
+    ensures { SomeResult heard.now }
+{
+    some_answer(heard)
+}
 
 /// For a state and the turns of a run there is one state at its end.
 pub fn a_run_has_one_end()
     ensures { OneEnd }
 {}
 
-/// The line says `memory` exactly where memory was wanted, and `keeper` exactly where the keeper of the tables failed.
+/// The line says `memory` exactly where memory was wanted, and `keeper` exactly where the keeper of
+/// the tables failed.
 pub fn the_line_tells_the_outcome()
     ensures { LineTellsOutcome }
 {}
@@ -33,13 +49,24 @@ pub fn a_run_keeps_good_tables()
     ensures { RunKeepsGood }
 {}
 
-/// An event leaves the tables as they are, or it is a piece of a clerk's connection that was acted on, and its line says `http 200`.
-pub fn only_an_answered_request_changes_tables()
-    ensures { OnlyDoneChanges }
+/// The tables behind an event are those before it with what was committed.
+pub fn the_tables_change_by_commits()
+    ensures { TablesByCommit }
 {}
 
-/// A piece of a clerk's connection is answered once at most, and once it is answered, or its connection closed, that connection isn't
-/// among the live ones.
+/// The tables and the moment at the end of a run are told by its turns.
+pub fn a_run_tells_its_tables()
+    ensures { RunTells }
+{}
+
+/// An event changes no more than its part of the state. Nothing is written but by a piece of a
+/// clerk's connection whose line says `http 200`.
+pub fn an_event_changes_its_part()
+    ensures { ChangesItsPart }
+{}
+
+/// A piece of a clerk's connection is answered once at most, and once it is answered, or its
+/// connection closed, that connection isn't among the live ones.
 pub fn a_request_is_answered_once()
     ensures { AnsweredOnce }
 {}

@@ -1,0 +1,41 @@
+-- The office does something with each event.
+use Rattle.std.proofs.Common.{◌≡◌, ℕ, Bool, true, false, List, ◌++◌, codes, refl, sym, subst}
+use Rattle.off_defs.specs.declared.events.Service.TheVariants.{Dhcp, Time, Tftp}
+use Rattle.off_defs.specs.declared.events.What.{What}
+use Rattle.off_defs.specs.declared.events.What.TheVariants.{Datagram, Piece, Closed, Tick, End}
+use Rattle.off_defs.specs.declared.results.Outcome.TheVariants.{Did}
+use Rattle.off_defs.specs.State.{State, Effect, at_moment}
+use Rattle.off_http.specs.Request.{Meaning, RequestIs}
+use Rattle.off_book.specs.Http.{heard_of, by_meaning, closed_as_busy, is_full, TakesPiece}
+use Rattle.off_book.specs.Step.{Step, Does}
+use Rattle.off_laws.specs.Laws.{Brings, SomeResult}
+
+abbrev Says : List ℕ → Type 0
+Says heard = (meaning : Meaning) × RequestIs heard meaning
+
+piece_some : (full : Bool) (s : State) (conn : ℕ) (piece heard : List ℕ) → heard ≡ heard_of s.held conn ++ piece → Says heard → (effect : Effect) × TakesPiece full s conn piece effect
+piece_some true s conn piece heard same says = (closed_as_busy s conn, refl)
+piece_some false s conn piece heard same says = (
+  by_meaning s conn (heard_of s.held conn ++ piece) says.0,
+  record { meaning = says.0; says = subst (λ (x : List ℕ). RequestIs x says.0) same says.1; does = refl },
+)
+
+does_some : (s : State) (what : What) (heard : List ℕ) → Brings s what heard → Says heard → (effect : Effect) × Does s what Did effect
+does_some s (Datagram Dhcp from bytes) heard brings says = (_, refl)
+does_some s (Datagram Time from bytes) heard brings says = (_, refl)
+does_some s (Datagram Tftp from bytes) heard brings says = (_, refl)
+does_some s (Piece conn piece) heard brings says = piece_some (is_full s.held.connections conn) s conn piece heard brings says
+does_some s (Closed conn) heard brings says = (_, refl)
+does_some s Tick heard brings says = (_, refl)
+does_some s End heard brings says = (_, refl)
+
+brings_then : (s : State) (at : ℕ) (what : What) (heard : List ℕ) → Brings s what heard → Brings (at_moment s at) what heard
+brings_then s at (Datagram service from bytes) heard brings = tt
+brings_then s at (Piece conn piece) heard brings = brings
+brings_then s at (Closed conn) heard brings = tt
+brings_then s at Tick heard brings = tt
+brings_then s at End heard brings = tt
+
+pub some_result : (heard : List ℕ) → Says heard → SomeResult heard
+unfolding Step
+some_result heard says s event brings = does_some (at_moment s event.at.0) event.what heard (brings_then s event.at.0 event.what heard brings) says
