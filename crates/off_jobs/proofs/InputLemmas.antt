@@ -1,5 +1,5 @@
 -- The input of a job, piece by piece.
-use Rattle.std.proofs.Common.{◌≡◌, ℕ, ◌+◌, ◌<◌, ◌≤◌, List, [], ◌∷◌, ◌++◌, length, take, refl, sym, ap, ◌∙◌, subst, arith, append_assoc, append-nil, length-append}
+use Rattle.std.proofs.Common.{◌≡◌, ℕ, ◌+◌, ◌<◌, ◌≤◌, List, [], ◌∷◌, ◌++◌, length, take, refl, sym, ap, ◌∙◌, subst, arith, append_assoc, append-nil, length-append, inr}
 use Rattle.off_defs.proofs.ToldLemmas.{told_then, told_weaker, told_self}
 use Rattle.off_defs.proofs.CountLemmas.{later_grew}
 use Rattle.off_outside.specs.Streams.{SourceSeen, Gave}
@@ -8,31 +8,39 @@ use Rattle.off_jobs.specs.declared.input.InputErr.TheVariants.{TooLong, Failed, 
 use Rattle.off_jobs.specs.Input.{Took, TookAll, TookTooMany, LackedMemory, TookPiece, NoPiece, NoInput, most_bytes}
 
 pub gave_lacks : {n : ℕ} {out : List ℕ} {old new : SourceSeen} → Gave n out old new → LackedMemory old new
-gave_lacks {n} {out} gave = record {
+gave_lacks {n} {out} {old} {new} gave = record {
   bytes = take n out;
-  took = record { left = told_weaker gave.left (λ x y fits. fits.0); faults = gave.faults };
+  took = record { left = told_weaker gave.left (λ x y fits. fits.0); up = gave.up; faults = gave.faults; calls = omega (arith, gave.calls) };
 }
 
-pub took_none : (s : SourceSeen) → Took [] s s
-took_none s = record { left = told_self (λ x. refl); faults = omega arith }
+pub took_none : (s : SourceSeen) → Took [] 0 s s
+took_none s = record { left = told_self (λ x. refl); up = λ up. up; faults = refl; calls = omega arith }
 
-pub took_then : {xs ys : List ℕ} {a b c : SourceSeen} → Took xs a b → Took ys b c → Took (xs ++ ys) a c
+pub took_then : {xs ys : List ℕ} {m n : ℕ} {a b c : SourceSeen} → Took xs m a b → Took ys n b c → Took (xs ++ ys) (m + n) a c
 took_then {xs} {ys} p q = record {
   left = told_then p.left q.left (λ x y z before after. before ∙ (ap (λ v. xs ++ v) after ∙ sym (append_assoc xs ys z)));
-  faults = omega (arith, p.faults, q.faults);
+  up = λ up. q.up (p.up up);
+  faults = q.faults ∙ p.faults;
+  calls = omega (arith, p.calls, q.calls);
 }
+
+-- a bound that is greater is one as well
+pub took_within : {xs : List ℕ} {m n : ℕ} {a b : SourceSeen} → m ≤ n → Took xs m a b → Took xs n a b
+took_within le p = record { left = p.left; up = p.up; faults = p.faults; calls = omega (arith, p.calls) }
 
 -- what was taken so far, within the limit and one over it
 pub record SoFar (bytes : List ℕ) (old new : SourceSeen) : Type 0 where
-  pub took : Took bytes old new
+  pub took : Took bytes (length bytes) old new
   pub within : length bytes ≤ most_bytes + 1
 
 pub so_far_none : (s : SourceSeen) → SoFar [] s s
 so_far_none s = record { took = took_none s; within = omega arith }
 
-pub so_far_more : {count room : ℕ} {bytes longer : List ℕ} {a b c : SourceSeen} → SoFar bytes a b → TookPiece count room bytes longer b c → room + length bytes ≤ most_bytes + 1 → SoFar longer a c
-so_far_more {count} {room} {bytes} {longer} {a} {b} {c} p q room_is = record {
-  took = subst (λ v. Took v a c) (sym q.joined) (took_then p.took q.took);
+pub so_far_more : {count room : ℕ} {bytes longer : List ℕ} {a b c : SourceSeen} → SoFar bytes a b → TookPiece count room bytes longer b c
+    → room + length bytes ≤ most_bytes + 1 → (count ≡ 0 → ⊥) → SoFar longer a c
+so_far_more {count} {room} {bytes} {longer} {a} {b} {c} p q room_is some = record {
+  took = (let more : length bytes + 1 ≤ length longer = omega (arith, ap length q.joined, length-append bytes q.piece, q.long) in
+      took_within more (subst (λ v. Took v (length bytes + 1) a c) (sym q.joined) (took_then p.took q.took)));
   within = omega (arith, ap length q.joined, length-append bytes q.piece, q.long, q.fits);
 }
 
@@ -58,17 +66,25 @@ at_end {room} {bytes} {longer} {a} {b} {c} p q short =
             let rest : h.value ≡ [] = sym (h.fits ∙ ap (λ v. v ++ h.value) none) ∙ e.fits in
             record { value = h.value; told = h.told; fits = (g.fits ∙ (ap (λ v. bytes ++ v) e.fits ∙ (append-nil bytes ∙ sym same)), rest) };
       };
-      faults = omega (arith, p.took.faults, q.took.faults);
+      took = (let few : length bytes + 1 ≤ length longer + 1 = omega (arith, ap length same) in
+          took_within few (subst (λ v. Took v (length bytes + 1) a c) (sym q.joined) (took_then p.took q.took)));
     }
 
 pub no_input : (err : InputErr) (bytes : List ℕ) (a b c : SourceSeen) → SoFar bytes a b → NoPiece err b c → NoInput err a c
 no_input TooLong bytes a b c p q = absurd q
-no_input Failed bytes a b c p q = record {
-  bytes = bytes ++ q.bytes;
-  left = told_then p.took.left q.left (λ x y z before after. before ∙ (ap (λ v. bytes ++ v) after ∙ sym (append_assoc bytes q.bytes z)));
-  faults = later_grew p.took.faults q.faults;
-}
-no_input Memory bytes a b c p q = record { bytes = bytes ++ q.bytes; took = took_then p.took q.took }
+no_input Failed bytes a b c p q =
+    let size = length-append bytes q.bytes in
+    let grew = later_grew (omega (arith, p.took.faults)) q.faults in
+    record {
+      bytes = bytes ++ q.bytes;
+      left = told_then p.took.left q.left (λ x y z before after. before ∙ (ap (λ v. bytes ++ v) after ∙ sym (append_assoc bytes q.bytes z)));
+      up = λ up. inr grew;
+      faults = grew;
+      calls = omega (arith, p.took.calls, q.calls);
+    }
+no_input Memory bytes a b c p q =
+    let size = length-append bytes q.bytes in
+    record { bytes = bytes ++ q.bytes; took = took_within (omega arith) (took_then p.took q.took) }
 
 pub too_many : {bytes : List ℕ} {a b : SourceSeen} → SoFar bytes a b → most_bytes < length bytes → TookTooMany a b
 too_many {bytes} p over = record { bytes = bytes; over = omega (arith, p.within); took = p.took }

@@ -14,7 +14,7 @@ use Rattle.off_mic.specs.declared.checking.MicFault.{MicFault}
 use Rattle.off_outside.specs.Streams.{SourceSeen, SinkSeen}
 use Rattle.off_jobs.specs.Input.{TookAll, TookTooMany, SourceFailed, NoInput}
 use Rattle.off_jobs.specs.declared.input.InputErr.{InputErr}
-use Rattle.off_jobs.specs.Jobs.{Tells, Unread, overlong, memoryless, sourceless, UnreadBy, Sealing, sealed_as, refused_by, unsealed, not_sealed, SealedBy, Checking, answered, refused_for, not_checked, CheckedBy, Verifies, NoFault, SealsInput, ChecksInput}
+use Rattle.off_jobs.specs.Jobs.{Tells, Unread, overlong, memoryless, sourceless, UnreadBy, unread_status, Sealing, sealed_as, refused_by, unsealed, not_sealed, SealedBy, sealing_text, sealing_status, Checking, answered, refused_for, not_checked, CheckedBy, checking_text, checking_status, Verifies, NoFault, SealsInput, ChecksInput}
 
 -- where no count rose the text was written whole
 told_whole : {of status : ℕ} {text : List ℕ} {s s' : SourceSeen} {t t' : SinkSeen} → Tells of text status t t' → NoFault s s' t t' → status ≡ of
@@ -24,17 +24,17 @@ told_whole (inr cut) none = absurd (omega (arith, cut.1.faults.grew, none.sink_s
 source_held : {s s' : SourceSeen} {t t' : SinkSeen} → SourceFailed s s' → NoFault s s' t t' → ⊥
 source_held failed none = omega (arith, failed.faults.grew, none.source_same, none.source_count)
 
-unread_status : (why : Unread) (of status : ℕ) (s s' : SourceSeen) (t t' : SinkSeen) → UnreadBy why of status s s' t t' → NoFault s s' t t' → (status ≡ 6) ⊎ (status ≡ of)
-unread_status overlong of status s s' t t' by none = inr (told_whole by.1 none)
-unread_status memoryless of status s s' t t' by none = inl (told_whole by.1 none)
-unread_status sourceless of status s s' t t' by none = absurd (source_held by.0 none)
+six_or : (why : Unread) (of status : ℕ) (s s' : SourceSeen) (t t' : SinkSeen) → UnreadBy why s s' → NoFault s s' t t' → status ≡ unread_status of why → (status ≡ 6) ⊎ (status ≡ of)
+six_or overlong of status s s' t t' by none is = inr is
+six_or memoryless of status s s' t t' by none is = inl is
+six_or sourceless of status s s' t t' by none is = absurd (source_held by none)
 
-seal_statuses : (way : Sealing) (secret : List ℕ) (status : ℕ) (s s' : SourceSeen) (t t' : SinkSeen) → SealedBy way secret status s s' t t' → NoFault s s' t t'
-    → (status ≡ 0) ⊎ ((status ≡ 6) ⊎ (status ≡ 9))
-seal_statuses (sealed_as file made) secret status s s' t t' by none = inl (told_whole by.2 none)
-seal_statuses (refused_by file fault) secret status s s' t t' by none = inr (inr (told_whole by.2 none))
-seal_statuses (unsealed file) secret status s s' t t' by none = inr (inl (told_whole by.2 none))
-seal_statuses (not_sealed why) secret status s s' t t' by none = inr (unread_status why 9 status s s' t t' by none)
+seal_ended : (way : Sealing) (secret : List ℕ) (status : ℕ) (s s' : SourceSeen) (t t' : SinkSeen) → SealedBy way secret s s' → NoFault s s' t t'
+    → status ≡ sealing_status way → (status ≡ 0) ⊎ ((status ≡ 6) ⊎ (status ≡ 9))
+seal_ended (sealed_as file made) secret status s s' t t' by none is = inl is
+seal_ended (refused_by file fault) secret status s s' t t' by none is = inr (inr is)
+seal_ended (unsealed file) secret status s s' t t' by none is = inr (inl is)
+seal_ended (not_sealed why) secret status s s' t t' by none is = inr (six_or why 9 status s s' t t' by none is)
 
 -- what was taken to the end is what the source told
 told_file : {file held : List ℕ} {s s' : SourceSeen} → TookAll file s s' → s.left held → held ≡ file
@@ -48,22 +48,24 @@ too_many_of {held} took told short =
     let g = took.took.left.each held told in
     omega (arith, ap length g.fits, length-append took.bytes g.value, took.over)
 
-seal_complete : (way : Sealing) (secret : List ℕ) (status : ℕ) (s s' : SourceSeen) (t t' : SinkSeen) → SealedBy way secret status s s' t t'
+seal_complete : (way : Sealing) (secret : List ℕ) (status : ℕ) (s s' : SourceSeen) (t t' : SinkSeen) → SealedBy way secret s s' → status ≡ sealing_status way
     → (file : List ℕ) (trees : List Tree) → s.left file → FileOf file trees → length file ≤ 65536 → NoFault s s' t t' → status ≢ 6 → status ≡ 0
-seal_complete (sealed_as read made) secret status s s' t t' by file trees told spells short none other = told_whole by.2 none
-seal_complete (refused_by read fault) secret status s s' t t' by file trees told spells short none other =
+seal_complete (sealed_as read made) secret status s s' t t' by is file trees told spells short none other = is
+seal_complete (refused_by read fault) secret status s s' t t' by is file trees told spells short none other =
     absurd (not_both read trees fault (subst (λ v. FileOf v trees) (told_file by.0 told) spells) by.1)
-seal_complete (unsealed read) secret status s s' t t' by file trees told spells short none other = absurd (other (told_whole by.2 none))
-seal_complete (not_sealed overlong) secret status s s' t t' by file trees told spells short none other = absurd (too_many_of by.0 told short)
-seal_complete (not_sealed memoryless) secret status s s' t t' by file trees told spells short none other = absurd (other (told_whole by.1 none))
-seal_complete (not_sealed sourceless) secret status s s' t t' by file trees told spells short none other = absurd (source_held by.0 none)
+seal_complete (unsealed read) secret status s s' t t' by is file trees told spells short none other = absurd (other is)
+seal_complete (not_sealed overlong) secret status s s' t t' by is file trees told spells short none other = absurd (too_many_of by told short)
+seal_complete (not_sealed memoryless) secret status s s' t t' by is file trees told spells short none other = absurd (other is)
+seal_complete (not_sealed sourceless) secret status s s' t t' by is file trees told spells short none other = absurd (source_held by none)
 
-pub seals_by : (way : Sealing) (secret : List ℕ) (status : ℕ) (s s' : SourceSeen) (t t' : SinkSeen) → SealedBy way secret status s s' t t' → SealsInput secret status s s' t t'
-seals_by way secret status s s' t t' by = record {
+pub seals_by : (way : Sealing) (secret : List ℕ) (status : ℕ) (s s' : SourceSeen) (t t' : SinkSeen) → SealedBy way secret s s'
+    → Tells (sealing_status way) (sealing_text way) status t t' → SealsInput secret status s s' t t'
+seals_by way secret status s s' t t' by told = record {
   way = way;
   done = by;
-  statuses = seal_statuses way secret status s s' t t' by;
-  complete = seal_complete way secret status s s' t t' by;
+  told = told;
+  statuses = λ none. seal_ended way secret status s s' t t' by none (told_whole told none);
+  complete = λ file trees held spells short none other. seal_complete way secret status s s' t t' by (told_whole told none) file trees held spells short none other;
 }
 
 abbrev status_by : Bool → Bool → ℕ
@@ -74,16 +76,17 @@ verdict_is true true = inl refl
 verdict_is true false = inr refl
 verdict_is false cmts = inr refl
 
-check_statuses : (way : Checking) (secret : List ℕ) (status : ℕ) (s s' : SourceSeen) (t t' : SinkSeen) → CheckedBy way secret status s s' t t' → NoFault s s' t t'
-    → (status ≡ 0) ⊎ ((status ≡ 6) ⊎ (status ≡ 8))
-check_statuses (answered file verdict) secret status s s' t t' by none =
-    let is = told_whole by.2 none in
+check_ended : (way : Checking) (secret : List ℕ) (status : ℕ) (s s' : SourceSeen) (t t' : SinkSeen) → CheckedBy way secret s s' → NoFault s s' t t'
+    → status ≡ checking_status way → (status ≡ 0) ⊎ ((status ≡ 6) ⊎ (status ≡ 8))
+check_ended (answered file verdict) secret status s s' t t' by none is =
     elim (verdict_is verdict.cm verdict.cmts) [ inl e ↦ inl (is ∙ e) | inr e ↦ inr (inr (is ∙ e)) ]
-check_statuses (refused_for file fault) secret status s s' t t' by none = inr (inr (told_whole by.2 none))
-check_statuses (not_checked why) secret status s s' t t' by none = inr (unread_status why 8 status s s' t t' by none)
+check_ended (refused_for file fault) secret status s s' t t' by none is = inr (inr is)
+check_ended (not_checked why) secret status s s' t t' by none is = inr (six_or why 8 status s s' t t' by none is)
 
-pub checks_by : (way : Checking) (secret : List ℕ) (status : ℕ) (s s' : SourceSeen) (t t' : SinkSeen) → CheckedBy way secret status s s' t t' → ChecksInput secret status s s' t t'
-checks_by way secret status s s' t t' by = record { way = way; done = by; statuses = check_statuses way secret status s s' t t' by }
+pub checks_by : (way : Checking) (secret : List ℕ) (status : ℕ) (s s' : SourceSeen) (t t' : SinkSeen) → CheckedBy way secret s s'
+    → Tells (checking_status way) (checking_text way) status t t' → ChecksInput secret status s s' t t'
+checks_by way secret status s s' t t' by told =
+    record { way = way; done = by; told = told; statuses = λ none. check_ended way secret status s s' t t' by none (told_whole told none) }
 
 -- the same text, and the same status, under other names
 pub tells_as : (of given : ℕ) (status : ℕ) (text wanted : List ℕ) (t t' : SinkSeen) → of ≡ given → text ≡ wanted → Tells of text status t t' → Tells given wanted status t t'

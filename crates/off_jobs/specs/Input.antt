@@ -1,5 +1,5 @@
 -- What a job reads of its source: all bytes to the end, or one over the limit.
-use Rattle.std.specs.Prelude.{◌≡◌, ℕ, ◌+◌, ◌≤◌, List, [], ◌++◌, length, Result, Ok, Err}
+use Rattle.std.specs.Prelude.{◌≡◌, ℕ, ◌+◌, ◌≤◌, List, [], ◌++◌, length, ◌⊎◌, Result, Ok, Err}
 use Rattle.off_defs.specs.Told.{Told}
 use Rattle.off_defs.specs.Counts.{Grew}
 use Rattle.off_outside.specs.Streams.{SourceSeen}
@@ -10,33 +10,37 @@ use Rattle.off_jobs.specs.declared.input.InputErr.TheVariants.{TooLong, Failed, 
 abbrev pub most_bytes : ℕ
 most_bytes = 65536
 
--- these bytes were taken, and no others
-pub record Took (bytes : List ℕ) (old new : SourceSeen) : Type 0 where
+-- these bytes were taken, and no others, in so many reads at most
+pub record Took (bytes : List ℕ) (reads : ℕ) (old new : SourceSeen) : Type 0 where
   pub left : Told old.left new.left (λ before after. before ≡ bytes ++ after)
-  pub faults : old.faults ≤ new.faults
+  pub up : old.up → new.up
+  pub faults : new.faults ≡ old.faults
+  pub calls : new.calls ≤ old.calls + reads
 
--- all bytes of the source were taken, to its end
+-- all bytes of the source were taken, to its end: each read but the last gave one at least
 pub record TookAll (bytes : List ℕ) (old new : SourceSeen) : Type 0 where
   pub short : length bytes ≤ most_bytes
   pub left : Told old.left new.left (λ before after. (before ≡ bytes) × (after ≡ []))
-  pub faults : old.faults ≤ new.faults
+  pub took : Took bytes (length bytes + 1) old new
 
 -- the source holds more than a job takes: one byte over it was taken
 pub record TookTooMany (old new : SourceSeen) : Type 0 where
   pub bytes : List ℕ
   pub over : length bytes ≡ most_bytes + 1
-  pub took : Took bytes old new
+  pub took : Took bytes (length bytes) old new
 
 -- memory was wanted while the source was read
 pub record LackedMemory (old new : SourceSeen) : Type 0 where
   pub bytes : List ℕ
-  pub took : Took bytes old new
+  pub took : Took bytes (length bytes + 1) old new
 
 -- the source failed, and counted it
 pub record SourceFailed (old new : SourceSeen) : Type 0 where
   pub bytes : List ℕ
   pub left : Told old.left new.left (λ before after. before ≡ bytes ++ after)
+  pub up : old.up → new.up ⊎ Grew 1 old.faults new.faults
   pub faults : Grew 1 old.faults new.faults
+  pub calls : new.calls ≤ old.calls + length bytes + 1
 
 abbrev pub NoInput : InputErr → SourceSeen → SourceSeen → Type 0
 NoInput TooLong old new = TookTooMany old new
@@ -53,7 +57,7 @@ pub record TookPiece (count room : ℕ) (bytes longer : List ℕ) (old new : Sou
   pub long : length piece ≡ count
   pub fits : count ≤ room
   pub joined : longer ≡ bytes ++ piece
-  pub took : Took piece old new
+  pub took : Took piece 1 old new
   pub end : count ≡ 0 → Told old.left new.left (λ before after. before ≡ [])
 
 -- no piece more

@@ -24,10 +24,22 @@ pub data Unread : Type 0 where
   memoryless : Unread
   sourceless : Unread
 
-abbrev pub UnreadBy : Unread → ℕ → ℕ → SourceSeen → SourceSeen → SinkSeen → SinkSeen → Type 0
-UnreadBy overlong of status source source' sink sink' = TookTooMany source source' × Tells of too_long status sink sink'
-UnreadBy memoryless of status source source' sink sink' = LackedMemory source source' × Tells 6 memory_refused status sink sink'
-UnreadBy sourceless of status source source' sink sink' = SourceFailed source source' × Tells 7 source_refused status sink sink'
+-- what was taken of the source then
+abbrev pub UnreadBy : Unread → SourceSeen → SourceSeen → Type 0
+UnreadBy overlong old new = TookTooMany old new
+UnreadBy memoryless old new = LackedMemory old new
+UnreadBy sourceless old new = SourceFailed old new
+
+-- the line that is told, and the status, which the job chooses for too many bytes
+abbrev pub unread_line : Unread → List ℕ
+unread_line overlong = too_long
+unread_line memoryless = memory_refused
+unread_line sourceless = source_refused
+
+abbrev pub unread_status : ℕ → Unread → ℕ
+unread_status of overlong = of
+unread_status of memoryless = 6
+unread_status of sourceless = 7
 
 -- how `seal` ended: the file was sealed, or the grammar refuses it, or memory was wanted to seal it, or it wasn't read
 pub data Sealing : Type 0 where
@@ -36,14 +48,24 @@ pub data Sealing : Type 0 where
   unsealed : List ℕ → Sealing
   not_sealed : Unread → Sealing
 
-abbrev pub SealedBy : Sealing → List ℕ → ℕ → SourceSeen → SourceSeen → SinkSeen → SinkSeen → Type 0
-SealedBy (sealed_as file made) secret status source source' sink sink' =
-    TookAll file source source' × SealsFile file secret made × Tells 0 made status sink sink'
-SealedBy (refused_by file fault) secret status source source' sink sink' =
-    TookAll file source source' × IsFirstFault file fault × Tells 9 (refused (read_fault_words fault)) status sink sink'
-SealedBy (unsealed file) secret status source source' sink sink' =
-    TookAll file source source' × ((trees : List Tree) × FileOf file trees) × Tells 6 memory_refused status sink sink'
-SealedBy (not_sealed why) secret status source source' sink sink' = UnreadBy why 9 status source source' sink sink'
+abbrev pub SealedBy : Sealing → List ℕ → SourceSeen → SourceSeen → Type 0
+SealedBy (sealed_as file made) secret old new = TookAll file old new × SealsFile file secret made
+SealedBy (refused_by file fault) secret old new = TookAll file old new × IsFirstFault file fault
+SealedBy (unsealed file) secret old new = TookAll file old new × ((trees : List Tree) × FileOf file trees)
+SealedBy (not_sealed why) secret old new = UnreadBy why old new
+
+-- what it then tells, and its status
+abbrev pub sealing_text : Sealing → List ℕ
+sealing_text (sealed_as file made) = made
+sealing_text (refused_by file fault) = refused (read_fault_words fault)
+sealing_text (unsealed file) = memory_refused
+sealing_text (not_sealed why) = unread_line why
+
+abbrev pub sealing_status : Sealing → ℕ
+sealing_status (sealed_as file made) = 0
+sealing_status (refused_by file fault) = 9
+sealing_status (unsealed file) = 6
+sealing_status (not_sealed why) = unread_status 9 why
 
 -- how `check` ended: both values were looked at, or the file is refused, or it wasn't read
 pub data Checking : Type 0 where
@@ -57,12 +79,21 @@ pub record Verifies (file secret : List ℕ) (answer : Result Verdict MicFault) 
   pub reads : Reads file reading
   pub verified : Verified secret reading answer
 
-abbrev pub CheckedBy : Checking → List ℕ → ℕ → SourceSeen → SourceSeen → SinkSeen → SinkSeen → Type 0
-CheckedBy (answered file verdict) secret status source source' sink sink' =
-    TookAll file source source' × Verifies file secret (Ok verdict) × Tells (verdict_status verdict) (verdict_text verdict) status sink sink'
-CheckedBy (refused_for file fault) secret status source source' sink sink' =
-    TookAll file source source' × Verifies file secret (Err fault) × Tells 8 (refused (mic_fault_words fault)) status sink sink'
-CheckedBy (not_checked why) secret status source source' sink sink' = UnreadBy why 8 status source source' sink sink'
+abbrev pub CheckedBy : Checking → List ℕ → SourceSeen → SourceSeen → Type 0
+CheckedBy (answered file verdict) secret old new = TookAll file old new × Verifies file secret (Ok verdict)
+CheckedBy (refused_for file fault) secret old new = TookAll file old new × Verifies file secret (Err fault)
+CheckedBy (not_checked why) secret old new = UnreadBy why old new
+
+-- what it then tells, and its status
+abbrev pub checking_text : Checking → List ℕ
+checking_text (answered file verdict) = verdict_text verdict
+checking_text (refused_for file fault) = refused (mic_fault_words fault)
+checking_text (not_checked why) = unread_line why
+
+abbrev pub checking_status : Checking → ℕ
+checking_status (answered file verdict) = verdict_status verdict
+checking_status (refused_for file fault) = 8
+checking_status (not_checked why) = unread_status 8 why
 
 -- no count of the source or of the sink rose, and none stood at the greatest number
 pub record NoFault (source source' : SourceSeen) (sink sink' : SinkSeen) : Type 0 where
@@ -75,12 +106,14 @@ pub record NoFault (source source' : SourceSeen) (sink sink' : SinkSeen) : Type 
 -- is sealed, and a status other than 0 is 9.
 pub record SealsInput (secret : List ℕ) (status : ℕ) (source source' : SourceSeen) (sink sink' : SinkSeen) : Type 0 where
   pub way : Sealing
-  pub done : SealedBy way secret status source source' sink sink'
+  pub done : SealedBy way secret source source'
+  pub told : Tells (sealing_status way) (sealing_text way) status sink sink'
   pub statuses : NoFault source source' sink sink' → (status ≡ 0) ⊎ ((status ≡ 6) ⊎ (status ≡ 9))
   pub complete : (file : List ℕ) (trees : List Tree) → source.left file → FileOf file trees → length file ≤ 65536 → NoFault source source' sink sink' → status ≢ 6 → status ≡ 0
 
 -- What `check` did under a secret. Where no count rose and no memory was wanted, a status other than 0 is 8.
 pub record ChecksInput (secret : List ℕ) (status : ℕ) (source source' : SourceSeen) (sink sink' : SinkSeen) : Type 0 where
   pub way : Checking
-  pub done : CheckedBy way secret status source source' sink sink'
+  pub done : CheckedBy way secret source source'
+  pub told : Tells (checking_status way) (checking_text way) status sink sink'
   pub statuses : NoFault source source' sink sink' → (status ≡ 0) ⊎ ((status ≡ 6) ⊎ (status ≡ 8))

@@ -8,17 +8,19 @@ use off_mic::{Verdict, verify};
 use off_outside::{Sink, Source};
 use std::alloc::Global;
 
-/// Verifies the file that the source holds, under a secret, and writes whether each of its two values is good.
+/// Verifies the file that the source holds, under a secret, and writes whether each of its two
+/// values is good.
 ///
-/// Status 0: both are good. 4: the sink failed. 6: memory was refused. 7: the source failed. 8: a value is bad, or the source
-/// holds more than 65,536 bytes, or the file is refused.
+/// Status 0: both are good. 4: the sink failed. 6: memory was refused. 7: the source failed. 8: a
+/// value is bad, or the source holds more than 65,536 bytes, or the file is refused.
 pub fn check_input<S: Source, W: Sink>(
     alloc: Global,
     secret: &[u8],
     source: &mut S,
     out: &mut W,
 ) -> u8
-    ensures { ChecksInput secret.now result (S.seen source.old) (S.seen source.new) (W.seen out.old) (W.seen out.new) }
+    ensures { ChecksInput secret.now result (S.seen source.old) (S.seen source.new)
+        (W.seen out.old) (W.seen out.new) }
 {
     match read_input(alloc, source) {
         Ok(file) => match verify(file.as_slice(), secret) {

@@ -22,7 +22,8 @@ pub enum InputErr {
     Memory,
 }
 
-/// All bytes of the source, to its end. Where there are more than a job takes, one over them is read.
+/// All bytes of the source, to its end. Where there are more than a job takes, one over them is
+/// read.
 pub fn read_input<S: Source>(alloc: Global, source: &mut S) -> Result<Bytes, InputErr>
     ensures { ReadsInput result (S.seen source.old) (S.seen source.new) }
 {
@@ -40,7 +41,8 @@ pub fn read_input<S: Source>(alloc: Global, source: &mut S) -> Result<Bytes, Inp
 // Reads at most `room` more bytes, and answers how many there were.
 fn read_piece<S: Source>(source: &mut S, room: usize, bytes: &mut Bytes) -> Result<usize, InputErr>
     requires { 0 < room }
-    ensures { MatchResult result (λ count. TookPiece count room bytes.old bytes.new (S.seen source.old) (S.seen source.new))
+    ensures { MatchResult result
+        (λ count. TookPiece count room bytes.old bytes.new (S.seen source.old) (S.seen source.new))
         (λ err. NoPiece err (S.seen source.old) (S.seen source.new)) }
 {
     let mut piece = [0u8; ROOM];

@@ -1,5 +1,5 @@
-//! The jobs over a stream: `seal` signs a configuration file, `check` verifies one. Each reads its source to the end, writes
-//! one text to its sink, and answers the program's exit status.
+//! The jobs over a stream: `seal` signs a configuration file, `check` verifies one. Each reads its
+//! source to the end, writes one text to its sink, and answers the program's exit status.
 #![tactic(auto)]
 
 mod checking;

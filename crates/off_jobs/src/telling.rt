@@ -9,11 +9,11 @@ use off_mic::MicFault;
 use off_outside::{Failed, Sink};
 use off_tlv::ReadFault;
 
-/// Room for `refused`, a fault's word and a number.
-pub type Line = ArrayVec<u8, 64>;
+// Room for `refused`, a fault's word and a number.
+type Line = ArrayVec<u8, 64>;
 
 /// Writes a text, and answers its status, or 4 where the sink fails.
-pub fn tell<W: Sink>(out: &mut W, text: &[u8], status: u8) -> u8
+pub(crate) fn tell<W: Sink>(out: &mut W, text: &[u8], status: u8) -> u8
     ensures { Tells status text.now result (W.seen out.old) (W.seen out.new) }
 {
     match out.write(text) {
@@ -23,7 +23,7 @@ pub fn tell<W: Sink>(out: &mut W, text: &[u8], status: u8) -> u8
 }
 
 /// The line for a file that the grammar refuses.
-pub fn read_fault_line(fault: ReadFault) -> ArrayVec<u8, 64>
+pub(crate) fn read_fault_line(fault: ReadFault) -> Line
     ensures { result.items ≡ refused (read_fault_words fault) }
 {
     match fault {
@@ -35,7 +35,7 @@ pub fn read_fault_line(fault: ReadFault) -> ArrayVec<u8, 64>
 }
 
 /// The line for a file whose values can't be checked.
-pub fn mic_fault_line(fault: MicFault) -> ArrayVec<u8, 64>
+pub(crate) fn mic_fault_line(fault: MicFault) -> Line
     ensures { result.items ≡ refused (mic_fault_words fault) }
 {
     match fault {
@@ -47,7 +47,7 @@ pub fn mic_fault_line(fault: MicFault) -> ArrayVec<u8, 64>
 }
 
 // A line with words alone.
-fn plain(words: &[u8]) -> ArrayVec<u8, 64>
+fn plain(words: &[u8]) -> Line
     requires { length words.now ≤ 20 }
     ensures { result.items ≡ refused words.now }
 {
@@ -59,7 +59,7 @@ fn plain(words: &[u8]) -> ArrayVec<u8, 64>
 }
 
 // A line with words and a number behind them.
-fn numbered(words: &[u8], number: usize) -> ArrayVec<u8, 64>
+fn numbered(words: &[u8], number: usize) -> Line
     requires { length words.now ≤ 20 }
     ensures { result.items ≡ refused (words.now ++ decimal number) }
 {

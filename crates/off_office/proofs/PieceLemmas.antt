@@ -1,5 +1,5 @@
 -- A piece of a connection, by what the bytes so far say.
-use Rattle.std.proofs.Common.{◌≡◌, ℕ, Bool, true, false, ◌&&◌, cond, List, ◌++◌, codes, Option, Some, None, is_none, Result, Ok, Err, OnOk, MatchResult, refl, sym, ap, ◌∙◌, subst, arith}
+use Rattle.std.proofs.Common.{◌≡◌, ℕ, Bool, true, false, ◌&&◌, cond, List, [], ◌++◌, codes, Option, Some, None, is_none, Result, Ok, Err, OnOk, MatchResult, refl, sym, ap, ◌∙◌, subst}
 use Rattle.std.specs.Ordering.{nat_cmp, eq_by_cmp, is_eq}
 use Rattle.std.specs.Cmp.{nat_cmp_total}
 use Rattle.std.specs.declared.cmp.Ordering.{Ordering}
@@ -8,19 +8,19 @@ use Rattle.std.specs.FinMap as map
 use Rattle.off_base.specs.declared.octets.NoMemory.{NoMemory}
 use Rattle.off_http.specs.declared.answers.HttpFault.{HttpFault}
 use Rattle.off_http.specs.Request.{Meaning, Waits, Refused, Asked, RequestIs}
-use Rattle.off_http.specs.Heard.{IsAsked, asked_method, asked_target, asked_body}
-use Rattle.off_clerk.specs.declared.faults.Fault.TheVariants as fault
+use Rattle.off_http.specs.Heard.{IsAsked}
+use Rattle.off_clerk_rules.specs.declared.faults.Fault.TheVariants as fault
+use Rattle.off_defs.specs.declared.orders.Write.{Write}
 use Rattle.off_defs.specs.State.{Tables, Held, Said, Effect, state_of}
+use Rattle.off_defs.specs.Tables.{write_all}
 use Rattle.off_defs.proofs.ToldLemmas.{told_self, told_weaker}
-use Rattle.off_defs.proofs.CountLemmas.{grew_self}
+use Rattle.off_outside.proofs.KeeperLemmas.{settled_none, nothing_begun, not_committed_as}
 use Rattle.off_book.specs.Http.{answer_request, by_meaning, is_full, heard_of, without_connection, TakesPiece, PieceDid}
 use Rattle.off_outside.specs.declared.keeper.KeepErr.{KeepErr}
 use Rattle.off_outside.specs.declared.keeper.KeepErr.TheVariants as keep
 use Rattle.off_outside.specs.KeeperSeen.{KeeperSeen}
-use Rattle.off_outside.specs.KeeperCalls.{NotDone}
-use Rattle.off_office.specs.Kept.{Kept}
-use Rattle.off_office.specs.Answering.{said_to, fault_said, busy_said, failed_said, had_memory, forgets, WaitsFor, HeardPiece, NotHeard}
-use Rattle.off_office.proofs.AnswerLemmas.{Ends}
+use Rattle.off_office.specs.Desk.{Desk}
+use Rattle.off_office.specs.Answering.{said_to, fault_said, busy_said, failed_said, had_memory, forgets, answer_asked, IsAnswered, WaitsFor, PieceOn, HeardPiece, NotHeard}
 
 abbrev Connections : Type 0
 Connections = map.FinMap nat_cmp (List ℕ)
@@ -61,40 +61,40 @@ new_one false b is = cc
 full_absent : (m : Connections) (k : ℕ) → is_full m k ≡ true → map.get m k ≡ None
 full_absent m k full = none_at (map.get m k) (new_one _ _ full)
 
-abbrev pub Hears : ℕ → List ℕ → Said → Kept → Kept → KeeperSeen → KeeperSeen → Result (Unit {0}) KeepErr → Type 0
-Hears conn piece said before after k l q = MatchResult q (λ _. HeardPiece conn piece said before after k l) (λ err. NotHeard err conn before after k l)
+abbrev pub Hears : ℕ → List ℕ → Said → Desk → Desk → KeeperSeen → KeeperSeen → Result (Unit {0}) KeepErr → Type 0
+Hears conn piece said before after k l q = MatchResult q (λ _. HeardPiece conn piece said before after k l) (λ err. NotHeard err conn piece before after k l)
 
-quiet : {k : KeeperSeen} → NotDone keep.Memory k k
-quiet {k} = record { tables = λ t told. told; faults = grew_self k.faults }
+-- a piece that touches no tables
+heard_quietly : (conn : ℕ) (piece : List ℕ) (said : Said) (before after : Desk) (k : KeeperSeen) → after.counts ≡ before.counts → after.held.now ≡ before.held.now
+    → ((t : Tables) → PieceOn conn piece said [] before after t t) → HeardPiece conn piece said before after k k
+heard_quietly conn piece said before after k counts moment does = record {
+  commit = [];
+  tables = told_self (λ t. record { holds = λ agree. (does t, counts ∙ agree) });
+  settled = settled_none [] k refl;
+  moment = moment;
+}
 
-busy_by : (conn : ℕ) (piece : List ℕ) (said : Said) (before : Kept) (k : KeeperSeen) (r : Result (Unit {0}) NoMemory)
+busy_by : (conn : ℕ) (piece : List ℕ) (said : Said) (before : Desk) (k : KeeperSeen) (r : Result (Unit {0}) NoMemory)
     → is_full before.held.connections conn ≡ true → OnOk r (said ≡ busy_said conn) → Hears conn piece said before before k k (had_memory r)
-busy_by conn piece said before k (Ok u) full is = record {
-  tables = told_self (λ t agree. (
-    subst (λ b. TakesPiece b (state_of t before.held) conn piece (record { said = said; after = state_of t before.held })) (sym full)
-        (ap (λ (x : Said). record { said = x; after = state_of t before.held }) is),
-    agree,
-  ));
-  faults = omega arith;
-  moment = refl;
-}
+busy_by conn piece said before k (Ok u) full is = heard_quietly conn piece said before before k refl refl (λ t.
+    subst (λ b. TakesPiece b (state_of t before.held) conn piece (record { said = said; commit = []; after = state_of t before.held })) (sym full)
+    (ap (λ (x : Said). record { said = x; commit = []; after = state_of t before.held }) is))
 busy_by conn piece said before k (Err e) full is = record {
-  held = ap (λ (m : Connections). record before.held { connections = m }) (sym (remove_absent before.held.connections conn (full_absent before.held.connections conn full)));
-  counts = λ t told agree. agree;
-  keeper = quiet;
+  forgotten = ap (λ (m : Connections). record before { held = record before.held { connections = m } }) (sym (remove_absent before.held.connections conn (full_absent before.held.connections conn full)));
+  keeper = nothing_begun k;
 }
 
-pub busy_hears : (conn : ℕ) (piece : List ℕ) (said : Said) (before : Kept) (k : KeeperSeen) (r : Result (Unit {0}) NoMemory) (q : Result (Unit {0}) KeepErr)
+pub busy_hears : (conn : ℕ) (piece : List ℕ) (said : Said) (before : Desk) (k : KeeperSeen) (r : Result (Unit {0}) NoMemory) (q : Result (Unit {0}) KeepErr)
     → is_full before.held.connections conn ≡ true → OnOk r (said ≡ busy_said conn) → q ≡ had_memory r → Hears conn piece said before before k k q
 busy_hears conn piece said before k r q full is same = subst (Hears conn piece said before before k k) (sym same) (busy_by conn piece said before k r full is)
 
 -- what is heard where there is room
-pub record Read (conn : ℕ) (piece bytes : List ℕ) (meaning : Meaning) (before : Kept) : Type 0 where
+pub record Read (conn : ℕ) (piece bytes : List ℕ) (meaning : Meaning) (before : Desk) : Type 0 where
   pub room : is_full before.held.connections conn ≡ false
   pub joins : bytes ≡ heard_of before.held conn ++ piece
   pub says : RequestIs bytes meaning
 
-takes : (conn : ℕ) (piece bytes : List ℕ) (meaning : Meaning) (before : Kept) (t : Tables) (effect : Effect) → Read conn piece bytes meaning before
+takes : (conn : ℕ) (piece bytes : List ℕ) (meaning : Meaning) (before : Desk) (t : Tables) (effect : Effect) → Read conn piece bytes meaning before
     → effect ≡ by_meaning (state_of t before.held) conn bytes meaning → PieceDid (state_of t before.held) conn piece effect
 takes conn piece bytes meaning before t effect read does =
     subst (λ b. TakesPiece b (state_of t before.held) conn piece effect) (sym read.room)
@@ -104,86 +104,80 @@ takes conn piece bytes meaning before t effect read does =
       does = subst (λ (x : List ℕ). effect ≡ by_meaning (state_of t before.held) conn x meaning) read.joins does;
     })
 
-forgotten : (conn : ℕ) (before after : Kept) (k : KeeperSeen) → after ≡ forgets before conn → NotHeard keep.Memory conn before after k k
-forgotten conn before after k is = record {
-  held = ap (λ (x : Kept). x.held) is;
-  counts = λ t told agree. ap (λ (x : Kept). x.counts) is ∙ agree;
-  keeper = quiet;
-}
+forgotten : (conn : ℕ) (piece : List ℕ) (before after : Desk) (k : KeeperSeen) → after ≡ forgets before conn → NotHeard keep.Memory conn piece before after k k
+forgotten conn piece before after k is = record { forgotten = is; keeper = nothing_begun k }
 
-wait_by : (conn : ℕ) (piece bytes : List ℕ) (said : Said) (before after : Kept) (k : KeeperSeen) (r : Result (Unit {0}) NoMemory)
+wait_by : (conn : ℕ) (piece bytes : List ℕ) (said : Said) (before after : Desk) (k : KeeperSeen) (r : Result (Unit {0}) NoMemory)
     → Read conn piece bytes Waits before → WaitsFor conn bytes r said (forgets before conn) after → Hears conn piece said before after k k (had_memory r)
-wait_by conn piece bytes said before after k (Ok u) read waits = record {
-  tables = told_self (λ t agree. (
-    takes conn piece bytes Waits before t (record { said = said; after = state_of t after.held }) read
-        (ap (λ (x : Said). record { said = x; after = state_of t after.held }) waits.0
-        ∙ (ap (λ (x : Kept). record { said = failed_said (codes "http wait"); after = state_of t x.held }) waits.1
-        ∙ ap (λ (m : Connections). record { said = failed_said (codes "http wait"); after = state_of t (record before.held { connections = m }) }) (insert_removed before.held.connections conn bytes))),
-    ap (λ (x : Kept). x.counts) waits.1 ∙ agree,
-  ));
-  faults = omega arith;
-  moment = ap (λ (x : Kept). x.held.now) waits.1;
-}
-wait_by conn piece bytes said before after k (Err e) read waits = forgotten conn before after k waits
+wait_by conn piece bytes said before after k (Ok u) read waits =
+    heard_quietly conn piece said before after k (ap (λ (x : Desk). x.counts) waits.1) (ap (λ (x : Desk). x.held.now) waits.1) (λ t.
+    takes conn piece bytes Waits before t (record { said = said; commit = []; after = state_of t after.held }) read
+    (ap (λ (x : Said). record { said = x; commit = []; after = state_of t after.held }) waits.0
+    ∙ (ap (λ (x : Desk). record { said = failed_said (codes "http wait"); commit = []; after = state_of t x.held }) waits.1
+    ∙ ap (λ (m : Connections). record { said = failed_said (codes "http wait"); commit = []; after = state_of t (record before.held { connections = m }) }) (insert_removed before.held.connections conn bytes))))
+wait_by conn piece bytes said before after k (Err e) read waits = forgotten conn piece before after k waits
 
-pub wait_hears : (conn : ℕ) (piece bytes : List ℕ) (meaning : Meaning) (said : Said) (before mid after : Kept) (k : KeeperSeen) (r : Result (Unit {0}) NoMemory) (q : Result (Unit {0}) KeepErr)
+pub wait_hears : (conn : ℕ) (piece bytes : List ℕ) (meaning : Meaning) (said : Said) (before mid after : Desk) (k : KeeperSeen) (r : Result (Unit {0}) NoMemory) (q : Result (Unit {0}) KeepErr)
     → Read conn piece bytes meaning before → meaning ≡ Waits → mid ≡ forgets before conn → WaitsFor conn bytes r said mid after → q ≡ had_memory r
     → Hears conn piece said before after k k q
 wait_hears conn piece bytes meaning said before mid after k r q read is left waits same =
     subst (Hears conn piece said before after k k) (sym same)
-    (wait_by conn piece bytes said before after k r (subst (λ (m : Meaning). Read conn piece bytes m before) is read) (subst (λ (x : Kept). WaitsFor conn bytes r said x after) left waits))
+    (wait_by conn piece bytes said before after k r (subst (λ (m : Meaning). Read conn piece bytes m before) is read) (subst (λ (x : Desk). WaitsFor conn bytes r said x after) left waits))
 
-bad_by : (conn : ℕ) (piece bytes : List ℕ) (f : HttpFault) (said : Said) (before : Kept) (k : KeeperSeen) (r : Result (Unit {0}) NoMemory)
+bad_by : (conn : ℕ) (piece bytes : List ℕ) (f : HttpFault) (said : Said) (before : Desk) (k : KeeperSeen) (r : Result (Unit {0}) NoMemory)
     → Read conn piece bytes (Refused f) before → OnOk r (said ≡ fault_said conn (fault.Http f)) → Hears conn piece said before (forgets before conn) k k (had_memory r)
-bad_by conn piece bytes f said before k (Ok u) read is = record {
-  tables = told_self (λ t agree. (
-    takes conn piece bytes (Refused f) before t (record { said = said; after = state_of t (without_connection before.held conn) }) read
-        (ap (λ (x : Said). record { said = x; after = state_of t (without_connection before.held conn) }) is),
-    agree,
-  ));
-  faults = omega arith;
-  moment = refl;
-}
-bad_by conn piece bytes f said before k (Err e) read is = forgotten conn before (forgets before conn) k refl
+bad_by conn piece bytes f said before k (Ok u) read is = heard_quietly conn piece said before (forgets before conn) k refl refl (λ t.
+    takes conn piece bytes (Refused f) before t (record { said = said; commit = []; after = state_of t (without_connection before.held conn) }) read
+    (ap (λ (x : Said). record { said = x; commit = []; after = state_of t (without_connection before.held conn) }) is))
+bad_by conn piece bytes f said before k (Err e) read is = forgotten conn piece before (forgets before conn) k refl
 
-pub bad_hears : (conn : ℕ) (piece bytes : List ℕ) (meaning : Meaning) (f : HttpFault) (said : Said) (before after : Kept) (k : KeeperSeen) (r : Result (Unit {0}) NoMemory) (q : Result (Unit {0}) KeepErr)
+pub bad_hears : (conn : ℕ) (piece bytes : List ℕ) (meaning : Meaning) (f : HttpFault) (said : Said) (before after : Desk) (k : KeeperSeen) (r : Result (Unit {0}) NoMemory) (q : Result (Unit {0}) KeepErr)
     → Read conn piece bytes meaning before → meaning ≡ Refused f → after ≡ forgets before conn → OnOk r (said ≡ fault_said conn (fault.Http f)) → q ≡ had_memory r
     → Hears conn piece said before after k k q
 bad_hears conn piece bytes meaning f said before after k r q read is left told same =
-    subst (λ (x : Kept). Hears conn piece said before x k k q) (sym left)
+    subst (λ (x : Desk). Hears conn piece said before x k k q) (sym left)
     (subst (Hears conn piece said before (forgets before conn) k k) (sym same)
     (bad_by conn piece bytes f said before k r (subst (λ (m : Meaning). Read conn piece bytes m before) is read) told))
 
-asked_by : (conn : ℕ) (piece bytes m p b : List ℕ) (said : Said) (before after : Kept) (k l : KeeperSeen) (q : Result (Unit {0}) KeepErr)
+asked_by : (conn : ℕ) (piece bytes m p b : List ℕ) (said : Said) (before after : Desk) (k l : KeeperSeen) (q : Result (Unit {0}) KeepErr)
     → Read conn piece bytes (Asked m p b) before
-    → Ends (λ t. answer_request t before.held.now m p b) conn said (forgets before conn) after k l q → Hears conn piece said before after k l q
+    → IsAnswered q (λ t. answer_request t before.held.now m p b) conn said (forgets before conn) after k l → Hears conn piece said before after k l q
 asked_by conn piece bytes m p b said before after k l (Ok u) read ends = record {
-  tables = told_weaker ends.tables (λ t v fits agree.
-      let f = fits agree in
-      let reply = answer_request t before.held.now m p b in (
-        takes conn piece bytes (Asked m p b) before t (record { said = said; after = state_of v after.held }) read
-            (ap (λ (x : Said). record { said = x; after = state_of v after.held }) f.0
-            ∙ (ap (λ (x : Tables). record { said = said_to conn reply; after = state_of x after.held }) f.1
-            ∙ ap (λ (h : Held). record { said = said_to conn reply; after = state_of reply.tables h }) ends.held)),
-        f.2,
-      ));
-  faults = ends.faults;
+  commit = ends.writes;
+  tables = told_weaker ends.tables (λ t v under. record {
+    holds = λ agree.
+        let f = under.holds agree in
+        let reply = answer_request t before.held.now m p b in (
+          takes conn piece bytes (Asked m p b) before t (record { said = said; commit = ends.writes; after = state_of v after.held }) read
+              (ap (λ (x : Said). record { said = x; commit = ends.writes; after = state_of v after.held }) f.0.0
+              ∙ (ap (λ (x : Tables). record { said = said_to conn reply; commit = ends.writes; after = state_of x after.held }) f.0.2
+              ∙ (ap (λ (x : List Write). record { said = said_to conn reply; commit = x; after = state_of (write_all t x) after.held }) f.0.1
+              ∙ ap (λ (h : Held). record { said = said_to conn reply; commit = reply.writes; after = state_of (write_all t reply.writes) h }) ends.held))),
+          f.1,
+        );
+  });
+  settled = ends.settled;
   moment = ap (λ (h : Held). h.now) ends.held;
 }
-asked_by conn piece bytes m p b said before after k l (Err e) read ends = record { held = ends.held; counts = ends.counts; keeper = ends.keeper }
+asked_by conn piece bytes m p b said before after k l (Err e) read ends = record {
+  forgotten = ends.same;
+  keeper = not_committed_as ends.keeper (λ t told u begun agree.
+      let effect = by_meaning (state_of t before.held) conn bytes (Asked m p b) in
+      (effect, (takes conn piece bytes (Asked m p b) before t effect read refl, begun agree)));
+}
 
-by_asked : (conn : ℕ) (piece bytes : List ℕ) (meaning : Meaning) (said : Said) (before after : Kept) (k l : KeeperSeen) (q : Result (Unit {0}) KeepErr)
+by_asked : (conn : ℕ) (piece bytes : List ℕ) (meaning : Meaning) (said : Said) (before after : Desk) (k l : KeeperSeen) (q : Result (Unit {0}) KeepErr)
     → Read conn piece bytes meaning before → IsAsked meaning
-    → Ends (λ t. answer_request t before.held.now (asked_method meaning) (asked_target meaning) (asked_body meaning)) conn said (forgets before conn) after k l q
+    → IsAnswered q (answer_asked before.held.now meaning) conn said (forgets before conn) after k l
     → Hears conn piece said before after k l q
 by_asked conn piece bytes Waits said before after k l q read is ends = absurd is
 by_asked conn piece bytes (Refused f) said before after k l q read is ends = absurd is
 by_asked conn piece bytes (Asked m p b) said before after k l q read is ends = asked_by conn piece bytes m p b said before after k l q read ends
 
-pub asked_hears : (conn : ℕ) (piece bytes : List ℕ) (meaning : Meaning) (said : Said) (before mid after : Kept) (k l : KeeperSeen) (q : Result (Unit {0}) KeepErr)
+pub asked_hears : (conn : ℕ) (piece bytes : List ℕ) (meaning : Meaning) (said : Said) (before mid after : Desk) (k l : KeeperSeen) (q : Result (Unit {0}) KeepErr)
     → Read conn piece bytes meaning before → IsAsked meaning → mid ≡ forgets before conn
-    → Ends (λ t. answer_request t mid.held.now (asked_method meaning) (asked_target meaning) (asked_body meaning)) conn said mid after k l q
+    → IsAnswered q (answer_asked mid.held.now meaning) conn said mid after k l
     → Hears conn piece said before after k l q
 asked_hears conn piece bytes meaning said before mid after k l q read is left ends =
     by_asked conn piece bytes meaning said before after k l q read is
-    (subst (λ (x : Kept). Ends (λ t. answer_request t x.held.now (asked_method meaning) (asked_target meaning) (asked_body meaning)) conn said x after k l q) left ends)
+    (subst (λ (x : Desk). IsAnswered q (answer_asked x.held.now meaning) conn said x after k l) left ends)

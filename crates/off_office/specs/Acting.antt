@@ -1,55 +1,107 @@
--- What an office does at its start and at one event.
-use Rattle.std.specs.Prelude.{◌≡◌, ℕ, Bool, true, false}
+-- What one event does to an office and its tables.
+use Rattle.std.specs.Prelude.{◌≡◌, ℕ, Bool, true, false, List, []}
 use Rattle.off_defs.specs.declared.events.Event.{Event}
+use Rattle.off_defs.specs.declared.events.Service.TheVariants.{Dhcp, Time, Tftp}
 use Rattle.off_defs.specs.declared.events.What.{What}
-use Rattle.off_defs.specs.declared.events.What.TheVariants.{Piece}
+use Rattle.off_defs.specs.declared.events.What.TheVariants.{Datagram, Piece, Closed, Tick, End}
+use Rattle.off_defs.specs.declared.orders.Write.{Write}
 use Rattle.off_defs.specs.declared.results.Outcome.{Outcome}
+use Rattle.off_defs.specs.declared.results.Outcome.TheVariants.{Did, Memory, Keeper}
+use Rattle.off_defs.specs.declared.results.Sent.{Sent}
 use Rattle.off_defs.specs.Told.{Told}
-use Rattle.off_defs.specs.Counts.{Grew}
-use Rattle.off_defs.specs.State.{Tables, Said, state_of, held_at}
-use Rattle.off_rules.specs.Rows.{counts_of}
+use Rattle.off_defs.specs.Counts.{Grew, commits_after}
+use Rattle.off_defs.specs.State.{Tables, State, Said, Effect, state_of, held_at}
 use Rattle.off_rules.specs.Good.{IsLeastBad}
+use Rattle.off_defs.specs.Tables.{doubt_behind}
 use Rattle.off_book.specs.Step.{Step, TellsOutcome, completed}
-use Rattle.off_book.specs.Run.{keeper_failures}
+use Rattle.off_book.specs.Crashes.{Begins, doubt_in}
 use Rattle.off_outside.specs.KeeperSeen.{KeeperSeen}
-use Rattle.off_outside.specs.KeeperCalls.{Reads, NotDone}
+use Rattle.off_outside.specs.KeeperCalls.{Reads, NotDone, StaysUp, Unasked, Crash}
 use Rattle.off_outside.specs.declared.keeper.KeepErr.{KeepErr}
 use Rattle.off_outside.specs.declared.keeper.KeepErr.TheVariants as keep
-use Rattle.off_office.specs.Kept.{Kept}
+use Rattle.off_office.specs.Desk.{Desk}
+use Rattle.off_office.specs.Conditions.{Counted, Under, StaysFit}
 use Rattle.off_office.specs.declared.office.StartErr.{StartErr}
-use Rattle.off_office.specs.declared.office.StartErr.TheVariants.{Bad, Failed, Memory}
+use Rattle.off_office.specs.declared.office.StartErr.TheVariants.{Bad, Failed, Memory as NoMemory}
 
 -- why an office didn't start: the tables aren't good, and this is their least bad key; or the keeper failed; or memory was wanted
 abbrev pub NotStarted : StartErr → KeeperSeen → KeeperSeen → Type 0
 NotStarted (Bad key) old new = Reads (λ tables. IsLeastBad tables key) old new
 NotStarted Failed old new = NotDone keep.Failed old new
-NotStarted Memory old new = NotDone keep.Memory old new
+NotStarted NoMemory old new = NotDone keep.Memory old new
 
 abbrev pub start_err : KeepErr → StartErr
 start_err keep.Failed = Failed
-start_err keep.Memory = Memory
-
--- A piece of a clerk's connection needs the tables; no other event reads or changes them yet.
-abbrev pub is_piece : What → Bool
-is_piece (Piece conn piece) = true
-is_piece what = false
-
--- what the office makes of an event, whatever the tables
-abbrev pub AnyTables : Event → Outcome → Said → Kept → Kept → Type 0
-AnyTables event outcome said before after =
-    ((t : Tables) → Step (state_of t before.held) event outcome (record { said = completed event.what outcome said; after = state_of t after.held }))
-    × (after.counts ≡ before.counts)
-
--- One event. Where the office's counts are those of the tables, it's the step of the book, and its counts are those of the tables again. For
--- all events but pieces it's the step whatever the tables, and also where none are told.
-pub record Acts (event : Event) (outcome : Outcome) (said : Said) (before after : Kept) (old new : KeeperSeen) : Type 0 where
-  pub tables : Told old.tables new.tables (λ t u. before.counts ≡ counts_of t
-      → Step (state_of t before.held) event outcome (record { said = completed event.what outcome said; after = state_of u after.held }) × (after.counts ≡ counts_of u))
-  pub faults : Grew (keeper_failures outcome) old.faults new.faults
-  pub tells : TellsOutcome event.what outcome said.line
-  pub quiet : is_piece event.what ≡ false → AnyTables event outcome said before after
-  pub moment : after.held.now ≡ (held_at before.held event.at.0).now
+start_err keep.Memory = NoMemory
 
 -- an office that has come to a moment
-abbrev pub kept_at : Kept → ℕ → Kept
-kept_at kept at = record kept { held = held_at kept.held at }
+abbrev pub desk_at : Desk → ℕ → Desk
+desk_at desk at = record desk { held = held_at desk.held at }
+
+-- the effect of an event on the book's state: where it couldn't be acted on, the caller adds what is answered
+abbrev pub effect_of : What → Outcome → Said → List Write → State → Effect
+effect_of what outcome said commit after = record { said = completed what outcome said; commit = commit; after = after }
+
+-- the step of the book, over tables before and after
+abbrev pub StepOn : Event → Outcome → Said → List Write → Desk → Desk → Tables → Tables → Type 0
+StepOn event outcome said commit before after t u =
+    Step (state_of t before.held) event outcome (effect_of event.what outcome said commit (state_of u after.held))
+
+-- a keeper's count of faults stands, but for an outcome that says otherwise
+abbrev pub CountsFaults : Outcome → ℕ → ℕ → Type 0
+CountsFaults Did old new = new ≡ old
+CountsFaults Memory old new = Grew 0 old new
+CountsFaults Keeper old new = Grew 1 old new
+
+-- of an event that wasn't acted on nothing is left to be sent
+abbrev pub LeavesNothing : Outcome → List Sent → Type 0
+LeavesNothing Did items = Unit {0}
+LeavesNothing Memory items = items ≡ []
+LeavesNothing Keeper items = items ≡ []
+
+-- what the keeper may have begun by an outcome: the writes that were done, or, where it failed, what would have been
+abbrev pub begun_in : Outcome → (Tables → Tables → Type 0) → (Tables → Tables → Type 0) → Tables → Tables → Type 0
+begun_in Did done begun t u = done t u
+begun_in Memory done begun t u = ⊥
+begun_in Keeper done begun t u = begun t u
+
+-- and what it leaves in doubt
+abbrev pub LeavesDoubt : Outcome → List Write → (Tables → Tables → Type 0) → KeeperSeen → KeeperSeen → Type 0
+LeavesDoubt outcome commit begun old new =
+    (t : Tables) → old.tables t → (u : Tables) → new.doubt u → doubt_behind commit (doubt_in outcome (old.doubt u) (begun t u))
+
+-- the tables that an event would leave, over those before it
+abbrev pub EventBegins : Event → Desk → Tables → Tables → Type 0
+EventBegins event before t u = Counted before t → Begins (state_of t before.held) event u
+
+-- Events that touch no tables, whatever these are: datagrams to the time port, ends of connections, ticks, the end
+abbrev pub is_quiet : What → Bool
+is_quiet (Datagram Time from bytes) = true
+is_quiet (Datagram Dhcp from bytes) = false
+is_quiet (Datagram Tftp from bytes) = false
+is_quiet (Piece conn piece) = false
+is_quiet (Closed conn) = true
+is_quiet Tick = true
+is_quiet End = true
+
+-- they are steps of the book whatever the tables, also where none are told, and the keeper isn't asked
+pub record ActsQuietly (event : Event) (outcome : Outcome) (said : Said) (before after : Desk) (old new : KeeperSeen) : Type 0 where
+  pub step : (t : Tables) → StepOn event outcome said [] before after t t
+  pub counts : after.counts ≡ before.counts
+  pub keeper : Unasked old new
+
+-- One event. A crash meanwhile leaves the tables before it, the commit in doubt, or what the event would leave. `commit` is what it wrote to the tables, in one commit, which the keeper has counted. Where the office's counts are those of the tables,
+-- it's the step of the book, and its counts are those of the tables again; good tables stay good.
+pub record Acts (event : Event) (outcome : Outcome) (said : Said) (before after : Desk) (old new : KeeperSeen) : Type 0 where
+  pub commit : List Write
+  pub tables : Told old.tables new.tables (Under before after (StepOn event outcome said commit before after))
+  pub fits : Told old.tables new.tables (StaysFit before after)
+  pub up : StaysUp old new
+  pub faults : CountsFaults outcome old.faults new.faults
+  pub commits : new.commits ≡ commits_after commit old.commits
+  pub crash : Crash (EventBegins event before) old new
+  pub doubts : LeavesDoubt outcome commit (EventBegins event before) old new
+  pub tells : TellsOutcome event.what outcome said.line
+  pub leaves : LeavesNothing outcome said.items
+  pub quiet : is_quiet event.what ≡ true → ActsQuietly event outcome said before after old new
+  pub moment : after.held.now ≡ (held_at before.held event.at.0).now

@@ -1,35 +1,39 @@
 -- What a clerk is told, and what comes of a piece of a clerk's connection.
-use Rattle.std.specs.Prelude.{◌≡◌, ℕ, ◌≤◌, Bool, true, false, List, [], ◌∷◌, ◌++◌, codes, decimal, Result, Ok, Err, MatchResult}
+use Rattle.std.specs.Prelude.{◌≡◌, ℕ, List, [], ◌∷◌, ◌++◌, codes, decimal, Result, Ok, Err, MatchResult}
 use Rattle.off_base.specs.declared.octets.NoMemory.{NoMemory}
 use Rattle.off_http.specs.Reply.{reply}
+use Rattle.off_http.specs.Request.{Meaning}
+use Rattle.off_http.specs.Heard.{asked_method, asked_target, asked_body}
 use Rattle.off_defs.specs.declared.orders.Command.{Command}
-use Rattle.off_defs.specs.declared.orders.Command.TheVariants.{Show}
+use Rattle.off_defs.specs.declared.orders.Write.{Write}
 use Rattle.off_defs.specs.declared.orders.Reply.{Reply}
-use Rattle.off_defs.specs.declared.orders.Reply.TheVariants.{Done}
 use Rattle.off_defs.specs.declared.results.Sent.TheVariants.{Close}
 use Rattle.off_defs.specs.declared.results.Outcome.{Outcome}
 use Rattle.off_defs.specs.declared.results.Outcome.TheVariants as end
 use Rattle.off_defs.specs.declared.events.What.TheVariants.{Piece}
 use Rattle.off_defs.specs.Told.{Told}
-use Rattle.off_defs.specs.Counts.{Grew}
-use Rattle.off_defs.specs.State.{Tables, Said, state_of}
+use Rattle.off_defs.specs.Counts.{commits_after}
+use Rattle.off_defs.specs.State.{Tables, Said, Effect, state_of}
+use Rattle.off_defs.specs.Tables.{write_all}
 use Rattle.off_rules.specs.declared.counts.Counts.{Counts}
 use Rattle.off_rules.specs.Rows.{counts_of}
-use Rattle.off_rules.specs.Clerk.{clerk_step, IsAnswered, IsRefused}
-use Rattle.off_clerk.specs.declared.faults.Fault.{Fault}
-use Rattle.off_clerk.specs.declared.faults.Fault.TheVariants as fault
-use Rattle.off_clerk.specs.Faults.{word_of, status_of, fault_text}
-use Rattle.off_clerk.specs.Replies.{reply_text}
-use Rattle.off_book.specs.Http.{Answered, answer_and_close, with_connection, without_connection, PieceDid}
-use Rattle.off_book.specs.Step.{Does, TellsOutcome, completed}
-use Rattle.off_book.specs.Run.{keeper_failures}
+use Rattle.off_rules.specs.Clerk.{clerk_step, step_done, step_refused}
+use Rattle.off_clerk_rules.specs.declared.faults.Fault.{Fault}
+use Rattle.off_clerk_rules.specs.declared.faults.Fault.TheVariants as fault
+use Rattle.off_clerk_rules.specs.Faults.{word_of, status_of, fault_text}
+use Rattle.off_clerk_rules.specs.Replies.{reply_text}
+use Rattle.off_book.specs.Http.{Answered, answer_step, answer_request, answer_and_close, with_connection, without_connection, PieceDid}
+use Rattle.off_book.specs.Step.{Does, TellsOutcome}
 use Rattle.off_outside.specs.declared.keeper.KeepErr.{KeepErr}
 use Rattle.off_outside.specs.declared.keeper.KeepErr.TheVariants as keep
 use Rattle.off_outside.specs.KeeperSeen.{KeeperSeen}
-use Rattle.off_outside.specs.KeeperCalls.{Reads, NotDone}
-use Rattle.off_accounts.specs.declared.results.AccountErr.{AccountErr}
-use Rattle.off_accounts.specs.declared.results.AccountErr.TheVariants.{Refused, Failed, Memory}
-use Rattle.off_office.specs.Kept.{Kept}
+use Rattle.off_outside.specs.KeeperCalls.{Reads, NotDone, IsWritten, StaysUp, Settled, Crash, NotCommitted}
+use Rattle.off_deciding.specs.declared.results.Planned.{Planned}
+use Rattle.off_deciding.specs.declared.results.AccountErr.{AccountErr}
+use Rattle.off_deciding.specs.declared.results.AccountErr.TheVariants.{Refused, Failed, Memory}
+use Rattle.off_office.specs.Desk.{Desk}
+use Rattle.off_office.specs.Conditions.{Counted, Under}
+use Rattle.off_office.specs.Acting.{effect_of, CountsFaults, LeavesNothing, begun_in, LeavesDoubt}
 
 -- an answer on a connection, its end, and the line of the log
 abbrev pub said_as : ℕ → ℕ → List ℕ → List ℕ → Said
@@ -50,65 +54,117 @@ reply_said conn done = said_as conn 200 (reply_text done) (codes "http 200")
 abbrev pub busy_said : ℕ → Said
 busy_said conn = record { items = Close conn ∷ []; line = codes "http busy" }
 
--- a command that shows a row writes nothing
-abbrev pub is_show : Command → Bool
-is_show (Show key) = true
-is_show command = false
+-- What a command was planned to do: where the counts are those of the tables, it's the step of the book, and the counts that were planned are those
+-- of the tables behind its writes.
+pub record IsPlanned (counts : Counts) (now : ℕ) (command : Command) (planned : Planned) (t : Tables) : Type 0 where
+  pub holds : counts ≡ counts_of t
+      → (clerk_step t now command ≡ step_done t planned.writes planned.reply) × (planned.counts ≡ counts_of (write_all t planned.writes))
 
--- a command that shows nothing is answered that it was done
-abbrev pub AnswersDone : Command → Reply → Type 0
-AnswersDone command done = is_show command ≡ false → done ≡ Done
+-- it isn't to be done: a rule of the book's refuses it, or the keeper failed, or memory was wanted
+abbrev pub NotPlanned : Counts → ℕ → Command → AccountErr → KeeperSeen → KeeperSeen → Type 0
+NotPlanned counts now command (Refused row rule) old new = Reads (λ t. counts ≡ counts_of t → clerk_step t now command ≡ step_refused t row rule) old new
+NotPlanned counts now command Failed old new = NotDone keep.Failed old new
+NotPlanned counts now command Memory old new = NotDone keep.Memory old new
 
--- A command was done at a moment: where the counts were those of the tables, the answer and the tables are the book's, and the counts are
--- those of the tables again.
-pub record Commanded (command : Command) (now : ℕ) (before after : Counts) (done : Reply) (old new : KeeperSeen) : Type 0 where
-  pub tables : Told old.tables new.tables (λ t u. (before ≡ counts_of t → IsAnswered u done (clerk_step t now command) × (after ≡ counts_of u))
-      × (is_show command ≡ true → u ≡ t))
-  pub faults : old.faults ≤ new.faults
+-- the tables that a command would leave at a moment
+abbrev pub CommandBegins : Command → ℕ → Desk → Tables → Tables → Type 0
+CommandBegins command now before t u = Counted before t → u ≡ write_all t (clerk_step t now command).writes
 
--- it wasn't: a rule of the book's refuses it, or the keeper failed, or memory was wanted; the tables are as before
-abbrev pub NotCommanded : Command → ℕ → Counts → AccountErr → KeeperSeen → KeeperSeen → Type 0
-NotCommanded command now counts (Refused row rule) old new = Reads (λ t. counts ≡ counts_of t → IsRefused t row rule (clerk_step t now command)) old new
-NotCommanded command now counts Failed old new = NotDone keep.Failed old new
-NotCommanded command now counts Memory old new = NotDone keep.Memory old new
+-- A command was done at a moment: its writes are committed, and where the counts were those of the tables, it's the step of the book.
+pub record Commanded (command : Command) (done : Reply) (now : ℕ) (before after : Desk) (old new : KeeperSeen) : Type 0 where
+  pub writes : List Write
+  pub tables : Told old.tables new.tables (Under before after (λ t u. (clerk_step t now command ≡ step_done t writes done) × IsWritten writes t u))
+  pub settled : Settled writes old new
 
--- A request was answered: where the counts were those of the tables, it's the answer of the book, as is what becomes of the tables.
-pub record AnsweredBy (answer : Tables → Answered) (conn : ℕ) (said : Said) (before after : Kept) (old new : KeeperSeen) : Type 0 where
-  pub tables : Told old.tables new.tables (λ t u. before.counts ≡ counts_of t
-      → (said ≡ said_to conn (answer t)) × (u ≡ (answer t).tables) × (after.counts ≡ counts_of u))
+-- it wasn't, and the tables are as before
+abbrev pub NotCommanded : Command → AccountErr → ℕ → Desk → KeeperSeen → KeeperSeen → Type 0
+NotCommanded command (Refused row rule) now before old new =
+    Reads (λ t. Counted before t → clerk_step t now command ≡ step_refused t row rule) old new
+NotCommanded command Failed now before old new = NotCommitted (CommandBegins command now before) keep.Failed old new
+NotCommanded command Memory now before old new = NotCommitted (CommandBegins command now before) keep.Memory old new
+
+-- A request was answered: where the counts were those of the tables, it's the answer of the book, as is what is written.
+pub record AnsweredBy (answer : Tables → Answered) (conn : ℕ) (said : Said) (before after : Desk) (old new : KeeperSeen) : Type 0 where
+  pub writes : List Write
+  pub tables : Told old.tables new.tables (Under before after (λ t u.
+      (said ≡ said_to conn (answer t)) × (writes ≡ (answer t).writes) × IsWritten writes t u))
   pub held : after.held ≡ before.held
-  pub faults : old.faults ≤ new.faults
+  pub settled : Settled writes old new
+
+-- the tables that a request would leave
+abbrev pub AnswerBegins : (Tables → Answered) → Desk → Tables → Tables → Type 0
+AnswerBegins answer before t u = Counted before t → u ≡ write_all t (answer t).writes
 
 -- it wasn't, and all is as before
-pub record NotAnswered (err : KeepErr) (before after : Kept) (old new : KeeperSeen) : Type 0 where
-  pub held : after.held ≡ before.held
-  pub counts : (t : Tables) → old.tables t → before.counts ≡ counts_of t → after.counts ≡ counts_of t
-  pub keeper : NotDone err old new
+pub record NotAnswered (answer : Tables → Answered) (err : KeepErr) (before after : Desk) (old new : KeeperSeen) : Type 0 where
+  pub same : after ≡ before
+  pub keeper : NotCommitted (AnswerBegins answer before) err old new
+
+-- the answer to a request that was read from a connection
+abbrev pub answer_asked : ℕ → Meaning → Tables → Answered
+answer_asked now asked tables = answer_request tables now (asked_method asked) (asked_target asked) (asked_body asked)
+
+-- the answer to a command at a moment
+abbrev pub answer_to : ℕ → Command → Tables → Answered
+answer_to now command tables = answer_step (clerk_step tables now command)
+
+-- what comes of a request
+abbrev pub IsAnswered : Result (Unit {0}) KeepErr → (Tables → Answered) → ℕ → Said → Desk → Desk → KeeperSeen → KeeperSeen → Type 0
+IsAnswered result answer conn said before after old new =
+    MatchResult result (λ _. AnsweredBy answer conn said before after old new) (λ err. NotAnswered answer err before after old new)
+
+-- what was planned was answered and done
+pub record CarriedOut (planned : Planned) (conn : ℕ) (said : Said) (before after : Desk) (old new : KeeperSeen) : Type 0 where
+  pub answer : said ≡ reply_said conn planned.reply
+  pub counts : after ≡ record before { counts = planned.counts }
+  pub done : Settled planned.writes old new
+
+-- it wasn't
+pub record NotCarriedOut (planned : Planned) (err : KeepErr) (before after : Desk) (old new : KeeperSeen) : Type 0 where
+  pub same : after ≡ before
+  pub keeper : NotCommitted (IsWritten planned.writes) err old new
 
 -- what an office keeps without a connection
-abbrev pub forgets : Kept → ℕ → Kept
-forgets kept conn = record kept { held = without_connection kept.held conn }
+abbrev pub forgets : Desk → ℕ → Desk
+forgets desk conn = record desk { held = without_connection desk.held conn }
+
+-- what a piece does by the book, over tables before and after
+abbrev pub PieceOn : ℕ → List ℕ → Said → List Write → Desk → Desk → Tables → Tables → Type 0
+PieceOn conn piece said commit before after t u =
+    PieceDid (state_of t before.held) conn piece (record { said = said; commit = commit; after = state_of u after.held })
 
 -- a piece was heard, and what it asks is done
-pub record HeardPiece (conn : ℕ) (piece : List ℕ) (said : Said) (before after : Kept) (old new : KeeperSeen) : Type 0 where
-  pub tables : Told old.tables new.tables (λ t u. before.counts ≡ counts_of t
-      → PieceDid (state_of t before.held) conn piece (record { said = said; after = state_of u after.held }) × (after.counts ≡ counts_of u))
-  pub faults : old.faults ≤ new.faults
+pub record HeardPiece (conn : ℕ) (piece : List ℕ) (said : Said) (before after : Desk) (old new : KeeperSeen) : Type 0 where
+  pub commit : List Write
+  pub tables : Told old.tables new.tables (Under before after (PieceOn conn piece said commit before after))
+  pub settled : Settled commit old new
   pub moment : after.held.now ≡ before.held.now
 
+-- the tables that a piece would leave
+abbrev pub PieceBegins : ℕ → List ℕ → Desk → Tables → Tables → Type 0
+PieceBegins conn piece before t u = Counted before t → (effect : Effect) × (PieceDid (state_of t before.held) conn piece effect × (u ≡ effect.after.tables))
+
 -- it couldn't be acted on: its connection is forgotten, and all else is as before
-pub record NotHeard (err : KeepErr) (conn : ℕ) (before after : Kept) (old new : KeeperSeen) : Type 0 where
-  pub held : after.held ≡ without_connection before.held conn
-  pub counts : (t : Tables) → old.tables t → before.counts ≡ counts_of t → after.counts ≡ counts_of t
-  pub keeper : NotDone err old new
+pub record NotHeard (err : KeepErr) (conn : ℕ) (piece : List ℕ) (before after : Desk) (old new : KeeperSeen) : Type 0 where
+  pub forgotten : after ≡ forgets before conn
+  pub keeper : NotCommitted (PieceBegins conn piece before) err old new
+
+-- what a piece does by the book with an outcome, over tables before and after
+abbrev pub DoesOn : ℕ → List ℕ → Outcome → Said → List Write → Desk → Desk → Tables → Tables → Type 0
+DoesOn conn piece outcome said commit before after t u =
+    Does (state_of t before.held) (Piece conn piece) outcome (effect_of (Piece conn piece) outcome said commit (state_of u after.held))
 
 -- a piece, by its outcome
-pub record TookPiece (conn : ℕ) (piece : List ℕ) (outcome : Outcome) (said : Said) (before after : Kept) (old new : KeeperSeen) : Type 0 where
-  pub tables : Told old.tables new.tables (λ t u. before.counts ≡ counts_of t
-      → Does (state_of t before.held) (Piece conn piece) outcome (record { said = completed (Piece conn piece) outcome said; after = state_of u after.held })
-      × (after.counts ≡ counts_of u))
-  pub faults : Grew (keeper_failures outcome) old.faults new.faults
+pub record TookPiece (conn : ℕ) (piece : List ℕ) (outcome : Outcome) (said : Said) (before after : Desk) (old new : KeeperSeen) : Type 0 where
+  pub commit : List Write
+  pub tables : Told old.tables new.tables (Under before after (DoesOn conn piece outcome said commit before after))
+  pub up : StaysUp old new
+  pub faults : CountsFaults outcome old.faults new.faults
+  pub commits : new.commits ≡ commits_after commit old.commits
+  pub crash : Crash (begun_in outcome (IsWritten commit) (PieceBegins conn piece before)) old new
+  pub doubts : LeavesDoubt outcome commit (PieceBegins conn piece before) old new
   pub tells : TellsOutcome (Piece conn piece) outcome said.line
+  pub leaves : LeavesNothing outcome said.items
   pub moment : after.held.now ≡ before.held.now
 
 -- a line alone
@@ -121,7 +177,7 @@ had_memory (Ok done) = Ok done
 had_memory (Err refused) = Err keep.Memory
 
 -- a connection of which more must come was kept, or memory was wanted and nothing changed
-abbrev pub WaitsFor : ℕ → List ℕ → Result (Unit {0}) NoMemory → Said → Kept → Kept → Type 0
+abbrev pub WaitsFor : ℕ → List ℕ → Result (Unit {0}) NoMemory → Said → Desk → Desk → Type 0
 WaitsFor conn bytes result said before after =
     MatchResult result (λ _. (said ≡ failed_said (codes "http wait")) × (after ≡ record before { held = with_connection before.held conn bytes })) (λ _. after ≡ before)
 

@@ -1,5 +1,6 @@
+pub mod Desk
+pub mod Conditions
 pub mod Answering
 pub mod Connections
 pub mod Saying
-pub mod Kept
 pub mod Acting

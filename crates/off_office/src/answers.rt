@@ -1,9 +1,10 @@
 ghost use Rattle.std.specs.Prelude.{◌≡◌, ◌≤◌, ◌<◌, ◌^◌, length, OnOk, IsTrue, codes};
 ghost use Rattle.off_defs.specs.State.{says_nothing};
 ghost use Rattle.off_http.specs.Reply.{is_reply_status};
-ghost use Rattle.off_clerk.specs.Faults.{IsTold};
-ghost use Rattle.off_clerk.specs.Replies.{IsRightReply};
-ghost use Rattle.off_office.specs.Answering.{said_as, fault_said, fault_line, reply_said, busy_said, Fails};
+ghost use Rattle.off_clerk_rules.specs.Faults.{IsTold};
+ghost use Rattle.off_clerk_rules.specs.Replies.{IsRightReply};
+ghost use Rattle.off_office.specs.Answering.{said_as, fault_said, fault_line, reply_said};
+ghost use Rattle.off_office.specs.Answering.{busy_said, Fails};
 
 use arrayvec::ArrayVec;
 use itoa::Buffer;

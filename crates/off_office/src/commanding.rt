@@ -1,23 +1,25 @@
-ghost use Rattle.std.specs.Prelude.{◌≡◌, false, IsTrue, MatchResult, IfOk, OnErr};
+ghost use Rattle.std.specs.Prelude.{◌≡◌, ◌+◌, false, IsTrue, MatchResult};
+ghost use Rattle.std.specs.Prelude.{IfOk, IfSome, OnOk, OnErr};
 ghost use Rattle.off_defs.specs.State.{held_at};
 ghost use Rattle.off_rows.specs.Sound.{is_sound};
-ghost use Rattle.off_clerk.specs.Replies.{IsRightReply};
-ghost use Rattle.off_accounts.specs.Deciding.{is_import};
-ghost use Rattle.off_outside.specs.KeeperCalls.{Committed, NotDone};
-ghost use Rattle.off_office.specs.Answering.{Commanded, NotCommanded, AnswersDone};
+ghost use Rattle.off_clerk_rules.specs.Replies.{IsRightReply};
+ghost use Rattle.off_deciding.specs.Deciding.{is_import, most_calls};
+ghost use Rattle.off_outside.specs.KeeperCalls.{Reads, Settled, NotCommitted, IsWritten, Spent};
+ghost use Rattle.off_office.specs.Answering.{IsPlanned, NotPlanned, Commanded, NotCommanded};
 
-use crate::office::{Office, later};
-use off_accounts::{AccountErr, decide};
+use crate::office::Office;
+use off_accounts::{AccountErr, Planned, decide};
 use off_base::Moment;
 use off_defs::{Command, Reply, Writes};
 use off_outside::{KeepErr, Keeper};
 use std::alloc::Global;
 
 impl Office {
-    /// Does one of a clerk's commands, at the later of its moment and the office's, or refuses it by the first of its rules that is broken.
+    /// Does one of a clerk's commands, at the later of its moment and the office's, or refuses it
+    /// by the first of its rules that is broken.
     ///
-    /// After an error the tables are as before. `Failed` comes only where the keeper counted a fault in this call. Connections and
-    /// transfers stay as they are.
+    /// After an error the tables are as before. `Failed` comes only where the keeper counted a
+    /// fault in this call. Connections and transfers stay as they are.
     pub fn command<K: Keeper>(
         &mut self,
         keeper: &mut K,
@@ -27,28 +29,70 @@ impl Office {
         requires sound { IsTrue (is_sound c.now) }
         requires not_import { is_import c.now ≡ false }
         ensures told { MatchResult result
-            (λ done. Commanded c.now self.new.held.now self.old.counts self.new.counts done (K.seen keeper.old) (K.seen keeper.new))
-            (λ err. NotCommanded c.now self.new.held.now self.old.counts err (K.seen keeper.old) (K.seen keeper.new)) }
+            (λ done. Commanded c.now done self.new.held.now self.old self.new
+            (K.seen keeper.old) (K.seen keeper.new))
+            (λ err. NotCommanded c.now err self.new.held.now self.old
+            (K.seen keeper.old) (K.seen keeper.new)) }
         ensures held { self.new.held ≡ held_at self.old.held at.0 }
         ensures counts { OnErr result (self.new.counts ≡ self.old.counts) }
         ensures right { IfOk result (λ done. IsRightReply done) }
-        ensures answers { IfOk result (λ done. AnswersDone c.now done) }
+        ensures spent { IfSome (most_calls c.now)
+            (λ n. Spent (n + 1) (K.seen keeper.old) (K.seen keeper.new)) }
     {
-        self.now = later(self.now, at);
+        self.reach(at);
+        let planned = self.plan(keeper, c)?;
+        self.settle(keeper, &planned)?;
+        Ok(planned.reply)
+    }
+
+    // What a command is to do at the office's moment, with all room for it in hand. It commits
+    // nothing.
+    pub(crate) fn plan<K: Keeper>(&self, keeper: &mut K, c: &Command) -> Result<Planned, AccountErr>
+        requires sound { IsTrue (is_sound c.now) }
+        requires not_import { is_import c.now ≡ false }
+        ensures told { MatchResult result
+            (λ planned. Reads
+            (IsPlanned self.entry.now.counts self.entry.now.held.now c.now planned)
+            (K.seen keeper.old) (K.seen keeper.new))
+            (λ err. NotPlanned self.entry.now.counts self.entry.now.held.now c.now err
+            (K.seen keeper.old) (K.seen keeper.new)) }
+        ensures right { IfOk result (λ planned. IsRightReply planned.reply) }
+        ensures spent { IfSome (most_calls c.now)
+            (λ n. Spent n (K.seen keeper.old) (K.seen keeper.new)) }
+    {
         match decide(self.alloc, keeper, &self.counts, self.now, c) {
-            Ok(planned) => {
-                settle(self.alloc, keeper, &planned.writes)?;
-                self.counts = planned.counts;
-                Ok(planned.reply)
-            }
+            Ok(planned) => Ok(planned),
             Err(err) => Err(err),
         }
     }
+
+    // Does what was planned: the writes in one commit, where there are any, and then what the
+    // office keeps of the tables, which takes no memory.
+    pub(crate) fn settle<K: Keeper>(
+        &mut self,
+        keeper: &mut K,
+        planned: &Planned,
+    ) -> Result<(), KeepErr>
+        ensures told { MatchResult result
+            (λ _. Settled planned.now.writes (K.seen keeper.old) (K.seen keeper.new))
+            (λ err. NotCommitted (IsWritten planned.now.writes) err
+            (K.seen keeper.old) (K.seen keeper.new)) }
+        ensures ok { OnOk result (self.new ≡ record self.old { counts = planned.now.counts }) }
+        ensures err { OnErr result (self.new ≡ self.old) }
+        ensures spent { Spent 1 (K.seen keeper.old) (K.seen keeper.new) }
+    {
+        commit_all(self.alloc, keeper, &planned.writes)?;
+        self.counts = planned.counts;
+        Ok(())
+    }
 }
 
-// Does the writes of a command, if there are any.
-fn settle<K: Keeper>(alloc: Global, keeper: &mut K, writes: &Writes) -> Result<(), KeepErr>
-    ensures { MatchResult result (λ _. Committed writes.now (K.seen keeper.old) (K.seen keeper.new)) (λ err. NotDone err (K.seen keeper.old) (K.seen keeper.new)) }
+// Does writes in one commit, if there are any.
+fn commit_all<K: Keeper>(alloc: Global, keeper: &mut K, writes: &Writes) -> Result<(), KeepErr>
+    ensures told { MatchResult result
+        (λ _. Settled writes.now (K.seen keeper.old) (K.seen keeper.new))
+        (λ err. NotCommitted (IsWritten writes.now) err (K.seen keeper.old) (K.seen keeper.new)) }
+    ensures spent { Spent 1 (K.seen keeper.old) (K.seen keeper.new) }
 {
     if writes.is_empty() {
         return Ok(());

@@ -13,7 +13,8 @@ use std::marker::Model;
 /// How many connections may be live.
 const MOST_CONNECTIONS: usize = 8;
 
-/// The live connections of clerks, each with what has come of its request. Contracts see the bytes that have come of each, by number.
+/// The live connections of clerks, each with what has come of its request. Contracts see the bytes
+/// that have come of each, by number.
 #[derive(Drop)]
 pub struct Connections {
     live: BTreeMap<u32, Session>,
@@ -72,7 +73,8 @@ impl Connections {
         }
     }
 
-    /// Puts a connection in, of which a request hasn't come whole. After `NoMemory` the connections are as before.
+    /// Puts a connection in, of which a request hasn't come whole. After `NoMemory` the connections
+    /// are as before.
     pub fn keep(&mut self, conn: u32, session: Session) -> Result<(), NoMemory>
         requires { session.answer ≡ Waits }
         ensures ok { OnOk result (self.new ≡ map.insert self.old conn session.bytes) }

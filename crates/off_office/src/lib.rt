@@ -1,4 +1,5 @@
-//! One event of the office: whose it is, and nothing else. Each service decides for itself; here is only the way to it.
+//! One event of the office: whose it is, and nothing else. Each service decides for itself; here is
+//! only the way to it.
 #![tactic(auto)]
 
 mod answers;

@@ -1,13 +1,11 @@
-ghost use Rattle.std.specs.Prelude.{◌≡◌, ◌≤◌, [], ◌∷◌, ◌++◌, length, max, OnOk, OnErr, IfOk, MatchResult};
-ghost use Rattle.off_defs.specs.State.{Tables, held_at_start, state_of, says_nothing};
-ghost use Rattle.off_rules.specs.Good.{Judged, Good};
-ghost use Rattle.off_rules.specs.Rows.{counts_of};
-ghost use Rattle.off_book.specs.Step.{Step, completed};
+ghost use Rattle.std.specs.Prelude.{◌≡◌, ◌≤◌, ◌∷◌, ◌++◌, [], length, max, OnOk, OnErr, IfOk};
+ghost use Rattle.std.specs.Prelude.{MatchResult};
+ghost use Rattle.off_defs.specs.State.{held_at_start, says_nothing};
 ghost use Rattle.off_book.specs.Time.{time_answer};
-ghost use Rattle.off_book.specs.Run.{keeper_failures};
-ghost use Rattle.off_outside.specs.KeeperCalls.{Reads, NotDone};
-ghost use Rattle.off_office.specs.Acting.{Acts, NotStarted, start_err, kept_at};
+ghost use Rattle.off_outside.specs.KeeperCalls.{Reads};
+ghost use Rattle.off_office.specs.Acting.{Acts, NotStarted, start_err, desk_at};
 ghost use Rattle.off_office.specs.Answering.{forgets};
+ghost use Rattle.off_office.specs.Conditions.{Counted, Fits};
 ghost use Rattle.off_office.specs.Saying.{SaysTime, SaysDatagram};
 
 use crate::clock::time_of_day;
@@ -31,7 +29,8 @@ pub enum StartErr {
     Memory,
 }
 
-/// The office between two events: the moment of its latest event, how many rows the tables have, and the clerks' connections.
+/// The office between two events: the moment of its latest event, how many rows the tables have,
+/// and the clerks' connections.
 #[derive(Drop)]
 pub struct Office {
     pub(crate) alloc: Global,
@@ -42,22 +41,26 @@ pub struct Office {
 
 impl Model for Office {
     ghost use Rattle.std.specs.FinMap as map;
-    ghost use Rattle.off_office.specs.Kept.{Kept, kept_code};
+    ghost use Rattle.off_office.specs.Desk.{Desk, desk_code};
 
-    ghost Value = { Kept };
+    ghost Value = { Desk };
 
-    ghost coded = { kept_code };
+    ghost coded = { desk_code };
 
-    ghost view = { λ o. record { held = record { now = o.now.0; transfers = map.empty; connections = o.connections }; counts = o.counts } };
+    ghost view = { λ o. record {
+      held = record { now = o.now.0; transfers = map.empty; connections = o.connections };
+      counts = o.counts;
+    } };
 }
 
 impl Office {
-    /// Opens the tables: an office that has just begun, with no transfers, no connections and moment 0, over tables that are good.
+    /// Opens the tables: an office that has just begun, with no transfers, no connections and
+    /// moment 0, over tables that are good.
     ///
     /// `Bad` comes exactly where they aren't, with the least bad key. The tables stay as they are.
     pub fn start<K: Keeper>(alloc: Global, keeper: &mut K) -> Result<Office, StartErr>
         ensures told { MatchResult result
-            (λ office. Reads (λ tables. Good tables × (office.counts ≡ counts_of tables)) (K.seen keeper.old) (K.seen keeper.new))
+            (λ office. Reads (Fits office) (K.seen keeper.old) (K.seen keeper.new))
             (λ err. NotStarted err (K.seen keeper.old) (K.seen keeper.new)) }
         ensures held { IfOk result (λ office. office.held ≡ held_at_start) }
     {
@@ -71,7 +74,7 @@ impl Office {
     // An office whose counts are those of the tables.
     fn counted<K: Keeper>(alloc: Global, keeper: &mut K) -> Result<Office, StartErr>
         ensures told { MatchResult result
-            (λ office. Reads (λ tables. office.counts ≡ counts_of tables) (K.seen keeper.old) (K.seen keeper.new))
+            (λ office. Reads (Counted office) (K.seen keeper.old) (K.seen keeper.new))
             (λ err. NotStarted err (K.seen keeper.old) (K.seen keeper.new)) }
         ensures held { IfOk result (λ office. office.held ≡ held_at_start) }
     {
@@ -86,12 +89,15 @@ impl Office {
         }
     }
 
-    /// Takes one event: leaves in `out` what the office says of it, and nothing of what `out` said before.
+    /// Takes one event: leaves in `out` what the office says of it, and nothing of what `out` said
+    /// before.
     ///
-    /// A piece that the office couldn't act on has its line alone in `out`; the answer and the end of its connection are the same bytes
-    /// each time, and are left to the caller. `Outcome::Keeper` comes only where the keeper counted a fault in this call.
+    /// A piece that the office couldn't act on has its line alone in `out`; the answer and the end
+    /// of its connection are the same bytes each time, and are left to the caller.
+    /// `Outcome::Keeper` comes only where the keeper counted a fault in this call.
     pub fn step<K: Keeper>(&mut self, keeper: &mut K, event: &Event, out: &mut Replies) -> Outcome
-        ensures { Acts event.now result out.new self.old self.new (K.seen keeper.old) (K.seen keeper.new) }
+        ensures { Acts event.now result out.new self.old self.new
+            (K.seen keeper.old) (K.seen keeper.new) }
     {
         out.clear();
         self.reach(event.at);
@@ -113,7 +119,7 @@ impl Office {
 
     // Comes to the later of its moment and another.
     pub(crate) fn reach(&mut self, at: Moment)
-        ensures { self.new ≡ kept_at self.old at.0 }
+        ensures { self.new ≡ desk_at self.old at.0 }
     {
         self.now = later(self.now, at);
     }
@@ -184,7 +190,8 @@ fn tell_time(alloc: Global, now: Moment, from: Peer, out: &mut Replies) -> Outco
 }
 
 fn answer_time(alloc: Global, now: Moment, from: Peer, out: &mut Replies) -> Result<(), NoMemory>
-    ensures ok { OnOk result (out.new ≡ record out.old { items = out.old.items ++ time_answer now.0 from ∷ [] }) }
+    ensures ok { OnOk result (out.new
+        ≡ record out.old { items = out.old.items ++ time_answer now.0 from ∷ [] }) }
     ensures err { OnErr result (out.new ≡ out.old) }
 {
     let mut bytes = Bytes::new(alloc);

@@ -1,19 +1,21 @@
-ghost use Rattle.std.specs.Prelude.{◌≡◌, true, false, IsTrue, MatchResult};
+ghost use Rattle.std.specs.Prelude.{◌≡◌, false, IsTrue, MatchResult};
 ghost use Rattle.off_defs.specs.State.{says_nothing};
-ghost use Rattle.off_rules.specs.Clerk.{clerk_step};
-ghost use Rattle.off_http.specs.Heard.{IsAsked, asked_method, asked_target, asked_body};
+ghost use Rattle.off_http.specs.Heard.{IsAsked};
 ghost use Rattle.off_http.specs.Request.{Waits};
 ghost use Rattle.off_rows.specs.Sound.{is_sound};
-ghost use Rattle.off_accounts.specs.Deciding.{is_import};
-ghost use Rattle.off_book.specs.Http.{answer_request, answer_step, is_full, heard_of};
-ghost use Rattle.off_office.specs.Answering.{forgets, AnsweredBy, NotAnswered, HeardPiece, NotHeard, TookPiece, WaitsFor, Refuses, had_memory, is_show};
+ghost use Rattle.off_deciding.specs.Deciding.{is_import};
+ghost use Rattle.off_clerk_rules.specs.Replies.{IsRightReply};
+ghost use Rattle.off_book.specs.Http.{is_full, heard_of};
+ghost use Rattle.off_office.specs.Answering.{forgets, answer_asked, answer_to, IsAnswered};
+ghost use Rattle.off_office.specs.Answering.{CarriedOut, NotCarriedOut, HeardPiece, NotHeard};
+ghost use Rattle.off_office.specs.Answering.{TookPiece, WaitsFor, Refuses, had_memory};
 
 use crate::answers::{answer_fault, answer_reply, close_busy, fail};
 use crate::office::Office;
-use off_accounts::AccountErr;
+use off_accounts::{AccountErr, Planned};
 use off_base::NoMemory;
 use off_clerk::{ClerkErr, Fault, command_of};
-use off_defs::{Command, Reply};
+use off_defs::Command;
 use off_http::{Fed, Session};
 use off_outside::{KeepErr, Keeper, Outcome, Replies};
 
@@ -27,7 +29,8 @@ impl Office {
         out: &mut Replies,
     ) -> Outcome
         requires { out.old ≡ says_nothing }
-        ensures { TookPiece conn piece.now result out.new self.old self.new (K.seen keeper.old) (K.seen keeper.new) }
+        ensures { TookPiece conn piece.now result out.new self.old self.new
+            (K.seen keeper.old) (K.seen keeper.new) }
     {
         match self.hear(keeper, conn, piece, out) {
             Ok(()) => Outcome::Did,
@@ -35,7 +38,8 @@ impl Office {
         }
     }
 
-    // Hears a piece, and does what the connection asks by now. After an error the connection is forgotten.
+    // Hears a piece, and does what the connection asks by now. After an error the connection is
+    // forgotten.
     fn hear<K: Keeper>(
         &mut self,
         keeper: &mut K,
@@ -44,8 +48,11 @@ impl Office {
         out: &mut Replies,
     ) -> Result<(), KeepErr>
         requires { out.old ≡ says_nothing }
-        ensures { MatchResult result (λ _. HeardPiece conn piece.now out.new self.old self.new (K.seen keeper.old) (K.seen keeper.new))
-            (λ err. NotHeard err conn self.old self.new (K.seen keeper.old) (K.seen keeper.new)) }
+        ensures { MatchResult result
+            (λ _. HeardPiece conn piece.now out.new self.old self.new
+            (K.seen keeper.old) (K.seen keeper.new))
+            (λ err. NotHeard err conn piece.now self.old self.new
+            (K.seen keeper.old) (K.seen keeper.new)) }
     {
         if self.is_full_for(conn) {
             return had_memory(close_busy(conn, out));
@@ -99,9 +106,8 @@ impl Office {
         requires asked { IsAsked session.now.answer }
         requires clean { out.old ≡ says_nothing }
         ensures { let answer = session.now.answer in
-            MatchResult result
-            (λ _. AnsweredBy (λ t. answer_request t self.old.held.now (asked_method answer) (asked_target answer) (asked_body answer)) conn out.new self.old self.new (K.seen keeper.old) (K.seen keeper.new))
-            (λ err. NotAnswered err self.old self.new (K.seen keeper.old) (K.seen keeper.new)) }
+            IsAnswered result (answer_asked self.old.held.now answer) conn out.new
+            self.old self.new (K.seen keeper.old) (K.seen keeper.new) }
     {
         match command_of(self.alloc, session.method(), session.path(), session.body()) {
             Ok(command) => self.answer_command(keeper, conn, &command, out),
@@ -110,7 +116,7 @@ impl Office {
         }
     }
 
-    // Does a command and answers it, or answers why not. Before a command is done that writes, its answer is in hand.
+    // Does a command and answers it, or answers why not.
     fn answer_command<K: Keeper>(
         &mut self,
         keeper: &mut K,
@@ -121,67 +127,35 @@ impl Office {
         requires sound { IsTrue (is_sound command.now) }
         requires not_import { is_import command.now ≡ false }
         requires clean { out.old ≡ says_nothing }
-        ensures { MatchResult result
-            (λ _. AnsweredBy (λ t. answer_step (clerk_step t self.old.held.now command.now)) conn out.new self.old self.new (K.seen keeper.old) (K.seen keeper.new))
-            (λ err. NotAnswered err self.old self.new (K.seen keeper.old) (K.seen keeper.new)) }
+        ensures { IsAnswered result (answer_to self.old.held.now command.now) conn out.new
+            self.old self.new (K.seen keeper.old) (K.seen keeper.new) }
     {
-        if is_show(command) {
-            self.show_row(keeper, conn, command, out)
-        } else {
-            self.do_change(keeper, conn, command, out)
-        }
-    }
-
-    // Shows a row.
-    fn show_row<K: Keeper>(
-        &mut self,
-        keeper: &mut K,
-        conn: u32,
-        command: &Command,
-        out: &mut Replies,
-    ) -> Result<(), KeepErr>
-        requires sound { IsTrue (is_sound command.now) }
-        requires not_import { is_import command.now ≡ false }
-        requires show { is_show command.now ≡ true }
-        requires clean { out.old ≡ says_nothing }
-        ensures { MatchResult result
-            (λ _. AnsweredBy (λ t. answer_step (clerk_step t self.old.held.now command.now)) conn out.new self.old self.new (K.seen keeper.old) (K.seen keeper.new))
-            (λ err. NotAnswered err self.old self.new (K.seen keeper.old) (K.seen keeper.new)) }
-    {
-        let now = self.now;
-        match self.command(keeper, now, command) {
-            Ok(reply) => had_memory(answer_reply(self.alloc, conn, &reply, out)),
+        match self.plan(keeper, command) {
+            Ok(planned) => self.carry_out(keeper, conn, &planned, out),
             Err(err) => self.refuse(conn, err, out),
         }
     }
 
-    // Changes the tables.
-    fn do_change<K: Keeper>(
+    // Puts the answer of what was planned in hand, and then does it.
+    fn carry_out<K: Keeper>(
         &mut self,
         keeper: &mut K,
         conn: u32,
-        command: &Command,
+        planned: &Planned,
         out: &mut Replies,
     ) -> Result<(), KeepErr>
-        requires sound { IsTrue (is_sound command.now) }
-        requires not_import { is_import command.now ≡ false }
-        requires change { is_show command.now ≡ false }
+        requires right { IsRightReply planned.now.reply }
         requires clean { out.old ≡ says_nothing }
         ensures { MatchResult result
-            (λ _. AnsweredBy (λ t. answer_step (clerk_step t self.old.held.now command.now)) conn out.new self.old self.new (K.seen keeper.old) (K.seen keeper.new))
-            (λ err. NotAnswered err self.old self.new (K.seen keeper.old) (K.seen keeper.new)) }
+            (λ _. CarriedOut planned.now conn out.new self.old self.new
+            (K.seen keeper.old) (K.seen keeper.new))
+            (λ err. NotCarriedOut planned.now err self.old self.new
+            (K.seen keeper.old) (K.seen keeper.new)) }
     {
-        if answer_reply(self.alloc, conn, &Reply::Done, out).is_err() {
+        if answer_reply(self.alloc, conn, &planned.reply, out).is_err() {
             return Err(KeepErr::Memory);
         }
-        let now = self.now;
-        match self.command(keeper, now, command) {
-            Ok(_done) => Ok(()),
-            Err(err) => {
-                out.clear();
-                self.refuse(conn, err, out)
-            }
-        }
+        self.settle(keeper, planned)
     }
 
     // Answers that a rule refuses a command, or hands on why it couldn't be done.
@@ -196,16 +170,6 @@ impl Office {
             AccountErr::Failed => Err(KeepErr::Failed),
             AccountErr::Memory => Err(KeepErr::Memory),
         }
-    }
-}
-
-// Whether a command shows a row.
-fn is_show(command: &Command) -> bool
-    ensures { result ≡ is_show command.now }
-{
-    match command {
-        Command::Show(_) => true,
-        _ => false,
     }
 }
 

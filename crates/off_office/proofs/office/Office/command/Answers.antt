@@ -1,16 +1,26 @@
-use Rattle.std.proofs.Common.{ap, subst}
-use Rattle.off_rules.specs.declared.counts.Counts.{Counts}
-use Rattle.off_office.specs.Kept.{Kept}
-use Rattle.off_office.specs.Answering.{Commanded, NotCommanded}
-use Rattle.off_office.proofs.CommandLemmas.{commanded, not_commanded}
+use Rattle.std.proofs.lemmas.Result.{err_from_is_err_and}
+use Rattle.off_office.proofs.CommandLemmas.{command_done, command_refused, command_undone, spent_more, spent_besides}
 use Rattle.off_office.proofs.office.Office.command.Goals as goal
 
-pub returns-in_ok-settle-in-Ok-clause-told : goal.returns-in_ok-settle-in-Ok-clause-told
-returns-in_ok-settle-in-Ok-clause-told g c =
-    subst (λ (n : Counts). Commanded c.args.c.now c.later-self-inside.result.0 n c.in-Ok.planned.counts c.in-Ok.planned.reply (g.K.Keeper.seen c.args.keeper.now) (g.K.Keeper.seen c.settle.new.keeper))
-    (ap (λ (k : Kept). k.counts) c.self.view_is) (commanded _ _ _ _ c.in-Ok.ensures.told c.in-Ok.ensures.answers c.in_ok-settle-in-Ok.ensures)
+pub returns-clause-told : goal.returns-clause-told
+returns-clause-told g c =
+    command_done _ _ _ _ c.reach.new.self _ _ _ _ c.reach.ensures (g.met.K.Keeper.rests c.args.keeper.now) c.in_ok-planned.ensures.told c.in_ok-settle.ensures.told c.in_ok-settle.ensures.ok
 
-pub returns-in-Err-clause-told : goal.returns-in-Err-clause-told
-returns-in-Err-clause-told g c =
-    subst (λ (n : Counts). NotCommanded c.args.c.now c.later-self-inside.result.0 n c.in-Err.err (g.K.Keeper.seen c.args.keeper.now) (g.K.Keeper.seen c.decide.new.keeper))
-    (ap (λ (k : Kept). k.counts) c.self.view_is) (not_commanded _ _ _ _ _ _ c.in-Err.ensures.told)
+pub returns-in_err-planned-clause-told : goal.returns-in_err-planned-clause-told
+returns-in_err-planned-clause-told g c =
+    let p = err_from_is_err_and c.from_residual.result c.from_residual.ensures.1 in
+    rw (p.1, p.2) (command_refused _ _ _ _ c.reach.new.self _ _ c.reach.ensures (g.met.K.Keeper.rests c.args.keeper.now) c.in_err-planned.ensures.told)
+
+pub returns-in_err-settle-clause-told : goal.returns-in_err-settle-clause-told
+returns-in_err-settle-clause-told g c =
+    let p = err_from_is_err_and c.from_residual-in_err-settle.result c.from_residual-in_err-settle.ensures.1 in
+    rw (p.1, p.2) (command_undone _ _ _ _ _ c.reach.new.self _ _ _ _ c.reach.ensures (g.met.K.Keeper.rests c.args.keeper.now) c.in_ok-planned.ensures.told c.in_err-settle.ensures.told c.in_err-settle.ensures.err)
+
+pub returns-clause-spent : goal.returns-clause-spent
+returns-clause-spent g c = spent_besides _ _ _ _ c.plan.ensures.spent c.settle.ensures.spent
+
+pub returns-in_err-planned-clause-spent : goal.returns-in_err-planned-clause-spent
+returns-in_err-planned-clause-spent g c = spent_more _ _ _ c.plan.ensures.spent
+
+pub returns-in_err-settle-clause-spent : goal.returns-in_err-settle-clause-spent
+returns-in_err-settle-clause-spent g c = spent_besides _ _ _ _ c.plan.ensures.spent c.settle.ensures.spent

@@ -5,7 +5,7 @@ use Rattle.off_defs.specs.State.{Held}
 use Rattle.off_defs.specs.Codes.{held_code}
 use Rattle.off_rules.specs.declared.counts.Counts.{Counts}
 
-pub record Kept : Type 0 where
+pub record Desk : Type 0 where
   pub held : Held
   pub counts : Counts
 
@@ -17,5 +17,5 @@ counts_code =
     (λ p. record { subscribers = p.0.0; addons = p.0.1.0; modems = p.0.1.1; classes = p.1.0; pools = p.1.1.0; batches = p.1.1.1 })
     (λ _. refl)
 
-abbrev pub kept_code : Coded Kept
-kept_code = code_by (Held × Counts) (coded× held_code counts_code) (λ k. (k.held, k.counts)) (λ p. record { held = p.0; counts = p.1 }) (λ _. refl)
+abbrev pub desk_code : Coded Desk
+desk_code = code_by (Held × Counts) (coded× held_code counts_code) (λ k. (k.held, k.counts)) (λ p. record { held = p.0; counts = p.1 }) (λ _. refl)
