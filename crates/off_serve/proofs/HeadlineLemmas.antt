@@ -1,28 +1,29 @@
 -- From the loop and the run's own line to the headline.
-use Rattle.std.proofs.Common.{◌≡◌, ◌≢◌, ℕ, List, [], All, Option, Some, MatchOption, sym, subst, inl, inr, arith}
+use Rattle.std.proofs.Common.{◌≡◌, ◌≢◌, ℕ, ◌<◌, ◌⊎◌, List, [], All, Option, Some, MatchOption, sym, ap, ◌∙◌, subst, inl, inr, arith}
 use Rattle.off_defs.specs.Told.{Told}
-use Rattle.off_defs.specs.State.{Held, held_at_start, start, state_of}
+use Rattle.off_defs.specs.State.{Tables, Held, held_at_start, start, state_of}
+use Rattle.off_book.proofs.CrashLemmas.{lasts_run, lasts_front}
 use Rattle.off_book.specs.Words.{Job}
-use Rattle.off_book.specs.Run.{Turn, Run, SaysMemory}
+use Rattle.off_book.specs.Run.{Turn, Run, SaysMemory, commits_by}
 use Rattle.off_book.proofs.StepLemmas.{turns_did}
 use Rattle.off_defs.proofs.CountLemmas.{later_grew}
 use Rattle.off_rules.specs.Good.{Good}
-use Rattle.off_rules.specs.Rows.{counts_of}
 use Rattle.off_outside.specs.LinkSeen.{LinkSeen}
-use Rattle.off_outside.specs.KeeperSeen.{KeeperSeen}
-use Rattle.off_outside.specs.KeeperCalls.{Reads}
-use Rattle.off_outside.proofs.KeeperLemmas.{reads_as}
-use Rattle.off_laws.proofs.RunLaws.{run_keeps_good}
+use Rattle.off_outside.specs.KeeperSeen.{KeeperSeen, Rests}
+use Rattle.off_defs.specs.Counts.{Grew, one_more, most_count}
+use Rattle.off_outside.specs.KeeperCalls.{Reads, Quiet}
+use Rattle.off_outside.specs.LinkCalls.{LinkUnasked}
+use Rattle.off_office.specs.Conditions.{Fits}
 use Rattle.off_outside.specs.Streams.{SinkSeen}
-use Rattle.off_office.specs.Kept.{Kept}
+use Rattle.off_office.specs.Desk.{Desk}
 use Rattle.off_office.specs.Acting.{NotStarted}
 use Rattle.off_office.specs.declared.office.StartErr.{StartErr}
 use Rattle.off_office.specs.declared.office.StartErr.TheVariants as start_err
 use Rattle.off_serve.specs.declared.serving.Stop.{Stop}
 use Rattle.off_serve.specs.declared.serving.Stop.TheVariants as stop
 use Rattle.off_serve.specs.Serving.{World, world_of}
-use Rattle.off_serve.specs.Headline.{WroteText, CutText, RanTurns, RanFrom, RanOffice, Stops, Served, OwnLine, OwnWritten, Ended, Ends, NoFault, Completed, LinkSame, ServesAsOffice, closed_status, closed_line}
-use Rattle.off_serve.proofs.ServeLemmas.{wrote_more, wrote_same, wrote_none, cut_more, cut_same}
+use Rattle.off_serve.specs.Headline.{WroteText, CutText, LastsIn, RanTurns, KeeperRan, RanFrom, RanOffice, Stops, Served, OwnLine, OwnWritten, Ended, Ends, NoFault, Completed, ServesAsOffice, closed_status, closed_line, own_writes, memory_refused, link_refused}
+use Rattle.off_serve.proofs.ServeLemmas.{wrote_more, wrote_same, wrote_none, cut_more, cut_same, up_chain}
 
 own_line : (of : ℕ) (own text : List ℕ) (status : ℕ) (a b c : SinkSeen) → WroteText text a b → OwnWritten of own status b c → OwnLine of own text status a c
 own_line of own text status a b c wrote (inl w) = inl (w.0, wrote_more wrote w.1)
@@ -61,15 +62,32 @@ complete_of : (reason : Stop) (budget : ℕ) (turns : List Turn) (held : Held) (
     → RanOffice turns held old.keeper new.keeper → Ends reason budget turns old new status
     → NoFault old new → All (λ (turn : Turn). ¬ (SaysMemory turn)) turns → status ≢ 6 → Completed turns status
 complete_of reason budget turns held old new status ran office ends none silent other = record {
-  did = turns_did turns office.tell (omega (arith, none.keeper, none.keeper_count, office.faults.grew)) silent;
-  lost = omega (arith, none.unsent, none.unsent_count, ran.unsent.grew);
+  did = turns_did turns office.tell (omega (arith, none.keeper, none.keeper_count, office.keeper.faults.grew)) silent;
+  lost = omega (arith, none.unsent, none.unsent_count, ran.unsent.grew.grew);
   status_is = status_of reason budget turns old new status none other ends;
 }
 
+-- the opening asks nothing but reading
+keeper_opened : (turns : List Turn) (a b c : KeeperSeen) → Quiet a b → KeeperRan turns b c → KeeperRan turns a c
+keeper_opened turns a b c quiet ran = record {
+  faults = later_grew (omega (arith, quiet.faults)) ran.faults;
+  stands = λ none. ran.stands none ∙ quiet.faults;
+  commits = ran.commits ∙ ap (commits_by turns) quiet.commits;
+  up = up_chain a b c (omega (arith, quiet.faults)) ran.faults.later (λ up. inl (quiet.up up)) ran.up;
+}
+
+-- what a crash leaves from the opening on
+lasts_opened : (turns : List Turn) (first last : Desk) (a b c : KeeperSeen) → Rests a → (opened : Reads (Fits first) a b) → first.held ≡ held_at_start → (ran : RanFrom turns first last b c)
+    → (t u : Tables) → a.tables t → LastsIn b c (state_of t first.held) turns (state_of u last.held) → LastsIn a c (start t) turns (state_of u last.held)
+lasts_opened turns first last a b c rests opened fresh ran t u told lasts =
+    lasts_front c.opened c.doubt b.doubt a.doubt a.moment b.moment (start t) turns c.moment (state_of u last.held) opened.quiet.still.later opened.quiet.still.doubts
+    (λ m v early upto shown. rests t told v (opened.quiet.still.within m v early upto (ran.past m v upto shown)))
+    (subst (λ (h : Held). LastsIn b c (state_of t h) turns (state_of u last.held)) fresh lasts)
+
 -- an office that opened, and its turns
-ran_office : {turns : List Turn} {first last : Kept} {a b c : KeeperSeen} → Reads (λ t. Good t × (first.counts ≡ counts_of t)) a b → first.held ≡ held_at_start
+ran_office : {turns : List Turn} {first last : Desk} {a b c : KeeperSeen} → Rests a → Reads (Fits first) a b → first.held ≡ held_at_start
     → RanFrom turns first last b c → RanOffice turns last.held a c
-ran_office {turns} {first} {last} {a} {b} {c} opened fresh ran = record {
+ran_office {turns} {first} {last} {a} {b} {c} rests opened fresh ran = record {
   run = record {
     each = λ t told.
         let before = opened.tables t told in
@@ -77,42 +95,67 @@ ran_office {turns} {first} {last} {a} {b} {c} opened fresh ran = record {
         record {
           value = g.value;
           told = g.told;
-          fits = subst (λ (h : Held). Run (state_of t h) turns (state_of g.value last.held)) fresh (g.fits before.1.1).0;
+          fits = lasts_run c.opened c.doubt a.doubt a.moment (start t) turns c.moment (state_of g.value last.held)
+              (lasts_opened turns first last a b c rests opened fresh ran t g.value told (g.fits.holds before.1.counted).0);
         };
   };
-  faults = later_grew opened.faults ran.faults;
+  crash = record {
+    each = λ t told.
+        let before = opened.tables t told in
+        let g = ran.run.each t before.0 in
+        record {
+          value = g.value;
+          told = g.told;
+          fits = lasts_opened turns first last a b c rests opened fresh ran t g.value told (g.fits.holds before.1.counted).0;
+        };
+  };
+  keeper = keeper_opened turns a b c opened.quiet ran.keeper;
   tell = ran.tell;
 }
 
 -- good tables stay good over the turns
-good_again : {turns : List Turn} {held : Held} {a b c : KeeperSeen} → Reads Good a b → RanOffice turns held a c → Told a.tables c.tables (λ t u. Good u)
-good_again {turns} {held} good office = record {
+good_again : {turns : List Turn} {first last : Desk} {a b c : KeeperSeen} → Reads (Fits first) a b → RanFrom turns first last b c → Told a.tables c.tables (λ t u. Good u)
+good_again opened ran = record {
   each = λ t told.
-      let g = office.run.each t told in
-      record {
-        value = g.value;
-        told = g.told;
-        fits = run_keeps_good (start t) (state_of g.value held) turns g.fits (good.tables t told).1;
-      };
+      let before = opened.tables t told in
+      let g = ran.fits.each t before.0 in
+      record { value = g.value; told = g.told; fits = (g.fits before.1).good };
 }
 
-pub serves : (budget : ℕ) (link link' : LinkSeen) (k l m : KeeperSeen) (a b c : SinkSeen) (reason : Stop) (first last : Kept) (status : ℕ)
-    → Reads (λ t. Good t × (first.counts ≡ counts_of t)) k l → first.held ≡ held_at_start
+own_one : (of : ℕ) (own : List ℕ) (status : ℕ) (a b : SinkSeen) → OwnWritten of own status a b → b.calls ≡ one_more a.calls
+own_one of own status a b (inl w) = w.1.calls
+own_one of own status a b (inr w) = w.1.calls
+
+ended_writes : (reason : Stop) (status : ℕ) (a b : SinkSeen) → Ended reason status a b → b.calls ≡ own_writes reason a.calls
+ended_writes stop.Finished status a b ended = ended.1.calls
+ended_writes stop.Memory status a b ended = own_one 6 memory_refused status a b ended
+ended_writes stop.Link status a b ended = own_one 5 link_refused status a b ended
+ended_writes stop.Sink status a b ended = ended.1.calls
+
+-- a keeper whose count didn't rise is up
+up_kept : (a b : KeeperSeen) → b.faults ≡ a.faults → a.faults < most_count → b.up ⊎ Grew 1 a.faults b.faults → b.up
+up_kept a b same fits (inl up) = up
+up_kept a b same fits (inr grew) = absurd (omega (arith, same, fits, grew.grew))
+
+pub serves : (budget : ℕ) (link link' : LinkSeen) (k l m : KeeperSeen) (a b c : SinkSeen) (reason : Stop) (first last : Desk) (status : ℕ)
+    → Rests k → Reads (Fits first) k l → first.held ≡ held_at_start
     → Served reason budget first last (world_of link l a) (world_of link' m b) → Ended reason status b c → ServesAsOffice budget (world_of link k a) (world_of link' m c) status
-serves budget link link' k l m a b c reason first last status opened fresh served ended =
+serves budget link link' k l m a b c reason first last status rests opened fresh served ended =
     let ends = ends_of reason budget served.turns link link' l k m a b c status served.stops ended in
-    let office = ran_office opened fresh served.office in
+    let office = ran_office rests opened fresh served.office in
     inr (record {
       reason = reason;
       turns = served.turns;
       held = last.held;
-      good = λ t told. (opened.tables t told).1.0;
+      good = λ t told. (opened.tables t told).1.good;
       within = served.within;
       ends_last = served.ends_last;
       ran = served.ran;
       office = office;
-      stays_good = good_again (reads_as opened (λ t fits. fits.0)) office;
+      stays_good = good_again opened served.office;
       ends = ends;
+      writes = ended_writes reason status b c ended ∙ ap (own_writes reason) served.writes;
+      up = λ none up. up_kept k m none.keeper none.keeper_count (office.keeper.up up);
       complete = complete_of reason budget served.turns last.held (world_of link k a) (world_of link' m c) status served.ran office ends;
     })
 
@@ -124,13 +167,14 @@ closed_complete start_err.Failed old new status tables (inl w) none other = absu
 closed_complete start_err.Memory old new status tables (inl w) none other = absurd (other w.0)
 
 pub stays_closed : (budget : ℕ) (link : LinkSeen) (k l : KeeperSeen) (a b : SinkSeen) (why : StartErr) (status : ℕ)
-    → LinkSame link link → NotStarted why k l → OwnWritten (closed_status why) (closed_line why) status a b → ServesAsOffice budget (world_of link k a) (world_of link l b) status
+    → LinkUnasked link link → NotStarted why k l → OwnWritten (closed_status why) (closed_line why) status a b → ServesAsOffice budget (world_of link k a) (world_of link l b) status
 stays_closed budget link k l a b why status same tables wrote =
     let text = own_line (closed_status why) (closed_line why) [] status a a b (wrote_none a) wrote in
     inl (record {
       why = why;
       tables = tables;
       link = same;
+      writes = own_one (closed_status why) (closed_line why) status a b wrote;
       text = text;
       complete = closed_complete why (world_of link k a) (world_of link l b) status tables text;
     })

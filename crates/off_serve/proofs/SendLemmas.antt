@@ -4,13 +4,16 @@ use Rattle.std.proofs.lemmas.List.{take_more}
 use Rattle.std.proofs.lemmas.List.Sums.{sum_by-append}
 use Rattle.std.proofs.lemmas.Option.{get_or_from_slice_get}
 use Rattle.off_defs.specs.declared.results.Sent.{Sent}
-use Rattle.off_defs.specs.Counts.{Grew}
+use Rattle.off_defs.specs.Counts.{Tallied}
 use Rattle.off_book.specs.Run.{all_went, marked}
 use Rattle.off_defs.proofs.ToldLemmas.{told_then, told_self, stays_self, then_stays}
-use Rattle.off_defs.proofs.CountLemmas.{grew_self, grew_then}
+use Rattle.off_defs.proofs.CountLemmas.{tallied_none, tallied_one, tallied_then, tallied_stays}
 use Rattle.off_book.proofs.RunLemmas.{marked_push, all_went_push, lost_push}
 use Rattle.off_outside.specs.LinkSeen.{LinkSeen}
 use Rattle.off_serve.specs.Serving.{SentOne, SentAll}
+
+tallied_same : {a b : ℕ} → b ≡ a → Tallied 0 a b
+tallied_same {a} {b} same = tallied_stays (tallied_none a) same
 
 pub sent_none : (s : LinkSeen) → SentAll [] true s s
 sent_none s = record {
@@ -21,7 +24,7 @@ sent_none s = record {
   sent = told_self (λ x. sym (append-nil x));
   missed = refl;
   faults = refl;
-  unsent = grew_self s.unsent;
+  unsent = tallied_none s.unsent;
 }
 
 and_cond : (a b : Bool) → (a && b) ≡ cond a b false
@@ -45,7 +48,7 @@ sent_more items item all true {a} {b} {c} p q = record {
       after ∙ (ap (λ v. v ++ item ∷ []) before ∙ (append_assoc x (marked items p.marks) (item ∷ []) ∙ ap (λ v. x ++ v) (sym (marked_push items p.marks item true p.each)))));
   missed = q.missed ∙ p.missed;
   faults = q.faults ∙ p.faults;
-  unsent = subst (λ n. Grew n a.unsent c.unsent) (sym (lost_push p.marks true)) (record { later = omega (arith, p.unsent.later, q.unsent); grew = omega (arith, p.unsent.grew, q.unsent) });
+  unsent = subst (λ n. Tallied n a.unsent c.unsent) (sym (lost_push p.marks true)) (tallied_then p.unsent (tallied_same q.unsent));
 }
 sent_more items item all false {a} {b} {c} p q = record {
   marks = p.marks ++ false ∷ [];
@@ -56,7 +59,7 @@ sent_more items item all false {a} {b} {c} p q = record {
       same ∙ (before ∙ (ap (λ v. x ++ v) (sym (append-nil (marked items p.marks)) ∙ sym (marked_push items p.marks item false p.each)))));
   missed = q.missed ∙ p.missed;
   faults = q.faults ∙ p.faults;
-  unsent = subst (λ n. Grew n a.unsent c.unsent) (sym (lost_push p.marks false)) (grew_then p.unsent q.unsent);
+  unsent = subst (λ n. Tallied n a.unsent c.unsent) (sym (lost_push p.marks false)) (tallied_then p.unsent (tallied_one q.unsent));
 }
 
 -- the items up to i, and item i
@@ -91,7 +94,7 @@ sent_then items more all other {a} {b} {c} p q = record {
       after ∙ (ap (λ v. v ++ marked more q.marks) before ∙ (append_assoc x (marked items p.marks) (marked more q.marks) ∙ ap (λ v. x ++ v) (sym (marked_then items more p.marks q.marks p.each)))));
   missed = q.missed ∙ p.missed;
   faults = q.faults ∙ p.faults;
-  unsent = subst (λ n. Grew n a.unsent c.unsent) (sym (sum_by-append (λ m. cond (not m) 1 0) p.marks q.marks)) (grew_then p.unsent q.unsent);
+  unsent = subst (λ n. Tallied n a.unsent c.unsent) (sym (sum_by-append (λ m. cond (not m) 1 0) p.marks q.marks)) (tallied_then p.unsent q.unsent);
 }
 
 pub sent_two : (one other : Sent) (first second : Bool) (a b c : LinkSeen) → SentOne one first a b → SentOne other second b c → SentAll (one ∷ other ∷ []) (first && second) a c

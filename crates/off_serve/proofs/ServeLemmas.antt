@@ -1,28 +1,35 @@
 -- The loop over the events: what holds after each turn, and what each end of the loop comes to.
-use Rattle.std.proofs.Common.{◌≡◌, ℕ, ◌+◌, ◌-◌, ◌<◌, ◌≤◌, true, false, List, [], ◌∷◌, ◌++◌, length, take, drop, All, refl, sym, ap, ◌∙◌, subst, inl, inr, arith, append_assoc, append-nil, length-append}
+use Rattle.std.proofs.Common.{◌≡◌, ℕ, ◌+◌, ◌-◌, ◌<◌, ◌≤◌, ◌⊎◌, true, false, List, [], ◌∷◌, ◌++◌, length, take, drop, All, refl, sym, ap, ◌∙◌, subst, inl, inr, arith, append_assoc, append-nil, length-append}
 use Rattle.std.proofs.Math.Seq.{take-append_seam, drop-append_seam}
 use Rattle.std.proofs.lemmas.List.Elements.{All-same, All-push, All-take, All-head, All-tail, All-nil, All-cons}
 use Rattle.off_defs.specs.declared.events.Event.{Event}
 use Rattle.off_defs.specs.Told.{Stays}
-use Rattle.off_defs.specs.Counts.{Grew}
-use Rattle.off_defs.specs.State.{state_of}
-use Rattle.off_rules.specs.Rows.{counts_of}
+use Rattle.off_defs.specs.declared.results.Outcome.{Outcome}
+use Rattle.off_defs.specs.declared.results.Outcome.TheVariants.{Did, Memory, Keeper}
+use Rattle.off_defs.specs.Counts.{Grew, Tallied, commits_after, calls_after}
+use Rattle.off_defs.specs.State.{Tables, state_of}
 use Rattle.off_defs.specs.Events.{end_event}
-use Rattle.off_book.specs.Run.{Turn, Run, TellsItsOutcome, failures_by, sent_in, sent_by, lost_by, line_of, lines_from, events_of, first_events, is_end, IsNoEnd, EndsLast}
+use Rattle.off_book.specs.Run.{Turn, Run, TellsItsOutcome, keeper_failures, failures_by, trouble, troubles_by, writes_by, sent_in, sent_by, lost_by, line_of, lines_from, events_of, first_events, is_end, IsNoEnd, EndsLast}
 use Rattle.off_defs.proofs.ToldLemmas.{told_then, told_self, then_stays}
-use Rattle.off_defs.proofs.CountLemmas.{grew_self, grew_then, later_grew}
-use Rattle.off_book.proofs.RunLemmas.{run_push, failures_by_push, sent_by_push, lost_by_push, lines_from_push}
+use Rattle.off_defs.proofs.CountLemmas.{grew_self, grew_then, grew_later, later_grew, tallied_none, tallied_then, tallied_stays}
+use Rattle.off_book.specs.Crashes.{Begins}
+use Rattle.off_book.proofs.CrashLemmas.{OneTurn, OnlyReads, lasts_push, lasts_stay, doubts_by}
+use Rattle.off_book.proofs.RunLemmas.{failures_by_push, troubles_by_push, commits_by_push, writes_by_push, sent_by_push, lost_by_push, lines_from_push}
 use Rattle.off_outside.specs.LinkSeen.{LinkSeen}
-use Rattle.off_outside.specs.KeeperSeen.{KeeperSeen}
-use Rattle.off_office.specs.Kept.{Kept}
+use Rattle.off_outside.specs.KeeperSeen.{KeeperSeen, Rests}
+use Rattle.off_office.specs.Desk.{Desk}
 use Rattle.off_outside.specs.LinkCalls.{first_event}
-use Rattle.off_outside.specs.Streams.{SinkSeen, Wrote, NotWritten}
+use Rattle.off_outside.specs.Streams.{SinkSeen, SinkUnasked, Wrote, NotWritten}
+use Rattle.off_outside.specs.KeeperCalls.{StaysUp, Unasked, Still}
+use Rattle.off_outside.proofs.KeeperLemmas.{unasked_stays}
+use Rattle.off_office.specs.Conditions.{Counted}
+use Rattle.off_office.specs.Acting.{CountsFaults, EventBegins}
 use Rattle.off_serve.specs.declared.serving.Stop.TheVariants as stop
-use Rattle.off_serve.specs.Serving.{World, OfficeTurn, KeeperSame, TurnMade, TurnWritten, TurnCut, NoTurn, LacksMemory, Missed, SinkSame, most_missed}
-use Rattle.off_serve.specs.Headline.{WroteText, CutText, RanTurns, RanFrom, SoFar, Served}
+use Rattle.off_serve.specs.Serving.{World, OfficeTurn, TurnMade, LineWritten, TurnWritten, TurnCut, NoTurn, LacksMemory, Missed, most_missed}
+use Rattle.off_serve.specs.Headline.{WroteText, CutText, LastsIn, RanTurns, KeeperRan, RanFrom, SoFar, Served}
 
 -- `n` turns so far
-pub record Going (n : ℕ) (first last : Kept) (old new : World) : Type 0 where
+pub record Going (n : ℕ) (first last : Desk) (old new : World) : Type 0 where
   pub turns : List Turn
   pub count : length turns ≡ n
   pub so_far : SoFar turns first last old new
@@ -44,7 +51,7 @@ next_events (first ∷ turns) turn (event ∷ events) no_end so_far next =
     let rest = next_events turns turn events (All-tail IsNoEnd first turns no_end) tails next in
     (ap (λ v. v ∷ events_of (turns ++ turn ∷ [])) heads ∙ ap (λ v. event ∷ v) rest.0, rest.1)
 
-ran_push : {turns : List Turn} {turn : Turn} {before after : Kept} {a : LinkSeen} {b c : World} → RanTurns turns a b.link → All IsNoEnd turns
+ran_push : {turns : List Turn} {turn : Turn} {before after : Desk} {a : LinkSeen} {b c : World} → RanTurns turns a b.link → All IsNoEnd turns
     → TurnMade turn before after b c → RanTurns (turns ++ turn ∷ []) a c.link
 ran_push {turns} {turn} {before} {after} {a} {b} {c} ran no_end made = record {
   left = told_then ran.left made.left (λ x y z before now.
@@ -53,52 +60,158 @@ ran_push {turns} {turn} {before} {after} {a} {b} {c} ran no_end made = record {
   marks = All-push (λ (t : Turn). length t.said.items ≡ length t.went) turns turn ran.marks made.marks;
   sent = told_then ran.sent made.sent (λ x y z before now.
       now ∙ (ap (λ k. k ++ sent_in turn) before ∙ (append_assoc x (sent_by turns) (sent_in turn) ∙ ap (λ k. x ++ k) (sym (sent_by_push turns turn)))));
-  unsent = subst (λ n. Grew n a.unsent c.link.unsent) (sym (lost_by_push turns turn)) (grew_then ran.unsent made.unsent);
+  unsent = subst (λ n. Tallied n a.unsent c.link.unsent) (sym (lost_by_push turns turn)) (tallied_then ran.unsent made.unsent);
+}
+
+-- the counts of a turn by its outcome
+turn_grew : (outcome : Outcome) (a b : ℕ) → CountsFaults outcome a b → Grew (keeper_failures outcome) a b
+turn_grew Did a b same = record { later = omega (arith, same); grew = omega (arith, same) }
+turn_grew Memory a b grew = grew
+turn_grew Keeper a b grew = grew
+
+turn_stands : (outcome : Outcome) (a b : ℕ) → CountsFaults outcome a b → trouble outcome ≡ 0 → b ≡ a
+turn_stands Did a b same none = same
+turn_stands Memory a b grew none = absurd (omega (arith, none))
+turn_stands Keeper a b grew none = absurd (omega (arith, none))
+
+-- a keeper that is up, or has counted a fault, over calls in a row
+up_behind : (a b c : KeeperSeen) → a.faults ≤ b.faults → c.up ⊎ Grew 1 b.faults c.faults → c.up ⊎ Grew 1 a.faults c.faults
+up_behind a b c later (inl up) = inl up
+up_behind a b c later (inr grew) = inr (later_grew later grew)
+
+up_then : (a b c : KeeperSeen) → a.faults ≤ b.faults → b.faults ≤ c.faults → StaysUp b c → b.up ⊎ Grew 1 a.faults b.faults → c.up ⊎ Grew 1 a.faults c.faults
+up_then a b c first second q (inl up) = up_behind a b c first (q up)
+up_then a b c first second q (inr grew) = inr (grew_later grew second)
+
+pub up_chain : (a b c : KeeperSeen) → a.faults ≤ b.faults → b.faults ≤ c.faults → StaysUp a b → StaysUp b c → StaysUp a c
+up_chain a b c first second p q = λ up. up_then a b c first second q (p up)
+
+keeper_push : (turns : List Turn) (turn : Turn) (before after : Desk) (a b c : KeeperSeen) → KeeperRan turns a b → OfficeTurn turn before after b c
+    → KeeperRan (turns ++ turn ∷ []) a c
+keeper_push turns turn before after a b c ran made =
+    let grew = turn_grew turn.outcome b.faults c.faults made.faults in
+    record {
+      faults = subst (λ n. Grew n a.faults c.faults) (sym (failures_by_push turns turn)) (grew_then ran.faults grew);
+      stands = λ none.
+          let all : troubles_by turns + trouble turn.outcome ≡ 0 = sym (troubles_by_push turns turn) ∙ none in
+          turn_stands turn.outcome b.faults c.faults made.faults (omega (arith, all)) ∙ ran.stands (omega (arith, all));
+      commits = made.commits ∙ (ap (commits_after turn.commit) ran.commits ∙ sym (commits_by_push turns turn a.commits));
+      up = up_chain a b c ran.faults.later grew.later ran.up made.up;
+    }
+
+-- calls that ask nothing of the keeper
+keeper_same : (turns : List Turn) (a b c : KeeperSeen) → KeeperRan turns a b → Unasked b c → KeeperRan turns a c
+keeper_same turns a b c ran same = record {
+  faults = subst (λ v. Grew (failures_by turns) a.faults v) (sym same.quiet.faults) ran.faults;
+  stands = λ none. same.quiet.faults ∙ ran.stands none;
+  commits = same.quiet.commits ∙ ran.commits;
+  up = up_chain a b c ran.faults.later (omega (arith, same.quiet.faults)) ran.up (λ up. inl (same.quiet.up up));
+}
+
+-- calls that only read
+only_reads : (b c : KeeperSeen) → Still b c → OnlyReads b.opened c.opened b.doubt c.doubt b.moment c.moment
+only_reads b c still = record { later = still.later; past = still.past; within = still.within; doubts = still.doubts }
+
+-- what a turn may have begun
+begun_so : (event : Event) (before : Desk) (y : Tables) (doubt : Type 0) (u : Tables) → Counted before y → (u ≡ y) ⊎ (doubt ⊎ EventBegins event before y u)
+    → (u ≡ y) ⊎ (doubt ⊎ Begins (state_of y before.held) event u)
+begun_so event before y doubt u agree (inl same) = inl same
+begun_so event before y doubt u agree (inr (inl is)) = inr (inl is)
+begun_so event before y doubt u agree (inr (inr begun)) = inr (inr (begun agree))
+
+-- what is told of a crash within a turn
+one_turn : (turn : Turn) (before after : Desk) (b c : KeeperSeen) → Rests c → OfficeTurn turn before after b c → (y z : Tables) → b.tables y → c.tables z → Counted before y
+    → OneTurn b.opened c.opened b.doubt c.doubt b.moment c.moment (state_of y before.held) (state_of z after.held) turn
+one_turn turn before after b c rests made y z told now agree = record {
+  later = made.crash.later;
+  past = made.crash.past;
+  within = λ m u behind upto opened. begun_so turn.event before y (b.doubt u) u agree (made.crash.within y told m u behind upto opened);
+  doubts = λ u ends. doubts_by b.doubt (state_of y before.held) turn u (λ begun. begun agree) (made.doubts y told u ends);
+  rests = λ u opened. rests z now u opened;
 }
 
 -- the office goes on by one turn
-from_push : {turns : List Turn} {turn : Turn} {first before after : Kept} {a b c : KeeperSeen} → RanFrom turns first before a b → OfficeTurn turn before after b c
+from_push : {turns : List Turn} {turn : Turn} {first before after : Desk} {a b c : KeeperSeen} → Rests c → RanFrom turns first before a b → OfficeTurn turn before after b c
     → RanFrom (turns ++ turn ∷ []) first after a c
-from_push {turns} {turn} {first} {before} {after} {a} {b} {c} ran made = record {
-  run = told_then ran.run made.tables (λ x y z so_far next agree.
-      let half = so_far agree in
-      let whole = next half.1 in
-      (run_push (state_of x first.held) turns (state_of y before.held) (state_of z after.held) turn half.0 whole.0, whole.1));
-  faults = subst (λ n. Grew n a.faults c.faults) (sym (failures_by_push turns turn)) (grew_then ran.faults made.faults);
+from_push {turns} {turn} {first} {before} {after} {a} {b} {c} rests ran made = record {
+  run = record {
+    each = λ x told.
+        let g = ran.run.each x told in
+        let h = made.tables.each g.value g.told in
+        record {
+          value = h.value;
+          told = h.told;
+          fits = record {
+            holds = λ agree.
+                let half = g.fits.holds agree in
+                let whole = h.fits.holds half.1 in (
+                  lasts_push b.opened c.opened b.doubt c.doubt a.doubt a.moment (state_of x first.held) turns b.moment c.moment (state_of g.value before.held)
+                      (state_of h.value after.held) turn half.0 whole.0 (one_turn turn before after b c rests made g.value h.value g.told h.told half.1),
+                  whole.1,
+                );
+          };
+        };
+  };
+  past = λ m u early opened. ran.past m u early (made.crash.past m u (omega (arith, early, ran.later)) opened);
+  later = omega (arith, ran.later, made.crash.later);
+  fits = told_then ran.fits made.fits (λ x y z so_far next fits. next (so_far fits));
+  keeper = keeper_push turns turn before after a b c ran.keeper made;
   tell = All-push TellsItsOutcome turns turn ran.tell made.tells;
 }
 
-from_same : {turns : List Turn} {first before after : Kept} {a b c : KeeperSeen} → RanFrom turns first before a b → after ≡ before → KeeperSame b c
+from_same : {turns : List Turn} {first before after : Desk} {a b c : KeeperSeen} → RanFrom turns first before a b → after ≡ before → Unasked b c
     → RanFrom turns first after a c
-from_same {turns} {first} {before} {after} {a} {b} {c} ran same keeper = record {
-  run = record {
-    each = λ x t.
-        let g = ran.run.each x t in
-        record {
-          value = g.value;
-          told = keeper.tables g.value g.told;
-          fits = λ agree. let half = g.fits agree in
-              (subst (λ (v : Kept). Run (state_of x first.held) turns (state_of g.value v.held)) (sym same) half.0, subst (λ (v : Kept). v.counts ≡ counts_of g.value) (sym same) half.1);
-        };
-  };
-  faults = subst (λ v. Grew (failures_by turns) a.faults v) (sym keeper.faults) ran.faults;
-  tell = ran.tell;
-}
+from_same {turns} {first} {before} {after} {a} {b} {c} ran same keeper =
+    subst (λ (v : Desk). RanFrom turns first v a c) (sym same)
+    (record {
+      run = record {
+        each = λ x told.
+            let g = ran.run.each x told in
+            record {
+              value = g.value;
+              told = keeper.tables g.value g.told;
+              fits = record {
+                holds = λ agree. let half = g.fits.holds agree in (
+                  lasts_stay b.opened c.opened b.doubt c.doubt a.doubt a.moment (state_of x first.held) turns b.moment c.moment (state_of g.value before.held) half.0
+                      (only_reads b c keeper.quiet.still),
+                  half.1,
+                );
+              };
+            };
+      };
+      past = λ m u early opened. ran.past m u early (keeper.quiet.still.past m u (omega (arith, early, ran.later)) opened);
+      later = omega (arith, ran.later, keeper.quiet.still.later);
+      fits = then_stays ran.fits (unasked_stays keeper);
+      keeper = keeper_same turns a b c ran.keeper keeper;
+      tell = ran.tell;
+    })
 
 pub wrote_more : {x y : List ℕ} {a b c : SinkSeen} → WroteText x a b → Wrote y b c → WroteText (x ++ y) a c
 wrote_more {x} {y} p q = record {
   written = told_then p.written q.written (λ u v w before now. now ∙ (ap (λ k. k ++ y) before ∙ append_assoc u x y));
-  faults = omega (arith, p.faults, q.faults);
+  faults = q.faults ∙ p.faults;
 }
 
 pub wrote_none : (a : SinkSeen) → WroteText [] a a
-wrote_none a = record { written = told_self (λ x. sym (append-nil x)); faults = omega arith }
+wrote_none a = record { written = told_self (λ x. sym (append-nil x)); faults = refl }
 
-pub wrote_same : {x : List ℕ} {a b c : SinkSeen} → WroteText x a b → SinkSame b c → WroteText x a c
-wrote_same p q = record { written = then_stays p.written q.written; faults = omega (arith, p.faults, q.faults) }
+pub wrote_same : {x : List ℕ} {a b c : SinkSeen} → WroteText x a b → SinkUnasked b c → WroteText x a c
+wrote_same p q = record { written = then_stays p.written q.written; faults = q.faults ∙ p.faults }
 
-pub going_none : (first : Kept) (w : World) → w.link.missed ≡ 0 → Going 0 first first w w
-going_none first w none = record {
+begins_so : (first : Desk) (k : KeeperSeen) → Rests k → (x : Tables) → k.tables x → LastsIn k k (state_of x first.held) [] (state_of x first.held)
+begins_so first k rests x told = (
+  refl,
+  (
+    (let e : k.moment ≤ k.moment = omega arith in e),
+    (
+      λ u ends. ends,
+      λ m u early upto opened. let same : m ≡ k.moment = omega arith in rests x told u (subst (λ n. k.opened n u) same opened),
+    ),
+  ),
+)
+
+pub going_none : (first : Desk) (w : World) → Rests w.keeper → w.link.missed ≡ 0 → Going 0 first first w w
+going_none first w rests none = record {
   turns = [];
   count = refl;
   so_far = record {
@@ -106,13 +219,21 @@ going_none first w none = record {
       left = told_self (λ x. (refl, refl));
       marks = All-nil _;
       sent = told_self (λ x. sym (append-nil x));
-      unsent = grew_self w.link.unsent;
+      unsent = tallied_none w.link.unsent;
     };
-    office = record { run = told_self (λ x agree. (refl, agree)); faults = grew_self w.keeper.faults; tell = All-nil _ };
+    office = record {
+      run = record { each = λ x told. record { value = x; told = told; fits = record { holds = λ agree. (begins_so first w.keeper rests x told, agree) } } };
+      past = λ m u early opened. opened;
+      later = omega arith;
+      fits = told_self (λ x fits. fits);
+      keeper = record { faults = grew_self w.keeper.faults; stands = λ none. refl; commits = refl; up = λ up. inl up };
+      tell = All-nil _;
+    };
     no_end = All-nil _;
     missed = none;
     faults = omega arith;
-    text = record { written = told_self (λ x. sym (append-nil x)); faults = omega arith };
+    text = record { written = told_self (λ x. sym (append-nil x)); faults = refl };
+    writes = refl;
   };
 }
 
@@ -120,22 +241,33 @@ going_none first w none = record {
 line_number : (n : ℕ) (turns : List Turn) (turn : Turn) → length turns ≡ n → line_of (n + 1) turn ≡ line_of (1 + length turns) turn
 line_number n turns turn count = let e : n + 1 ≡ 1 + length turns = omega arith in ap (λ k. line_of k turn) e
 
-text_more : (n : ℕ) (turns : List Turn) (turn : Turn) {a b c : SinkSeen} → length turns ≡ n → WroteText (lines_from 1 turns) a b → Wrote (line_of (n + 1) turn) b c
+line_more : {words x y : List ℕ} {a b c : SinkSeen} → WroteText x a b → LineWritten words y b c → WroteText (x ++ y) a c
+line_more {words} {x} {y} p q = record {
+  written = told_then p.written q.written (λ u v w before now. now ∙ (ap (λ k. k ++ y) before ∙ append_assoc u x y));
+  faults = q.faults ∙ p.faults;
+}
+
+-- one more line
+writes_more : (turns : List Turn) (turn : Turn) (a b c : ℕ) → b ≡ writes_by turns a → c ≡ calls_after turn.said.line b → c ≡ writes_by (turns ++ turn ∷ []) a
+writes_more turns turn a b c so_far one = one ∙ (ap (calls_after turn.said.line) so_far ∙ sym (writes_by_push turns turn a))
+
+text_more : (n : ℕ) (turns : List Turn) (turn : Turn) {a b c : SinkSeen} → length turns ≡ n → WroteText (lines_from 1 turns) a b → LineWritten turn.said.line (line_of (n + 1) turn) b c
     → WroteText (lines_from 1 (turns ++ turn ∷ [])) a c
 text_more n turns turn {a} {b} {c} count text wrote =
-    subst (λ v. WroteText v a c) (sym (lines_from_push 1 turns turn)) (wrote_more text (subst (λ v. Wrote v b c) (line_number n turns turn count) wrote))
+    subst (λ v. WroteText v a c) (sym (lines_from_push 1 turns turn)) (line_more text (subst (λ v. LineWritten turn.said.line v b c) (line_number n turns turn count) wrote))
 
-pub going_more : {n : ℕ} {first before after : Kept} {a b c : World} → Going n first before a b → TurnWritten false (n + 1) before after b c → Going (n + 1) first after a c
-going_more {n} {first} {before} {after} {a} {b} {c} going went = record {
+pub going_more : {n : ℕ} {first before after : Desk} {a b c : World} → Rests c.keeper → Going n first before a b → TurnWritten false (n + 1) before after b c → Going (n + 1) first after a c
+going_more {n} {first} {before} {after} {a} {b} {c} rests going went = record {
   turns = going.turns ++ went.turn ∷ [];
   count = omega (arith, length-append going.turns (went.turn ∷ []), going.count);
   so_far = record {
     ran = ran_push going.so_far.ran going.so_far.no_end went.made;
-    office = from_push going.so_far.office went.made.office;
+    office = from_push rests going.so_far.office went.made.office;
     no_end = All-push IsNoEnd going.turns went.turn going.so_far.no_end went.last;
     missed = went.made.missed;
     faults = omega (arith, going.so_far.faults, went.made.faults);
     text = text_more _ _ _ going.count going.so_far.text went.wrote;
+    writes = writes_more going.turns went.turn a.sink.calls b.sink.calls c.sink.calls going.so_far.writes went.wrote.calls;
   };
 }
 
@@ -155,10 +287,10 @@ last_is turns turn is =
 pub cut_more : {x y : List ℕ} {a b c : SinkSeen} → WroteText x a b → NotWritten y b c → CutText x y a c
 cut_more {x} {y} p q = record {
   written = told_then p.written q.written (λ u v w before front. record { count = front.count; front = front.front ∙ ap (λ k. k ++ take front.count y) before });
-  faults = later_grew p.faults q.faults;
+  faults = later_grew (omega (arith, p.faults)) q.faults;
 }
 
-pub cut_same : {x y : List ℕ} {a b c : SinkSeen} → CutText x y a b → SinkSame b c → CutText x y a c
+pub cut_same : {x y : List ℕ} {a b c : SinkSeen} → CutText x y a b → SinkUnasked b c → CutText x y a c
 cut_same {x} {y} {a} {b} {c} p q = record { written = then_stays p.written q.written; faults = subst (λ v. Grew 1 a.faults v) (sym q.faults) p.faults }
 
 -- nothing was taken or sent
@@ -167,63 +299,66 @@ ran_stays {turns} {a} {b} {c} ran left sent unsent = record {
   left = then_stays ran.left left;
   marks = ran.marks;
   sent = then_stays ran.sent sent;
-  unsent = subst (λ v. Grew (lost_by turns) a.unsent v) (sym unsent) ran.unsent;
+  unsent = tallied_stays ran.unsent unsent;
 }
 
 no_end_ends : (turns : List Turn) → All IsNoEnd turns → EndsLast turns
 no_end_ends turns no_end = All-take IsNoEnd (length turns - 1) turns no_end
 
-pub served_end : {n budget : ℕ} {first before after : Kept} {a b c : World} → Going n first before a b → n < budget → TurnWritten true (n + 1) before after b c → Served stop.Finished budget first after a c
-served_end {n} {budget} {first} {before} {after} {a} {b} {c} going more ended = record {
+pub served_end : {n budget : ℕ} {first before after : Desk} {a b c : World} → Rests c.keeper → Going n first before a b → n < budget → TurnWritten true (n + 1) before after b c → Served stop.Finished budget first after a c
+served_end {n} {budget} {first} {before} {after} {a} {b} {c} rests going more ended = record {
   turns = going.turns ++ ended.turn ∷ [];
   within = omega (arith, length-append going.turns (ended.turn ∷ []), going.count);
   ends_last = ends_last going.turns ended.turn going.so_far.no_end;
   ran = ran_push going.so_far.ran going.so_far.no_end ended.made;
-  office = from_push going.so_far.office ended.made.office;
+  office = from_push rests going.so_far.office ended.made.office;
   stops = record {
     cause = inr (omega (arith, length-append going.turns (ended.turn ∷ [])), last_is going.turns ended.turn ended.last);
     missed = ended.made.missed;
     faults = omega (arith, going.so_far.faults, ended.made.faults);
     text = text_more _ _ _ going.count going.so_far.text ended.wrote;
   };
+  writes = writes_more going.turns ended.turn a.sink.calls b.sink.calls c.sink.calls going.so_far.writes ended.wrote.calls;
 }
 
-pub served_cut : {n budget : ℕ} {first before after : Kept} {a b c : World} → Going n first before a b → n < budget → TurnCut (n + 1) before after b c → Served stop.Sink budget first after a c
-served_cut {n} {budget} {first} {before} {after} {a} {b} {c} going more cut = record {
+pub served_cut : {n budget : ℕ} {first before after : Desk} {a b c : World} → Rests c.keeper → Going n first before a b → n < budget → TurnCut (n + 1) before after b c → Served stop.Sink budget first after a c
+served_cut {n} {budget} {first} {before} {after} {a} {b} {c} rests going more cut = record {
   turns = going.turns ++ cut.turn ∷ [];
   within = omega (arith, length-append going.turns (cut.turn ∷ []), going.count);
   ends_last = ends_last going.turns cut.turn going.so_far.no_end;
   ran = ran_push going.so_far.ran going.so_far.no_end cut.made;
-  office = from_push going.so_far.office cut.made.office;
+  office = from_push rests going.so_far.office cut.made.office;
   stops = record {
     front = going.turns;
     last = cut.turn;
     parts = refl;
     missed = cut.made.missed;
     faults = omega (arith, going.so_far.faults, cut.made.faults);
-    text = let e : n + 1 ≡ length going.turns + 1 = omega (arith, going.count) in cut_more going.so_far.text (subst (λ k. NotWritten (line_of k cut.turn) b.sink c.sink) e cut.cut);
+    text = let e : n + 1 ≡ length going.turns + 1 = omega (arith, going.count) in cut_more going.so_far.text (subst (λ k. NotWritten (line_of k cut.turn) b.sink c.sink) e cut.cut.cut);
   };
+  writes = writes_more going.turns cut.turn a.sink.calls b.sink.calls c.sink.calls going.so_far.writes cut.cut.calls;
 }
 
-pub served_memory : {n budget : ℕ} {first before after : Kept} {a b c : World} → Going n first before a b → n < budget → NoTurn LacksMemory before after b c → Served stop.Memory budget first after a c
+pub served_memory : {n budget : ℕ} {first before after : Desk} {a b c : World} → Going n first before a b → n < budget → NoTurn LacksMemory before after b c → Served stop.Memory budget first after a c
 served_memory {n} {budget} {first} {before} {after} {a} {b} {c} going more lacks = record {
   turns = going.turns;
   within = omega (arith, going.count);
   ends_last = no_end_ends going.turns going.so_far.no_end;
-  ran = ran_stays going.so_far.ran lacks.link.missed.left lacks.link.missed.sent lacks.link.missed.unsent;
+  ran = ran_stays going.so_far.ran lacks.link.left lacks.link.sent lacks.link.unsent;
   office = from_same going.so_far.office lacks.same lacks.keeper;
   stops = (
     record {
       more = omega (arith, going.count);
       no_end = going.so_far.no_end;
-      missed = omega (arith, lacks.link.missed.missed, lacks.link.few);
-      faults = omega (arith, going.so_far.faults, lacks.link.missed.faults.later);
+      missed = omega (arith, lacks.link.missed, lacks.link.few);
+      faults = omega (arith, going.so_far.faults, lacks.link.faults.later);
     },
     wrote_same going.so_far.text lacks.sink,
   );
+  writes = lacks.sink.calls ∙ going.so_far.writes;
 }
 
-pub served_missed : {n budget : ℕ} {first before after : Kept} {a b c : World} → Going n first before a b → n < budget → NoTurn (Missed most_missed) before after b c → Served stop.Link budget first after a c
+pub served_missed : {n budget : ℕ} {first before after : Desk} {a b c : World} → Going n first before a b → n < budget → NoTurn (Missed most_missed) before after b c → Served stop.Link budget first after a c
 served_missed {n} {budget} {first} {before} {after} {a} {b} {c} going more missed = record {
   turns = going.turns;
   within = omega (arith, going.count);
@@ -235,13 +370,14 @@ served_missed {n} {budget} {first} {before} {after} {a} {b} {c} going more misse
       more = omega (arith, going.count);
       no_end = going.so_far.no_end;
       missed = missed.link.missed;
-      faults = later_grew going.so_far.faults missed.link.faults;
+      faults = later_grew going.so_far.faults missed.link.faults.grew;
     },
     wrote_same going.so_far.text missed.sink,
   );
+  writes = missed.sink.calls ∙ going.so_far.writes;
 }
 
-pub served_all : {n budget : ℕ} {first last : Kept} {a b : World} → Going n first last a b → budget ≤ n → n ≤ budget → Served stop.Finished budget first last a b
+pub served_all : {n budget : ℕ} {first last : Desk} {a b : World} → Going n first last a b → budget ≤ n → n ≤ budget → Served stop.Finished budget first last a b
 served_all {n} {budget} {first} {last} {a} {b} going all within = record {
   turns = going.turns;
   within = omega (arith, going.count);
@@ -254,4 +390,5 @@ served_all {n} {budget} {first} {last} {a} {b} going all within = record {
     faults = going.so_far.faults;
     text = going.so_far.text;
   };
+  writes = going.so_far.writes;
 }

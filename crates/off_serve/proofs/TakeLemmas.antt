@@ -3,30 +3,32 @@ use Rattle.std.proofs.Common.{◌≡◌, ℕ, ◌+◌, ◌<◌, refl, ap, ◌∙
 use Rattle.off_defs.specs.declared.events.Event.{Event}
 use Rattle.off_defs.specs.Counts.{one_more}
 use Rattle.off_defs.proofs.ToldLemmas.{stays_self, stays_then, then_stays}
-use Rattle.off_defs.proofs.CountLemmas.{grew_self, grew_then, grew_later}
+use Rattle.off_defs.proofs.CountLemmas.{tallied_none, tallied_one, tallied_then, tallied_stays, grew_later}
 use Rattle.off_outside.specs.declared.link.LinkErr.TheVariants as link_err
 use Rattle.off_outside.specs.LinkSeen.{LinkSeen}
 use Rattle.off_outside.specs.LinkCalls.{Took, NotTook}
-use Rattle.off_serve.specs.Serving.{Missed, LacksMemory, most_missed}
+use Rattle.off_serve.specs.Serving.{Missed, TookBehind, LacksMemory, most_missed}
 
 pub missed_none : {s : LinkSeen} → s.missed ≡ 0 → Missed 0 s s
-missed_none {s} none = record { left = stays_self; sent = stays_self; missed = none; faults = grew_self s.faults; unsent = refl }
+missed_none {s} none = record { left = stays_self; sent = stays_self; missed = none; faults = tallied_none s.faults; unsent = refl }
 
 pub missed_more : {n : ℕ} {a b c : LinkSeen} → Missed n a b → NotTook link_err.Failed b c → n < most_missed → Missed (n + 1) a c
 missed_more {n} {a} {b} {c} p q few = record {
   left = then_stays p.left q.left;
   sent = then_stays p.sent q.sent;
   missed = q.missed ∙ (ap one_more p.missed ∙ omega arith);
-  faults = grew_then p.faults q.faults;
+  faults = tallied_then p.faults (tallied_one q.faults);
   unsent = q.unsent ∙ p.unsent;
 }
 
-pub missed_took : {n : ℕ} {event : Event} {a b c : LinkSeen} → Missed n a b → Took event b c → Took event a c
-missed_took p q = record {
+pub missed_took : {n : ℕ} {event : Event} {a b c : LinkSeen} → Missed n a b → Took event b c → n < most_missed → TookBehind event a c
+missed_took {n} p q few = record {
+  failures = n;
+  few = few;
   left = stays_then p.left q.left;
   sent = then_stays p.sent q.sent;
   missed = q.missed;
-  faults = omega (arith, p.faults.later, q.faults);
+  faults = tallied_stays p.faults q.faults;
   unsent = q.unsent ∙ p.unsent;
 }
 
@@ -34,11 +36,9 @@ pub missed_memory : {n : ℕ} {a b c : LinkSeen} → Missed n a b → NotTook li
 missed_memory {n} p q few = record {
   failures = n;
   few = few;
-  missed = record {
-    left = then_stays p.left q.left;
-    sent = then_stays p.sent q.sent;
-    missed = q.missed ∙ p.missed;
-    faults = grew_later p.faults q.faults.later;
-    unsent = q.unsent ∙ p.unsent;
-  };
+  left = then_stays p.left q.left;
+  sent = then_stays p.sent q.sent;
+  missed = q.missed ∙ p.missed;
+  faults = grew_later p.faults.grew q.faults.later;
+  unsent = q.unsent ∙ p.unsent;
 }

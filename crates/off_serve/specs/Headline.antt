@@ -1,32 +1,35 @@
 -- The promise of `run`: whatever events come, lost, repeated or interleaved, `serve` sends and writes what a run of the
 -- abstract office does, and only want of memory or a counted fault departs from it.
 use Rattle.std.specs.Prelude.{◌≡◌, ℕ, ◌+◌, ◌-◌, ◌<◌, ◌≤◌, true, List, [], ◌∷◌, ◌++◌, length, drop, All, codes, ◌⊎◌, ◌≢◌}
-use Rattle.off_defs.specs.Told.{Told, Stays}
+use Rattle.off_defs.specs.Told.{Told}
 use Rattle.off_defs.specs.declared.keys.Key.{Key}
-use Rattle.off_defs.specs.Counts.{Grew, most_count}
-use Rattle.off_defs.specs.State.{Tables, Held, state_of, start}
+use Rattle.off_defs.specs.Counts.{Grew, Tallied, one_more, most_count}
+use Rattle.off_defs.specs.State.{Tables, State, Held, state_of, start}
 use Rattle.off_defs.specs.declared.results.Outcome.TheVariants as outcome
-use Rattle.off_book.specs.Run.{Turn, Run, SaysMemory, TellsItsOutcome, failures_by, sent_by, lost_by, lines_from, line_of, events_of, first_events, is_end, IsNoEnd, EndsLast}
+use Rattle.off_book.specs.Run.{Turn, Run, SaysMemory, TellsItsOutcome, failures_by, troubles_by, commits_by, writes_by, sent_by, lost_by, lines_from, line_of, events_of, first_events, is_end, IsNoEnd, EndsLast}
+use Rattle.off_book.specs.Crashes.{Lasts}
 use Rattle.off_rows.specs.KeyText.{key_text_of}
-use Rattle.off_rules.specs.Rows.{counts_of}
 use Rattle.off_rules.specs.Good.{Good}
 use Rattle.off_outside.specs.LinkSeen.{LinkSeen}
 use Rattle.off_outside.specs.KeeperSeen.{KeeperSeen}
-use Rattle.off_office.specs.Kept.{Kept}
+use Rattle.off_office.specs.Desk.{Desk}
+use Rattle.off_outside.specs.KeeperCalls.{StaysUp, Unasked}
+use Rattle.off_outside.specs.LinkCalls.{LinkUnasked}
+use Rattle.off_office.specs.Conditions.{Under, StaysFit}
 use Rattle.off_office.specs.Acting.{NotStarted}
 use Rattle.off_office.specs.declared.office.StartErr.{StartErr}
 use Rattle.off_office.specs.declared.office.StartErr.TheVariants as start_err
-use Rattle.off_outside.specs.Streams.{SourceSeen, SinkSeen, HasFront, Wrote, NotWritten}
+use Rattle.off_outside.specs.Streams.{SourceSeen, SourceUnasked, SinkSeen, SinkUnasked, HasFront, Wrote, NotWritten}
 use Rattle.off_book.specs.Words.{Job, to_serve, to_seal, to_check}
 use Rattle.off_jobs.specs.Jobs.{SealsInput, ChecksInput}
-use Rattle.off_serve.specs.Serving.{World, world_of, KeeperSame, most_missed, SinkSame}
+use Rattle.off_serve.specs.Serving.{World, world_of, most_missed}
 use Rattle.off_serve.specs.declared.serving.Stop.{Stop}
 use Rattle.off_serve.specs.declared.serving.Stop.TheVariants as stop
 
 -- the whole text was written
 pub record WroteText (text : List ℕ) (old new : SinkSeen) : Type 0 where
   pub written : Told old.written new.written (λ before after. after ≡ before ++ text)
-  pub faults : old.faults ≤ new.faults
+  pub faults : new.faults ≡ old.faults
 
 -- the text up to its last line was written, and a front of that line; the sink counted a fault
 pub record CutText (text last : List ℕ) (old new : SinkSeen) : Type 0 where
@@ -40,34 +43,58 @@ pub record RanTurns (turns : List Turn) (old new : LinkSeen) : Type 0 where
   -- each item of a turn was sent or is counted
   pub marks : All (λ turn. length turn.said.items ≡ length turn.went) turns
   pub sent : Told old.sent new.sent (λ before after. after ≡ before ++ sent_by turns)
-  pub unsent : Grew (lost_by turns) old.unsent new.unsent
+  pub unsent : Tallied (lost_by turns) old.unsent new.unsent
 
--- the turns are a run of the office, from its start over the tables that were told to what it held at the end over those that are told
--- then; and each turn in which the keeper failed is counted
+-- the run lasts through crashes, by what the keeper tells of them
+abbrev pub LastsIn : KeeperSeen → KeeperSeen → State → List Turn → State → Type 0
+LastsIn old new s turns last = Lasts new.opened new.doubt old.doubt old.moment s turns new.moment last
+
+-- What the turns did to the keeper: each in which it failed is counted, and where each event was acted on the count stands; each that wrote
+-- anything made one commit; and it stays up, or has counted a fault.
+pub record KeeperRan (turns : List Turn) (old new : KeeperSeen) : Type 0 where
+  pub faults : Grew (failures_by turns) old.faults new.faults
+  pub stands : troubles_by turns ≡ 0 → new.faults ≡ old.faults
+  pub commits : new.commits ≡ commits_by turns old.commits
+  pub up : StaysUp old new
+
+-- The turns are a run of the office, from its start over the tables that were told to what it held at the end over those that are told then.
 pub record RanOffice (turns : List Turn) (held : Held) (old new : KeeperSeen) : Type 0 where
   pub run : Told old.tables new.tables (λ t u. Run (start t) turns (state_of u held))
-  pub faults : Grew (failures_by turns) old.faults new.faults
+  -- and at every moment an opening after a crash gives the tables behind the turns that were answered by then, or one commit more
+  pub crash : Told old.tables new.tables (λ t u. LastsIn old new (start t) turns (state_of u held))
+  pub keeper : KeeperRan turns old new
   pub tell : All TellsItsOutcome turns
 
--- the same from any state on, as far as the office's counts are those of its tables
-pub record RanFrom (turns : List Turn) (first last : Kept) (old new : KeeperSeen) : Type 0 where
-  pub run : Told old.tables new.tables (λ t u. first.counts ≡ counts_of t
-      → Run (state_of t first.held) turns (state_of u last.held) × (last.counts ≡ counts_of u))
-  pub faults : Grew (failures_by turns) old.faults new.faults
+-- the same from any state on, as far as the office's counts are those of its tables; and what fitted the tables fits them still
+pub record RanFrom (turns : List Turn) (first last : Desk) (old new : KeeperSeen) : Type 0 where
+  pub run : Told old.tables new.tables (Under first last (λ t u. LastsIn old new (state_of t first.held) turns (state_of u last.held)))
+  pub past : (m : ℕ) (u : Tables) → m ≤ old.moment → new.opened m u → old.opened m u
+  pub later : old.moment ≤ new.moment
+  pub fits : Told old.tables new.tables (StaysFit first last)
+  pub keeper : KeeperRan turns old new
   pub tell : All TellsItsOutcome turns
 
 -- `serve` has taken these turns, none an End, and goes on
-pub record SoFar (turns : List Turn) (first last : Kept) (old new : World) : Type 0 where
+pub record SoFar (turns : List Turn) (first last : Desk) (old new : World) : Type 0 where
   pub ran : RanTurns turns old.link new.link
   pub office : RanFrom turns first last old.keeper new.keeper
   pub no_end : All IsNoEnd turns
   pub missed : new.link.missed ≡ 0
   pub faults : old.link.faults ≤ new.link.faults
   pub text : WroteText (lines_from 1 turns) old.sink new.sink
+  pub writes : new.sink.calls ≡ writes_by turns old.sink.calls
+
+-- all turns that the words allow were taken, none an End
+abbrev pub AllTaken : ℕ → List Turn → Type 0
+AllTaken budget turns = (length turns ≡ budget) × All IsNoEnd turns
+
+-- there is a last turn, and it's an End
+abbrev pub LastIsEnd : List Turn → Type 0
+LastIsEnd turns = (0 < length turns) × All (λ turn. is_end turn.event.what ≡ true) (drop (length turns - 1) turns)
 
 -- `serve` came to its end: all turns taken, or the last an End
 pub record Finished (budget : ℕ) (turns : List Turn) (old new : World) : Type 0 where
-  pub cause : (length turns ≡ budget × All IsNoEnd turns) ⊎ ((0 < length turns) × (All (λ turn. is_end turn.event.what ≡ true) (drop (length turns - 1) turns)))
+  pub cause : AllTaken budget turns ⊎ LastIsEnd turns
   pub missed : new.link.missed ≡ 0
   pub faults : old.link.faults ≤ new.link.faults
   pub text : WroteText (lines_from 1 turns) old.sink new.sink
@@ -103,13 +130,15 @@ Stops stop.Link budget turns old new = LostLink budget turns old.link new.link �
 Stops stop.Sink budget turns old new = SinkRefused turns old new
 
 -- the loop over the events
-pub record Served (reason : Stop) (budget : ℕ) (first last : Kept) (old new : World) : Type 0 where
+pub record Served (reason : Stop) (budget : ℕ) (first last : Desk) (old new : World) : Type 0 where
   pub turns : List Turn
   pub within : length turns ≤ budget
   pub ends_last : EndsLast turns
   pub ran : RanTurns turns old.link new.link
   pub office : RanFrom turns first last old.keeper new.keeper
   pub stops : Stops reason budget turns old new
+  -- nothing was written but the lines of the turns
+  pub writes : new.sink.calls ≡ writes_by turns old.sink.calls
 
 -- the run's own line was written behind the text, and the status is the line's; or it was cut off, and the status is 4
 abbrev pub OwnLine : ℕ → List ℕ → List ℕ → ℕ → SinkSeen → SinkSeen → Type 0
@@ -137,10 +166,10 @@ memory_refused = codes "memory refused" ++ 10 ∷ []
 
 -- the end of the run: its own line, where it has one, and the status
 abbrev pub Ended : Stop → ℕ → SinkSeen → SinkSeen → Type 0
-Ended stop.Finished status old new = (status ≡ 0) × SinkSame old new
+Ended stop.Finished status old new = (status ≡ 0) × SinkUnasked old new
 Ended stop.Memory status old new = OwnWritten 6 memory_refused status old new
 Ended stop.Link status old new = OwnWritten 5 link_refused status old new
-Ended stop.Sink status old new = (status ≡ 4) × SinkSame old new
+Ended stop.Sink status old new = (status ≡ 4) × SinkUnasked old new
 
 -- what was written at the end, and the status. 0: all turns were taken, or an End; 4: the sink failed in the run's last
 -- write; 5: the link failed sixteen times in a row; 6: memory was wanted for the next event
@@ -169,14 +198,6 @@ pub record Completed (turns : List Turn) (status : ℕ) : Type 0 where
   pub lost : lost_by turns ≡ 0
   pub status_is : status ≡ 0
 
--- the link as it was
-pub record LinkSame (old new : LinkSeen) : Type 0 where
-  pub left : Stays old.left new.left
-  pub sent : Stays old.sent new.sent
-  pub missed : new.missed ≡ old.missed
-  pub faults : new.faults ≡ old.faults
-  pub unsent : new.unsent ≡ old.unsent
-
 -- the status and the own line of an office that didn't open
 abbrev pub closed_status : StartErr → ℕ
 closed_status (start_err.Bad key) = 2
@@ -193,10 +214,18 @@ closed_line start_err.Memory = memory_refused
 pub record StaysClosed (old new : World) (status : ℕ) : Type 0 where
   pub why : StartErr
   pub tables : NotStarted why old.keeper new.keeper
-  pub link : LinkSame old.link new.link
+  pub link : LinkUnasked old.link new.link
+  pub writes : new.sink.calls ≡ one_more old.sink.calls
   pub text : OwnLine (closed_status why) (closed_line why) [] status old.sink new.sink
   -- where no count rose and memory wasn't wanted, the tables aren't good
   pub complete : NoFault old new → status ≢ 6 → status ≡ 2
+
+-- a counter of writes behind the own line of the end, where there is one
+abbrev pub own_writes : Stop → ℕ → ℕ
+own_writes stop.Finished calls = calls
+own_writes stop.Memory calls = one_more calls
+own_writes stop.Link calls = one_more calls
+own_writes stop.Sink calls = calls
 
 -- The headline. The tables are good, and `turns` are the events that were taken, with what the office said of each.
 pub record RunsAsOffice (budget : ℕ) (old new : World) (status : ℕ) : Type 0 where
@@ -216,6 +245,9 @@ pub record RunsAsOffice (budget : ℕ) (old new : World) (status : ℕ) : Type 0
   pub stays_good : Told old.keeper.tables new.keeper.tables (λ t u. Good u)
   -- what was written, and the status
   pub ends : Ends reason budget turns old new status
+  pub writes : new.sink.calls ≡ own_writes reason (writes_by turns old.sink.calls)
+  -- where no count rose, the tables that are told are one value
+  pub up : NoFault old new → old.keeper.up → new.keeper.up
   -- where no count rose and no line says `memory`, nothing departs from the run
   pub complete : NoFault old new → All (λ turn. ¬ (SaysMemory turn)) turns → status ≢ 6 → Completed turns status
 
@@ -224,14 +256,10 @@ ServesAsOffice budget old new status = StaysClosed old new status ⊎ RunsAsOffi
 
 -- words that fit no form: nothing but the one line
 pub record RefusesWords (old new : World) (status : ℕ) : Type 0 where
-  pub link : LinkSame old.link new.link
-  pub keeper : KeeperSame old.keeper new.keeper
+  pub link : LinkUnasked old.link new.link
+  pub keeper : Unasked old.keeper new.keeper
+  pub writes : new.sink.calls ≡ one_more old.sink.calls
   pub text : OwnLine 1 words_refused [] status old.sink new.sink
-
--- the source as it was
-pub record SourceSame (old new : SourceSeen) : Type 0 where
-  pub left : Stays old.left new.left
-  pub faults : new.faults ≡ old.faults
 
 -- what is seen of the whole outside
 pub record Outside : Type 1 where
@@ -248,15 +276,15 @@ world_in all = world_of all.link all.keeper all.sink
 
 -- neither an event was taken nor anything sent, and the tables are as they were
 pub record OfficeSame (old new : Outside) : Type 0 where
-  pub link : LinkSame old.link new.link
-  pub keeper : KeeperSame old.keeper new.keeper
+  pub link : LinkUnasked old.link new.link
+  pub keeper : Unasked old.keeper new.keeper
 
 -- What a job does. Only `serve` opens the tables, takes events and sends, and only the others take bytes of the source.
 abbrev pub DoesJob : Job → Outside → Outside → ℕ → Type 0
-DoesJob (to_serve serve) old new status = ServesAsOffice serve.turns (world_in old) (world_in new) status × SourceSame old.source new.source
+DoesJob (to_serve serve) old new status = ServesAsOffice serve.turns (world_in old) (world_in new) status × SourceUnasked old.source new.source
 DoesJob (to_seal secret) old new status = SealsInput secret status old.source new.source old.sink new.sink × OfficeSame old new
 DoesJob (to_check secret) old new status = ChecksInput secret status old.source new.source old.sink new.sink × OfficeSame old new
 
 -- what words that fit no form do
 abbrev pub RefusesAll : Outside → Outside → ℕ → Type 0
-RefusesAll old new status = RefusesWords (world_in old) (world_in new) status × SourceSame old.source new.source
+RefusesAll old new status = RefusesWords (world_in old) (world_in new) status × SourceUnasked old.source new.source

@@ -3,16 +3,18 @@ use Rattle.std.specs.Prelude.{◌≡◌, ℕ, ◌<◌, ◌≤◌, Bool, true, fa
 use Rattle.off_defs.specs.declared.events.Event.{Event}
 use Rattle.off_defs.specs.declared.results.Sent.{Sent}
 use Rattle.off_defs.specs.Told.{Told, Stays}
-use Rattle.off_defs.specs.Counts.{Grew}
+use Rattle.off_defs.specs.Counts.{Grew, Tallied, commits_after, calls_after}
 use Rattle.off_defs.specs.State.{Tables, state_of}
-use Rattle.off_rules.specs.Rows.{counts_of}
 use Rattle.off_book.specs.Step.{Step}
-use Rattle.off_book.specs.Run.{Turn, TellsItsOutcome, keeper_failures, all_went, marked, sent_in, lost_in, line_of, is_end}
+use Rattle.off_book.specs.Run.{Turn, effect_of, TellsItsOutcome, all_went, marked, sent_in, lost_in, line_of, is_end}
 use Rattle.off_outside.specs.LinkSeen.{LinkSeen}
 use Rattle.off_outside.specs.KeeperSeen.{KeeperSeen}
-use Rattle.off_office.specs.Kept.{Kept}
-use Rattle.off_outside.specs.LinkCalls.{Took, WasSent, NotSent, first_event}
-use Rattle.off_outside.specs.Streams.{SinkSeen, Wrote, NotWritten}
+use Rattle.off_outside.specs.KeeperCalls.{StaysUp, Unasked, Crash}
+use Rattle.off_office.specs.Desk.{Desk}
+use Rattle.off_office.specs.Conditions.{Under, StaysFit}
+use Rattle.off_office.specs.Acting.{CountsFaults, EventBegins, LeavesDoubt}
+use Rattle.off_outside.specs.LinkCalls.{WasSent, NotSent, first_event}
+use Rattle.off_outside.specs.Streams.{SinkSeen, SinkUnasked, NotWritten}
 use Rattle.off_serve.specs.declared.taking.Taken.{Taken}
 use Rattle.off_serve.specs.declared.taking.Taken.TheVariants as taken
 use Rattle.off_serve.specs.declared.turning.Turned.{Turned}
@@ -36,27 +38,41 @@ pub record SentAll (items : List Sent) (all : Bool) (old new : LinkSeen) : Type 
   pub sent : Told old.sent new.sent (λ before after. after ≡ before ++ marked items marks)
   pub missed : new.missed ≡ old.missed
   pub faults : new.faults ≡ old.faults
-  pub unsent : Grew (count_by not marks) old.unsent new.unsent
+  pub unsent : Tallied (count_by not marks) old.unsent new.unsent
 
 -- `n` calls of `next` failed in a row, and there was no other call
 pub record Missed (n : ℕ) (old new : LinkSeen) : Type 0 where
   pub left : Stays old.left new.left
   pub sent : Stays old.sent new.sent
   pub missed : new.missed ≡ n
-  pub faults : Grew n old.faults new.faults
+  pub faults : Tallied n old.faults new.faults
   pub unsent : new.unsent ≡ old.unsent
 
 -- memory was wanted behind fewer than sixteen failures
 pub record LacksMemory (old new : LinkSeen) : Type 0 where
   pub failures : ℕ
   pub few : failures < most_missed
-  pub missed : Missed failures old new
+  pub left : Stays old.left new.left
+  pub sent : Stays old.sent new.sent
+  pub missed : new.missed ≡ failures
+  pub faults : Grew failures old.faults new.faults
+  pub unsent : new.unsent ≡ old.unsent
+
+-- an event was taken behind fewer than sixteen failures
+pub record TookBehind (event : Event) (old new : LinkSeen) : Type 0 where
+  pub failures : ℕ
+  pub few : failures < most_missed
+  pub left : Told old.left new.left (λ before after. (event ≡ first_event before) × (after ≡ drop 1 before))
+  pub sent : Stays old.sent new.sent
+  pub missed : new.missed ≡ 0
+  pub faults : Tallied failures old.faults new.faults
+  pub unsent : new.unsent ≡ old.unsent
 
 -- what came of the tries to take an event
-abbrev pub Takes : Taken → LinkSeen → LinkSeen → Type 0
-Takes (taken.Took event) old new = Took event old new
-Takes taken.Memory old new = LacksMemory old new
-Takes taken.Missed old new = Missed most_missed old new
+abbrev pub Tries : Taken → LinkSeen → LinkSeen → Type 0
+Tries (taken.Took event) old new = TookBehind event old new
+Tries taken.Memory old new = LacksMemory old new
+Tries taken.Missed old new = Missed most_missed old new
 
 -- what is seen of the outside while the office serves
 pub record World : Type 1 where
@@ -67,26 +83,35 @@ pub record World : Type 1 where
 abbrev pub world_of : LinkSeen → KeeperSeen → SinkSeen → World
 world_of link keeper sink = record { link = link; keeper = keeper; sink = sink }
 
--- the keeper and its tables as they were
-pub record KeeperSame (old new : KeeperSeen) : Type 0 where
-  pub tables : (t : Tables) → old.tables t → new.tables t
-  pub faults : new.faults ≡ old.faults
+-- the step of the book that a turn is, over tables before and after
+abbrev pub TurnOn : Turn → Desk → Desk → Tables → Tables → Type 0
+TurnOn turn before after t u = Step (state_of t before.held) turn.event turn.outcome (effect_of turn (state_of u after.held))
 
--- what a turn makes of the office and its tables: where the office's counts were those of the tables, it's the step of the book, and
--- they are those of the tables again
-pub record OfficeTurn (turn : Turn) (before after : Kept) (old new : KeeperSeen) : Type 0 where
-  pub tables : Told old.tables new.tables (λ t u. before.counts ≡ counts_of t
-      → Step (state_of t before.held) turn.event turn.outcome (record { said = turn.said; after = state_of u after.held }) × (after.counts ≡ counts_of u))
-  pub faults : Grew (keeper_failures turn.outcome) old.faults new.faults
+-- What a turn makes of the office and its tables: where the office's counts were those of the tables, it's the step of the book, and they are those
+-- of the tables again; what fitted the tables fits them still; the keeper has counted what was committed.
+pub record OfficeTurn (turn : Turn) (before after : Desk) (old new : KeeperSeen) : Type 0 where
+  pub tables : Told old.tables new.tables (Under before after (TurnOn turn before after))
+  pub fits : Told old.tables new.tables (StaysFit before after)
+  pub up : StaysUp old new
+  pub faults : CountsFaults turn.outcome old.faults new.faults
+  pub commits : new.commits ≡ commits_after turn.commit old.commits
+  pub crash : Crash (EventBegins turn.event before) old new
+  pub doubts : LeavesDoubt turn.outcome turn.commit (EventBegins turn.event before) old new
   pub tells : TellsItsOutcome turn
 
--- the sink as it was
-pub record SinkSame (old new : SinkSeen) : Type 0 where
-  pub written : Stays old.written new.written
+-- the line of a turn was written, where it has one, and else nothing was
+pub record LineWritten (words text : List ℕ) (old new : SinkSeen) : Type 0 where
+  pub written : Told old.written new.written (λ before after. after ≡ before ++ text)
   pub faults : new.faults ≡ old.faults
+  pub calls : new.calls ≡ calls_after words old.calls
+
+-- or it was cut off
+pub record LineCut (words text : List ℕ) (old new : SinkSeen) : Type 0 where
+  pub cut : NotWritten text old new
+  pub calls : new.calls ≡ calls_after words old.calls
 
 -- the office acted on an event that was taken, and what it said was sent or is counted
-pub record Acted (event : Event) (turn : Turn) (before after : Kept) (old new : World) : Type 0 where
+pub record Acted (event : Event) (turn : Turn) (before after : Desk) (old new : World) : Type 0 where
   pub taken : turn.event ≡ event
   pub office : OfficeTurn turn before after old.keeper new.keeper
   pub marks : length turn.said.items ≡ length turn.went
@@ -94,52 +119,52 @@ pub record Acted (event : Event) (turn : Turn) (before after : Kept) (old new : 
   pub sent : Told old.link.sent new.link.sent (λ before now. now ≡ before ++ sent_in turn)
   pub missed : new.link.missed ≡ old.link.missed
   pub faults : new.link.faults ≡ old.link.faults
-  pub unsent : Grew (lost_in turn) old.link.unsent new.link.unsent
+  pub unsent : Tallied (lost_in turn) old.link.unsent new.link.unsent
 
 -- one turn, as far as the link and the office go
-pub record TurnMade (turn : Turn) (before after : Kept) (old new : World) : Type 0 where
+pub record TurnMade (turn : Turn) (before after : Desk) (old new : World) : Type 0 where
   pub left : Told old.link.left new.link.left (λ before rest. (turn.event ≡ first_event before) × (rest ≡ drop 1 before))
   pub office : OfficeTurn turn before after old.keeper new.keeper
   pub marks : length turn.said.items ≡ length turn.went
   pub sent : Told old.link.sent new.link.sent (λ before now. now ≡ before ++ sent_in turn)
   pub missed : new.link.missed ≡ 0
   pub faults : old.link.faults ≤ new.link.faults
-  pub unsent : Grew (lost_in turn) old.link.unsent new.link.unsent
+  pub unsent : Tallied (lost_in turn) old.link.unsent new.link.unsent
 
 -- an event was acted on, and its line written
-pub record ActWritten (event : Event) (n : ℕ) (before after : Kept) (old new : World) : Type 0 where
+pub record ActWritten (event : Event) (n : ℕ) (before after : Desk) (old new : World) : Type 0 where
   pub turn : Turn
   pub acted : Acted event turn before after old new
-  pub wrote : Wrote (line_of n turn) old.sink new.sink
+  pub wrote : LineWritten turn.said.line (line_of n turn) old.sink new.sink
 
 -- an event was acted on, and its line cut off
-pub record ActCut (event : Event) (n : ℕ) (before after : Kept) (old new : World) : Type 0 where
+pub record ActCut (event : Event) (n : ℕ) (before after : Desk) (old new : World) : Type 0 where
   pub turn : Turn
   pub acted : Acted event turn before after old new
-  pub cut : NotWritten (line_of n turn) old.sink new.sink
+  pub cut : LineCut turn.said.line (line_of n turn) old.sink new.sink
 
 -- a turn was made, and its line written
-pub record TurnWritten (is_last : Bool) (n : ℕ) (before after : Kept) (old new : World) : Type 0 where
+pub record TurnWritten (is_last : Bool) (n : ℕ) (before after : Desk) (old new : World) : Type 0 where
   pub turn : Turn
   pub made : TurnMade turn before after old new
   pub last : is_end turn.event.what ≡ is_last
-  pub wrote : Wrote (line_of n turn) old.sink new.sink
+  pub wrote : LineWritten turn.said.line (line_of n turn) old.sink new.sink
 
 -- a turn was made, and its line cut off
-pub record TurnCut (n : ℕ) (before after : Kept) (old new : World) : Type 0 where
+pub record TurnCut (n : ℕ) (before after : Desk) (old new : World) : Type 0 where
   pub turn : Turn
   pub made : TurnMade turn before after old new
-  pub cut : NotWritten (line_of n turn) old.sink new.sink
+  pub cut : LineCut turn.said.line (line_of n turn) old.sink new.sink
 
 -- no event came
-pub record NoTurn (P : LinkSeen → LinkSeen → Type 0) (before after : Kept) (old new : World) : Type 0 where
+pub record NoTurn (P : LinkSeen → LinkSeen → Type 0) (before after : Desk) (old new : World) : Type 0 where
   pub link : P old.link new.link
   pub same : after ≡ before
-  pub keeper : KeeperSame old.keeper new.keeper
-  pub sink : SinkSame old.sink new.sink
+  pub keeper : Unasked old.keeper new.keeper
+  pub sink : SinkUnasked old.sink new.sink
 
 -- what came of one turn, number n
-abbrev pub Turns : Turned → ℕ → Kept → Kept → World → World → Type 0
+abbrev pub Turns : Turned → ℕ → Desk → Desk → World → World → Type 0
 Turns turned.Went n before after old new = TurnWritten false n before after old new
 Turns turned.Ended n before after old new = TurnWritten true n before after old new
 Turns turned.Cut n before after old new = TurnCut n before after old new

@@ -13,7 +13,8 @@ pub enum Asked<'a> {
     Check(Secret),
 }
 
-/// Reads the words, which stand behind the program's name. `None` comes exactly where they fit no form.
+/// Reads the words, which stand behind the program's name. `None` comes exactly where they fit no
+/// form.
 pub fn read_words(words: &[String]) -> Option<Asked<'_>>
     ensures { option_map asked_for result ≡ job_of (map string_bytes words.now) }
 {

@@ -1,14 +1,12 @@
-ghost use Rattle.std.specs.Prelude.{◌≡◌, ◌<◌, ◌≤◌, ◌++◌, ◌∷◌, [], length, decimal, codes, MatchResult};
+ghost use Rattle.std.specs.Prelude.{◌≡◌, ◌<◌, ◌≤◌, ◌++◌, ◌∷◌, [], length, decimal, codes};
+ghost use Rattle.std.specs.Prelude.{MatchResult};
 ghost use Rattle.off_book.specs.Step.{service_word};
 ghost use Rattle.off_book.specs.Run.{line_text};
-ghost use Rattle.off_outside.specs.Streams.{Wrote, NotWritten};
+ghost use Rattle.off_serve.specs.Serving.{LineWritten, LineCut};
 
 use arrayvec::ArrayVec;
 use itoa::Buffer;
 use off_outside::{Event, Failed, Service, Sink, What};
-
-// A number of 20 digits, a space, 80 bytes of words, a line feed.
-const LINE_ROOM: usize = 102;
 
 /// Writes the line of an event, if there is one. Where an item was lost the word is `link`.
 pub fn write_line<W: Sink>(
@@ -19,8 +17,9 @@ pub fn write_line<W: Sink>(
     all: bool,
 ) -> Result<(), Failed>
     requires { length said.now ≤ 80 }
-    ensures { MatchResult result (λ _. Wrote (line_text number event.now.what said.now all) (W.seen out.old) (W.seen out.new))
-        (λ _. NotWritten (line_text number event.now.what said.now all) (W.seen out.old) (W.seen out.new)) }
+    ensures { let text = line_text number event.now.what said.now all in
+        MatchResult result (λ _. LineWritten said.now text (W.seen out.old) (W.seen out.new))
+        (λ _. LineCut said.now text (W.seen out.old) (W.seen out.new)) }
 {
     if said.is_empty() {
         return Ok(());
@@ -33,7 +32,7 @@ pub fn write_line<W: Sink>(
     out.write(line.as_slice())
 }
 
-// A line of the log: the number, a space, the words, a line feed.
+// A line of the log: the number, at most 20 digits, a space, the words, a line feed.
 fn line_with(number: u64, words: &[u8]) -> ArrayVec<u8, 102>
     requires { length words.now ≤ 80 }
     ensures { result.items ≡ decimal number ++ (32 ∷ words.now ++ 10 ∷ []) }

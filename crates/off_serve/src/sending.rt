@@ -6,7 +6,8 @@ ghost use Rattle.off_serve.specs.Serving.{SentOne, SentAll};
 
 use off_outside::{Link, Outcome, Replies, Sent, What};
 
-// What a clerk is answered where memory was wanted, and where the keeper of the tables failed (RFC 9110, section 15.6).
+// What a clerk is answered where memory was wanted, and where the keeper of the tables failed (RFC
+// 9110, section 15.6).
 const NO_MEMORY: &[u8] =
     b"HTTP/1.1 503 Service Unavailable\r\nContent-Length: 0\r\nConnection: close\r\n\r\n";
 
@@ -25,7 +26,8 @@ fn send_one<L: Link>(link: &mut L, item: &Sent) -> bool
     went.is_ok()
 }
 
-/// Hands each thing to send to the link, in order, and tells whether all went out. One that doesn't is passed over.
+/// Hands each thing to send to the link, in order, and tells whether all went out. One that doesn't
+/// is passed over.
 pub fn send_all<L: Link>(link: &mut L, replies: &Replies) -> bool
     ensures { SentAll replies.now.items result (L.seen link.old) (L.seen link.new) }
 {
@@ -37,8 +39,9 @@ pub fn send_all<L: Link>(link: &mut L, replies: &Replies) -> bool
     all
 }
 
-/// Hands to the link what stands behind the items of an event: of a piece that the office couldn't act on the answer, which is the same
-/// bytes each time, and the end of the connection. It takes no memory.
+/// Hands to the link what stands behind the items of an event: of a piece that the office couldn't
+/// act on the answer, which is the same bytes each time, and the end of the connection. It takes no
+/// memory.
 pub fn send_added<L: Link>(link: &mut L, what: &What, outcome: Outcome) -> bool
     ensures { SentAll (added_items what.now outcome) result (L.seen link.old) (L.seen link.new) }
 {

@@ -1,7 +1,9 @@
 ghost use Rattle.std.specs.Prelude.{◌≡◌, ◌++◌, ◌≤◌, length, map, string_bytes, MatchOption};
 ghost use Rattle.off_book.specs.Words.{job_of};
 ghost use Rattle.off_serve.specs.Reading.{asked_for};
-ghost use Rattle.off_serve.specs.Headline.{Served, Ended, OwnWritten, ServesAsOffice, RefusesAll, DoesJob, outside_of, closed_status, closed_line, tables_refused};
+ghost use Rattle.off_serve.specs.Headline.{Served, Ended, OwnWritten, ServesAsOffice, RefusesAll};
+ghost use Rattle.off_serve.specs.Headline.{DoesJob, outside_of, closed_status, closed_line};
+ghost use Rattle.off_serve.specs.Headline.{tables_refused};
 ghost use Rattle.off_serve.specs.Serving.{world_of};
 
 use crate::jobs::{Asked, read_words};
@@ -29,14 +31,16 @@ pub enum Stop {
 
 /// The top call: does what the words ask, and answers the program's exit status.
 ///
-/// `serve --store STORE --ports DHCP,TIME,TFTP,HTTP --turns N` opens the keeper's tables, takes events from the link until an End, N of
-/// them at most, sends what the office says of each and writes its line. `seal HEX` seals the configuration file that the source holds
-/// under the secret HEX and writes it; `check HEX` verifies one. Other words are refused.
+/// `serve --store STORE --ports DHCP,TIME,TFTP,HTTP --turns N` opens the keeper's tables, takes
+/// events from the link until an End, N of them at most, sends what the office says of each and
+/// writes its line. `seal HEX` seals the configuration file that the source holds under the secret
+/// HEX and writes it; `check HEX` verifies one. Other words are refused.
 ///
-/// Status 0: an End was read, or N events were taken, or the job is done (for `check`: both values are good). 1: the words
-/// fit no form. 2: the tables aren't good, and the line names their least bad key. 3: the keeper failed when the tables were opened.
-/// 4: the sink failed in the last write. 5: the link failed sixteen times in a row. 6: memory was wanted outside of an event.
-/// 7: the source failed. 8: `check` finds a bad value or refuses the file. 9: `seal` refuses the file.
+/// Status 0: an End was read, or N events were taken, or the job is done (for `check`: both values
+/// are good). 1: the words fit no form. 2: the tables aren't good, and the line names their least
+/// bad key. 3: the keeper failed when the tables were opened. 4: the sink failed in the last write.
+/// 5: the link failed sixteen times in a row. 6: memory was wanted outside of an event. 7: the
+/// source failed. 8: `check` finds a bad value or refuses the file. 9: `seal` refuses the file.
 pub fn run<L: Link, K: Keeper, S: Source, W: Sink>(
     alloc: Global,
     words: &[String],
@@ -46,9 +50,12 @@ pub fn run<L: Link, K: Keeper, S: Source, W: Sink>(
     out: &mut W,
 ) -> u8
     requires { (L.seen link.old).missed ≡ 0 }
-    ensures { let old = outside_of (L.seen link.old) (K.seen keeper.old) (S.seen source.old) (W.seen out.old) in
-        let new = outside_of (L.seen link.new) (K.seen keeper.new) (S.seen source.new) (W.seen out.new) in
-        MatchOption (job_of (map string_bytes words.now)) (RefusesAll old new result) (λ job. DoesJob job old new result) }
+    ensures { let old = outside_of
+        (L.seen link.old) (K.seen keeper.old) (S.seen source.old) (W.seen out.old) in
+        let new = outside_of
+        (L.seen link.new) (K.seen keeper.new) (S.seen source.new) (W.seen out.new) in
+        MatchOption (job_of (map string_bytes words.now))
+        (RefusesAll old new result) (λ job. DoesJob job old new result) }
 {
     match read_words(words) {
         Some(asked) => do_job(alloc, &asked, link, keeper, source, out),
@@ -66,8 +73,10 @@ fn do_job<L: Link, K: Keeper, S: Source, W: Sink>(
     out: &mut W,
 ) -> u8
     requires { (L.seen link.old).missed ≡ 0 }
-    ensures { DoesJob (asked_for asked.now) (outside_of (L.seen link.old) (K.seen keeper.old) (S.seen source.old) (W.seen out.old))
-        (outside_of (L.seen link.new) (K.seen keeper.new) (S.seen source.new) (W.seen out.new)) result }
+    ensures { DoesJob (asked_for asked.now)
+        (outside_of (L.seen link.old) (K.seen keeper.old) (S.seen source.old) (W.seen out.old))
+        (outside_of (L.seen link.new) (K.seen keeper.new) (S.seen source.new) (W.seen out.new))
+        result }
 {
     match asked {
         Asked::Serve(form) => serve(alloc, form.turns, link, keeper, out),
@@ -99,7 +108,8 @@ fn serve<L: Link, K: Keeper, W: Sink>(
 
 // Writes the line of an office that didn't open, and answers the status.
 fn stay_closed<W: Sink>(err: StartErr, out: &mut W) -> u8
-    ensures { OwnWritten (closed_status err) (closed_line err) result (W.seen out.old) (W.seen out.new) }
+    ensures { OwnWritten (closed_status err) (closed_line err) result
+        (W.seen out.old) (W.seen out.new) }
 {
     match err {
         StartErr::Bad(key) => {
@@ -155,7 +165,8 @@ pub fn serve_events<L: Link, K: Keeper, W: Sink>(
     out: &mut W,
 ) -> Stop
     requires { (L.seen link.old).missed ≡ 0 }
-    ensures { Served result turns office.old office.new (world_of (L.seen link.old) (K.seen keeper.old) (W.seen out.old))
+    ensures { Served result turns office.old office.new
+        (world_of (L.seen link.old) (K.seen keeper.old) (W.seen out.old))
         (world_of (L.seen link.new) (K.seen keeper.new) (W.seen out.new)) }
 {
     for done in 0..turns {

@@ -1,5 +1,5 @@
 ghost use Rattle.std.specs.Prelude.{◌≡◌};
-ghost use Rattle.off_serve.specs.Serving.{Takes};
+ghost use Rattle.off_serve.specs.Serving.{Tries};
 
 use off_outside::{Event, Link, LinkErr};
 use std::alloc::Global;
@@ -18,7 +18,7 @@ pub enum Taken {
 /// Takes the next event, and tries again where the link fails, sixteen times at most.
 pub fn take_event<L: Link>(alloc: Global, link: &mut L) -> Taken
     requires { (L.seen link.old).missed ≡ 0 }
-    ensures { Takes result (L.seen link.old) (L.seen link.new) }
+    ensures { Tries result (L.seen link.old) (L.seen link.new) }
 {
     for _attempt in 0..MOST_MISSED {
         match link.next(alloc) {

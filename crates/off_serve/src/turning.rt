@@ -34,7 +34,8 @@ pub fn take_turn<L: Link, K: Keeper, W: Sink>(
     out: &mut W,
 ) -> Turned
     requires { (L.seen link.old).missed ≡ 0 }
-    ensures { Turns result number office.old office.new (world_of (L.seen link.old) (K.seen keeper.old) (W.seen out.old))
+    ensures { Turns result number office.old office.new
+        (world_of (L.seen link.old) (K.seen keeper.old) (W.seen out.old))
         (world_of (L.seen link.new) (K.seen keeper.new) (W.seen out.new)) }
 {
     match take_event(alloc, link) {
@@ -65,7 +66,8 @@ fn act<L: Link, K: Keeper, W: Sink>(
 ) -> Result<(), Failed>
     ensures { let old = world_of (L.seen link.old) (K.seen keeper.old) (W.seen out.old) in
         let new = world_of (L.seen link.new) (K.seen keeper.new) (W.seen out.new) in
-        MatchResult result (λ _. ActWritten event.now number office.old office.new old new) (λ _. ActCut event.now number office.old office.new old new) }
+        MatchResult result (λ _. ActWritten event.now number office.old office.new old new)
+        (λ _. ActCut event.now number office.old office.new old new) }
 {
     let mut replies = Replies::new(alloc);
     let outcome = office.step(keeper, event, &mut replies);

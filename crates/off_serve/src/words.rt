@@ -1,6 +1,7 @@
 ghost use Rattle.std.specs.Prelude.{◌≡◌, ◌==◌, ◌≤◌, length, map, string_bytes, option_map};
 ghost use Rattle.std.specs.List.{position_or_len};
-ghost use Rattle.off_book.specs.Words.{serve_of, ports_of, port_of, is_store, before_comma, behind_comma};
+ghost use Rattle.off_book.specs.Words.{serve_of, ports_of, port_of, is_store, before_comma};
+ghost use Rattle.off_book.specs.Words.{behind_comma};
 ghost use Rattle.off_serve.specs.Reading.{form_of, places_of, places_in, flags_stand};
 
 use off_base::read_number;
@@ -8,7 +9,8 @@ use off_base::read_number;
 /// The greatest number of events that `serve` may be asked to take.
 pub const MOST_TURNS: u64 = 1_000_000_000_000_000;
 
-/// What the words ask main to make: the store, and the ports of DHCP, time, TFTP and HTTP in this order.
+/// What the words ask main to make: the store, and the ports of DHCP, time, TFTP and HTTP in this
+/// order.
 #[derive(Clone, Copy, Debug)]
 pub struct Wanted<'a> {
     pub store: &'a str,
@@ -28,7 +30,8 @@ pub struct Form<'a> {
 /// `None` comes exactly where the words aren't of the form
 /// `serve --store STORE --ports DHCP,TIME,TFTP,HTTP --turns N`.
 pub fn place(words: &[String]) -> Option<Wanted<'_>>
-    ensures { option_map places_of result ≡ option_map places_in (serve_of (map string_bytes words.now)) }
+    ensures { option_map places_of result
+        ≡ option_map places_in (serve_of (map string_bytes words.now)) }
 {
     match read_form(words) {
         Some(form) => Some(Wanted {
