@@ -5,7 +5,7 @@ Requests come whole, in odd pieces and byte by byte; peers half-close, reset, re
 It checks the replies byte for byte and the form of the log's lines. The time of a thousand requests is printed and not judged.
 It ends what it started, and takes under a minute.
 
-That the office ends a silent connection after 60 seconds, and one whose peer doesn't end it 10 seconds behind its close, takes longer:
+That the office ends a connection whose peer doesn't end it 10 seconds behind its close takes longer:
     OFFICE_WAITS=1 python3 tests/acceptance/clerk_connections.py
 """
 import json
@@ -148,36 +148,39 @@ def resets(port):
 
 
 def nine_at_once(port):
-    """Eight connections wait for their requests' ends; a ninth is closed, and one that says nothing isn't counted."""
+    """Eight connections wait for their requests' ends; a ninth is left unread until one of them has ended, whatever says nothing."""
     text = request("PUT", "/subscribers/7", ANN)
     silent = [connect(port) for _ in range(10)]
     peers = [connect(port) for _ in range(8)]
     for peer in peers:
         peer.sendall(text[:20])
     time.sleep(0.3)
-    check(ask(port, text) == b"", "a ninth connection is closed without an answer")
-    peers[3].sendall(text[20:])
-    check(read_to_end(peers[3]) == DONE, "one of the eight is answered")
-    check(ask(port, text) == DONE, "then there is room for one more")
+    with connect(port) as ninth:
+        ninth.sendall(text)
+        time.sleep(0.5)
+        check(is_open(ninth), "a ninth connection waits")
+        peers[3].sendall(text[20:])
+        check(read_to_end(peers[3]) == DONE, "one of the eight is answered")
+        check(read_to_end(ninth) == DONE, "then the ninth is answered")
     for peer in peers[:3] + peers[4:]:
         peer.sendall(text[20:])
         check(read_to_end(peer) == DONE, "each of the eight is answered")
-    check(all(is_open(peer) for peer in silent), "connections that said nothing stay open")
+    check(all(is_open(peer) for peer in silent), "connections that said nothing stay open for some seconds")
     for peer in silent + peers:
         peer.close()
 
 
 def beyond_the_table(port):
-    """More connections than the office's link holds at a time: the last ones are taken when the first have gone."""
+    """More connections than the office's link holds at a time: the one that has been silent longest makes room for the last."""
     silent = [connect(port) for _ in range(64)]
-    late = connect(port)
-    late.sendall(request("GET", "/subscribers/7"))
     time.sleep(0.3)
-    check(is_open(late), "a connection behind sixty-four waits")
+    check(all(is_open(peer) for peer in silent), "sixty-four connections are held")
+    began = time.perf_counter()
+    check(ask(port, request("GET", "/subscribers/7")) == reply(200, ANN), "a sixty-fifth is answered")
+    print(f"behind 64 silent connections: {(time.perf_counter() - began) * 1000:.1f} ms")
+    check(not is_open(silent[0]) and all(is_open(peer) for peer in silent[1:]), "the longest silent one has made room")
     for peer in silent:
         peer.close()
-    check(read_to_end(late) == reply(200, ANN), "it is answered when they have gone")
-    late.close()
 
 
 FLOWS = ('[{"code":24,"parts":[{"code":1,"hex":"0001"},{"code":6,"hex":"07"},{"code":8,"hex":"00989680"}]},'
@@ -269,10 +272,7 @@ def many(port):
 
 
 def long_waits(port):
-    """What takes more than a minute. See the head of this file."""
-    silent = connect(port)
-    spoken = connect(port)
-    spoken.sendall(b"GET")
+    """What takes longer. See the head of this file."""
     lingering = connect(port)
     lingering.sendall(request("GET", "/subscribers/7"))
     check(lingering.recv(65536) == reply(200, ANN), "an answer comes")
@@ -282,12 +282,7 @@ def long_waits(port):
     lingering.sendall(b"x")
     time.sleep(0.2)
     check(not is_live(lingering), "13 seconds behind a close it may not")
-    time.sleep(42)
-    check(is_open(silent) and is_open(spoken), "a silent connection is open after 55 seconds")
-    time.sleep(8)
-    check(not is_open(silent) and not is_open(spoken), "a silent connection is closed after 63 seconds")
-    for peer in (silent, spoken, lingering):
-        peer.close()
+    lingering.close()
 
 
 def is_live(peer):
@@ -311,7 +306,7 @@ def judge(lines):
     check(numbers == sorted(set(numbers)), "the numbers of the lines rise")
     words = [line.split(" ", 2)[2] for line in lines if line.count(" ") > 1]
     check(words.count("wait") >= 100, "each piece of a request has a line")
-    check(words.count("busy") == 1, "the ninth connection has a line")
+    check(words.count("busy") == 0, "no connection is turned away")
     check(words.count("closed") >= 3, "connections that end in a request have lines")
     check(words.count("200") >= 1000, "each answer has a line")
     check("link" not in words or words.count("link") <= 20, "only answers to reset peers may be lost")

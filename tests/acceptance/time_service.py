@@ -18,7 +18,7 @@ import tempfile
 import time
 
 ROOT = os.path.dirname(os.path.dirname(os.path.dirname(os.path.abspath(__file__))))
-PROGRAM = os.path.join(ROOT, "crates", "officed", "out", "officed")
+PROGRAM = os.environ.get("OFFICE_PROGRAM", os.path.join(ROOT, "crates", "officed", "out", "officed"))
 SECONDS_BEFORE_1970 = 2_208_988_800
 failures = []
 
@@ -41,9 +41,12 @@ def free_ports():
     return ports
 
 
-def start(ports, turns, log):
+def start(ports, turns, log, addresses=None, limits=None):
+    """Starts the program; `addresses` are variables of its environment, and `limits` is called in it before it begins."""
     words = ["serve", "--store", "memory", "--ports", ",".join(map(str, ports)), "--turns", str(turns)]
-    return subprocess.Popen([PROGRAM, *words], stdout=log, stderr=subprocess.DEVNULL)
+    environment = {name: value for name, value in os.environ.items() if not name.startswith("OFFICED_")}
+    environment.update(addresses or {})
+    return subprocess.Popen([PROGRAM, *words], stdout=log, stderr=subprocess.DEVNULL, env=environment, preexec_fn=limits)
 
 
 def ask(client, port, payload=b""):
@@ -170,6 +173,11 @@ def statuses():
     taken.bind(("0.0.0.0", ports[1]))
     check(status_of(["serve", "--store", "memory", "--ports", text, "--turns", "0"]) == (10, b""), "a port that is taken: status 10")
     taken.close()
+    with tempfile.TemporaryDirectory() as folder:
+        link = os.path.join(folder, "officed")
+        os.symlink(os.path.join(ROOT, "bin", "officed"), link)
+        done = subprocess.run([link, "serve"], stdout=subprocess.PIPE, stderr=subprocess.DEVNULL, timeout=60)
+        check((done.returncode, done.stdout) == (1, b"words refused\n"), "a symbolic link to bin/officed runs it")
 
 
 def main():

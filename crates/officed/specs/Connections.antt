@@ -1,5 +1,5 @@
 -- What a connection gives.
-use Rattle.std.specs.Prelude.{◌≡◌, ℕ, ◌+◌, ◌-◌, ◌^◌, ◌<◌, Bool, true, min}
+use Rattle.std.specs.Prelude.{◌≡◌, ℕ, ◌+◌, ◌-◌, ◌^◌, ◌<◌, List, Bool, true, min}
 use Rattle.officed.specs.declared.connection.Heard.{Heard}
 use Rattle.officed.specs.declared.connection.Heard.TheVariants.{Piece, Quiet, Dropped, Over}
 
@@ -12,10 +12,17 @@ GivesNothing Over = Unit {0}
 
 -- it goes on only before its time is over
 abbrev pub IsInTime : Heard → ℕ → ℕ → Type 0
-IsInTime (Piece bytes) now until = Unit {0}
+IsInTime (Piece bytes) now until = now < until
 IsInTime Quiet now until = now < until
 IsInTime Dropped now until = now < until
 IsInTime Over now until = Unit {0}
+
+-- these bytes are given, or it is over
+abbrev pub IsPieceOf : List ℕ → Heard → Type 0
+IsPieceOf part (Piece bytes) = bytes ≡ part
+IsPieceOf part Quiet = ⊥
+IsPieceOf part Dropped = ⊥
+IsPieceOf part Over = Unit {0}
 
 -- once a piece of it is given, the office knows of it
 abbrev pub IsSpoken : Heard → Bool → Type 0
@@ -24,6 +31,6 @@ IsSpoken Quiet spoke = Unit {0}
 IsSpoken Dropped spoke = Unit {0}
 IsSpoken Over spoke = Unit {0}
 
--- the second that is so many later
+-- the moment that is so much later
 abbrev pub later : ℕ → ℕ → ℕ
-later now seconds = min (now + seconds) (2 ^ 64 - 1)
+later now span = min (now + span) (2 ^ 64 - 1)

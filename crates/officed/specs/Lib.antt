@@ -1,3 +1,4 @@
 pub mod Untold
 pub mod UnsentHeld
 pub mod Connections
+pub mod Reflections

@@ -1,26 +1,38 @@
-ghost use Rattle.std.specs.Prelude.{◌<◌, vec_len};
+ghost use Rattle.std.specs.Prelude.{◌≡◌, ◌<◌, IfSome, vec_len};
 
 use crate::connection::{Connection, Heard};
-use crate::datagrams::Asked;
+use crate::datagrams::{Asked, socket_address};
 use crate::numbers::Numbers;
+use crate::system::is_readable;
 use crate::unsent::Unsent;
+use mio::event::Event;
 use mio::net::{TcpListener, TcpStream};
 use mio::{Interest, Registry, Token};
-use off_base::NoMemory;
-use off_outside::{LinkErr, What};
+use off_base::{Ip4, NoMemory};
+use off_outside::{Failed, What};
 use std::alloc::Global;
 use std::io::{self, ErrorKind};
-use std::net::{Ipv4Addr, SocketAddr, SocketAddrV4};
+use std::os::fd::AsRawFd;
 
-// How many connections are held at a time; further ones wait in the listener's queue.
+// How many connections are held at a time.
 const MOST: usize = 64;
+
+// How many requests the office takes at a time. It would close a further connection, so those are
+// left unread until one ends.
+const MOST_OPEN: usize = 8;
+
+// How many connections are accepted before another socket is asked.
+const MOST_ACCEPTED: u32 = 64;
 
 // The listener's token; a connection's is its number and this one more.
 const LISTENER: usize = 3;
 
-/// The TCP listener for clerks, on all addresses of the machine, and their connections.
-///
-/// More connections are held than the office takes, so that it can close the others.
+// So many milliseconds pass before it is tried again to accept a connection for which no place is
+// free.
+const NEXT_TRY: u64 = 10;
+
+/// The TCP listener for clerks, and their connections. Moments are in milliseconds since the link
+/// was opened.
 #[derive(Drop)]
 pub struct Clerks {
     listener: TcpListener,
@@ -30,14 +42,38 @@ pub struct Clerks {
     spare: Option<Unsent>,
     // The place of the connection whose turn it is to be asked.
     turn: usize,
-    // The second in which they were asked last.
-    now: u64,
+    // Whether the newest of several connections alike is the next whose request is begun, or the
+    // oldest. So a clerk behind many slow peers has a turn soon, and one before many quick ones
+    // too.
+    is_newest_next: bool,
+    // The moment in which they were asked last.
+    moment: u64,
+    // Whether a connection may wait to be accepted.
+    is_waited_for: bool,
+    // Whether something may have come that wasn't asked for yet.
+    is_stirred: bool,
+    // The moment in which there is something to do, though nothing comes.
+    due: u64,
+}
+
+// What became of a try to accept a connection.
+#[derive(Clone, Copy, PartialEq, Eq)]
+enum Accepted {
+    Took,
+    // None waits.
+    Nobody,
+    // One may wait, and there is no place for it, no memory or no descriptor.
+    NoRoom,
 }
 
 impl Clerks {
-    pub fn open(rt: &HostRuntime, registry: &Registry, port: u16) -> io::Result<Clerks> {
-        let address = SocketAddr::V4(SocketAddrV4::new(Ipv4Addr::UNSPECIFIED, port));
-        let mut listener = TcpListener::bind(rt, address)?;
+    pub fn open(
+        rt: &HostRuntime,
+        registry: &Registry,
+        address: Ip4,
+        port: u16,
+    ) -> io::Result<Clerks> {
+        let mut listener = TcpListener::bind(rt, socket_address(address, port))?;
         registry.register(&mut listener, Token(LISTENER), Interest::READABLE)?;
         Ok(Clerks {
             listener,
@@ -45,31 +81,71 @@ impl Clerks {
             numbers: Numbers::new(),
             spare: None,
             turn: 0,
-            now: 0,
+            is_newest_next: true,
+            moment: 0,
+            is_waited_for: true,
+            is_stirred: true,
+            due: u64::MAX,
         })
     }
 
-    /// The next thing of a connection, in the second `now`: a piece, or its end.
-    pub fn ask(&mut self, alloc: Global, registry: &Registry, now: u64) -> Result<Asked, LinkErr> {
-        self.now = now;
-        self.accept(alloc, registry)?;
+    /// Whether there may be something to do at the moment `now`.
+    pub fn may_have(&self, now: u64) -> bool {
+        self.is_stirred || self.due <= now
+    }
+
+    /// The moment in which there is something to do, though nothing comes.
+    pub fn due(&self) -> u64 {
+        self.due
+    }
+
+    /// Takes in what the system tells at the moment `now`, where the token is the listener's or a
+    /// connection's.
+    pub fn hear(&mut self, told: &Event, now: u64) {
+        let token = told.token().0;
+        if token == LISTENER {
+            self.is_waited_for = true;
+            self.is_stirred = true;
+        }
+        if let Some(connection) = self
+            .live
+            .iter_mut()
+            .find(|connection| token_of(connection.number) == token)
+        {
+            connection.hear(told, now);
+            self.is_stirred = true;
+        }
+    }
+
+    /// The next thing of a connection: a piece, or its end. `now` is the moment in which the system
+    /// told last what has come.
+    pub fn ask(&mut self, alloc: Global, registry: &Registry, now: u64) -> Result<Asked, Failed> {
+        self.moment = now;
+        self.is_stirred = true;
         let mut dropped = false;
+        match self.accept(alloc, registry)? {
+            Asked::Gave(what) => return Ok(Asked::Gave(what)),
+            Asked::Dropped => dropped = true,
+            Asked::Quiet => {}
+        }
+        self.begin();
         for _place in 0..self.live.len() {
-            match self.ask_one(alloc)? {
+            match self.ask_one(alloc) {
                 Asked::Gave(what) => return Ok(Asked::Gave(what)),
                 Asked::Dropped => dropped = true,
                 Asked::Quiet => {}
             }
         }
-        Ok(if dropped {
-            Asked::Dropped
-        } else {
-            Asked::Quiet
-        })
+        if dropped {
+            return Ok(Asked::Dropped);
+        }
+        self.is_stirred = false;
+        self.due = self.first_due();
+        Ok(Asked::Quiet)
     }
 
-    /// Takes bytes to be sent on a connection, and tells whether they were taken. What the peer is slow to take goes out in later
-    /// rounds. It takes no memory.
+    /// Takes bytes to be sent on a connection, and tells whether they were taken. What the peer is
+    /// slow to take goes out in later rounds. It takes no memory.
     pub fn answer(&mut self, number: u32, bytes: &[u8]) -> bool {
         match self
             .live
@@ -83,100 +159,188 @@ impl Clerks {
 
     /// Closes a connection, if it is still there. Nothing more is told of it.
     pub fn close(&mut self, number: u32) {
-        let now = self.now;
+        let now = self.moment;
         if let Some(connection) = self
             .live
             .iter_mut()
             .find(|connection| connection.number == number)
         {
             connection.close(now);
+            self.is_stirred = true;
         }
     }
 
-    // Takes the connections that wait, as far as there are places and numbers.
-    fn accept(&mut self, alloc: Global, registry: &Registry) -> Result<(), LinkErr> {
-        for _place in self.live.len()..MOST {
-            if self.numbers.are_spent() {
-                return Ok(());
+    // Accepts connections that wait. Where there is no room, the one that has been silent longest
+    // makes room.
+    fn accept(&mut self, alloc: Global, registry: &Registry) -> Result<Asked, Failed> {
+        for _attempt in 0..MOST_ACCEPTED {
+            if !self.is_waited_for || self.numbers.are_spent() {
+                return Ok(Asked::Quiet);
             }
-            let unsent = self.room(alloc)?;
-            match self.listener.accept() {
-                Ok((stream, _from)) => self.take(registry, stream, unsent)?,
-                Err(error) => {
-                    self.spare = Some(unsent);
-                    match error.kind() {
-                        ErrorKind::WouldBlock => return Ok(()),
-                        kind if is_of_peer(kind) => {}
-                        _ => return Err(LinkErr::Failed),
-                    }
+            match self.accept_one(alloc, registry)? {
+                Accepted::Took => {}
+                Accepted::Nobody => {
+                    self.is_waited_for = false;
+                    return Ok(Asked::Quiet);
                 }
+                Accepted::NoRoom => return Ok(self.make_room()),
             }
         }
-        Ok(())
+        Ok(Asked::Dropped)
     }
 
-    // Room for an answer, and a place in the table. The only error is want of memory.
-    fn room(&mut self, alloc: Global) -> Result<Unsent, LinkErr> {
+    fn accept_one(&mut self, alloc: Global, registry: &Registry) -> Result<Accepted, Failed> {
+        if self.live.len() >= MOST && !self.drop_ended(alloc) {
+            return Ok(if is_readable(self.listener.as_raw_fd()) {
+                Accepted::NoRoom
+            } else {
+                Accepted::Nobody
+            });
+        }
+        let Some(unsent) = self.room(alloc) else {
+            return Ok(Accepted::NoRoom);
+        };
+        match self.listener.accept() {
+            Ok((stream, _from)) => {
+                self.take(registry, stream, unsent);
+                Ok(Accepted::Took)
+            }
+            Err(error) => {
+                self.spare = Some(unsent);
+                accept_failed(&error)
+            }
+        }
+    }
+
+    // Drops a connection that the office has closed, and its peer too, if there is one.
+    fn drop_ended(&mut self, alloc: Global) -> bool {
+        for place in 0..self.live.len() {
+            let Some(connection) = self.live.get_mut(place) else {
+                return false;
+            };
+            if connection.is_closed()
+                && matches!(connection.ask(alloc, self.moment), Heard::Over)
+                && place < self.live.len()
+            {
+                let _ended = self.live.remove(place);
+                return true;
+            }
+        }
+        false
+    }
+
+    // Room for an answer, and a place in the table, or None where memory is refused.
+    fn room(&mut self, alloc: Global) -> Option<Unsent> {
         if self.live.reserve(1).is_err() {
-            return Err(LinkErr::Memory);
+            return None;
         }
         if let Some(unsent) = self.spare.take() {
-            return Ok(unsent);
+            return Some(unsent);
         }
         match Unsent::new(alloc) {
-            Ok(unsent) => Ok(unsent),
-            Err(NoMemory) => Err(LinkErr::Memory),
+            Ok(unsent) => Some(unsent),
+            Err(NoMemory) => None,
         }
     }
 
-    // Gives a connection the next number. Behind the greatest it is dropped, which closes it.
-    fn take(
-        &mut self,
-        registry: &Registry,
-        mut stream: TcpStream,
-        unsent: Unsent,
-    ) -> Result<(), LinkErr> {
+    // Gives a connection the next number. Where the system can't tell of it, or there is no number,
+    // it is dropped, which closes it.
+    fn take(&mut self, registry: &Registry, mut stream: TcpStream, unsent: Unsent) {
         let Some(number) = self.numbers.give() else {
-            return Ok(());
+            return;
         };
         let Ok(()) = registry.register(
             &mut stream,
-            Token(LISTENER + number as usize),
+            Token(token_of(number)),
             Interest::READABLE | Interest::WRITABLE,
         ) else {
-            return Err(LinkErr::Failed);
+            return;
         };
-        let connection = Connection::new(number, stream, unsent, self.now);
-        match self.live.push(connection) {
-            Ok(()) => Ok(()),
-            Err(_refused) => Err(LinkErr::Memory),
+        let connection = Connection::new(number, stream, unsent, self.moment);
+        let _room_was_made = self.live.push(connection);
+    }
+
+    // Ends the connection that has been silent longest, of those that are to make room.
+    fn make_room(&mut self) -> Asked {
+        match self.longest_silent() {
+            Some(place) if place < self.live.len() => self.end(place),
+            _ => Asked::Quiet,
         }
     }
 
+    // The place of the connection that has been silent longest, of those that are to make room.
+    fn longest_silent(&self) -> Option<usize> {
+        let mut since = u64::MAX;
+        let mut found = None;
+        for (place, connection) in self.live.iter().enumerate() {
+            if let Some(moment) = connection.makes_room_at()
+                && moment <= self.moment
+                && connection.heard_at() < since
+            {
+                since = connection.heard_at();
+                found = Some(place);
+            }
+        }
+        found
+    }
+
+    // Begins to take requests that wait, as far as the office can.
+    fn begin(&mut self) {
+        let open = self
+            .live
+            .iter()
+            .filter(|connection| connection.is_open())
+            .count();
+        for _place in open..MOST_OPEN {
+            let Some(place) = self.next_to_begin() else {
+                return;
+            };
+            if let Some(connection) = self.live.get_mut(place) {
+                connection.begin(self.moment);
+            }
+            self.is_newest_next = !self.is_newest_next;
+        }
+    }
+
+    // The place of the connection whose request is begun next.
+    fn next_to_begin(&self) -> Option<usize> {
+        let mut most = 0;
+        let mut found = None;
+        for (place, connection) in self.live.iter().enumerate() {
+            let rank = connection.rank();
+            if rank > most || rank > 0 && rank == most && self.is_newest_next {
+                most = rank;
+                found = Some(place);
+            }
+        }
+        found
+    }
+
     // Asks the connection whose turn it is.
-    fn ask_one(&mut self, alloc: Global) -> Result<Asked, LinkErr> {
+    fn ask_one(&mut self, alloc: Global) -> Asked {
         if self.turn >= self.live.len() {
             self.turn = 0;
         }
         if self.live.is_empty() {
-            return Ok(Asked::Quiet);
+            return Asked::Quiet;
         }
         let place = self.turn;
         let connection = &mut self.live[place];
         let conn = connection.number;
-        let heard = connection.ask(alloc, self.now)?;
+        let heard = connection.ask(alloc, self.moment);
         if let Heard::Over = heard {
-            return Ok(self.end(place));
+            return self.end(place);
         }
         self.turn = place + 1;
-        Ok(match heard {
+        match heard {
             Heard::Piece(bytes) => Asked::Gave(What::Piece { conn, bytes }),
             Heard::Quiet => Asked::Quiet,
             Heard::Dropped | Heard::Over => Asked::Dropped,
-        })
+        }
     }
 
-    // Drops a connection. The office hears of its end only where it has heard of the connection and hasn't closed it.
+    // Drops a connection. The office hears of its end only where it has heard of the connection and
+    // hasn't closed it.
     fn end(&mut self, place: usize) -> Asked
         requires { place < vec_len self.old.live }
     {
@@ -189,17 +353,43 @@ impl Clerks {
             Asked::Dropped
         }
     }
+
+    // The first moment in which a connection is over, or may make room for one that waits.
+    fn first_due(&self) -> u64 {
+        let first = if self.is_waited_for {
+            self.moment.saturating_add(NEXT_TRY)
+        } else {
+            u64::MAX
+        };
+        self.live
+            .iter()
+            .fold(first, |first, connection| first.min(connection.due()))
+    }
 }
 
-// Whether an error of `accept` speaks of the connection that waited, or of a signal, and not of the listener: the next one may be good.
-fn is_of_peer(kind: ErrorKind) -> bool {
-    matches!(
-        kind,
+fn token_of(number: u32) -> usize {
+    LISTENER + number as usize
+}
+
+// What an error of `accept` comes to. One of the connection that waited, or a signal, says nothing
+// of the next.
+fn accept_failed(error: &io::Error) -> Result<Accepted, Failed> {
+    match error.kind() {
+        ErrorKind::WouldBlock => Ok(Accepted::Nobody),
         ErrorKind::Interrupted
-            | ErrorKind::ConnectionAborted
-            | ErrorKind::ConnectionReset
-            | ErrorKind::HostUnreachable
-            | ErrorKind::NetworkUnreachable
-            | ErrorKind::NetworkDown
-    )
+        | ErrorKind::ConnectionAborted
+        | ErrorKind::ConnectionReset
+        | ErrorKind::HostUnreachable
+        | ErrorKind::NetworkUnreachable
+        | ErrorKind::NetworkDown
+        | ErrorKind::TimedOut
+        | ErrorKind::PermissionDenied => Ok(Accepted::Took),
+        _ if is_for_want(error) => Ok(Accepted::NoRoom),
+        _ => Err(Failed),
+    }
+}
+
+// Whether the system has no descriptor or no memory for one more connection.
+fn is_for_want(error: &io::Error) -> bool {
+    matches!(error.raw_os_error(), Some(12 | 23 | 24 | 105))
 }

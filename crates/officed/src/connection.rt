@@ -1,12 +1,12 @@
-ghost use Rattle.std.specs.Prelude.{◌≡◌, ◌≢◌, ◌<◌, ◌≤◌, ◌↔◌, ◌⊎◌, length, IfOk, IsTrue, false};
-ghost use Rattle.officed.specs.Connections.{GivesNothing, IsInTime, IsSpoken, later};
+ghost use Rattle.std.specs.Prelude.{◌≡◌, ◌≢◌, ◌<◌, ◌≤◌, ◌↔◌, ◌⊎◌, length, IsTrue, true, false};
+ghost use Rattle.officed.specs.Connections.{GivesNothing, IsInTime, IsPieceOf, IsSpoken, later};
 ghost use Rattle.officed.specs.declared.connection.Heard.TheVariants as heard;
 ghost use Rattle.officed.specs.declared.connection.Stage.TheVariants as stage;
 
 use crate::unsent::{Sending, Unsent};
+use mio::event::Event;
 use mio::net::TcpStream;
 use off_base::{Bytes, NoMemory};
-use off_outside::LinkErr;
 use std::alloc::Global;
 use std::io::{ErrorKind, Read, Write};
 use std::net::Shutdown;
@@ -17,13 +17,34 @@ const ROOM: usize = 4096;
 // How many times bytes that nobody wants are read before another socket is asked.
 const MOST_DROPPED: u32 = 16;
 
-// So many seconds a peer may say nothing before its request is whole. Else the few connections that the office takes at a time would
-// stay with peers that have gone, or mean no good.
-const LONGEST_SILENCE: u64 = 60;
+// So many milliseconds a peer has, from the accept on, to send its first byte.
+const LONGEST_SILENCE: u64 = 5_000;
 
-// So many seconds a peer has, behind a close, to take its answer and to end the connection. What it hasn't taken then is lost, and no
-// count tells of it: the bytes were handed to the link.
-const LONGEST_CLOSE: u64 = 10;
+// So many milliseconds a connection whose first bytes have come waits for the office to take them.
+const LONGEST_WAIT: u64 = 60_000;
+
+// So many milliseconds a peer has to send its request whole, from where the office begins to take
+// it. Else the few connections that the office takes at a time would stay with peers that have
+// gone, or mean no good.
+const LONGEST_REQUEST: u64 = 30_000;
+
+// So many milliseconds a peer has, behind a close, to take its answer and to end the connection.
+// What it hasn't taken then is lost, and no count tells of it: the bytes were handed to the link.
+const LONGEST_CLOSE: u64 = 10_000;
+
+// As many of the bytes that wait are counted.
+const MOST_COUNTED: usize = 64;
+
+// A peer whose first bytes wait, and that sends more so many milliseconds later, drips: its request
+// isn't whole.
+const DRIP: u64 = 500;
+
+// Where no place is free, so many milliseconds must a peer have been silent whose connection makes
+// room for one that waits: one that has sent nothing, or drips, and one whose request is taken or
+// answered.
+const SHORT_SILENCE: u64 = 10;
+
+const LONG_SILENCE: u64 = 2_000;
 
 /// What a connection had.
 #[derive(Drop)]
@@ -34,22 +55,26 @@ pub enum Heard {
     Quiet,
     /// Bytes that nobody wants, and perhaps more behind them.
     Dropped,
-    /// Its end: the peer has ended it or broken it off, or took too long.
+    /// Its end: the peer has ended it or broken it off, or took too long, or there was no memory
+    /// for its bytes.
     Over,
 }
 
 #[derive(Clone, Copy, PartialEq, Eq)]
 enum Stage {
+    // It is left unread until the office can take its request.
+    Waiting,
     // Its pieces are the office's.
     Open,
     // The office has closed it, and bytes are still to be sent.
     Sending,
-    // All was sent and said to be all. What the peer still sends is read and dropped: a socket that is closed over unread bytes
-    // resets the connection, and the peer would lose the answer (RFC 9112, section 9.6).
+    // All was sent and said to be all. What the peer still sends is read and dropped: a socket that
+    // is closed over unread bytes resets the connection, and the peer would lose the answer (RFC
+    // 9112, section 9.6).
     Ending,
 }
 
-/// A clerk's connection.
+/// A clerk's connection. Moments are in milliseconds since the link was opened.
 #[derive(Drop)]
 pub struct Connection {
     /// Its number, which no other connection has.
@@ -57,17 +82,28 @@ pub struct Connection {
     stream: TcpStream,
     unsent: Unsent,
     stage: Stage,
-    // The second at which it is over, if nothing comes before.
+    // The moment at which it is over, if nothing comes before.
     until: u64,
+    // When its peer was heard last, or else when it was accepted.
+    heard: u64,
     // Whether a piece of it was given.
     spoke: bool,
+    // Whether its peer sends a request bit by bit, while it waits.
+    drips: bool,
+    // How many bytes waited when it was heard last, as far as they are counted.
+    counted: usize,
+    // Whether bytes or an end may be read, and whether the system may take bytes.
+    readable: bool,
+    writable: bool,
+    // Whether the peer has said that it sends no more.
+    ended: bool,
 }
 
 impl Connection {
-    /// A connection that was accepted in the second `now`.
+    /// A connection that was accepted at the moment `now`.
     pub fn new(number: u32, stream: TcpStream, unsent: Unsent, now: u64) -> Connection
         ensures number { result.number ≡ number }
-        ensures open { result.stage ≡ stage.Open }
+        ensures waiting { result.stage ≡ stage.Waiting }
         ensures unspoken { result.spoke ≡ false }
         ensures unsent { result.unsent ≡ unsent }
         ensures until { result.until ≡ later now LONGEST_SILENCE }
@@ -76,9 +112,15 @@ impl Connection {
             number,
             stream,
             unsent,
-            stage: Stage::Open,
+            stage: Stage::Waiting,
             until: now.saturating_add(LONGEST_SILENCE),
+            heard: now,
             spoke: false,
+            drips: false,
+            counted: 0,
+            readable: false,
+            writable: true,
+            ended: false,
         }
     }
 
@@ -89,41 +131,163 @@ impl Connection {
         self.spoke && self.stage == Stage::Open
     }
 
-    /// Sends on what is to be sent, and reads the next bytes. Once it is closed it gives none.
-    pub fn ask(&mut self, alloc: Global, now: u64) -> Result<Heard, LinkErr>
+    /// Whether its request is being taken.
+    pub fn is_open(&self) -> bool
+        ensures { IsTrue result ↔ (self.now.stage ≡ stage.Open) }
+    {
+        self.stage == Stage::Open
+    }
+
+    /// How soon its request is to be begun: 0 where none waits; 1 where its peer drips; else the
+    /// more, the more has come of it.
+    pub fn rank(&self) -> usize
+        ensures { self.now.stage ≢ stage.Waiting → result ≡ 0 }
+    {
+        if self.stage != Stage::Waiting || !self.readable {
+            return 0;
+        }
+        if self.drips {
+            return 1;
+        }
+        self.counted.saturating_add(2)
+    }
+
+    /// Whether the office has closed it.
+    pub fn is_closed(&self) -> bool
+        ensures { IsTrue result
+            ↔ ((self.now.stage ≡ stage.Sending) ⊎ (self.now.stage ≡ stage.Ending)) }
+    {
+        matches!(self.stage, Stage::Sending | Stage::Ending)
+    }
+
+    // Whether its peer has sent nothing yet.
+    fn is_unheard(&self) -> bool
+        ensures { IsTrue result ↔ ((self.now.stage ≡ stage.Waiting) × (self.now.readable ≡ false)) }
+    {
+        self.stage == Stage::Waiting && !self.readable
+    }
+
+    /// When its peer was heard last, or else when it was accepted.
+    pub fn heard_at(&self) -> u64
+        ensures { result ≡ self.now.heard }
+    {
+        self.heard
+    }
+
+    /// From when on it makes room for another: None where it waits for the office, and not for its
+    /// peer.
+    pub fn makes_room_at(&self) -> Option<u64> {
+        match self.stage {
+            Stage::Waiting => {
+                if self.readable && !self.drips {
+                    return None;
+                }
+                Some(self.heard.saturating_add(SHORT_SILENCE))
+            }
+            Stage::Open | Stage::Sending | Stage::Ending => {
+                Some(self.heard.saturating_add(LONG_SILENCE))
+            }
+        }
+    }
+
+    /// The moment at which it is over, if nothing comes before.
+    pub fn due(&self) -> u64
+        ensures { result ≡ self.now.until }
+    {
+        self.until
+    }
+
+    /// Takes in what the system tells of it at the moment `now`.
+    pub fn hear(&mut self, told: &Event, now: u64)
+        ensures number { self.new.number ≡ self.old.number }
+        ensures stage { self.new.stage ≡ self.old.stage }
+        ensures spoke { self.new.spoke ≡ self.old.spoke }
+    {
+        let is_over = told.is_read_closed() || told.is_error();
+        if told.is_writable() || told.is_write_closed() || is_over {
+            self.writable = true;
+        }
+        if told.is_readable() || is_over {
+            self.hear_bytes(now);
+        }
+        self.ended |= is_over;
+    }
+
+    // Bytes or an end have come.
+    fn hear_bytes(&mut self, now: u64)
+        ensures number { self.new.number ≡ self.old.number }
+        ensures stage { self.new.stage ≡ self.old.stage }
+        ensures spoke { self.new.spoke ≡ self.old.spoke }
+        ensures readable { self.new.readable ≡ true }
+        ensures first { self.old.stage ≡ stage.Waiting → self.old.readable ≡ false
+            → self.new.until ≡ later now LONGEST_WAIT }
+        ensures later { self.old.stage ≡ stage.Waiting → self.old.readable ≡ true
+            → self.new.until ≡ self.old.until }
+        ensures open { self.old.stage ≢ stage.Waiting → self.new.until ≡ self.old.until }
+    {
+        if self.is_unheard() {
+            self.heard = now;
+            self.until = now.saturating_add(LONGEST_WAIT);
+        }
+        if self.stage == Stage::Waiting {
+            self.drips = self.heard.saturating_add(DRIP) <= now;
+            self.counted = count_waiting(&self.stream);
+        }
+        self.readable = true;
+    }
+
+    /// Begins to take its request, at the moment `now`.
+    pub fn begin(&mut self, now: u64)
+        ensures number { self.new.number ≡ self.old.number }
+        ensures open { self.new.stage ≡ stage.Open }
+        ensures spoke { self.new.spoke ≡ self.old.spoke }
+        ensures until { self.new.until ≡ later now LONGEST_REQUEST }
+    {
+        self.stage = Stage::Open;
+        self.heard = now;
+        self.until = now.saturating_add(LONGEST_REQUEST);
+    }
+
+    /// Sends on what is to be sent, and reads the next bytes. While it waits, and once it is
+    /// closed, it gives none.
+    pub fn ask(&mut self, alloc: Global, now: u64) -> Heard
         ensures number { self.new.number ≡ self.old.number }
         ensures closed { self.old.stage ≢ stage.Open → self.new.stage ≢ stage.Open }
-        ensures gives { self.old.stage ≢ stage.Open → IfOk result GivesNothing }
-        ensures spoken { IfOk result (λ given. IsSpoken given self.new.spoke) }
-        ensures in_time { IfOk result (λ given. IsInTime given now self.new.until) }
+        ensures gives { self.old.stage ≢ stage.Open → GivesNothing result }
+        ensures spoken { IsSpoken result self.new.spoke }
+        ensures in_time { IsInTime result now self.new.until }
+        ensures until { self.new.until ≡ self.old.until }
     {
-        let sending = self.unsent.send(&mut self.stream);
+        if self.until <= now {
+            return Heard::Over;
+        }
+        let sending = self.send_rest();
         if sending == Sending::Broken {
-            return Ok(Heard::Over);
+            return Heard::Over;
         }
         if sending == Sending::Whole && self.stage == Stage::Sending {
             self.end_writing();
         }
         match self.stage {
             Stage::Open => self.read_piece(alloc, now),
-            Stage::Sending => Ok(self.quiet(now)),
-            Stage::Ending => Ok(self.end_reading(now)),
+            Stage::Ending => self.end_reading(),
+            Stage::Waiting | Stage::Sending => Heard::Quiet,
         }
     }
 
-    /// Takes bytes to be sent, and tells whether it could: it has room for them, it isn't closed, and the peer hasn't broken it off.
+    /// Takes bytes to be sent, and tells whether it could: it has room for them, it isn't closed,
+    /// and the peer hasn't broken it off.
     pub fn answer(&mut self, bytes: &[u8]) -> bool
         ensures number { self.new.number ≡ self.old.number }
         ensures open { IsTrue result → self.old.stage ≡ stage.Open }
         ensures fits { IsTrue result → length bytes.now ≤ self.old.unsent.room }
         ensures stage { self.new.stage ≡ self.old.stage }
     {
-        self.stage == Stage::Open
-            && self.unsent.put(bytes)
-            && self.unsent.send(&mut self.stream) != Sending::Broken
+        self.stage == Stage::Open && self.unsent.put(bytes) && self.send_rest() != Sending::Broken
     }
 
-    /// Closes it in the second `now`: nothing is read from it any more, and what is still to be sent has some seconds.
+    /// Closes it at the moment `now`: nothing is read from it any more, and what is still to be
+    /// sent has some seconds.
     pub fn close(&mut self, now: u64)
         ensures number { self.new.number ≡ self.old.number }
         ensures closed { self.new.stage ≢ stage.Open }
@@ -138,6 +302,22 @@ impl Connection {
         }
     }
 
+    // Hands the system as many of the bytes that are to be sent as it takes, where it may take
+    // some.
+    fn send_rest(&mut self) -> Sending
+        ensures number { self.new.number ≡ self.old.number }
+        ensures stage { self.new.stage ≡ self.old.stage }
+        ensures spoke { self.new.spoke ≡ self.old.spoke }
+        ensures until { self.new.until ≡ self.old.until }
+    {
+        if !self.writable && !self.unsent.is_empty() {
+            return Sending::Rest;
+        }
+        let sending = self.unsent.send(&mut self.stream);
+        self.writable = sending != Sending::Rest;
+        sending
+    }
+
     // Says that all was sent. Where the peer has broken it off, the next read tells.
     fn end_writing(&mut self)
         ensures number { self.new.number ≡ self.old.number }
@@ -149,63 +329,80 @@ impl Connection {
         self.stage = Stage::Ending;
     }
 
-    // Whether its time is over.
-    fn is_late(&self, now: u64) -> bool
-        ensures { IsTrue result ↔ (self.now.until ≤ now) }
-    {
-        self.until <= now
-    }
-
-    // Nothing came: it goes on, or took too long.
-    fn quiet(&self, now: u64) -> Heard
-        ensures gives { GivesNothing result }
-        ensures in_time { IsInTime result now self.now.until }
-        ensures goes_on { now < self.now.until → result ≡ heard.Quiet }
-    {
-        if self.is_late(now) {
-            Heard::Over
-        } else {
-            Heard::Quiet
-        }
-    }
-
-    // Reads the next bytes.
-    fn read_piece(&mut self, alloc: Global, now: u64) -> Result<Heard, LinkErr>
+    // Reads the next bytes, where there may be some.
+    fn read_piece(&mut self, alloc: Global, now: u64) -> Heard
+        requires { now < self.old.until }
         ensures number { self.new.number ≡ self.old.number }
         ensures stage { self.new.stage ≡ self.old.stage }
-        ensures spoken { IfOk result (λ given. IsSpoken given self.new.spoke) }
-        ensures in_time { IfOk result (λ given. IsInTime given now self.new.until) }
-        ensures until { (self.new.until ≡ self.old.until) ⊎ (self.new.until ≡ later now LONGEST_SILENCE) }
+        ensures spoken { IsSpoken result self.new.spoke }
+        ensures in_time { IsInTime result now self.new.until }
+        ensures until { self.new.until ≡ self.old.until }
     {
+        if !self.readable {
+            return Heard::Quiet;
+        }
         let mut room = [0u8; ROOM];
         match self.stream.read(&mut room) {
-            Ok(0) => Ok(Heard::Over),
+            Ok(0) => Heard::Over,
             Ok(count) => {
-                self.spoke = true;
-                self.until = now.saturating_add(LONGEST_SILENCE);
-                piece(alloc, &room[..count])
+                self.heard = now;
+                // Fewer bytes than there was room for are all that have come, but for the end.
+                self.readable = count == ROOM || self.ended;
+                self.give(alloc, &room[..count])
             }
             Err(error) => match error.kind() {
-                ErrorKind::WouldBlock | ErrorKind::Interrupted => Ok(self.quiet(now)),
+                ErrorKind::WouldBlock => {
+                    self.readable = false;
+                    Heard::Quiet
+                }
+                ErrorKind::Interrupted => Heard::Dropped,
                 // The peer has broken it off.
-                _ => Ok(Heard::Over),
+                _ => Heard::Over,
             },
         }
     }
 
-    // Drops what the peer still sends, for as long as it may.
-    fn end_reading(&mut self, now: u64) -> Heard
+    // Gives bytes as a piece. Where there is no memory for them they are lost, so the connection is
+    // over.
+    fn give(&mut self, alloc: Global, part: &[u8]) -> Heard
+        ensures number { self.new.number ≡ self.old.number }
+        ensures stage { self.new.stage ≡ self.old.stage }
+        ensures until { self.new.until ≡ self.old.until }
+        ensures given { IsPieceOf part.now result }
+        ensures spoken { IsSpoken result self.new.spoke }
+    {
+        let mut bytes = Bytes::new(alloc);
+        match bytes.push_all(part) {
+            Ok(()) => {
+                self.spoke = true;
+                Heard::Piece(bytes)
+            }
+            Err(NoMemory) => Heard::Over,
+        }
+    }
+
+    // Drops what the peer still sends.
+    fn end_reading(&mut self) -> Heard
         ensures number { self.new.number ≡ self.old.number }
         ensures stage { self.new.stage ≡ self.old.stage }
         ensures until { self.new.until ≡ self.old.until }
         ensures gives { GivesNothing result }
-        ensures in_time { IsInTime result now self.new.until }
     {
-        if self.is_late(now) {
-            return Heard::Over;
+        if !self.readable {
+            return Heard::Quiet;
         }
-        drop_pieces(&mut self.stream)
+        let heard = drop_pieces(&mut self.stream);
+        self.readable = matches!(heard, Heard::Dropped);
+        heard
     }
+}
+
+// How many bytes wait to be read, as far as they are counted.
+fn count_waiting(stream: &TcpStream) -> usize
+    ensures { result ≤ MOST_COUNTED }
+{
+    let mut room = [0u8; MOST_COUNTED];
+    stream.peek(&mut room).unwrap_or(0)
 }
 
 // Reads some of the bytes that have come, and drops them.
@@ -225,14 +422,4 @@ fn drop_pieces(stream: &mut TcpStream) -> Heard
         }
     }
     Heard::Dropped
-}
-
-fn piece(alloc: Global, part: &[u8]) -> Result<Heard, LinkErr>
-    ensures { IfOk result (λ given. given ≡ heard.Piece part.now) }
-{
-    let mut bytes = Bytes::new(alloc);
-    match bytes.push_all(part) {
-        Ok(()) => Ok(Heard::Piece(bytes)),
-        Err(NoMemory) => Err(LinkErr::Memory),
-    }
 }

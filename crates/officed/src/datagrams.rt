@@ -1,17 +1,24 @@
-use crate::reflecting::is_reflection;
+use crate::addresses::Addresses;
+use crate::reflecting::{OwnPorts, is_reflection, is_time_answer};
+use crate::system::ask_for_room;
 use mio::net::UdpSocket;
 use mio::{Interest, Registry, Token};
-use off_base::{Bytes, Ip4, NoMemory, Peer};
-use off_outside::{LinkErr, Service, What};
+use off_base::{Bytes, Ip4, Moment, NoMemory, Peer};
+use off_outside::{Failed, Service, What};
 use std::alloc::Global;
 use std::io::{self, ErrorKind};
 use std::net::{Ipv4Addr, SocketAddr, SocketAddrV4};
+use std::os::fd::AsRawFd;
 
 // How many bytes of a datagram are taken; the rest of a longer one is lost.
 const ROOM: usize = 2048;
 
 // How many datagrams are dropped before another socket is asked.
 const MOST_DROPPED: u32 = 16;
+
+// How many bytes of datagrams may wait at a socket: some seconds of all modems of a town, where the
+// system allows it.
+const WAITING_BYTES: i32 = 33_554_432;
 
 /// What a socket had.
 #[derive(Drop)]
@@ -23,45 +30,96 @@ pub enum Asked {
     Dropped,
 }
 
-/// One UDP socket for each service, on all addresses of the machine.
+/// The socket of a service, and whether a datagram may have come: `poll` has told of one, and no
+/// read has found none since.
+#[derive(Drop)]
+struct Port {
+    socket: UdpSocket,
+    may_have: bool,
+}
+
+/// One UDP socket for each service.
 #[derive(Drop)]
 pub struct Datagrams {
-    dhcp: UdpSocket,
-    time: UdpSocket,
-    tftp: UdpSocket,
+    dhcp: Port,
+    time: Port,
+    tftp: Port,
+    own: OwnPorts,
+}
+
+/// The token of a service's socket.
+pub const fn token_of(service: Service) -> usize {
+    match service {
+        Service::Dhcp => 0,
+        Service::Time => 1,
+        Service::Tftp => 2,
+    }
 }
 
 impl Datagrams {
     /// Opens the sockets, on ports in the order DHCP, time, TFTP.
-    pub fn open(rt: &HostRuntime, registry: &Registry, ports: &[u16; 4]) -> io::Result<Datagrams> {
-        let dhcp = bind(rt, registry, ports[0], 0)?;
+    pub fn open(
+        rt: &HostRuntime,
+        registry: &Registry,
+        address: Ip4,
+        own: OwnPorts,
+    ) -> io::Result<Datagrams> {
+        let dhcp = Port::open(rt, registry, address, own.dhcp, Service::Dhcp)?;
         // A refusal to a client that has no address goes to 255.255.255.255.
-        dhcp.set_broadcast(true)?;
-        let time = bind(rt, registry, ports[1], 1)?;
-        let tftp = bind(rt, registry, ports[2], 2)?;
-        Ok(Datagrams { dhcp, time, tftp })
+        dhcp.socket.set_broadcast(true)?;
+        let time = Port::open(rt, registry, address, own.time, Service::Time)?;
+        let tftp = Port::open(rt, registry, address, own.tftp, Service::Tftp)?;
+        Ok(Datagrams {
+            dhcp,
+            time,
+            tftp,
+            own,
+        })
     }
 
-    /// The next datagram of a service, if one has come.
-    pub fn ask(&self, alloc: Global, service: Service) -> Result<Asked, LinkErr> {
-        let socket = self.socket(service);
+    /// Whether a datagram may have come.
+    pub fn may_have(&self, service: Service) -> bool {
+        self.port(service).may_have
+    }
+
+    /// Whether a datagram may have come for some service.
+    pub fn may_have_any(&self) -> bool {
+        self.dhcp.may_have || self.time.may_have || self.tftp.may_have
+    }
+
+    /// Takes it that a datagram has come, where the token is a service's.
+    pub fn hear(&mut self, token: usize) {
+        match token {
+            0 => self.dhcp.may_have = true,
+            1 => self.time.may_have = true,
+            2 => self.tftp.may_have = true,
+            _ => {}
+        }
+    }
+
+    /// The next datagram of a service, if one has come. One for which memory was refused is
+    /// dropped.
+    pub fn ask(&mut self, alloc: Global, service: Service, now: Moment) -> Result<Asked, Failed> {
+        let own = self.own;
+        let port = self.port_mut(service);
         let mut room = [0u8; ROOM];
         for _attempt in 0..MOST_DROPPED {
-            match socket.recv_from(&mut room) {
+            match port.socket.recv_from(&mut room) {
                 Ok((count, SocketAddr::V4(address))) => {
-                    let from = Peer {
-                        ip: Ip4(address.ip().to_bits()),
-                        port: address.port(),
-                    };
-                    if takes(service, from) {
-                        return gave(alloc, service, from, &room[..count]);
+                    let from = peer_at(address);
+                    let datagram = &room[..count];
+                    if takes(service, from, datagram, own, now) {
+                        return Ok(gave(alloc, service, from, datagram));
                     }
                 }
                 Ok((_count, SocketAddr::V6(_address))) => {}
                 Err(error) => match error.kind() {
-                    ErrorKind::WouldBlock => return Ok(Asked::Quiet),
+                    ErrorKind::WouldBlock => {
+                        port.may_have = false;
+                        return Ok(Asked::Quiet);
+                    }
                     ErrorKind::Interrupted => {}
-                    _ => return Err(LinkErr::Failed),
+                    _ => return Err(Failed),
                 },
             }
         }
@@ -70,42 +128,76 @@ impl Datagrams {
 
     /// Sends a datagram, and tells whether all of it went out.
     pub fn send(&self, service: Service, to: Peer, bytes: &[u8]) -> bool {
-        let address = SocketAddr::V4(SocketAddrV4::new(Ipv4Addr::from_bits(to.ip.0), to.port));
-        match self.socket(service).send_to(bytes, address) {
+        let address = socket_address(to.ip, to.port);
+        match self.port(service).socket.send_to(bytes, address) {
             Ok(count) => count == bytes.len(),
             Err(_error) => false,
         }
     }
 
-    fn socket(&self, service: Service) -> &UdpSocket {
+    fn port(&self, service: Service) -> &Port {
         match service {
             Service::Dhcp => &self.dhcp,
             Service::Time => &self.time,
             Service::Tftp => &self.tftp,
         }
     }
+
+    fn port_mut(&mut self, service: Service) -> &mut Port {
+        match service {
+            Service::Dhcp => &mut self.dhcp,
+            Service::Time => &mut self.time,
+            Service::Tftp => &mut self.tftp,
+        }
+    }
 }
 
-fn bind(rt: &HostRuntime, registry: &Registry, port: u16, token: usize) -> io::Result<UdpSocket> {
-    let address = SocketAddr::V4(SocketAddrV4::new(Ipv4Addr::UNSPECIFIED, port));
-    let mut socket = UdpSocket::bind(rt, address)?;
-    registry.register(&mut socket, Token(token), Interest::READABLE)?;
-    Ok(socket)
+impl Port {
+    fn open(
+        rt: &HostRuntime,
+        registry: &Registry,
+        address: Ip4,
+        number: u16,
+        service: Service,
+    ) -> io::Result<Port> {
+        let mut socket = UdpSocket::bind(rt, socket_address(address, number))?;
+        ask_for_room(socket.as_raw_fd(), WAITING_BYTES);
+        registry.register(&mut socket, Token(token_of(service)), Interest::READABLE)?;
+        Ok(Port {
+            socket,
+            may_have: true,
+        })
+    }
+}
+
+/// An address and a port as std has them.
+pub fn socket_address(ip: Ip4, port: u16) -> SocketAddr {
+    SocketAddr::V4(SocketAddrV4::new(Ipv4Addr::from_bits(ip.0), port))
+}
+
+fn peer_at(address: SocketAddrV4) -> Peer {
+    Peer {
+        ip: Ip4(address.ip().to_bits()),
+        port: address.port(),
+    }
 }
 
 // Whether a datagram becomes an event.
-fn takes(service: Service, from: Peer) -> bool {
-    service != Service::Time || !is_reflection(from)
+fn takes(service: Service, from: Peer, datagram: &[u8], own: OwnPorts, now: Moment) -> bool {
+    if is_reflection(service, from, own) {
+        return false;
+    }
+    !matches!(service, Service::Time) || !is_time_answer(datagram, now)
 }
 
-fn gave(alloc: Global, service: Service, from: Peer, datagram: &[u8]) -> Result<Asked, LinkErr> {
+fn gave(alloc: Global, service: Service, from: Peer, datagram: &[u8]) -> Asked {
     let mut bytes = Bytes::new(alloc);
     match bytes.push_all(datagram) {
-        Ok(()) => Ok(Asked::Gave(What::Datagram {
+        Ok(()) => Asked::Gave(What::Datagram {
             service,
             from,
             bytes,
-        })),
-        Err(NoMemory) => Err(LinkErr::Memory),
+        }),
+        Err(NoMemory) => Asked::Dropped,
     }
 }

@@ -1,6 +1,9 @@
 //! `officed`: real sockets, the standard streams, and main. No rule of the office stands here.
 #![tactic(auto)]
 
+ghost use Rattle.std.specs.Prelude.{◌≡◌, IfOk};
+
+mod addresses;
 mod clerks;
 mod connection;
 mod datagrams;
@@ -8,8 +11,10 @@ mod numbers;
 mod reflecting;
 mod socket_link;
 mod standard;
+mod system;
 mod unsent;
 
+use crate::addresses::Addresses;
 use crate::socket_link::{OpenErr, SocketLink};
 use crate::standard::{StandardInput, StandardOutput};
 use off_keepmem::MemKeeper;
@@ -86,11 +91,19 @@ fn serve_sockets(
         return NO_STORE;
     }
     let mut keeper = MemKeeper::new(rt.alloc(), Calls::new(rt.alloc()));
-    match SocketLink::open(rt, &wanted.ports) {
+    match open_link(rt, &wanted.ports) {
         Ok(mut link) => run(rt.alloc(), words, &mut link, &mut keeper, input, output),
         Err(OpenErr::Memory) => no_memory(rt),
         Err(OpenErr::Socket) => NO_SOCKET,
     }
+}
+
+// Opens the sockets on the addresses that the environment names.
+fn open_link(rt: &HostRuntime, ports: &[u16; 4]) -> Result<SocketLink, OpenErr>
+    ensures { IfOk result (λ link. link.missed ≡ 0) }
+{
+    let addresses = Addresses::wanted(rt)?;
+    SocketLink::open(rt, addresses, ports)
 }
 
 // Says that memory was refused.

@@ -33,7 +33,8 @@ impl Numbers {
 
     /// The next number, one above the last that was given, or None behind the greatest.
     pub fn give(&mut self) -> Option<u32>
-        ensures { MatchOption result ((2 ^ 32 ≤ self.old + 1) × (self.new ≡ self.old)) (λ n. (n ≡ self.old + 1) × (self.new ≡ n)) }
+        ensures { MatchOption result ((2 ^ 32 ≤ self.old + 1) × (self.new ≡ self.old))
+            (λ n. (n ≡ self.old + 1) × (self.new ≡ n)) }
     {
         let next = self.last.checked_add(1)?;
         self.last = next;

@@ -2,8 +2,10 @@ ghost use Rattle.std.specs.Prelude.{◌≡◌, IfOk};
 ghost use Rattle.off_defs.specs.Told.{one_none};
 ghost use Rattle.officed.specs.Untold.{link_counts};
 
+use crate::addresses::Addresses;
 use crate::clerks::Clerks;
 use crate::datagrams::{Asked, Datagrams};
+use crate::reflecting::OwnPorts;
 use mio::{Events, Poll};
 use off_base::{Moment, Peer};
 use off_outside::{Event, Failed, Link, LinkErr, Service, What};
@@ -11,8 +13,15 @@ use std::alloc::Global;
 use std::io;
 use std::time::{Duration, Instant, SystemTime};
 
-// How many seconds an idle link sleeps at most.
-const LONGEST_SLEEP: u64 = 1;
+// How many milliseconds an idle link sleeps at most.
+const LONGEST_SLEEP: u64 = 1_000;
+
+// How many times sockets that may have something are asked before the system is asked for the
+// others.
+const MOST_ASKED: u32 = 32;
+
+// How many rounds without an event there are at most before a Tick.
+const MOST_ROUNDS: u32 = 16;
 
 // How many sockets `poll` tells of at a time.
 const MOST_READY: usize = 64;
@@ -23,7 +32,8 @@ pub enum OpenErr {
     Socket,
 }
 
-/// The real link: a UDP socket for each service and a TCP listener for clerks. It tells its counts alone.
+/// The real link: a UDP socket for each service and a TCP listener for clerks. It tells its counts
+/// alone.
 #[derive(Drop)]
 pub struct SocketLink {
     asking: Asking,
@@ -33,14 +43,18 @@ pub struct SocketLink {
 }
 
 impl SocketLink {
-    /// Opens the sockets, on ports in the order DHCP, time, TFTP, HTTP.
-    pub fn open(rt: &HostRuntime, ports: &[u16; 4]) -> Result<SocketLink, OpenErr>
+    /// Opens the sockets on these addresses, on ports in the order DHCP, time, TFTP, HTTP.
+    pub fn open(
+        rt: &HostRuntime,
+        addresses: Addresses,
+        ports: &[u16; 4],
+    ) -> Result<SocketLink, OpenErr>
         ensures { IfOk result (λ link. link.missed ≡ 0) }
     {
         let Ok(ready) = Events::with_capacity(rt.alloc(), MOST_READY) else {
             return Err(OpenErr::Memory);
         };
-        match Asking::open(rt, ready, ports) {
+        match Asking::open(rt, ready, addresses, ports) {
             Ok(asking) => Ok(SocketLink {
                 asking,
                 missed: 0,
@@ -61,8 +75,7 @@ impl Link for SocketLink {
                 self.missed = 0;
                 Ok(event)
             }
-            Err(LinkErr::Memory) => Err(LinkErr::Memory),
-            Err(LinkErr::Failed) => {
+            Err(Failed) => {
                 self.missed = self.missed.saturating_add(1);
                 self.faults = self.faults.saturating_add(1);
                 Err(LinkErr::Failed)
@@ -91,12 +104,31 @@ impl Link for SocketLink {
         Ok(())
     }
 
-    ghost one_left = { λ _. one_none };
+    ghost one_left = { λ _ up. one_none };
 
-    ghost one_sent = { λ _. one_none };
+    ghost one_sent = { λ _ up. one_none };
 }
 
-// The sockets, asked in turn.
+// Whose turn it is to be asked.
+#[derive(Clone, Copy)]
+enum Turn {
+    Port(Service),
+    Clerks,
+}
+
+impl Turn {
+    fn following(self) -> Turn {
+        match self {
+            Turn::Port(Service::Dhcp) => Turn::Port(Service::Time),
+            Turn::Port(Service::Time) => Turn::Port(Service::Tftp),
+            Turn::Port(Service::Tftp) => Turn::Clerks,
+            Turn::Clerks => Turn::Port(Service::Dhcp),
+        }
+    }
+}
+
+// The sockets, asked in turn: those that may have something. The system tells which ones, and it is
+// asked again where none is left, and now and then before.
 #[derive(Drop)]
 struct Asking {
     rt: HostRuntime,
@@ -104,8 +136,12 @@ struct Asking {
     ready: Events,
     datagrams: Datagrams,
     clerks: Clerks,
-    // Who is asked first: 0 to 2 a service, 3 the clerks.
-    turn: u8,
+    turn: Turn,
+    // How many times sockets were asked since the system was.
+    asked: u32,
+    // When the system was asked last, in milliseconds since the link was opened. To ask the clock
+    // each time would cost more than it tells.
+    looked: u64,
     // The second of the last Tick.
     last_tick: u64,
     // When the link was opened, by the clock that never goes back.
@@ -113,43 +149,64 @@ struct Asking {
 }
 
 impl Asking {
-    fn open(rt: &HostRuntime, ready: Events, ports: &[u16; 4]) -> io::Result<Asking> {
+    fn open(
+        rt: &HostRuntime,
+        ready: Events,
+        addresses: Addresses,
+        ports: &[u16; 4],
+    ) -> io::Result<Asking> {
         let poll = Poll::new(rt)?;
-        let datagrams = Datagrams::open(rt, poll.registry(), ports)?;
-        let clerks = Clerks::open(rt, poll.registry(), ports[3])?;
+        let own = OwnPorts {
+            dhcp: ports[0],
+            time: ports[1],
+            tftp: ports[2],
+        };
+        let datagrams = Datagrams::open(rt, poll.registry(), addresses.udp, own)?;
+        let clerks = Clerks::open(rt, poll.registry(), addresses.http, ports[3])?;
         Ok(Asking {
             rt: rt.clone()?,
             poll,
             ready,
             datagrams,
             clerks,
-            turn: 0,
+            turn: Turn::Port(Service::Dhcp),
+            asked: 0,
+            looked: 0,
             last_tick: 0,
             opened: Instant::now(rt)?,
         })
     }
 
-    // The next event: a Tick in each new second, else what a socket has, else a Tick behind a sleep.
-    fn next(&mut self, alloc: Global) -> Result<Event, LinkErr> {
+    // The next event: a Tick in each new second, else what a socket has, else a Tick behind some
+    // rounds without an event.
+    fn next(&mut self, alloc: Global) -> Result<Event, Failed> {
+        for _round in 0..MOST_ROUNDS {
+            if let Some(event) = self.round(alloc)? {
+                return Ok(event);
+            }
+        }
+        let at = self.clock()?;
+        Ok(self.tick(at))
+    }
+
+    // Sleeps where no socket may have something, and else asks those that may.
+    fn round(&mut self, alloc: Global) -> Result<Option<Event>, Failed> {
         let at = self.clock()?;
         if at.0 != self.last_tick {
-            return Ok(self.tick(at));
+            return Ok(Some(self.tick(at)));
         }
-        match self.ask_all(alloc)? {
-            Asked::Gave(what) => return Ok(Event { at, what }),
-            Asked::Dropped => return Ok(self.tick(at)),
-            Asked::Quiet => {}
+        if !self.datagrams.may_have_any() && !self.clerks.may_have(self.looked) {
+            let left = self.clerks.due().saturating_sub(self.looked);
+            self.look(left.min(LONGEST_SLEEP))?;
+            return Ok(None);
         }
-        let Ok(()) = self
-            .poll
-            .poll(&mut self.ready, Some(Duration::from_secs(LONGEST_SLEEP)))
-        else {
-            return Err(LinkErr::Failed);
-        };
-        let at = self.clock()?;
-        match self.ask_all(alloc)? {
-            Asked::Gave(what) => Ok(Event { at, what }),
-            Asked::Quiet | Asked::Dropped => Ok(self.tick(at)),
+        if self.asked >= MOST_ASKED {
+            self.look(0)?;
+        }
+        self.asked = self.asked.saturating_add(1);
+        match self.ask_all(alloc, at)? {
+            Asked::Gave(what) => Ok(Some(Event { at, what })),
+            Asked::Quiet | Asked::Dropped => Ok(None),
         }
     }
 
@@ -161,53 +218,77 @@ impl Asking {
         }
     }
 
-    // Asks each socket once, and begins behind the one that gave the last event.
-    fn ask_all(&mut self, alloc: Global) -> Result<Asked, LinkErr> {
-        let mut dropped = false;
+    // Asks the system which sockets may have something, and waits for one so many milliseconds at
+    // most.
+    fn look(&mut self, sleep: u64) -> Result<(), Failed> {
+        self.asked = 0;
+        let Ok(()) = self
+            .poll
+            .poll(&mut self.ready, Some(Duration::from_millis(sleep)))
+        else {
+            return Err(Failed);
+        };
+        self.looked = self.uptime()?;
+        for told in self.ready.iter() {
+            self.datagrams.hear(told.token().0);
+            self.clerks.hear(told, self.looked);
+        }
+        Ok(())
+    }
+
+    // Asks each socket that may have something once, and begins behind the one that gave the last
+    // event.
+    fn ask_all(&mut self, alloc: Global, at: Moment) -> Result<Asked, Failed> {
         for _place in 0..4u8 {
-            let asked = self.ask(alloc, self.turn)?;
-            self.turn = (self.turn % 4 + 1) % 4;
-            match asked {
-                Asked::Gave(what) => return Ok(Asked::Gave(what)),
-                Asked::Dropped => dropped = true,
-                Asked::Quiet => {}
+            let asked = self.ask(alloc, self.turn, at)?;
+            self.turn = self.turn.following();
+            if let Asked::Gave(what) = asked {
+                return Ok(Asked::Gave(what));
             }
         }
-        Ok(if dropped {
-            Asked::Dropped
-        } else {
-            Asked::Quiet
-        })
+        Ok(Asked::Quiet)
     }
 
-    fn ask(&mut self, alloc: Global, turn: u8) -> Result<Asked, LinkErr> {
+    fn ask(&mut self, alloc: Global, turn: Turn, at: Moment) -> Result<Asked, Failed> {
         match turn {
-            0 => self.datagrams.ask(alloc, Service::Dhcp),
-            1 => self.datagrams.ask(alloc, Service::Time),
-            2 => self.datagrams.ask(alloc, Service::Tftp),
-            _ => {
-                let now = self.uptime()?;
-                self.clerks.ask(alloc, self.poll.registry(), now)
+            Turn::Port(service) => {
+                if self.datagrams.may_have(service) {
+                    self.datagrams.ask(alloc, service, at)
+                } else {
+                    Ok(Asked::Quiet)
+                }
+            }
+            Turn::Clerks => {
+                if self.clerks.may_have(self.looked) {
+                    self.clerks.ask(alloc, self.poll.registry(), self.looked)
+                } else {
+                    Ok(Asked::Quiet)
+                }
             }
         }
     }
 
-    // Whole seconds since the link was opened, which don't follow the clock where it is set.
-    fn uptime(&self) -> Result<u64, LinkErr> {
+    // Whole milliseconds since the link was opened, which don't follow the clock where it is set.
+    fn uptime(&self) -> Result<u64, Failed> {
         match self.opened.elapsed(&self.rt) {
-            Ok(passed) => Ok(passed.as_secs()),
-            Err(_error) => Err(LinkErr::Failed),
+            Ok(passed) => Ok(
+                passed
+                    .as_secs()
+                    .saturating_mul(1_000)
+                    .saturating_add(u64::from(passed.subsec_millis())),
+            ),
+            Err(_error) => Err(Failed),
         }
     }
 
     // Whole seconds since 1970.
-    fn clock(&self) -> Result<Moment, LinkErr> {
+    fn clock(&self) -> Result<Moment, Failed> {
         let Ok(now) = SystemTime::now(&self.rt) else {
-            return Err(LinkErr::Failed);
+            return Err(Failed);
         };
         match now.duration_since(SystemTime::UNIX_EPOCH) {
             Ok(passed) => Ok(Moment(passed.as_secs())),
-            Err(_before) => Err(LinkErr::Failed),
+            Err(_before) => Err(Failed),
         }
     }
 }

@@ -9,9 +9,10 @@ use std::marker::Model;
 
 /// How many bytes an answer has at most.
 ///
-/// The longest is that of a class: its name has 64 bytes, each of them an escape of 6 at worst, and its settings 2,048 bytes as a
-/// file spells them. Of these an empty group takes 2 and is written by 24, `{"code":255,"parts":[]},`, which is the most for a byte: 12.
-/// So the body is `{"name":"` .. `","settings":[` .. `]}` of 9 + 384 + 14 + 24,576 + 2 = 24,985 bytes, and the head has 93.
+/// The longest is that of a class: its name has 64 bytes, each of them an escape of 6 at worst, and
+/// its settings 2,048 bytes as a file spells them. Of these an empty group takes 2 and is written
+/// by 24, `{"code":255,"parts":[]},`, which is the most for a byte: 12. So the body is `{"name":"`
+/// .. `","settings":[` .. `]}` of 9 + 384 + 14 + 24,576 + 2 = 24,985 bytes, and the head has 93.
 pub const ANSWER_ROOM: usize = 25_600;
 
 /// What became of the bytes that were to be sent.
@@ -44,7 +45,8 @@ impl Model for Unsent {
 
     ghost view = { λ u. record { left = drop u.sent u.bytes.items; room = u.room } };
 
-    ghost invariant = { λ u. (u.sent ≤ vec_len u.bytes) × (vec_len u.bytes + u.room ≤ vec_capacity u.bytes) };
+    ghost invariant = { λ u. (u.sent ≤ vec_len u.bytes)
+        × (vec_len u.bytes + u.room ≤ vec_capacity u.bytes) };
 }
 
 impl Unsent {
@@ -64,7 +66,8 @@ impl Unsent {
 
     /// Puts a part behind the others, or changes nothing where it doesn't fit. It takes no memory.
     pub fn put(&mut self, part: &[u8]) -> bool
-        ensures { MatchBool result (Put part.now self.old self.new) (DoesNotFit part.now self.old self.new) }
+        ensures { MatchBool result (Put part.now self.old self.new)
+            (DoesNotFit part.now self.old self.new) }
     {
         if self.room < part.len() {
             return false;

@@ -1,0 +1,187 @@
+#!/usr/bin/env python3
+"""Clerks among crowds: more of them than the office takes at a time, and peers that say nothing, or a byte now and then.
+
+Eight peers that drip, 64 of them, 2,000 silent ones: a clerk is answered within 31 seconds. A peer that has sent nothing for 5 seconds
+is closed, and one whose request isn't whole after 30. `ab` sends PUTs of 9,597 bytes over 64 connections, and none fails. The times are
+printed. It ends what it started, and takes about 80 seconds, most of them waiting.
+"""
+import os
+import re
+import resource
+import select
+import shutil
+import socket
+import subprocess
+import sys
+import tempfile
+import threading
+import time
+
+from clerk_connections import ANN, DONE, connect, is_open, read_to_end, reply, request, wait_until_answering
+from listening import stop
+from time_service import PROGRAM, check, failures, free_ports, start
+
+SILENT = 2000
+DRIPPING = 64
+
+
+class Crowd(threading.Thread):
+    """Keeps so many connections that say nothing, and so many that send a byte of a request now and then; what is closed is opened again."""
+
+    def __init__(self, port, silent, dripping, pause):
+        super().__init__(daemon=True)
+        self.address = ("127.0.0.1", port)
+        self.pause = pause
+        self.over = False
+        self.opened = 0
+        self.silent = [self.open() for _ in range(silent)]
+        self.dripping = [self.open(b"P") for _ in range(dripping)]
+
+    def open(self, first=b""):
+        peer = socket.socket()
+        peer.setblocking(False)
+        try:
+            peer.connect(self.address)
+        except BlockingIOError:
+            pass
+        ready = select.poll()
+        ready.register(peer, select.POLLOUT)
+        ready.poll(1000)
+        try:
+            peer.send(first)
+        except OSError:
+            pass
+        self.opened += 1
+        return peer
+
+    def run(self):
+        while not self.over:
+            for place, peer in enumerate(self.dripping):
+                try:
+                    peer.send(b"U")
+                except OSError:
+                    peer.close()
+                    self.dripping[place] = self.open(b"P")
+            time.sleep(self.pause)
+
+    def end(self):
+        self.over = True
+        self.join()
+        for peer in self.silent + self.dripping:
+            peer.close()
+
+
+def delay(port, patience):
+    """How many seconds a clerk waits for its answer."""
+    began = time.perf_counter()
+    with connect(port) as peer:
+        peer.settimeout(patience)
+        peer.sendall(request("PUT", "/subscribers/7", ANN))
+        answered = read_to_end(peer) == DONE
+    passed = time.perf_counter() - began
+    return passed if answered else None
+
+
+def patience(port):
+    """Who has 5 seconds, and who 30. Tried at once with the crowds of `drips`, at an office of its own."""
+    began = time.perf_counter()
+    silent, dripping = connect(port), connect(port)
+    dripping.sendall(b"P")
+    ends = {}
+    while len(ends) < 2 and time.perf_counter() - began < 40:
+        if "silent" not in ends and not is_open(silent):
+            ends["silent"] = time.perf_counter() - began
+        if "dripping" not in ends and not is_open(dripping):
+            ends["dripping"] = time.perf_counter() - began
+        try:
+            dripping.sendall(b"U")
+        except OSError:
+            pass
+        time.sleep(0.1)
+    print("closed after: " + ", ".join(f"{name} {seconds:.1f} s" for name, seconds in ends.items()))
+    check(4.9 < ends.get("silent", 99) < 7, "a peer that sends nothing has 5 seconds")
+    check(29.9 < ends.get("dripping", 99) < 32, "a request has 30 seconds to be whole")
+
+
+def drips(port, name, silent, dripping, pause):
+    crowd = Crowd(port, silent, dripping, pause)
+    crowd.start()
+    time.sleep(0.5)
+    passed = delay(port, 60)
+    check(passed is not None and passed < 31, f"{name}: a clerk is answered within 31 seconds, not {passed}")
+    print(f"{name}: a clerk was answered after {passed if passed is None else round(passed, 2)} s")
+    crowd.end()
+
+
+def offices(tries):
+    """Each try at an office of its own, all at once."""
+    programs, threads = [], []
+    with tempfile.TemporaryFile() as log:
+        try:
+            for each in tries:
+                ports = free_ports()
+                programs.append(start(ports, 10**9, log))
+                check(wait_until_answering(ports[3]), "the office answers clerks")
+                threads.append(threading.Thread(target=each, args=(ports[3],)))
+            for thread in threads:
+                thread.start()
+            for thread in threads:
+                thread.join()
+            check(all(program.poll() is None for program in programs), "the offices go on")
+        finally:
+            for program in programs:
+                stop(program)
+
+
+def silent_ones(port):
+    """64 silent peers, then 192, then another clerk."""
+    for count in (64, 192):
+        crowd = Crowd(port, count, 0, 1)
+        crowd.start()
+        passed = delay(port, 60)
+        check(passed is not None and passed < 2, f"{count} silent peers: a clerk is answered within 2 seconds, not {passed}")
+        print(f"{count} silent peers: a clerk was answered after {passed if passed is None else round(passed, 3)} s")
+        crowd.end()
+
+
+def longer_bodies(port):
+    """`ab` with bodies that come in three pieces, over as many connections as the link holds."""
+    if not shutil.which("ab"):
+        print("ab: skipped, since this machine has no `ab` (apache2-utils)")
+        return
+    head, tail = b'{"active":true,"cpes":2,"name":"Ann","note":"', b'"}'
+    body = head + b"x" * (9597 - len(head) - len(tail)) + tail
+    with tempfile.NamedTemporaryFile() as file:
+        file.write(body)
+        file.flush()
+        words = ["ab", "-q", "-c", "64", "-n", "3000", "-u", file.name, f"http://127.0.0.1:{port}/subscribers/7"]
+        done = subprocess.run(words, stdout=subprocess.PIPE, stderr=subprocess.STDOUT, timeout=60)
+    text = done.stdout.decode()
+    found = {name: re.search(rf"^{name}:\s+([0-9.]+)", text, re.M) for name in ("Complete requests", "Failed requests", "Requests per second", "Non-2xx responses")}
+    numbers = {name: float(match.group(1)) for name, match in found.items() if match}
+    check(numbers.get("Complete requests") == 3000 and numbers.get("Failed requests") == 0 and "Non-2xx responses" not in numbers, f"ab: {numbers}\n{text[-300:]}")
+    print(f"ab -c 64, bodies of 9,597 bytes: {numbers}")
+    check(delay(port, 5) is not None, "a clerk behind them is answered")
+
+
+def main():
+    if not os.path.exists(PROGRAM):
+        print("officed isn't built: run bin/officed once")
+        return 1
+    most = resource.getrlimit(resource.RLIMIT_NOFILE)[1]
+    resource.setrlimit(resource.RLIMIT_NOFILE, (min(most, 16384), most))
+    offices([longer_bodies])
+    offices([silent_ones])
+    offices([
+        patience,
+        lambda port: drips(port, "8 dripping", 0, 8, 1),
+        lambda port: drips(port, f"{DRIPPING} dripping", 0, DRIPPING, 1),
+        lambda port: drips(port, f"{SILENT} silent and {DRIPPING} dripping", SILENT, DRIPPING, 0.5),
+        lambda port: drips(port, f"{SILENT} silent and {DRIPPING} dripping slowly", SILENT, DRIPPING, 20),
+    ])
+    print(f"acceptance: {len(failures)} failed")
+    return 1 if failures else 0
+
+
+if __name__ == "__main__":
+    sys.exit(main())
