@@ -1,16 +1,16 @@
-//! Worked examples over the whole office in memory: what is sent, what is written, and the status.
+//! What no script can say of the office: a keeper that tells nothing and whose entries don't rise,
+//! impossible rows behind the opening test, `Office::command` by itself, and
+//! a commit for which memory is refused.
 //!
-//! There is nothing here but tests. They show that calls succeed with ample memory, which no contract can say, and that
-//! the definitions say what was meant.
+//! There is nothing here but tests. All other examples are data: `office_script`, `format_script`,
+//! `clerk_script`.
 #![tactic(auto)]
 
 #[cfg(test)]
-mod job_examples;
+mod commands;
 #[cfg(test)]
-mod running;
+mod desk;
 #[cfg(test)]
-mod serve_examples;
+mod kept;
 #[cfg(test)]
-mod texts;
-#[cfg(test)]
-mod word_examples;
+mod lying;

@@ -1,0 +1,128 @@
+ghost use Rattle.std.specs.Prelude.{IsTrue};
+ghost use Rattle.off_rows.specs.Sound.{is_sound};
+ghost use Rattle.off_clerk_rules.specs.Replies.{IsRightReply};
+
+use crate::faults::show_fault;
+use off_base::{Bytes, NoMemory};
+use off_clerk::{ClerkErr, Fault, command_of, reply_json};
+use off_defs::{Command, Hold, Key, Lease, Reply, Row};
+use script_words::{Line, Page, Unread, show_key, show_row};
+use std::alloc::Global;
+
+/// `ask PUT /site {"server":..}`: what is asked, and for a row that is put how it is shown again;
+/// or why it is no command.
+pub fn ask(alloc: Global, page: &mut Page, line: Line<'_>) -> Result<(), Unread> {
+    let mut line = line;
+    let method = line.word();
+    let path = line.word();
+    answer(alloc, page, method, path, line.rest())
+}
+
+/// `ask-bytes PUT /site '{"server":' 64* "f"`: the same of a body that is written as bytes.
+pub fn ask_bytes(alloc: Global, page: &mut Page, line: Line<'_>) -> Result<(), Unread> {
+    let mut line = line;
+    let method = line.word();
+    let path = line.word();
+    let body = line.bytes(alloc)?;
+    answer(alloc, page, method, path, body.as_slice())
+}
+
+// `_` stands for an empty method or path.
+fn meant(word: &[u8]) -> &[u8] {
+    if word == b"_".as_slice() { b"" } else { word }
+}
+
+fn answer(
+    alloc: Global,
+    page: &mut Page,
+    method: &[u8],
+    path: &[u8],
+    body: &[u8],
+) -> Result<(), Unread> {
+    match command_of(alloc, meant(method), meant(path), body) {
+        Ok(command) => show_command(alloc, page, command),
+        Err(ClerkErr::Memory) => Err(Unread::Memory),
+        Err(err) => show_fault(alloc, page, &Fault::Clerk(err)),
+    }
+}
+
+fn show_command(alloc: Global, page: &mut Page, command: Command) -> Result<(), Unread>
+    requires { IsTrue (is_sound command) }
+{
+    match command {
+        Command::Remove(key) => {
+            page.text("remove ")?;
+            Ok(show_key(page, &key)?)
+        }
+        Command::Show(key) => {
+            page.text("show ")?;
+            Ok(show_key(page, &key)?)
+        }
+        put => show_put(alloc, page, &as_shown(put)),
+    }
+}
+
+// The row that the command puts, as it is shown; other commands have nothing to show.
+fn as_shown(command: Command) -> Reply
+    requires { IsTrue (is_sound command) }
+    ensures { IsRightReply result }
+{
+    match command {
+        Command::SetSite(site) => Reply::Shown(Key::Site, Row::Site(site)),
+        Command::PutSubscriber(number, row) => {
+            Reply::Shown(Key::Subscriber(number), Row::Subscriber(row))
+        }
+        Command::PutAddOn(owner, number, row) => {
+            Reply::Shown(Key::AddOn(owner, number), Row::AddOn(row))
+        }
+        Command::PutModem(mac, row) => Reply::Shown(Key::Modem(mac), Row::Modem(row)),
+        Command::PutClass(number, row) => Reply::Shown(Key::Class(number), Row::Class(row)),
+        Command::PutPool(number, row) => Reply::Shown(Key::Pool(number), Row::Pool(row)),
+        _ => Reply::Done,
+    }
+}
+
+fn show_put(alloc: Global, page: &mut Page, reply: &Reply) -> Result<(), Unread>
+    requires { IsRightReply reply.now }
+{
+    let Reply::Shown(key, row) = reply else {
+        return Ok(page.text("import")?);
+    };
+    page.text("put ")?;
+    show_row(page, key, row)?;
+    page.text("; ")?;
+    show_reply(page, reply_json(alloc, reply))
+}
+
+fn show_reply(page: &mut Page, text: Result<Bytes, NoMemory>) -> Result<(), Unread> {
+    Ok(page.raw(text?.as_slice())?)
+}
+
+/// `lease 10.64.0.10 bound 02aabbccddee t`: how a lease is shown.
+pub fn lease(alloc: Global, page: &mut Page, line: Line<'_>) -> Result<(), Unread> {
+    let mut line = line;
+    let address = line.address()?;
+    let hold = match line.word() {
+        b"offered" => Hold::Offered(line.mac()?),
+        b"bound" => Hold::Bound(line.mac()?),
+        _ => Hold::Declined,
+    };
+    let lease = Lease {
+        hold,
+        expiry: line.moment()?,
+    };
+    let reply = Reply::Shown(Key::Lease(address), Row::Lease(lease));
+    show_reply(page, reply_json(alloc, &reply))
+}
+
+/// `done`: how a command that was done is told.
+pub fn done(alloc: Global, page: &mut Page) -> Result<(), Unread> {
+    show_reply(page, reply_json(alloc, &Reply::Done))
+}
+
+/// `rows 2000`: how an import that was done is told.
+pub fn rows(alloc: Global, page: &mut Page, line: Line<'_>) -> Result<(), Unread> {
+    let mut line = line;
+    let reply = Reply::Rows(line.count()?);
+    show_reply(page, reply_json(alloc, &reply))
+}

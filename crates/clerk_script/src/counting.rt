@@ -1,0 +1,68 @@
+use off_accounts::count_rows;
+use off_base::NoMemory;
+use off_defs::{Key, Writes};
+use off_keepmem::MemKeeper;
+use off_outside::{Calls, Keeper};
+use off_rules::Counts;
+use script_words::{Line, Page, Unread, read_write, show_row};
+use std::alloc::Global;
+
+// The changes of a line, which stand between semicolons.
+fn read_writes(alloc: Global, text: &[u8]) -> Result<Writes, Unread> {
+    let mut writes = Writes::new(alloc);
+    for part in text.split(|byte| *byte == b';') {
+        let part = part.strip_prefix(b" ").unwrap_or(part);
+        if !part.is_empty() {
+            writes.push(read_write(alloc, &mut Line::over(part))?)?;
+        }
+    }
+    Ok(writes)
+}
+
+fn keeper_of(alloc: Global, text: &[u8]) -> Result<MemKeeper, Unread> {
+    let writes = read_writes(alloc, text)?;
+    let mut keeper = MemKeeper::new(alloc, Calls::new(alloc));
+    match keeper.commit(alloc, &writes) {
+        Ok(()) => Ok(keeper),
+        Err(_failed) => Err(Unread::Memory),
+    }
+}
+
+fn counted(page: &mut Page, word: &str, number: u64) -> Result<(), NoMemory> {
+    page.text(word)?;
+    page.number(number)
+}
+
+fn show_counts(page: &mut Page, counts: &Counts) -> Result<(), NoMemory> {
+    counted(page, "subscribers ", counts.subscribers)?;
+    counted(page, " add-ons ", counts.addons)?;
+    counted(page, " modems ", counts.modems)?;
+    counted(page, " classes ", counts.classes)?;
+    counted(page, " pools ", counts.pools)?;
+    counted(page, " batches ", counts.batches)
+}
+
+/// `count ROW; ROW`: how many possible rows of each kind the tables have.
+pub fn count(alloc: Global, page: &mut Page, line: Line<'_>) -> Result<(), Unread> {
+    let mut keeper = keeper_of(alloc, line.rest())?;
+    match count_rows(alloc, &mut keeper) {
+        Ok(counts) => Ok(show_counts(page, &counts)?),
+        Err(_failed) => Err(Unread::Memory),
+    }
+}
+
+/// `writes ROW; ROW`: the rows that stand behind a commit of these changes, in the order of their
+/// keys.
+pub fn writes(alloc: Global, page: &mut Page, line: Line<'_>) -> Result<(), Unread> {
+    let mut keeper = keeper_of(alloc, line.rest())?;
+    let mut last: Option<Key> = None;
+    for _ in 0..line.rest().len() {
+        let Ok(Some((key, row))) = keeper.next(alloc, last.as_ref()) else {
+            break;
+        };
+        show_row(page, &key, &row)?;
+        page.text("; ")?;
+        last = Some(key);
+    }
+    Ok(counted(page, "calls ", keeper.calls())?)
+}

@@ -1,0 +1,167 @@
+ghost use Rattle.std.specs.Prelude.{IfOk};
+ghost use Rattle.off_rows.specs.RowBytes.{CanSpell};
+
+use off_base::{Bytes, Mac};
+use off_defs::{Command, ImportKind, ImportRow, ImportRows, Key, Modem, Row, Subscriber, Write};
+use off_rows::{RowErr, copy_row, decode, decode_key, encode, encode_key, key_text, sound};
+use script_words::{Line, Page, Unread, read_key, read_write, show_row};
+use std::alloc::Global;
+
+/// `key subscriber 7`: the key's bytes, and its text.
+pub fn key(page: &mut Page, line: Line<'_>) -> Result<(), Unread> {
+    let mut line = line;
+    let key = read_key(&mut line)?;
+    page.hex(encode_key(&key).as_slice())?;
+    page.text(" ")?;
+    Ok(page.raw(key_text(&key).as_slice())?)
+}
+
+/// `key-of 0200000007`: the key of these bytes, or `none`.
+pub fn key_of(alloc: Global, page: &mut Page, line: Line<'_>) -> Result<(), Unread> {
+    let mut line = line;
+    let bytes = line.bytes(alloc)?;
+    match decode_key(bytes.as_slice()) {
+        Some(key) => Ok(page.raw(key_text(&key).as_slice())?),
+        None => Ok(page.text("none")?),
+    }
+}
+
+/// `row-of subscriber 7 010203416e6e`: the row of these bytes and the bytes of its copy, or the
+/// place that can't be read.
+pub fn row_of(alloc: Global, page: &mut Page, line: Line<'_>) -> Result<(), Unread> {
+    let mut line = line;
+    let key = read_key(&mut line)?;
+    let bytes = line.bytes(alloc)?;
+    match read_row(alloc, &key, bytes.as_slice()) {
+        Ok(row) => show_both(alloc, page, &key, &row),
+        Err(RowErr::BadRow(place)) => {
+            page.text("bad ")?;
+            Ok(page.number(place as u64)?)
+        }
+        Err(RowErr::Memory) => Err(Unread::Memory),
+    }
+}
+
+// A row that was read can be spelled again.
+#[tactic(auto, using(crate::proofs::Spelling::spells))]
+fn read_row(alloc: Global, key: &Key, bytes: &[u8]) -> Result<Row, RowErr>
+    ensures { IfOk result (λ row. CanSpell row) }
+{
+    decode(alloc, key, bytes)
+}
+
+fn show_both(alloc: Global, page: &mut Page, key: &Key, row: &Row) -> Result<(), Unread>
+    requires { CanSpell row.now }
+{
+    show_row(page, key, &copy_row(alloc, row)?)?;
+    page.text("; ")?;
+    let bytes = encode(alloc, row)?;
+    Ok(page.hex(bytes.as_slice())?)
+}
+
+/// `sound put ROW`, `sound remove KEY`, `sound show KEY`, or `sound import subscribers 2000 ROW`,
+/// so many rows: whether a clerk may say so.
+pub fn is_sound(alloc: Global, page: &mut Page, line: Line<'_>) -> Result<(), Unread> {
+    let mut line = line;
+    let command = read_command(alloc, &mut line)?;
+    Ok(page.text(if sound(&command) { "yes" } else { "no" })?)
+}
+
+fn read_command(alloc: Global, line: &mut Line<'_>) -> Result<Command, Unread> {
+    match line.word() {
+        b"put" => put_of(alloc, line),
+        b"remove" => Ok(Command::Remove(read_key(line)?)),
+        b"show" => Ok(Command::Show(read_key(line)?)),
+        b"import" => import_of(alloc, line),
+        _ => Err(Unread::Words),
+    }
+}
+
+fn put_of(alloc: Global, line: &mut Line<'_>) -> Result<Command, Unread> {
+    let Write::Put(key, row) = read_write(alloc, line)? else {
+        return Err(Unread::Words);
+    };
+    put_row(key, row)
+}
+
+fn put_row(key: Key, row: Row) -> Result<Command, Unread> {
+    match (key, row) {
+        (Key::Site, Row::Site(site)) => Ok(Command::SetSite(site)),
+        (Key::Subscriber(number), Row::Subscriber(row)) => Ok(Command::PutSubscriber(number, row)),
+        (Key::AddOn(owner, number), Row::AddOn(row)) => Ok(Command::PutAddOn(owner, number, row)),
+        (Key::Modem(mac), Row::Modem(row)) => Ok(Command::PutModem(mac, row)),
+        (Key::Class(number), Row::Class(row)) => Ok(Command::PutClass(number, row)),
+        (Key::Pool(number), Row::Pool(row)) => Ok(Command::PutPool(number, row)),
+        _ => Err(Unread::Words),
+    }
+}
+
+fn import_of(alloc: Global, line: &mut Line<'_>) -> Result<Command, Unread> {
+    let kind = match line.word() {
+        b"subscribers" => ImportKind::Subscribers,
+        b"modems" => ImportKind::Modems,
+        _ => return Err(Unread::Words),
+    };
+    let count = line.count()?;
+    Ok(Command::Import {
+        kind,
+        batch: 9,
+        digest: [0; 16],
+        rows: rows_of(alloc, count, line.rest())?,
+    })
+}
+
+fn rows_of(alloc: Global, count: u32, text: &[u8]) -> Result<ImportRows, Unread> {
+    let mut rows = ImportRows::new(alloc);
+    for _ in 0..count {
+        rows.push(import_row(alloc, text)?)?;
+    }
+    Ok(rows)
+}
+
+fn import_row(alloc: Global, text: &[u8]) -> Result<ImportRow, Unread> {
+    let mut line = Line::over(text);
+    match read_write(alloc, &mut line)? {
+        Write::Put(key, row) => row_of_import(key, &row),
+        Write::Drop(_key) => Err(Unread::Words),
+    }
+}
+
+fn row_of_import(key: Key, row: &Row) -> Result<ImportRow, Unread> {
+    match key {
+        Key::Subscriber(number) => subscriber_of(number, row),
+        Key::Modem(mac) => modem_of(mac, row),
+        _ => Err(Unread::Words),
+    }
+}
+
+fn subscriber_of(number: u32, row: &Row) -> Result<ImportRow, Unread> {
+    let Row::Subscriber(held) = row else {
+        return Err(Unread::Words);
+    };
+    let row = Subscriber {
+        active: held.active,
+        cpes: held.cpes,
+        name: held.name.copy(),
+    };
+    Ok(ImportRow::Subscriber(number, row))
+}
+
+fn modem_of(mac: Mac, row: &Row) -> Result<ImportRow, Unread> {
+    let Row::Modem(held) = row else {
+        return Err(Unread::Words);
+    };
+    let row = Modem {
+        subscriber: held.subscriber,
+        class: held.class,
+        serial: held.serial.copy(),
+    };
+    Ok(ImportRow::Modem(mac, row))
+}
+
+/// Reads a word of hexadecimal digits.
+pub fn word(alloc: Global, line: &mut Line<'_>) -> Result<Bytes, Unread> {
+    let mut bytes = Bytes::new(alloc);
+    line.hex(alloc, &mut bytes)?;
+    Ok(bytes)
+}

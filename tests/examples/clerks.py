@@ -1,0 +1,379 @@
+#!/usr/bin/env python3
+"""Writes crates/clerk_script/stdin and stdout: questions on what clerks ask, and their answers.
+
+The answers are said here by hand, from the tables of docs/CLERK_API.md, or computed by Python's json, ipaddress and re. With the word `check`
+it compares the two files with what it would write.
+"""
+import ipaddress
+import json
+import re
+import sys
+
+from examples import Script, compact, escaped, quoted, reply
+
+script = Script("clerks.py", "Python's json, ipaddress and re over the rules of docs/CLERK_API.md.")
+section = script.section
+ask = script.pair
+MODEM = "02aabbccddee"
+GOLD = "24{ 1=0001 6=07 } 25{ 1=0002 6=07 }"
+BOOST = "24{ 1=0005 6=07 } 22{ 1=03 3=0005 }"
+
+
+class Wrong(Exception):
+    """A fault: its status, its word, and where it is."""
+
+
+class Whole(int):
+    """A number that is written without a fraction, an exponent and a sign before 0."""
+
+
+def whole_of(text):
+    return "minus nothing" if text == "-0" else Whole(text)
+
+
+def fraction_of(text):
+    if float(text) in (float("inf"), float("-inf")):
+        raise ValueError("a number past all doubles is no number of this reader")
+    return float(text)
+
+
+def told(status, word, at=None):
+    return f"{status} {word} {compact({'fault': word} if at is None else {'at': str(at), 'fault': word})}"
+
+
+def number(most, least=0):
+    def read(value):
+        return value if isinstance(value, Whole) and least <= value <= most else None
+    return read
+
+
+def address(least=0):
+    def read(value):
+        try:
+            if not isinstance(value, str):
+                return None
+            found = ipaddress.IPv4Address(value)
+        except ValueError:
+            return None
+        return value if least <= int(found) else None
+    return read
+
+
+def short(value):
+    return value if isinstance(value, str) and len(value.encode()) <= 64 else None
+
+
+def hexadecimal(most):
+    def read(value):
+        good = isinstance(value, str) and re.fullmatch("([0-9a-fA-F]{2})*", value) and len(value) <= 2 * most
+        return value.lower() if good else None
+    return read
+
+
+def setting(depth, value):
+    """One setting, or None. Settings go three deep."""
+    if depth == 0 or not isinstance(value, dict):
+        return None
+    code = number(255)(value.get("code"))
+    if code is None or ("hex" in value) == ("parts" in value):
+        return None
+    if "hex" in value:
+        text = hexadecimal(255)(value["hex"])
+        return None if text is None else {"code": code, "hex": text}
+    parts = settings_in(depth - 1, value["parts"])
+    return None if parts is None else {"code": code, "parts": parts}
+
+
+def settings_in(depth, value):
+    found = [setting(depth, each) for each in value] if isinstance(value, list) else [None]
+    return None if None in found else found
+
+
+FIELDS = {
+    "site": (("server", address()), ("secret", hexadecimal(64)), ("offset", number(2**31 - 1, -2**31)), ("lease", number(2**32 - 1)), ("log", address())),
+    "subscriber": (("active", lambda value: value if isinstance(value, bool) else None), ("cpes", number(254, 1)), ("name", short)),
+    "add-on": (("settings", lambda value: settings_in(3, value)),),
+    "modem": (("subscriber", number(2**32 - 1)), ("class", number(2**32 - 1)), ("serial", short)),
+    "class": (("name", short), ("settings", lambda value: settings_in(3, value))),
+    "pool": (("first", address()), ("last", address()), ("prefix", number(30, 8)), ("router", address()), ("relay", address(1))),
+}
+
+
+def key_of(path):
+    """The key that a path names, as its words."""
+    path = path.split("?")[0]
+    decimal = "([0-9]{1,20})"
+    for form, kind, most in (("/site", "site", ()), (f"/subscribers/{decimal}", "subscriber", (2**32 - 1,)),
+                             (f"/subscribers/{decimal}/addons/{decimal}", "add-on", (2**32 - 1, 7)), (f"/classes/{decimal}", "class", (2**32 - 1,)),
+                             (f"/pools/{decimal}", "pool", (2**32 - 1,))):
+        found = re.fullmatch(form, path)
+        if found and all(int(each) <= limit for each, limit in zip(found.groups(), most)):
+            return [kind, *(str(int(each)) for each in found.groups())]
+    forms = ("[0-9a-fA-F]{12}", "([0-9a-fA-F]{2}:){5}[0-9a-fA-F]{2}", "([0-9a-fA-F]{2}-){5}[0-9a-fA-F]{2}", r"([0-9a-fA-F]{4}\.){2}[0-9a-fA-F]{4}")
+    if path.startswith("/modems/") and any(re.fullmatch(form, path[8:]) for form in forms):
+        return ["modem", re.sub("[^0-9a-f]", "", path[8:].lower())]
+    if path.startswith("/leases/") and address()(path[8:]):
+        return ["lease", path[8:]]
+    return None
+
+
+def read_json(body):
+    try:
+        value = json.loads(body.decode(), parse_int=whole_of, parse_float=fraction_of)
+    except ValueError:
+        raise Wrong(told(400, "not-json")) from None
+    if not isinstance(value, dict):
+        raise Wrong(told(400, "not-json"))
+    return value
+
+
+def tree_text(settings):
+    """Settings as the program prints them."""
+    return "".join(f" {each['code']}={each['hex']}" if "hex" in each else f" {each['code']}{{{tree_text(each['parts'])} }}" for each in settings)
+
+
+def row_text(kind, row):
+    if kind == "site":
+        return f" {row['server']} {row['secret']} {row['offset']} {row['lease']} {row['log']}"
+    if kind == "subscriber":
+        return f' {"active" if row["active"] else "suspended"} {row["cpes"]} "{escaped(row["name"].encode())}"'
+    if kind == "modem":
+        return f' {row["subscriber"]} {row["class"]} "{escaped(row["serial"].encode())}"'
+    if kind == "class":
+        return f' "{escaped(row["name"].encode())}"' + tree_text(row["settings"])
+    if kind == "pool":
+        return f" {row['first']} {row['last']} {row['prefix']} {row['router']} {row['relay']}"
+    return tree_text(row["settings"])
+
+
+def command(method, path, body):
+    """What is asked, or why it is no command."""
+    key = key_of(path)
+    if key is None:
+        return told(404, "no-path")
+    methods = ("GET",) if key[0] == "lease" else ("GET", "PUT") if key[0] == "site" else ("GET", "PUT", "DELETE")
+    if method not in methods:
+        return told(405, "no-method")
+    if method == "GET":
+        return "show " + " ".join(key)
+    if method == "DELETE":
+        return "remove " + " ".join(key)
+    try:
+        given = read_json(body)
+        row = {}
+        for name, read in FIELDS[key[0]]:
+            if name not in given:
+                raise Wrong(told(400, "field", name))
+            row[name] = read(given[name])
+            if row[name] is None:
+                raise Wrong(told(400, "value", name))
+    except Wrong as wrong:
+        return str(wrong)
+    shown = {name: value for name, value in row.items() if name != "secret"}
+    return f"put {' '.join(key)}{row_text(key[0], row)}; {compact(shown)}"
+
+
+def asked(method, path, body=""):
+    ask(f"ask {method or '_'} {path or '_'}" + (f" {body}" if body else ""), command(method, path, body.encode()))
+
+
+def bytes_asked(path, given, body):
+    """A PUT whose body is written as bytes."""
+    ask(f"ask-bytes PUT {path} {given}", command("PUT", path, body))
+
+
+def paths():
+    section("a path has a key", "docs/CLERK_API.md, paths. The bodies of GET and DELETE aren't read.")
+    for path in ("/site", "/site?x=1", "/subscribers/7", "/subscribers/007?", "/subscribers/4294967295", "/subscribers/7/addons/0", "/subscribers/0/addons/07",
+                 f"/modems/{MODEM}", "/modems/02:AA:bb:cc:dd:ee", "/classes/1", "/pools/64", "/leases/10.64.0.10"):
+        asked("GET", path, "{")
+    section("another path has none", "The path comes before the method.")
+    for path in ("", "/", "site", "/site/", "/Site", "http://office/site", "/subscribers/", "/subscribers/4294967296", "/subscribers/000000000000000000007",
+                 "/subscribers/-1", "/subscribers/7/", "/subscribers/7/addons/8", "/subscribers/7/addons/", "/subscribers//addons/1", "/subscribers/7/addons/1/",
+                 "/modems/02aabbccdde", "/leases/10.64.0.010", "/imports/subscribers/9", "/imports/modems/9", "/held/02aabbccddee", "/pools/%31"):
+        asked("POST", path)
+    section("a path has its methods", "The method comes before the body. Case counts (RFC 9110, section 9.1).")
+    every = ("/site", "/subscribers/7", "/subscribers/7/addons/1", f"/modems/{MODEM}", "/classes/1", "/pools/1", "/leases/10.64.0.10")
+    for path in every:
+        for method in ("GET", "PUT", "DELETE", "", "get", "Get", "HEAD", "POST", "PATCH", "OPTIONS", "GETS"):
+            asked(method, path, "{")
+
+
+def bodies():
+    section("a body is one JSON object", "RFC 8259, by Python's json.")
+    for body in ("", "{", "{}{}", "[]", "7", "null", '"{}"', "{'active':true}", '{"active":true,}', '{"active":True}', '{"active":1e999}'):
+        asked("PUT", "/subscribers/7", body)
+    bytes_asked("/subscribers/7", "'{\"active\":\"\\t\"}'", b'{"active":"\t"}')
+    bytes_asked("/subscribers/7", "'{\"name\":\"' ff '\"}'", b'{"name":"\xff"}')
+    bytes_asked("/subscribers/7", "' {\\n} '", b" {\n} ")
+    section("a site's fields are read in order", "The first that lacks or is wrong is named.")
+    site = '{"server":"10.0.0.2","secret":"736563726574","offset":3600'
+    for body in ('{"log":1}', '{"log":1,"server":"10.0.0.2"}', '{"server":"10.0.0.2","secret":""}', '{"log":1,"server":"10.0.0.2","secret":"","offset":0}',
+                 '{"server":"10.0.0.2","secret":"","offset":0,"lease":0}'):
+        asked("PUT", "/site", body)
+    for rest in ("1}", "null}", '"10.0.0.02"}', '""}', '["10.0.0.2"],"secret":7}', '"10.0.0.2","secret":7}', '"10.0.0.2","secret":null}', '"10.0.0.2","secret":"7"}',
+                 '"10.0.0.2","secret":"7g"}', '"10.0.0.2","secret":"0x73"}'):
+        asked("PUT", "/site", '{"server":' + rest)
+    for rest in (".0}", "e0}", "000000}", ',"lease":-1}', ',"lease":4294967296}', ',"lease":18446744073709551616}', ',"lease":1.0}', ',"lease":1e2}', ',"lease":-0}',
+                 ',"lease":"60"}', ',"lease":60,"log":0}', ',"lease":60,"log":"0.0.0"}', ',"lease":60,"log":null}', ',"lease":86400,"log":"0.0.0.0"}',
+                 ',"log":"10.0.0.9","lease":4294967295,"offset":-2147483648,"x":[1.5]}', ',"log":"255.255.255.255","lease":0,"offset":2147483647}',
+                 ',"offset":2147483648}', ',"offset":-2147483649}'):
+        asked("PUT", "/site", site + rest)
+    section("a secret has at most 64 bytes", "")
+    for count in (1, 64, 65):
+        front, rest = '{"server":"10.0.0.2","secret":"', '","offset":0,"lease":60,"log":"0.0.0.0"}'
+        bytes_asked("/site", f"'{front}' {count}* 'fF' '{rest}'", (front + "fF" * count + rest).encode())
+    section("a subscriber's fields are read in order", "")
+    for body in ("{}", '{"cpes":0,"name":7}', '{"active":1,"cpes":0}', '{"active":null}', '{"active":"true"}', '{"name":7,"active":true}',
+                 '{"name":7,"cpes":0,"active":true}', '{"cpes":255,"active":true}', '{"cpes":2.0,"active":true}', '{"cpes":2,"cpes":0,"active":true}',
+                 '{"cpes":2,"active":true}', '{"cpes":2,"active":true,"name":7}', '{"cpes":2,"active":true,"name":null}',
+                 '{"active":true,"cpes":2,"name":"Ann"}', '{ "name": "", "cpes": 0, "cpes": 254, "active": false, "more": {} }',
+                 '{"active":true,"cpes":1,"name":"\\"\\\\\\/\\u0001\\n\\u00e9\\u007f"}'):
+        asked("PUT", "/subscribers/7", body)
+    section("a text has at most 64 bytes", "Bytes of UTF-8 count.")
+    for text in ("a" * 64, "a" * 62 + "é", "a" * 65, "a" * 63 + "é"):
+        asked("PUT", "/subscribers/7", compact({"active": True, "cpes": 2, "name": text}))
+    section("a modem's fields are read in order", "")
+    for body in ("{}", '{"subscriber":"7"}', '{"subscriber":4294967296}', '{"subscriber":-7}', '{"subscriber":7,"serial":""}', '{"subscriber":7,"class":1e0}',
+                 '{"subscriber":7,"class":true}', '{"subscriber":7,"class":1}', '{"subscriber":7,"class":1,"serial":[]}',
+                 '{"subscriber":7,"class":1,"serial":"SN01"}', '{"serial":"","class":4294967295,"subscriber":0}'):
+        asked("PUT", f"/modems/{MODEM}", body)
+    section("a pool's fields are read in order", "")
+    pool = '{"first":"10.64.0.10","last":"10.64.0.99","prefix":'
+    for body in ("{}", '{"first":"10.64.0.10"}', '{"first":"10.64.0.10","last":"10.64.0.99"}'):
+        asked("PUT", "/pools/1", body)
+    for rest in ("7}", "31}", "24.0}", '"24"}', "24}", '24,"router":1}', '24,"router":"10.64.0.1"}', '24,"router":"10.64.0.1","relay":"0.0.0.0"}',
+                 '24,"router":"10.64.0.1","relay":null}', '24,"last":5}', '24,"last":5,"first":""}', '8,"router":"0.0.0.0","relay":"10.64.0.1"}',
+                 '30,"router":"10.64.0.1","relay":"0.0.0.1"}'):
+        asked("PUT", "/pools/1", pool + rest)
+
+
+def trees():
+    path = "/subscribers/7/addons/1"
+    section("settings are an array of leaves and groups", "A leaf has a code and `hex`, a group a code and `parts`.")
+    for rest in ("null", "{}", '""', "[0]", "[null]", "[{}]", '[{"hex":"00"}]', '[{"code":1}]', '[{"code":1,"hex":"00","parts":[]}]', '[{"code":256,"hex":"00"}]',
+                 '[{"code":-1,"hex":"00"}]', '[{"code":1.0,"hex":"00"}]', '[{"code":"1","hex":"00"}]', '[{"code":1,"hex":"0"}]', '[{"code":1,"hex":"0g"}]',
+                 '[{"code":1,"hex":null}]', '[{"code":1,"hex":null,"parts":[]}]', '[{"code":1,"parts":null}]', '[{"code":1,"parts":{}}]',
+                 '[{"code":1,"hex":"00"},{"code":1}]', "[]", '[{"hex":"","code":0},{"parts":[],"code":255,"x":1}]',
+                 '[{"code":24,"parts":[{"code":1,"hex":"0001"},{"code":6,"hex":"aF"}]}]',
+                 '[{"code":22,"parts":[{"code":9,"parts":[{"code":3,"hex":"0A"},{"code":4,"parts":[]}]}]}]'):
+        asked("PUT", path, '{"settings":' + rest + "}")
+    asked("PUT", path, "{}")
+    section("settings go three deep", "")
+    front = '{"settings":[{"code":22,"parts":[{"code":9,"parts":[{"code":3,"parts":['
+    for inner in ("", '{"code":1,"hex":"00"}', '{"code":1,"parts":[]}', "0"):
+        asked("PUT", path, front + inner + "]}]}]}]}")
+    section("a leaf has at most 255 bytes", "")
+    for count in (255, 256):
+        body = '{"settings":[{"code":1,"hex":"' + "ff" * count + '"}]}'
+        bytes_asked(path, f"'{body[:30]}' {count}* 'ff' '\"}}]}}'", body.encode())
+    section("a class has a name and settings", "")
+    for body in ("{}", '{"settings":0}', '{"settings":0,"name":1}', '{"name":"gold"}', '{"name":"gold","settings":0}',
+                 '{"settings":[{"code":1,"hex":"00"},{"code":43,"parts":[]}],"name":"gold"}'):
+        asked("PUT", "/classes/2", body)
+
+
+def answers():
+    section("a reply is a text", "docs/CLERK_API.md.")
+    ask("done", '{"ok":true}')
+    for count in (0, 2000):
+        ask(f"rows {count}", compact({"rows": count}))
+    for hold in (f"offered {MODEM}", f"bound {MODEM}", "declined"):
+        words = hold.split()
+        ask(f"lease 10.64.0.10 {hold} t+86400", compact({"expiry": 1_700_086_400, "owner": words[1] if len(words) > 1 else "", "state": words[0]}))
+    section("a fault has a status, a word and a text", "docs/CLERK_API.md, the table of faults.")
+    ask("head", "; ".join(told(status, word) for status, word in ((400, "head"), (400, "body"), (413, "too-long"))))
+    plain = {"no-row": 404, "has-modems": 409, "class-in-use": 409, "no-subscriber": 422, "no-class": 422, "pool-size": 422}
+    for word, status in plain.items():
+        ask(f"rule 0 {word}", told(status, word))
+    for word, status, at in (("pool-overlap", 409, 2), ("relay-taken", 409, 64), ("pool-has-leases", 409, "10.64.0.10"), ("batch-differs", 409, 2**64 - 1),
+                             ("site", 422, 1), ("site", 422, 2), ("site", 422, 3), ("site", 422, 4)):
+        ask(f"rule 0 {word} {at}", told(status, word, at))
+    for kind, most in (("subscribers", 200_000), ("add-ons", 100_000), ("modems", 200_000), ("classes", 1_000), ("pools", 64), ("batches", 100_000)):
+        ask(f"rule 0 limit {kind} {most}", told(422, "limit", most))
+    for place, word in enumerate(("unknown-code", "length", "range", "missing", "twice", "flow-reference", "classifier-reference", "too-long")):
+        ask(f"rule 0 tree {word}", told(422, "tree", place + 1))
+    section("a rule at a row of an import names the row", "")
+    for row, rule, word in ((1, "no-subscriber", "no-subscriber"), (2_000, "no-class", "no-class"), (3, "limit modems 200000", "limit")):
+        ask(f"rule {row} {rule}", told(422, word, row))
+
+
+PUT = b'PUT /subscribers/7 HTTP/1.1\r\nHost: office\r\nContent-Length: 37\r\n\r\n{"active":true,"cpes":2,"name":"Ann"}'
+WHOLE = 'whole PUT /subscribers/7 {"active":true,"cpes":2,"name":"Ann"}'
+
+
+def sessions():
+    section("a request is whole in whatever pieces it comes", "RFC 9112; pieces of 1 byte and more.")
+    for size in range(1, len(PUT) + 1):
+        ask(f"http {size} {quoted(PUT)}", WHOLE)
+    section("each shorter part of it waits", "")
+    for length in range(len(PUT)):
+        ask(f"http 7 {quoted(PUT[:length])}", "wait")
+    section("what short requests say", "RFC 9112, sections 2.2, 3, 5 and 6; this office takes no coded bodies.")
+    head, body, long = "head", "body", "too-long"
+    for data, answer in ((b"", "wait"), (b"GET / HTTP/1.1\r\n\r", "wait"), (b"GET / HTTP/1.1\r\n\r\n", "whole GET / "), (b"GET / HTTP/1.1\r\n\r\nmore", "whole GET / "),
+                         (b"POST / HTTP/1.1\r\nContent-Length: 3\r\n\r\nab", "wait"), (b"POST / HTTP/1.1\r\nContent-Length: 3\r\n\r\nabcd", "whole POST / abc"),
+                         (b"GET / HTTP/1.1\nHost: a\r\n\r\n", "whole GET / "), (b"\r\nGET / HTTP/1.1\r\n\r\n", "whole GET / "),
+                         (b"GET / HTTP/1.1\n\nHost: a\r\n\r\n", head), (b"\r\n\r\nGET / HTTP/1.1\r\n\r\n", head), (b"GET / HTTP/2.0\r\n\r\n", head),
+                         (b"GET  / HTTP/1.1\r\nTransfer-Encoding: chunked\r\n\r\n", head),
+                         (b"POST / HTTP/1.1\r\nContent-Length: 5\r\ncontent-length: 05\r\n\r\nhello", "whole POST / hello"),
+                         (b"POST / HTTP/1.1\r\nContent-Length: 5\r\nContent-Length: 6\r\n\r\nhello", body),
+                         (b"POST / HTTP/1.1\r\nContent-Length: 0000000005\r\n\r\nhello", "whole POST / hello"),
+                         (b"POST / HTTP/1.1\r\nContent-Length: 00000000005\r\n\r\nhello", body), (b"POST / HTTP/1.1\r\nContent-Length: +5\r\n\r\nhello", body),
+                         (b"POST / HTTP/1.1\r\nContent-Length: 5, 5\r\n\r\nhello", body), (b"POST / HTTP/1.1\r\nContent-Length:\r\n\r\n", body),
+                         (b"POST / HTTP/1.1\r\ntRANSFER-eNCODING: chunked\r\n\r\n", body), (b"POST / HTTP/1.1\r\nContent-Encoding: gzip\r\n\r\n", body),
+                         (b"POST / HTTP/1.1\r\nContent-Length: 9999999999\r\nContent-Encoding: gzip\r\n\r\n", body),
+                         (b"POST / HTTP/1.1\r\nContent-Length: 1048577\r\n\r\n", long), (b"POST / HTTP/1.1\r\nContent-Length: 1048576\r\n\r\n", "wait")):
+        ask(f"http 5000 {quoted(data)}", answer)
+    section("a head has at most 8,192 bytes and 64 fields", "")
+    for length in (8_191, 8_192, 8_193):
+        front = f"http 5000 'GET / HTTP/1.1\\r\\nA: ' {length - 23}* 'x'"
+        ask(f"{front} '\\r\\n\\r\\n'", "whole GET / " if length <= 8_192 else long)
+        ask(f"{front} '\\r\\n\\r'", "wait" if length <= 8_192 else long)
+    for count in (64, 65):
+        ask(f"http 5000 'GET / HTTP/1.1\\r\\n' {count}* 'A: x\\r\\n' '\\r\\n'", "whole GET / " if count == 64 else head)
+    section("the longest body, in pieces of 1, of 4,096, and in one", "")
+    for size in (1, 4_096, 2_000_000):
+        ask(f"http {size} 'PUT / HTTP/1.1\\r\\nContent-Length: 1048576\\r\\n\\r\\n' 1048576* 'x' 'behind'", f"whole PUT / {escaped(b'x' * 1048576)}")
+    section("the bytes of replies", "RFC 9112, section 4, and RFC 9110, section 15.")
+    for status in (200, 400, 404, 405, 409, 413, 422):
+        ask(f"reply {status} '{{}}'", escaped(reply(status, "{}")))
+    ask("reply 413", escaped(reply(413, "")))
+    ask("reply 200 60001* 'x'", escaped(reply(200, "x" * 60001)))
+
+
+def tables():
+    section("possible rows are counted by kind", "An impossible row is none.")
+    office = ('site 10.0.0.2 736563726574 3600 86400 0.0.0.0; class 1 "gold" ' + GOLD + f'; subscriber 7 active 2 "Ann"; modem {MODEM} 7 1 "SN01"; '
+              "pool 1 10.64.0.10 10.64.0.99 24 10.64.0.1 10.64.0.1")
+    batch = "modems 2 " + "00" * 16
+    for more, counts in (("", (1, 0, 1, 1, 1, 0)), ('subscriber 8 active 1 "Ann"; subscriber 9 active 0 "Ann"', (2, 0, 1, 1, 1, 0)),
+                         (f"add-on 8 1 {BOOST}; add-on 7 8 {BOOST}", (1, 1, 1, 1, 1, 0)), ('modem 02aabbccdd01 8 8 "SN01"', (1, 0, 2, 1, 1, 0)),
+                         (f'class 2 "gold" {GOLD}; class 3 "gold" 99=01', (1, 0, 1, 2, 1, 0)),
+                         ("pool 2 0.0.0.1 0.0.0.1 24 0.0.0.9 0.0.0.2; pool 3 0.0.0.1 0.0.0.1 7 0.0.0.9 0.0.0.2", (1, 0, 1, 1, 2, 0)),
+                         (f"batch 1 {batch}; batch 2 {batch}; stray batch 3", (1, 0, 1, 1, 1, 2)),
+                         ("lease 10.64.0.10 declined t; held 02aabbccdd01 10.64.0.10", (1, 0, 1, 1, 1, 0))):
+        names = ("subscribers", "add-ons", "modems", "classes", "pools", "batches")
+        ask(f"count {office}" + (f"; {more}" if more else ""), " ".join(f"{name} {count}" for name, count in zip(names, counts)))
+    ask("count", "subscribers 0 add-ons 0 modems 0 classes 0 pools 0 batches 0")
+    section("of two writes to a key the later one stands, and a walk rises", "The calls are one commit and one for each entry, with the one that finds no more.")
+    held = f"held {MODEM}"
+    for first, second, left in ((f"{held} 0.0.0.7", f"drop {held}", []), (f"drop {held}", f"{held} 0.0.0.7", [f"{held} 0.0.0.7"]),
+                                (f"{held} 0.0.0.7", f"{held} 0.0.0.8", [f"{held} 0.0.0.8"]), (f"drop {held}", f"drop {held}", [])):
+        ask(f"writes {first}; {second}", "; ".join([*left, f"calls {2 + len(left)}"]))
+    rows = ['subscriber 3 active 2 ""', "held 02aabbccdd02 0.0.0.2", 'subscriber 1 active 2 ""', "held 02aabbccdd01 0.0.0.1", "lease 0.0.0.1 declined 0"]
+    ask(f"writes {'; '.join(rows)}", "; ".join([rows[2], rows[0], rows[4], rows[3], rows[1], "calls 7"]))
+
+
+def main():
+    sessions()
+    paths()
+    bodies()
+    trees()
+    answers()
+    tables()
+    return script.write("clerk_script")
+
+
+if __name__ == "__main__":
+    sys.exit(main())
