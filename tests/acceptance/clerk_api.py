@@ -114,7 +114,7 @@ def check_faults(text, api):
             if status in ("500", "503"):
                 check("content" not in resolved(api, response), f"{status} of {key} has no body")
     check(set(told) - used == {"no-method", "batch-differs"}, "each fault is one of an operation")
-    definition = text_of("crates", "off_clerk", "specs", "Faults.antt")
+    definition = text_of("crates", "off_clerk_rules", "specs", "Faults.antt")
     words = dict(re.findall(r'^\w+_word \(?([\w.]+).*= codes "([^"]*)"$', definition, re.M))
     statuses = dict(re.findall(r"^\w+_status \(?([\w.]+).*= (\d+)$", definition, re.M))
     defined = {(word, statuses.get(name)) for name, word in words.items()}
