@@ -120,7 +120,7 @@ pub fn done(alloc: Global, page: &mut Page) -> Result<(), Unread> {
     show_reply(page, reply_json(alloc, &Reply::Done))
 }
 
-/// `rows 2000`: how an import that was done is told.
+/// How an import that was done is told, by how many rows it had.
 pub fn rows(alloc: Global, page: &mut Page, line: Line<'_>) -> Result<(), Unread> {
     let mut line = line;
     let reply = Reply::Rows(line.count()?);
