@@ -21,7 +21,7 @@ def parts(path):
     """The definitions of a file, each with its lines, and what its `use` lines bring."""
     defs, brought, name = collections.OrderedDict(), {}, None
     for line in path.read_text(encoding="utf8").split("\n"):
-        use = re.match(r"^use Rattle\.([\w.]+)(?:\.\{(.*)\}| as (\w+))?$", line)
+        use = re.match(r"^(?:pub )?use Rattle\.([\w.]+)(?:\.\{(.*)\}| as (\w+))?$", line)
         if use:
             for word in (use.group(2) or "").split(", "):
                 old, _, new = word.partition(" as ")
@@ -56,7 +56,12 @@ def main():
     reached = set()
     while todo:
         at = todo.pop()
-        if at in reached or at[1] not in files.get(at[0], (0, {}))[1]:
+        if at in reached or at[0] not in files:
+            continue
+        if at[1] not in files[at[0]][1]:
+            # given again from another file
+            if at[1] in files[at[0]][2]:
+                todo.append(files[at[0]][2][at[1]])
             continue
         reached.add(at)
         _, defs, brought = files[at[0]]
