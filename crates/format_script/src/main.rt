@@ -14,82 +14,50 @@ mod tables;
 mod texts;
 mod trees;
 
-use script_words::{Line, Page, Unread};
+use script_words::{Answers, Line, Page, Unread, answer_all};
 use std::alloc::Global;
-use std::io;
-use std::io::{Read, Write};
 use std::process::ExitCode;
 
-// Answers a question.
-fn answer(alloc: Global, page: &mut Page, text: &[u8]) -> Result<(), Unread> {
-    let mut line = Line::over(text);
-    match line.word() {
-        b"number" => texts::number(alloc, page, line),
-        b"mac" => texts::mac(alloc, page, line),
-        b"ip" => texts::ip(alloc, page, line),
-        b"secret" => texts::secret(alloc, page, line),
-        b"short" => texts::short(alloc, page, line),
-        b"extent" => files::extent_of(alloc, page, line),
-        b"read" => files::read(alloc, page, line),
-        b"spell" => files::spell(alloc, page, line),
-        b"walk" => files::walk(alloc, page, line),
-        b"hmac" => files::hmac(alloc, page, line),
-        b"mics" => files::mics(alloc, page, line),
-        b"seal" => files::seal_of(alloc, page, line),
-        b"verify" => files::verify_of(alloc, page, line),
-        b"class" => trees::class(alloc, page, line),
-        b"add-on" => trees::add_on(alloc, page, line),
-        b"fit" => trees::fit(alloc, page, line),
-        b"key" => tables::key(page, line),
-        b"key-of" => tables::key_of(alloc, page, line),
-        b"row-of" => tables::row_of(alloc, page, line),
-        b"sound" => tables::is_sound(alloc, page, line),
-        b"options" => messages::options(alloc, page, line),
-        b"option" => messages::option(alloc, page, line),
-        b"relay" => messages::relay_of(alloc, page, line),
-        b"device" => messages::device_of(alloc, page, line),
-        b"docsis" => messages::docsis(alloc, page, line),
-        b"dhcp" => messages::dhcp(alloc, page, line),
-        b"dhcp-option" => messages::dhcp_option(alloc, page, line),
-        b"offer" => replies::offer(alloc, page, line),
-        b"nak" => replies::nak(alloc, page, line),
-        _ => Err(Unread::Words),
-    }
-}
+struct Formats;
 
-// Prints a line of the script, and its answer where it is a question.
-fn take(alloc: Global, page: &mut Page, text: &[u8]) -> Result<(), Unread> {
-    if text.starts_with(b"#") {
-        return Ok(());
-    }
-    page.raw(text)?;
-    page.end_line()?;
-    if text.is_empty() || text.starts_with(b"section") {
-        return Ok(());
-    }
-    answer(alloc, page, text)?;
-    Ok(page.end_line()?)
-}
-
-fn play(rt: &HostRuntime, script: &[u8]) -> Result<(), Unread> {
-    for line in script.split(|byte| *byte == b'\n') {
-        let mut page = Page::new(rt.alloc());
-        let taken = take(rt.alloc(), &mut page, line);
-        let printed = io::writer(rt).write_all(page.as_slice());
-        if taken.is_err() || printed.is_err() {
-            return Err(Unread::Words);
+impl Answers for Formats {
+    fn answer(&self, alloc: Global, page: &mut Page, text: &[u8]) -> Result<(), Unread> {
+        let mut line = Line::over(text);
+        match line.word() {
+            b"number" => texts::number(alloc, page, line),
+            b"mac" => texts::mac(alloc, page, line),
+            b"ip" => texts::ip(alloc, page, line),
+            b"secret" => texts::secret(alloc, page, line),
+            b"short" => texts::short(alloc, page, line),
+            b"extent" => files::extent_of(alloc, page, line),
+            b"read" => files::read(alloc, page, line),
+            b"spell" => files::spell(alloc, page, line),
+            b"walk" => files::walk(alloc, page, line),
+            b"hmac" => files::hmac(alloc, page, line),
+            b"mics" => files::mics(alloc, page, line),
+            b"seal" => files::seal_of(alloc, page, line),
+            b"verify" => files::verify_of(alloc, page, line),
+            b"class" => trees::class(alloc, page, line),
+            b"add-on" => trees::add_on(alloc, page, line),
+            b"fit" => trees::fit(alloc, page, line),
+            b"key" => tables::key(page, line),
+            b"key-of" => tables::key_of(alloc, page, line),
+            b"row-of" => tables::row_of(alloc, page, line),
+            b"sound" => tables::is_sound(alloc, page, line),
+            b"options" => messages::options(alloc, page, line),
+            b"option" => messages::option(alloc, page, line),
+            b"relay" => messages::relay_of(alloc, page, line),
+            b"device" => messages::device_of(alloc, page, line),
+            b"docsis" => messages::docsis(alloc, page, line),
+            b"dhcp" => messages::dhcp(alloc, page, line),
+            b"dhcp-option" => messages::dhcp_option(alloc, page, line),
+            b"offer" => replies::offer(alloc, page, line),
+            b"nak" => replies::nak(alloc, page, line),
+            _ => Err(Unread::Words),
         }
     }
-    Ok(())
 }
 
 fn main(rt: HostRuntime) -> ExitCode {
-    let mut script = Vec::new(rt.alloc());
-    if rt.reader().read_to_end(&mut script).is_err() {
-        return ExitCode::from(2);
-    }
-    match play(&rt, script.strip_suffix(b"\n").unwrap_or(&script)) {
-        Ok(()) => ExitCode::from(0),
-        Err(_unread) => ExitCode::from(1),
-    }
+    answer_all(&rt, &Formats)
 }

@@ -3,7 +3,7 @@ ghost use Rattle.std.specs.Prelude.{◌≡◌, ◌≤◌, ◌⊎◌, IfOk};
 use crate::messages::show_fault;
 use crate::tables::word;
 use off_base::{Bytes, Ip4, NoMemory, Secret};
-use off_defs::{Pool, Site};
+use off_defs::{LEAST_PREFIX, MOST_PREFIX, Pool, Site};
 use off_dhcp::{Message, Offer, write_nak, write_reply};
 use script_words::{Line, Page, Unread};
 use std::alloc::Global;
@@ -32,10 +32,10 @@ fn read_prefix(line: &mut Line<'_>) -> Result<u8, Unread>
     ensures { IfOk result (λ prefix. (8 ≤ prefix) × (prefix ≤ 30)) }
 {
     let prefix = line.byte()?;
-    if prefix < 8 {
+    if prefix < LEAST_PREFIX {
         return Err(Unread::Words);
     }
-    if prefix > 30 {
+    if prefix > MOST_PREFIX {
         return Err(Unread::Words);
     }
     Ok(prefix)

@@ -2,9 +2,9 @@ ghost use Rattle.std.specs.Prelude.{IfOk};
 ghost use Rattle.off_rows.specs.RowBytes.{CanSpell};
 
 use off_base::{Bytes, Mac};
-use off_defs::{Command, ImportKind, ImportRow, ImportRows, Key, Modem, Row, Subscriber, Write};
+use off_defs::{Command, ImportKind, ImportRow, ImportRows, Key, Row, Write};
 use off_rows::{RowErr, copy_row, decode, decode_key, encode, encode_key, key_text, sound};
-use script_words::{Line, Page, Unread, read_key, read_write, show_row};
+use script_words::{Line, Page, Unread, read_command, read_key, read_write, show_row};
 use std::alloc::Global;
 
 /// `key subscriber 7`: the key's bytes, and its text.
@@ -63,36 +63,15 @@ fn show_both(alloc: Global, page: &mut Page, key: &Key, row: &Row) -> Result<(),
 /// so many rows: whether a clerk may say so.
 pub fn is_sound(alloc: Global, page: &mut Page, line: Line<'_>) -> Result<(), Unread> {
     let mut line = line;
-    let command = read_command(alloc, &mut line)?;
+    let command = command_of(alloc, &mut line)?;
     Ok(page.text(if sound(&command) { "yes" } else { "no" })?)
 }
 
-fn read_command(alloc: Global, line: &mut Line<'_>) -> Result<Command, Unread> {
-    match line.word() {
-        b"put" => put_of(alloc, line),
-        b"remove" => Ok(Command::Remove(read_key(line)?)),
-        b"show" => Ok(Command::Show(read_key(line)?)),
-        b"import" => import_of(alloc, line),
-        _ => Err(Unread::Words),
-    }
-}
-
-fn put_of(alloc: Global, line: &mut Line<'_>) -> Result<Command, Unread> {
-    let Write::Put(key, row) = read_write(alloc, line)? else {
-        return Err(Unread::Words);
-    };
-    put_row(key, row)
-}
-
-fn put_row(key: Key, row: Row) -> Result<Command, Unread> {
-    match (key, row) {
-        (Key::Site, Row::Site(site)) => Ok(Command::SetSite(site)),
-        (Key::Subscriber(number), Row::Subscriber(row)) => Ok(Command::PutSubscriber(number, row)),
-        (Key::AddOn(owner, number), Row::AddOn(row)) => Ok(Command::PutAddOn(owner, number, row)),
-        (Key::Modem(mac), Row::Modem(row)) => Ok(Command::PutModem(mac, row)),
-        (Key::Class(number), Row::Class(row)) => Ok(Command::PutClass(number, row)),
-        (Key::Pool(number), Row::Pool(row)) => Ok(Command::PutPool(number, row)),
-        _ => Err(Unread::Words),
+fn command_of(alloc: Global, line: &mut Line<'_>) -> Result<Command, Unread> {
+    let mut ahead = *line;
+    match ahead.word() {
+        b"import" => import_of(alloc, &mut ahead),
+        _ => read_command(alloc, line),
     }
 }
 
@@ -139,24 +118,14 @@ fn subscriber_of(number: u32, row: &Row) -> Result<ImportRow, Unread> {
     let Row::Subscriber(held) = row else {
         return Err(Unread::Words);
     };
-    let row = Subscriber {
-        active: held.active,
-        cpes: held.cpes,
-        name: held.name.copy(),
-    };
-    Ok(ImportRow::Subscriber(number, row))
+    Ok(ImportRow::Subscriber(number, held.copy()))
 }
 
 fn modem_of(mac: Mac, row: &Row) -> Result<ImportRow, Unread> {
     let Row::Modem(held) = row else {
         return Err(Unread::Words);
     };
-    let row = Modem {
-        subscriber: held.subscriber,
-        class: held.class,
-        serial: held.serial.copy(),
-    };
-    Ok(ImportRow::Modem(mac, row))
+    Ok(ImportRow::Modem(mac, held.copy()))
 }
 
 /// Reads a word of hexadecimal digits.

@@ -9,7 +9,7 @@ use Rattle.std.proofs.lemmas.Bool.{both_ways, and_parts, cases_Bool, or_parts, c
 use Rattle.off_base.specs.Parts.{Part, has, values, joined, bytes_of, IsCode, Spells, Cut, IsReading, onto, is_mark, parts_from, parts_in}
 use Rattle.off_base.specs.Parts.Spells.{spells_nothing, spells_end, spells_pad, spells_part}
 use Rattle.off_base.specs.Parts.Cut.{cut_length, cut_value, cut_behind_pad, cut_behind_part}
-use Rattle.off_base.specs.Walk.{all_parts, left, Finds, FindsPart, all_values, cursor_at, Stands}
+use Rattle.off_base.specs.Walk.{all_parts, left, Finds, FindsPart, all_values, cursor_at, CursorStands}
 use Rattle.off_base.specs.declared.parts.Step.{Step}
 use Rattle.off_base.specs.declared.parts.Step.TheVariants.{Found, End, Cut as Cuts}
 
@@ -251,7 +251,7 @@ bytes_of-joined wanted (Ok parts) =
 
 -- ---- a cursor among options
 
-pub at_front : (options : List ℕ) (code : ℕ) → IsOk (parts_in true options) → Stands options code (cursor_at 0 0)
+pub at_front : (options : List ℕ) (code : ℕ) → IsOk (parts_in true options) → CursorStands options code (cursor_at 0 0)
 unfolding parts_in
 at_front options code ok = record { within = omega arith; ok = ok; few = omega arith; rest = refl }
 
@@ -270,8 +270,8 @@ values_on wanted code place len options rest within =
     ]
 
 -- behind an option that doesn't have the byte
-pub stands_on : (options : List ℕ) (wanted at before code place len : ℕ) → Stands options wanted (cursor_at at before)
-    → FindsPart true options at code place len → Stands options wanted (cursor_at (place + 2 + len) (before + counts code wanted len))
+pub stands_on : (options : List ℕ) (wanted at before code place len : ℕ) → CursorStands options wanted (cursor_at at before)
+    → FindsPart true options at code place len → CursorStands options wanted (cursor_at (place + 2 + len) (before + counts code wanted len))
 stands_on options wanted at before code place len stands found =
     let rest = found_rest true options at code place len found stands.ok in
     let shown = values_on wanted code place len options (all_parts (left true (place + 2 + len) options)) found.within in
@@ -291,7 +291,7 @@ stands_on options wanted at before code place len stands found =
     }
 
 -- behind the last option there is no byte left
-pub none_left : (options : List ℕ) (wanted at before i : ℕ) → Stands options wanted (cursor_at at before) → left true at options ≡ Ok []
+pub none_left : (options : List ℕ) (wanted at before i : ℕ) → CursorStands options wanted (cursor_at at before) → left true at options ≡ Ok []
     → before ≤ i → i < length (all_values wanted options) → ⊥
 none_left options wanted at before i stands ended behind within =
     let none : [] ≡ drop before (all_values wanted options) = ap (λ read. values wanted (all_parts read)) (sym ended) ∙ stands.rest in

@@ -47,17 +47,18 @@ pub length-spelling : (ts : List Tree) → length (spelling ts) ≡ trees_length
 length-spelling [] = refl
 length-spelling (t ∷ ts) = omega (arith, length-append (spelled t) (spelling ts), length-spelled t, length-spelling ts)
 
--- the setting at a place: no larger than all of them, the last of those up to it, the first of those from it on
+-- the setting at a place is no larger than all of them
 pub size_at : (ts : List Tree) (i : ℕ) (t : Tree) → slice_get ts i ≡ Some t → tree_size t ≤ trees_size ts
 size_at [] i t e = cc
 size_at (u ∷ ts) zero t e = let same : u ≡ t = cc in omega (arith, ap tree_size same)
 size_at (u ∷ ts) (suc i) t e = omega (arith, size_at ts i t e)
 
-pub taken : (ts : List Tree) (i : ℕ) (t : Tree) → slice_get ts i ≡ Some t → take (i + 1) ts ≡ take i ts ++ t ∷ []
-taken ts i t e = take_more ts i t (slice_get_within ts i t e) ∙ ap (λ (x : Tree). take i ts ++ x ∷ []) (get_or_from_slice_get ts i t t e)
+-- what stands at a place is the last of those up to it, and the first of those from it on
+pub taken : {A : Type 0} (xs : List A) (i : ℕ) (x : A) → slice_get xs i ≡ Some x → take (i + 1) xs ≡ take i xs ++ x ∷ []
+taken {A} xs i x e = take_more xs i x (slice_get_within xs i x e) ∙ ap (λ (y : A). take i xs ++ y ∷ []) (get_or_from_slice_get xs i x x e)
 
-pub dropped : (ts : List Tree) (i : ℕ) (t : Tree) → slice_get ts i ≡ Some t → drop i ts ≡ t ∷ drop (i + 1) ts
-dropped ts i t e = drop_more ts i t (slice_get_within ts i t e) ∙ ap (λ (x : Tree). x ∷ drop (i + 1) ts) (get_or_from_slice_get ts i t t e)
+pub dropped : {A : Type 0} (xs : List A) (i : ℕ) (x : A) → slice_get xs i ≡ Some x → drop i xs ≡ x ∷ drop (i + 1) xs
+dropped {A} xs i x e = drop_more xs i x (slice_get_within xs i x e) ∙ ap (λ (y : A). y ∷ drop (i + 1) xs) (get_or_from_slice_get xs i x x e)
 
 -- the parts of a group are smaller than the group, and than settings that it is one of
 pub parts_smaller : (code : ℕ) (parts : List Tree) (t : Tree) → t ≡ group code (row_of parts) → 2 * trees_size parts + 2 ≤ 2 * tree_size t

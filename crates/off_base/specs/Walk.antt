@@ -33,7 +33,7 @@ abbrev pub cursor_at : ℕ → ℕ → Cursor
 cursor_at at before = record { at = at; before = before }
 
 -- the cursor stands at an option's code, or at pads in front of it, and so many joined bytes lie before that option
-pub record Stands (options : List ℕ) (code : ℕ) (cursor : Cursor) : Type 0 where
+pub record CursorStands (options : List ℕ) (code : ℕ) (cursor : Cursor) : Type 0 where
   pub within : cursor.at ≤ length options
   pub ok : IsOk (left true cursor.at options)
   pub few : cursor.before ≤ length (all_values code options)
@@ -41,7 +41,7 @@ pub record Stands (options : List ℕ) (code : ℕ) (cursor : Cursor) : Type 0 w
 
 -- the option at the cursor has this joined byte
 pub record Holds (options : List ℕ) (code i : ℕ) (cursor : Cursor) : Type 0 where
-  pub stands : Stands options code cursor
+  pub stands : CursorStands options code cursor
   pub behind : cursor.before ≤ i
   pub within : cursor.at + 2 + (i - cursor.before) < length options
   pub byte : slice_index options (cursor.at + 2 + (i - cursor.before)) ≡ slice_index (all_values code options) i

@@ -1,6 +1,6 @@
 ghost use Rattle.std.specs.Prelude.{◌≡◌, ◌<◌, ◌≤◌, true, length, IsOk};
 ghost use Rattle.off_base.specs.Parts.{parts_in};
-ghost use Rattle.off_base.specs.Walk.{all_values, Stands, Holds, Finds};
+ghost use Rattle.off_base.specs.Walk.{all_values, CursorStands, Holds, Finds};
 
 use crate::joined::counted;
 use crate::parts::{Step, next_in, next_part};
@@ -29,7 +29,7 @@ pub struct JoinedBytes<'a> {
 impl<'a> Model for JoinedBytes<'a> {
     ghost use Rattle.std.specs.Prelude.{List, ℕ, ◌≡◌, length, true, IsOk};
     ghost use Rattle.off_base.specs.Parts.{parts_in};
-    ghost use Rattle.off_base.specs.Walk.{all_values, Stands};
+    ghost use Rattle.off_base.specs.Walk.{all_values, CursorStands};
 
     ghost Value = { List ℕ };
 
@@ -37,7 +37,7 @@ impl<'a> Model for JoinedBytes<'a> {
 
     ghost invariant = { λ b. IsOk (parts_in true b.options.now)
         × (b.len ≡ length (all_values b.code b.options.now))
-        × Stands b.options.now b.code b.cursor };
+        × CursorStands b.options.now b.code b.cursor };
 }
 
 impl<'a> JoinedBytes<'a> {
@@ -88,7 +88,7 @@ const FRONT: Cursor = Cursor { at: 0, before: 0 };
 
 // Where the option stands that has a joined byte, from a cursor on.
 fn holder(options: &[u8], wanted: u8, from: Cursor, i: usize) -> Cursor
-    requires stands { Stands options.now wanted from }
+    requires stands { CursorStands options.now wanted from }
     requires behind { from.before ≤ i }
     requires within { i < length (all_values wanted options.now) }
     ensures { Holds options.now wanted i result }

@@ -25,7 +25,7 @@ pub use macs::{Mac, NotMac, mac_text, read_mac};
 pub use moments::Moment;
 pub use numbers::read_number;
 pub use octets::{Bytes, NoMemory};
-pub use parts::Step;
+pub use parts::{END_OPTION, Step};
 pub use secrets::Secret;
 pub use trees::{Setting, Settings};
 pub use wording::{NotShort, Short};

@@ -1,4 +1,4 @@
-ghost use Rattle.std.specs.Prelude.{◌≡◌, ◌==◌, ◌≤◌, ◌∷◌, [], length, filter, Option, Some, None};
+ghost use Rattle.std.specs.Prelude.{◌≡◌, ◌==◌, ◌≤◌, length, Option, Some, None};
 ghost use Rattle.std.specs.Prelude.{MatchResult, MatchOption, if◌then◌else◌};
 ghost use Rattle.std.specs.List.{join_with_byte, list_any};
 ghost use Rattle.std.specs.Str.{bytes_eq};

@@ -1,13 +1,14 @@
-ghost use Rattle.std.specs.Prelude.{◌≡◌, ◌≢◌, ◌<◌, ◌≤◌, length, slice_index, false};
+ghost use Rattle.std.specs.Prelude.{◌≡◌, ◌<◌, ◌≤◌, length, slice_index, false};
 ghost use Rattle.off_base.specs.Parts.{is_mark};
 ghost use Rattle.off_base.specs.Walk.{Finds};
 
 use crate::readable::{Plain, Readable};
 
-// A pad of one byte, and the end (RFC 2132, sections 3.1 and 3.2).
-const PAD: u8 = 0;
+// The pad option, of one byte (RFC 2132, section 3.1).
+const PAD_OPTION: u8 = 0;
 
-const END: u8 = 255;
+/// The end option, of one byte (RFC 2132, section 3.2).
+pub const END_OPTION: u8 = 255;
 
 /// What a walk over options or parts of an option finds next.
 #[derive(Clone, Copy, Debug)]
@@ -35,7 +36,7 @@ pub(crate) fn next_in<R: Readable>(bytes: &mut R, from: usize, marked: bool) -> 
 {
     let mut at = from;
     while at < bytes.len() {
-        if !is_mark(marked, PAD, bytes.byte(at)) {
+        if !is_mark(marked, PAD_OPTION, bytes.byte(at)) {
             return part_at(bytes, at, marked);
         }
         at += 1;
@@ -58,7 +59,7 @@ fn part_at<R: Readable>(bytes: &mut R, place: usize, marked: bool) -> Step
     ensures same { R.bytes bytes.new ≡ R.bytes bytes.old }
 {
     let code = bytes.byte(place);
-    if is_mark(marked, END, code) {
+    if is_mark(marked, END_OPTION, code) {
         return Step::End;
     }
     let behind = bytes.len() - place - 1;

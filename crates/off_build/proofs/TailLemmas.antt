@@ -1,22 +1,16 @@
 -- A body and its tail against the sealed file.
 use Rattle.std.proofs.Common.{◌≡◌, ℕ, ◌+◌, ◌-◌, ◌%◌, List, [], ◌∷◌, ◌++◌, length, take, refl, sym, ap, ◌∙◌, append_assoc, length-append, arith}
-use Rattle.std.specs.Prelude.{not}
 use Rattle.std.proofs.lemmas.List.Concat.{flat_map-append}
-use Rattle.std.proofs.lemmas.List.Elements.{filter-append}
-use Rattle.off_base.specs.Tree.{Tree, leaf, code_of, spelled, spelling}
+use Rattle.off_base.specs.Tree.{Tree, leaf, spelled, spelling}
 use Rattle.off_base.specs.declared.addresses.Ip4.{Ip4}
-use Rattle.off_mic.specs.Mic.{is_mic, without_mics, cm_mic_of, cmts_mic_of, with_both}
-use Rattle.off_mic.specs.Seal.{Ended}
-use Rattle.off_mic.proofs.SealLemmas.{end_pushed, sealed_is}
+use Rattle.off_tlv.specs.Grammar.{end_byte}
+use Rattle.off_mic.specs.Mic.{without_mics, cm_mic_of, cmts_mic_of, with_both}
+use Rattle.off_mic.specs.Seal.{EndsPadded}
+use Rattle.off_mic.proofs.SealLemmas.{neither_join, end_pushed, sealed_is}
 use Rattle.off_file_rules.specs.File.{stamps, IsBuilt}
 
 spelling_join : (ts us : List Tree) → spelling (ts ++ us) ≡ spelling ts ++ spelling us
 spelling_join ts us = flat_map-append spelled ts us
-
--- a setting without the two values' codes behind others
-neither_join : (ts us : List Tree) → without_mics ts ≡ ts → without_mics us ≡ us → without_mics (ts ++ us) ≡ ts ++ us
-neither_join ts us a b =
-    filter-append (λ t. not (is_mic (code_of t))) ts us ∙ ap (λ (x : List Tree). x ++ without_mics us) a ∙ ap (λ (x : List Tree). ts ++ x) b
 
 -- settings with both values behind them, in two pieces
 both_in_two : (secret : List ℕ) (front back : List Tree) (cmts : List ℕ)
@@ -36,7 +30,7 @@ pub tail_seals : (secret : List ℕ) (now : ℕ) (ip : Ip4) (profile : List Tree
     → stamped ≡ spelling (stamps now ip)
     → ((front back : List Tree) → body ≡ spelling front → stamped ≡ spelling back → with_cm ≡ spelling (back ++ leaf 6 (cm_mic_of (front ++ back)) ∷ []))
     → ((front back : List Tree) → body ≡ spelling front → with_cm ≡ spelling back → with_cmts ≡ spelling (back ++ leaf 7 (cmts_mic_of secret (front ++ back)) ∷ []))
-    → Ended (body ++ with_cmts) (body ++ ended) → IsBuilt secret profile now ip (body ++ ended)
+    → EndsPadded (body ++ with_cmts) (body ++ ended) → IsBuilt secret profile now ip (body ++ ended)
 tail_seals secret now ip profile body stamped with_cm with_cmts ended b neither s cm cmts end =
     let back : List Tree = stamps now ip in
     let first : with_cm ≡ spelling (stamps now ip ++ leaf 6 (cm_mic_of (profile ++ stamps now ip)) ∷ []) = cm profile (stamps now ip) b s in
@@ -50,10 +44,10 @@ tail_seals secret now ip profile body stamped with_cm with_cmts ended b neither 
     sealed_is secret (profile ++ stamps now ip) (body ++ with_cmts) (body ++ ended) (neither_join profile (stamps now ip) neither refl) whole end
 
 -- the end marker and the pads stand behind what is held, and count from the body's first byte
-pub end_held : (body old marked new : List ℕ) (long held pads : ℕ) → marked ≡ old ++ 255 ∷ [] → long ≡ length body → held ≡ length marked
-    → pads ≡ (4 - (long % 4 + held) % 4) % 4 → new ≡ marked ++ take pads (0 ∷ 0 ∷ 0 ∷ []) → Ended (body ++ old) (body ++ new)
+pub end_held : (body old marked new : List ℕ) (long held pads : ℕ) → marked ≡ old ++ end_byte ∷ [] → long ≡ length body → held ≡ length marked
+    → pads ≡ (4 - (long % 4 + held) % 4) % 4 → new ≡ marked ++ take pads (0 ∷ 0 ∷ 0 ∷ []) → EndsPadded (body ++ old) (body ++ new)
 end_held body old marked new long held pads m l h p n =
-    let joined : body ++ marked ≡ (body ++ old) ++ 255 ∷ [] = ap (λ (x : List ℕ). body ++ x) m ∙ sym (append_assoc body old (255 ∷ [])) in
+    let joined : body ++ marked ≡ (body ++ old) ++ end_byte ∷ [] = ap (λ (x : List ℕ). body ++ x) m ∙ sym (append_assoc body old (end_byte ∷ [])) in
     let count : length (body ++ marked) ≡ long + held = length-append body marked ∙ omega arith in
     let same : pads ≡ (4 - length (body ++ marked) % 4) % 4 = omega arith in
     end_pushed (body ++ old) (body ++ marked) (body ++ new) pads joined same (ap (λ (x : List ℕ). body ++ x) n ∙ sym (append_assoc body marked (take pads (0 ∷ 0 ∷ 0 ∷ []))))

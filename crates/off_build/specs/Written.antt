@@ -2,5 +2,5 @@
 use Rattle.std.specs.Prelude.{◌≡◌, ℕ, List, ◌++◌, length, drop}
 
 -- a piece stands in front, and what was behind it stays
-abbrev pub IsWritten : List ℕ → List ℕ → List ℕ → Type 0
-IsWritten piece old new = new ≡ piece ++ drop (length piece) old
+abbrev pub StandsInFront : List ℕ → List ℕ → List ℕ → Type 0
+StandsInFront piece old new = new ≡ piece ++ drop (length piece) old

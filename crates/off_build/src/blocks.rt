@@ -1,6 +1,6 @@
 ghost use Rattle.std.specs.Prelude.{◌≡◌, ◌+◌, ◌≤◌, ◌++◌, length, take, drop};
 ghost use Rattle.off_file_rules.specs.Block.{block};
-ghost use Rattle.off_build.specs.Written.{IsWritten};
+ghost use Rattle.off_build.specs.Written.{StandsInFront};
 
 use crate::bodies::Body;
 use crate::tails::FileTail;
@@ -10,7 +10,7 @@ use crate::tails::FileTail;
 pub fn block(body: &Body, tail: &FileTail, size: u16, n: u32, out: &mut [u8]) -> usize
     requires room { size ≤ length out.old }
     requires counted { 1 ≤ n }
-    ensures written { IsWritten (block (body.now ++ tail.now) size n) out.old out.new }
+    ensures written { StandsInFront (block (body.now ++ tail.now) size n) out.old out.new }
     ensures len { result ≡ length (block (body.now ++ tail.now) size n) }
     ensures few { result ≤ size }
 {
@@ -44,7 +44,7 @@ fn part(bytes: &[u8], from: usize, most: usize) -> &[u8]
 // Writes two pieces to the front of `out`, one behind the other, and answers their length.
 fn put_two(first: &[u8], rest: &[u8], out: &mut [u8]) -> usize
     requires { length first.now + length rest.now ≤ length out.old }
-    ensures written { IsWritten (first.now ++ rest.now) out.old out.new }
+    ensures written { StandsInFront (first.now ++ rest.now) out.old out.new }
     ensures len { result ≡ length (first.now ++ rest.now) }
 {
     let end = first.len() + rest.len();

@@ -1,24 +1,18 @@
 ghost use Rattle.std.specs.Prelude.{◌≡◌, ◌==◌, ◌+◌, ◌≤◌, ◌++◌, [], ◌∷◌, List, length};
 ghost use Rattle.arrayvec.specs.ArrayVec.{array_vec_len};
 ghost use Rattle.off_base.specs.Tree.{Tree, leaf, spelling};
-ghost use Rattle.off_defs.specs.Clock.{time_bytes};
 ghost use Rattle.off_mic.specs.Mic.{cm_mic_of, cmts_mic_of, without_mics};
-ghost use Rattle.off_mic.specs.Seal.{Ended};
+ghost use Rattle.off_mic.specs.Seal.{EndsPadded};
 ghost use Rattle.off_file_rules.specs.File.{stamps, IsBuilt};
 
 use crate::bodies::Body;
 use crate::held::{Held, push_all, push_setting};
 use arrayvec::ArrayVec;
 use off_base::{Ip4, Moment};
+use off_defs::time_of_day;
 use off_mic::{cm_mic, cmts_mic};
 use off_tlv::END_MARKER;
 use std::marker::Model;
-
-// The seconds from 1 January 1900 to 1 January 1970 (RFC 868).
-const SECONDS_BEFORE_1970: u64 = 2_208_988_800;
-
-// The time of RFC 868 has 32 bits, and begins again at 0 after the greatest.
-const SECONDS_IN_A_ROUND: u64 = 4_294_967_296;
 
 /// What stands in a file behind its body, at most 52 bytes, held in place. Contracts see its bytes.
 #[derive(Drop)]
@@ -86,14 +80,6 @@ fn stamped(now: Moment, ip: Ip4) -> Held
     held
 }
 
-// The time of RFC 868 at a moment. The sum stops at the greatest moment.
-fn time_of_day(now: Moment) -> [u8; 4]
-    ensures { result ≡ time_bytes now.0 }
-{
-    let seconds = now.0.saturating_add(SECONDS_BEFORE_1970) % SECONDS_IN_A_ROUND;
-    (seconds as u32).to_be_bytes()
-}
-
 // Appends the modem's integrity check of the body and what is held.
 fn push_cm(body: &Body, held: &mut Held)
     requires { array_vec_len held.old ≤ 34 }
@@ -121,7 +107,7 @@ fn push_cmts(secret: &[u8], body: &Body, held: &mut Held)
 // Appends the end marker, and zeros to a multiple of four bytes of the body and what is held.
 fn push_end(body: &Body, held: &mut Held)
     requires { array_vec_len held.old ≤ 48 }
-    ensures { Ended (body.now ++ held.old.items) (body.now ++ held.new.items) }
+    ensures { EndsPadded (body.now ++ held.old.items) (body.now ++ held.new.items) }
 {
     push_all(&[END_MARKER], held);
     let pads = (4 - (body.len() % 4 + held.len()) % 4) % 4;

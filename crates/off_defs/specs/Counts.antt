@@ -1,10 +1,11 @@
 -- Counters of faults. Each is kept in 64 bits, never falls, and stands still at the greatest number.
-use Rattle.std.specs.Prelude.{◌≡◌, ℕ, ◌+◌, ◌-◌, ◌^◌, ◌≤◌, min, List, [], ◌∷◌}
+use Rattle.std.specs.Prelude.{◌≡◌, ℕ, ◌+◌, ◌≤◌, min, List, [], ◌∷◌}
+use Rattle.off_base.specs.Number.{greatest_u64}
 use Rattle.off_defs.specs.declared.orders.Write.{Write}
 
 -- the greatest number of a counter
 abbrev pub most_count : ℕ
-most_count = 2 ^ 64 - 1
+most_count = greatest_u64
 
 -- a counter after one more
 abbrev pub one_more : ℕ → ℕ

@@ -5,6 +5,7 @@ pub mod Codes
 pub mod Keys
 pub mod Tables
 pub mod Events
+pub mod Bounds
 pub mod Clock
 pub mod KeyText
 pub mod Kinds

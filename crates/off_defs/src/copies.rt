@@ -9,11 +9,11 @@ pub fn copy_row(_alloc: Global, r: &Row) -> Result<Row, NoMemory>
     ensures { IfOk result (λ copy. copy ≡ r.now) }
 {
     match r {
-        Row::Site(site) => Ok(Row::Site(copy_site(site))),
-        Row::Subscriber(subscriber) => Ok(Row::Subscriber(copy_subscriber(subscriber))),
+        Row::Site(site) => Ok(Row::Site(site.copy())),
+        Row::Subscriber(subscriber) => Ok(Row::Subscriber(subscriber.copy())),
         Row::AddOn(settings) => Ok(Row::AddOn(settings.copy()?)),
-        Row::Modem(modem) => Ok(Row::Modem(copy_modem(modem))),
-        Row::Class(class) => Ok(Row::Class(copy_class(class)?)),
+        Row::Modem(modem) => Ok(Row::Modem(modem.copy())),
+        Row::Class(class) => Ok(Row::Class(class.copy()?)),
         Row::Pool(pool) => Ok(Row::Pool(*pool)),
         Row::Lease(lease) => Ok(Row::Lease(*lease)),
         Row::Held(address) => Ok(Row::Held(*address)),
@@ -21,43 +21,55 @@ pub fn copy_row(_alloc: Global, r: &Row) -> Result<Row, NoMemory>
     }
 }
 
-fn copy_site(site: &Site) -> Site
-    ensures { result ≡ site.now }
-{
-    Site {
-        server: site.server,
-        secret: site.secret.copy(),
-        offset: site.offset,
-        lease: site.lease,
-        log: site.log,
+impl Site {
+    /// The same site again.
+    pub fn copy(&self) -> Site
+        ensures { result ≡ self.now }
+    {
+        Site {
+            server: self.server,
+            secret: self.secret.copy(),
+            offset: self.offset,
+            lease: self.lease,
+            log: self.log,
+        }
     }
 }
 
-fn copy_subscriber(subscriber: &Subscriber) -> Subscriber
-    ensures { result ≡ subscriber.now }
-{
-    Subscriber {
-        active: subscriber.active,
-        cpes: subscriber.cpes,
-        name: subscriber.name.copy(),
+impl Subscriber {
+    /// The same subscriber again.
+    pub fn copy(&self) -> Subscriber
+        ensures { result ≡ self.now }
+    {
+        Subscriber {
+            active: self.active,
+            cpes: self.cpes,
+            name: self.name.copy(),
+        }
     }
 }
 
-fn copy_modem(modem: &Modem) -> Modem
-    ensures { result ≡ modem.now }
-{
-    Modem {
-        subscriber: modem.subscriber,
-        class: modem.class,
-        serial: modem.serial.copy(),
+impl Modem {
+    /// The same modem again.
+    pub fn copy(&self) -> Modem
+        ensures { result ≡ self.now }
+    {
+        Modem {
+            subscriber: self.subscriber,
+            class: self.class,
+            serial: self.serial.copy(),
+        }
     }
 }
 
-fn copy_class(class: &Class) -> Result<Class, NoMemory>
-    ensures { IfOk result (λ copy. copy ≡ class.now) }
-{
-    Ok(Class {
-        name: class.name.copy(),
-        settings: class.settings.copy()?,
-    })
+impl Class {
+    /// The same class again.
+    pub fn copy(&self) -> Result<Class, NoMemory>
+        ensures { IfOk result (λ copy. copy ≡ self.now) }
+    {
+        Ok(Class {
+            name: self.name.copy(),
+            settings: self.settings.copy()?,
+        })
+    }
 }

@@ -5,6 +5,8 @@
 //! in `off_book`, one event and a run of them.
 #![tactic(auto)]
 
+mod bounds;
+mod clock;
 mod copies;
 mod events;
 mod keys;
@@ -14,6 +16,8 @@ mod results;
 mod rules;
 mod tables;
 
+pub use bounds::{ADD_ONS, LAST_ADD_ON, LEAST_PREFIX, MOST_DEVICES, MOST_PREFIX};
+pub use clock::time_of_day;
 pub use copies::copy_row;
 pub use events::{Event, Service, What};
 pub use keys::Key;

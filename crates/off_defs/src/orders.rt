@@ -1,20 +1,9 @@
-ghost use Rattle.std.specs.Prelude.{
-  ◌≡◌,
-  ◌==◌,
-  ◌<◌,
-  ◌++◌,
-  [],
-  ◌∷◌,
-  length,
-  Some,
-  slice_get,
-  OnOk,
-  OnErr,
-};
+ghost use Rattle.std.specs.Prelude.{◌≡◌, ◌==◌, ◌<◌, ◌++◌, [], ◌∷◌, length, Some, slice_get};
+ghost use Rattle.std.specs.Prelude.{OnOk, OnErr};
 
 use crate::keys::Key;
 use crate::tables::{Class, ImportKind, Modem, Pool, Row, Site, Subscriber};
-use off_base::{Ip4, Mac, NoMemory, Settings};
+use off_base::{Mac, NoMemory, Settings};
 use std::alloc::Global;
 use std::marker::Model;
 

@@ -2,7 +2,7 @@
 use Rattle.std.proofs.Common.{◌≡◌, ℕ, List, [], ◌∷◌, ◌++◌, take, replicate, Some, Ok, refl, codes}
 use Rattle.off_base.specs.Parts.{parts_in}
 use Rattle.off_dhcp.specs.declared.faults.DhcpFault.TheVariants.{Short, OptionCut, NoType}
-use Rattle.off_dhcp.specs.Datagram.{first_fault, message_of, option_in}
+use Rattle.off_dhcp.specs.Datagram.{message_fault, message_of, option_in}
 use Rattle.off_dhcp.specs.Reply.{mask, relay_options}
 
 abbrev options : List ℕ
@@ -17,23 +17,23 @@ discover =
     (1 ∷ 1 ∷ 6 ∷ 0 ∷ 17 ∷ 34 ∷ 51 ∷ 68 ∷ []) ++ (replicate 16 0 ++ ((10 ∷ 64 ∷ 0 ∷ 1 ∷ []) ++ (hardware ++ (replicate 192 0 ++ ((99 ∷ 130 ∷ 83 ∷ 99 ∷ []) ++ options)))))
 
 discover_is_read : message_of discover ≡ Ok (record { kind = 1; xid = 0x11223344; flags = 0; ciaddr = 0; giaddr = 0x0a400001; hardware = hardware; options = options })
-unfolding first_fault parts_in
+unfolding message_fault parts_in
 discover_is_read = refl
 
 vendor_parts_are_joined : option_in 43 options ≡ Some ((2 ∷ 3 ∷ []) ++ (codes "ECM" ++ ((4 ∷ 4 ∷ []) ++ codes "SN01")))
 unfolding parts_in
 vendor_parts_are_joined = refl
 
-short_is_told : first_fault (take 239 discover) ≡ Some Short
-unfolding first_fault parts_in
+short_is_told : message_fault (take 239 discover) ≡ Some Short
+unfolding message_fault parts_in
 short_is_told = refl
 
-no_type_is_told : first_fault (take 240 discover) ≡ Some NoType
-unfolding first_fault parts_in
+no_type_is_told : message_fault (take 240 discover) ≡ Some NoType
+unfolding message_fault parts_in
 no_type_is_told = refl
 
-cut_is_told : first_fault (take 254 discover) ≡ Some (OptionCut 243)
-unfolding first_fault parts_in
+cut_is_told : message_fault (take 254 discover) ≡ Some (OptionCut 243)
+unfolding message_fault parts_in
 cut_is_told = refl
 
 mask_of_24 : mask 24 ≡ 0xffffff00

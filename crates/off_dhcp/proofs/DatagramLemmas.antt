@@ -8,7 +8,7 @@ use Rattle.off_base.specs.Parts.{Part, Cut, IsReading, parts_in, bytes_of}
 use Rattle.off_base.specs.Parts.Cut.{cut_length, cut_value, cut_behind_pad, cut_behind_part}
 use Rattle.off_dhcp.specs.declared.faults.DhcpFault.{DhcpFault}
 use Rattle.off_dhcp.specs.declared.faults.DhcpFault.TheVariants.{Short, Long, NoType, OptionCut}
-use Rattle.off_dhcp.specs.Datagram.{first_there, first_fault, fixed_faults, option_faults, options_in, option_in, fault_if, message_of, received, received_unless}
+use Rattle.off_dhcp.specs.Datagram.{first_there, message_fault, fixed_faults, option_faults, options_in, option_in, fault_if, message_of, received, received_unless}
 
 -- ---- the first of several
 
@@ -31,20 +31,20 @@ not_if_none true fault is = cc
 not_if_none false fault is = refl
 
 pub in_fixed : (bytes : List ℕ) (fault : DhcpFault) → first_there (fixed_faults bytes) ≡ Some fault → message_of bytes ≡ Err fault
-unfolding first_fault
+unfolding message_fault
 in_fixed bytes fault is = ap (λ o. received_unless o (received bytes)) (there_first (fixed_faults bytes) (option_faults (options_in bytes)) fault is)
 
 pub in_options : (bytes : List ℕ) (fault : DhcpFault) → first_there (fixed_faults bytes) ≡ None → first_there (option_faults (options_in bytes)) ≡ Some fault
     → message_of bytes ≡ Err fault
-unfolding first_fault
+unfolding message_fault
 in_options bytes fault none is =
     ap (λ o. received_unless o (received bytes)) (none_first (fixed_faults bytes) (option_faults (options_in bytes)) none ∙ is)
 
-pub no_fault : (bytes : List ℕ) → first_there (fixed_faults bytes) ≡ None → first_there (option_faults (options_in bytes)) ≡ None → first_fault bytes ≡ None
-unfolding first_fault
+pub no_fault : (bytes : List ℕ) → first_there (fixed_faults bytes) ≡ None → first_there (option_faults (options_in bytes)) ≡ None → message_fault bytes ≡ None
+unfolding message_fault
 no_fault bytes none none' = none_first (fixed_faults bytes) (option_faults (options_in bytes)) none ∙ none'
 
-pub read_whole : (bytes : List ℕ) → first_fault bytes ≡ None → message_of bytes ≡ Ok (received bytes)
+pub read_whole : (bytes : List ℕ) → message_fault bytes ≡ None → message_of bytes ≡ Ok (received bytes)
 read_whole bytes none = ap (λ o. received_unless o (received bytes)) none
 
 -- ---- a datagram without a fault
@@ -67,8 +67,8 @@ all_none : {X : Type 0} (xs : List (Option X)) → first_there xs ≡ None → A
 all_none [] is = tt
 all_none (o ∷ more) is = let both = both_none o more is in (both.0, all_none more both.1)
 
-pub is_sound : (bytes : List ℕ) → first_fault bytes ≡ None → IsSound bytes
-unfolding first_fault
+pub is_sound : (bytes : List ℕ) → message_fault bytes ≡ None → IsSound bytes
+unfolding message_fault
 is_sound bytes none =
     let all = all_none (fixed_faults bytes ++ option_faults (options_in bytes)) none in
     let long = ltb-false (length bytes) 240 (not_if_none (ltb (length bytes) 240) Short all.0) in

@@ -6,7 +6,7 @@ use Rattle.std.specs.List.{slice_range}
 use Rattle.std.specs.Option.{option_map}
 use Rattle.std.specs.Result.{result_err}
 use Rattle.std.specs.Str.{bytes_eq}
-use Rattle.off_base.specs.Parts.{parts_in, joined, bytes_of}
+use Rattle.off_base.specs.Parts.{IsReading, parts_in, joined, bytes_of}
 use Rattle.off_dhcp.specs.declared.faults.DhcpFault.{DhcpFault}
 use Rattle.off_dhcp.specs.declared.faults.DhcpFault.TheVariants.{Short, NotRequest, Hardware, Cookie, OptionCut, NoType, Overload, Long}
 
@@ -17,6 +17,10 @@ magic_cookie = 99 ∷ 130 ∷ 83 ∷ 99 ∷ []
 -- what stands behind the fixed part and the cookie
 abbrev pub options_in : List ℕ → List ℕ
 options_in bytes = drop 240 bytes
+
+-- the one reading of the options is what the grammar says of them
+abbrev pub ReadsOptions : List ℕ → Type 0
+ReadsOptions options = IsReading true options (parts_in true options)
 
 -- the joined value of all options of one code
 abbrev pub option_in : ℕ → List ℕ → Option (List ℕ)
@@ -75,8 +79,8 @@ first_there [] = None
 first_there (Some x ∷ more) = Some x
 first_there (None ∷ more) = first_there more
 
-unfoldable pub first_fault : List ℕ → Option DhcpFault
-first_fault bytes = first_there (fixed_faults bytes ++ option_faults (options_in bytes))
+unfoldable pub message_fault : List ℕ → Option DhcpFault
+message_fault bytes = first_there (fixed_faults bytes ++ option_faults (options_in bytes))
 
 abbrev pub received_unless : Option DhcpFault → Received → Result Received DhcpFault
 received_unless None m = Ok m
@@ -84,4 +88,4 @@ received_unless (Some fault) m = Err fault
 
 -- what a datagram says, or its first fault
 abbrev pub message_of : List ℕ → Result Received DhcpFault
-message_of bytes = received_unless (first_fault bytes) (received bytes)
+message_of bytes = received_unless (message_fault bytes) (received bytes)

@@ -1,4 +1,4 @@
-ghost use Rattle.std.specs.Prelude.{◌≡◌, ◌≤◌, ◌==◌, ◌&&◌, not, length, slice_index, None, IfNone};
+ghost use Rattle.std.specs.Prelude.{◌≡◌, ◌≤◌, ◌==◌, ◌&&◌, length, None, IfNone};
 ghost use Rattle.off_dhcp.specs.Datagram.{first_there, fixed_faults, option_faults};
 
 use off_base::{Joined, first_cut};

@@ -2,6 +2,7 @@ ghost use Rattle.std.specs.Prelude.{◌≡◌, ◌+◌, ◌≤◌, length, None}
 ghost use Rattle.std.specs.Int.{w16, w32, from_be_bytes};
 ghost use Rattle.std.specs.List.{slice_range};
 ghost use Rattle.off_dhcp.specs.Datagram.{message_of, option_in, options_in, mac_of_client};
+ghost use Rattle.off_dhcp.specs.Datagram.{ReadsOptions};
 ghost use Rattle.off_dhcp.specs.Datagram.{first_there, fixed_faults};
 
 use crate::DhcpFault;
@@ -17,13 +18,13 @@ pub struct Message<'a> {
 
 impl<'a> Model for Message<'a> {
     ghost use Rattle.std.specs.Prelude.{◌≡◌, None};
-    ghost use Rattle.off_dhcp.specs.Datagram.{Received, received, first_fault};
+    ghost use Rattle.off_dhcp.specs.Datagram.{Received, received, message_fault};
 
     ghost Value = { Received };
 
     ghost view = { λ m. received m.bytes.now };
 
-    ghost invariant = { λ m. first_fault m.bytes.now ≡ None };
+    ghost invariant = { λ m. message_fault m.bytes.now ≡ None };
 }
 
 impl<'a> Message<'a> {
@@ -32,7 +33,8 @@ impl<'a> Message<'a> {
     /// The faults come in this order: `Short`, `Long`, `NotRequest`, `Hardware`, `Cookie`,
     /// `OptionCut`, `NoType`, `Overload`.
     pub fn read(bytes: &'a [u8]) -> Result<Message<'a>, DhcpFault>
-        ensures { result ≡ message_of bytes.now }
+        ensures message { result ≡ message_of bytes.now }
+        ensures options { ReadsOptions (options_in bytes.now) }
     {
         match fixed_fault(bytes) {
             Some(fault) => Err(fault),

@@ -1,13 +1,12 @@
-ghost use Rattle.std.specs.Prelude.{◌≡◌, ◌≤◌, ◌+◌, ◌-◌, ◌*◌, ◌/◌, ◌==◌, ◌++◌, ◌⊎◌, bit_or};
+ghost use Rattle.std.specs.Prelude.{◌≡◌, ◌≤◌, ◌+◌, ◌-◌, ◌*◌, ◌/◌, ◌==◌, ◌++◌, ◌⊎◌};
 ghost use Rattle.std.specs.Prelude.{if◌then◌else◌, length, [], ◌∷◌, OnOk, IfOk};
-ghost use Rattle.off_dhcp.specs.Reply.{zeros, four, head, option, padded, relay_options, nak_flags};
-ghost use Rattle.off_dhcp.specs.Reply.{nak_bytes, reply_bytes, mask, confirmed, log_option};
-ghost use Rattle.off_dhcp.specs.Datagram.{option_in};
+ghost use Rattle.off_dhcp.specs.Reply.{zeros, four, head, option, padded, nak_flags};
+ghost use Rattle.off_dhcp.specs.Reply.{nak_bytes, reply_bytes, mask, log_option};
 
 use crate::faults::{MAGIC_COOKIE, MESSAGE_TYPE};
 use crate::relayed::push_relay;
 use crate::{Message, Offer};
-use off_base::{Bytes, Ip4, NoMemory};
+use off_base::{Bytes, END_OPTION, Ip4, NoMemory};
 use std::alloc::Global;
 
 // Options of a reply (RFC 2132).
@@ -28,8 +27,6 @@ const SERVER_IDENTIFIER: u8 = 54;
 const RENEWAL_TIME: u8 = 58;
 
 const REBINDING_TIME: u8 = 59;
-
-const END: u8 = 255;
 
 const NAK: u8 = 6;
 
@@ -171,7 +168,7 @@ pub(crate) fn push_option(out: &mut Bytes, code: u8, value: &[u8]) -> Result<(),
 fn finish(out: &mut Bytes) -> Result<(), NoMemory>
     ensures { OnOk result (out.new ≡ padded (out.old ++ (255 ∷ []))) }
 {
-    out.push_all(&[END])?;
+    out.push_all(&[END_OPTION])?;
     let short = LEAST_BYTES.saturating_sub(out.len());
     push_zeros(out, short)
 }

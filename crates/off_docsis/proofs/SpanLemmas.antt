@@ -1,5 +1,6 @@
 -- That a part of a reading lies in the bytes, and what the calls find of it.
 use Rattle.std.proofs.Common.{◌≡◌, ℕ, ◌+◌, Bool, true, false, List, [], ◌∷◌, ◌++◌, length, take, drop, Some, Result, Ok, Err, refl, sym, ap, subst, ◌∙◌, arith, append_assoc, length-append, eqb, inl, inr}
+use Rattle.std.specs.Prelude.{if◌then◌else◌}
 use Rattle.std.proofs.lemmas.Bool.{cases_Bool}
 use Rattle.std.specs.List.{AllByRecursion}
 use Rattle.std.proofs.Math.Seq.{take-append_seam, drop-append_seam}
@@ -8,8 +9,7 @@ use Rattle.off_base.specs.Parts.{Part, Spells, IsReading}
 use Rattle.off_base.specs.Parts.Spells.{spells_nothing, spells_end, spells_pad, spells_part}
 use Rattle.off_docsis.specs.declared.spans.Span.{Span}
 use Rattle.off_docsis.specs.declared.spans.PartCut.{PartCut}
-use Rattle.off_docsis.specs.Cable.{Shows, ShowsDevice, ShowsRelay, span_at, span_of, first_of, relay_of, device_of}
-use Rattle.off_docsis.specs.Spans.{span_in, span_before}
+use Rattle.off_docsis.specs.Cable.{Shows, ShowsDevice, ShowsRelay, span_at, span_of, span_in, first_of, relay_of, device_of}
 
 -- the part's value lies there
 abbrev pub Lies : List ℕ → Part → Type 0
@@ -91,6 +91,11 @@ pub device_ok : (read : Result (List Part) ℕ) (kind serial software : Span) �
 unfolding device_of
 device_ok (Ok parts) kind serial software first second third = cc
 device_ok (Err place) kind serial software first second third = cc
+
+-- the span that was found before, or else the one behind
+abbrev pub span_before : Span → Result Span PartCut → Result Span PartCut
+span_before span (Ok behind) = Ok (if span.there then span else behind)
+span_before span (Err cut) = Err cut
 
 pub no_part_yet : (read : Result Span PartCut) → span_before (record { there = false; at = 0; len = 0 }) read ≡ read
 no_part_yet (Ok span) = refl

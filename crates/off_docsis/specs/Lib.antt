@@ -1,2 +1,1 @@
 pub mod Cable
-pub mod Spans

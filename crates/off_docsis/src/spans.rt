@@ -1,6 +1,6 @@
 ghost use Rattle.std.specs.Prelude.{◌≡◌, ◌&&◌, not, if◌then◌else◌, true};
 ghost use Rattle.off_base.specs.Parts.{parts_in, bytes_of};
-ghost use Rattle.off_docsis.specs.Spans.{span_in};
+ghost use Rattle.off_docsis.specs.Cable.{span_in};
 
 use off_base::{Joined, Step};
 

@@ -9,17 +9,18 @@ use Rattle.off_tree.specs.declared.tables.Level.TheVariants.{Top}
 use Rattle.off_tree.specs.declared.tables.Kind.{Kind}
 use Rattle.off_tree.specs.declared.tables.Kind.TheVariants.{Class, AddOn}
 use Rattle.off_tree.specs.Fault.{as_list, contains, numbers, flow_number, both_directions, classifier_number, named_flow, direction_of}
-use Rattle.off_tree.specs.Good.{count_of, Stands, EachStands, IsServed, Good}
+use Rattle.off_tree.specs.Good.{times_in, Stands, EachStands, IsServed, GoodSettings}
 use Rattle.off_tree.proofs.ReferenceLemmas.{contains_front, contains_back}
 use Rattle.off_file_rules.specs.Profile.{flow_rise, classifier_rise, raised, all_raised, access, devices, active_profile, profile_of}
 use Rattle.off_file_laws.specs.Laws.{Agree}
-use Rattle.off_file_laws.proofs.CountLemmas.{Apart, Between, shifted_test, count-cons, risen, apart_none, apart_wider, apart_join, apart_risen, apart_numbers, numbers_risen}
+use Rattle.off_tree.proofs.GoodLemmas.{count-cons}
+use Rattle.off_file_laws.proofs.CountLemmas.{Apart, Between, shifted_test, risen, apart_none, apart_wider, apart_join, apart_risen, apart_numbers, numbers_risen}
 use Rattle.off_file_laws.proofs.RaiseLemmas.{flow_between, classifier_between, flow_raised, named_raised, classifier_raised, code_raised}
 
 -- add-ons that are good and whose numbers ascend from a number on
 abbrev pub AllGood : ℕ → List (ℕ × List Tree) → Type 0
 AllGood least [] = Unit {0}
-AllGood least (a ∷ adds) = (least ≤ a.0) × (a.0 < 8) × Good AddOn a.1 × AllGood (a.0 + 1) adds
+AllGood least (a ∷ adds) = (least ≤ a.0) × (a.0 < 8) × GoodSettings AddOn a.1 × AllGood (a.0 + 1) adds
 
 -- what holds of each setting of good ones holds of all
 pub each_standing : (kind : Kind) (P : Tree → Type 0) → ((t : Tree) → Stands (Top kind) t → P t) → (ts : List Tree) → EachStands (Top kind) (row_of ts) → AllByRecursion P ts
@@ -32,7 +33,7 @@ numbers_join f ts us = flat_map-append (λ (t : Tree). as_list (f t)) ts us
 -- ---- one kind of references over all add-ons
 
 module _ (f : Tree → Option ℕ) (rise : ℕ → ℕ) (low high : ℕ)
-    (one : (k : ℕ) (ts : List Tree) → k < 8 → Good AddOn ts → Apart (low + rise k) (high + rise k) (numbers f (map (raised k) ts)))
+    (one : (k : ℕ) (ts : List Tree) → k < 8 → GoodSettings AddOn ts → Apart (low + rise k) (high + rise k) (numbers f (map (raised k) ts)))
     (grows : (k : ℕ) → high + rise k ≤ low + rise (k + 1)) (climbs : (i k : ℕ) → i ≤ k → rise i ≤ rise k) (room : low ≤ high) where
   pub all_apart : (least : ℕ) (adds : List (ℕ × List Tree)) → AllGood least adds → Apart (low + rise least) (low + rise 8) (numbers f (all_raised adds))
   all_apart least [] good = apart_none (low + rise least) (low + rise 8)
@@ -45,7 +46,7 @@ module _ (f : Tree → Option ℕ) (rise : ℕ → ℕ) (low high : ℕ)
       (apart_wider (low + rise a.0) (high + rise a.0) (low + rise least) (high + rise a.0) (numbers f (map (raised a.0) a.1)) first (omega arith) (one a.0 a.1 good.1 good.2))
       (all_apart (a.0 + 1) adds good.3))
 
-flows_of_one : (k : ℕ) (ts : List Tree) → k < 8 → Good AddOn ts → Apart (1 + flow_rise k) (256 + flow_rise k) (numbers (flow_number both_directions) (map (raised k) ts))
+flows_of_one : (k : ℕ) (ts : List Tree) → k < 8 → GoodSettings AddOn ts → Apart (1 + flow_rise k) (256 + flow_rise k) (numbers (flow_number both_directions) (map (raised k) ts))
 flows_of_one k ts small good =
     subst (Apart (1 + flow_rise k) (256 + flow_rise k))
     (sym (numbers_risen (flow_number both_directions) (raised k) (flow_rise k) ts
@@ -54,7 +55,7 @@ flows_of_one k ts small good =
     (apart_risen (flow_rise k) 1 256 (numbers (flow_number both_directions) ts)
     (apart_numbers (flow_number both_directions) 1 256 ts (each_standing AddOn (λ t. Between 1 256 (flow_number both_directions t)) (flow_between AddOn) ts good.stand) good.flows))
 
-classifiers_of_one : (k : ℕ) (ts : List Tree) → k < 8 → Good AddOn ts → Apart (0 + classifier_rise k) (16 + classifier_rise k) (numbers classifier_number (map (raised k) ts))
+classifiers_of_one : (k : ℕ) (ts : List Tree) → k < 8 → GoodSettings AddOn ts → Apart (0 + classifier_rise k) (16 + classifier_rise k) (numbers classifier_number (map (raised k) ts))
 classifiers_of_one k ts small good =
     subst (Apart (0 + classifier_rise k) (16 + classifier_rise k))
     (sym (numbers_risen classifier_number (raised k) (classifier_rise k) ts
@@ -72,8 +73,8 @@ module _ (f : Tree → Option ℕ) (no_access : (v : List ℕ) → f (leaf 3 v) 
       ∙ numbers_join f class (devices cpes ∷ all_raised adds)
       ∙ ap (λ (o : Option ℕ). numbers f class ++ (as_list o ++ numbers f (all_raised adds))) (no_devices (cpes ∷ []))
 
-active_flows : (cpes : ℕ) (class : List Tree) (adds : List (ℕ × List Tree)) → Good Class class → AllGood 0 adds → (n : ℕ)
-    → count_of n (numbers (flow_number both_directions) (active_profile cpes class adds)) ≤ 1
+active_flows : (cpes : ℕ) (class : List Tree) (adds : List (ℕ × List Tree)) → GoodSettings Class class → AllGood 0 adds → (n : ℕ)
+    → times_in n (numbers (flow_number both_directions) (active_profile cpes class adds)) ≤ 1
 active_flows cpes class adds good all n =
     let add_ons : Apart (1 + flow_rise 0) (1 + flow_rise 8) (numbers (flow_number both_directions) (all_raised adds)) =
     all_apart (flow_number both_directions) flow_rise 1 256 flows_of_one (λ k. omega arith) (λ i k le. omega arith) (omega arith) 0 adds all in
@@ -81,10 +82,10 @@ active_flows cpes class adds good all n =
     apart_numbers (flow_number both_directions) 1 256 class (each_standing Class (λ t. Between 1 256 (flow_number both_directions t)) (flow_between Class) class good.stand) good.flows in
     let both = apart_join 1 256 (1 + flow_rise 0) (1 + flow_rise 8) (numbers (flow_number both_directions) class) (numbers (flow_number both_directions) (all_raised adds))
     (omega arith) (omega arith) (omega arith) own add_ons in
-    subst (λ (x : List ℕ). count_of n x ≤ 1) (sym (profile_numbers (flow_number both_directions) (λ v. refl) (λ v. refl) cpes class adds)) (both.once n)
+    subst (λ (x : List ℕ). times_in n x ≤ 1) (sym (profile_numbers (flow_number both_directions) (λ v. refl) (λ v. refl) cpes class adds)) (both.once n)
 
-active_classifiers : (cpes : ℕ) (class : List Tree) (adds : List (ℕ × List Tree)) → Good Class class → AllGood 0 adds → (n : ℕ)
-    → count_of n (numbers classifier_number (active_profile cpes class adds)) ≤ 1
+active_classifiers : (cpes : ℕ) (class : List Tree) (adds : List (ℕ × List Tree)) → GoodSettings Class class → AllGood 0 adds → (n : ℕ)
+    → times_in n (numbers classifier_number (active_profile cpes class adds)) ≤ 1
 active_classifiers cpes class adds good all n =
     let add_ons : Apart (0 + classifier_rise 0) (0 + classifier_rise 8) (numbers classifier_number (all_raised adds)) =
     all_apart classifier_number classifier_rise 0 16 classifiers_of_one (λ k. omega arith) (λ i k le. omega arith) (omega arith) 0 adds all in
@@ -92,7 +93,7 @@ active_classifiers cpes class adds good all n =
     apart_numbers classifier_number 1 128 class (each_standing Class (λ t. Between 1 128 (classifier_number t)) (classifier_between Class) class good.stand) good.classifiers in
     let both = apart_join 1 128 (0 + classifier_rise 0) (0 + classifier_rise 8) (numbers classifier_number class) (numbers classifier_number (all_raised adds))
     (omega arith) (omega arith) (omega arith) own add_ons in
-    subst (λ (x : List ℕ). count_of n x ≤ 1) (sym (profile_numbers classifier_number (λ v. refl) (λ v. refl) cpes class adds)) (both.once n)
+    subst (λ (x : List ℕ). times_in n x ≤ 1) (sym (profile_numbers classifier_number (λ v. refl) (λ v. refl) cpes class adds)) (both.once n)
 
 -- ---- each classifier's flow
 
@@ -137,7 +138,7 @@ not_a_flow : (code : ℕ) (b : Bool) → (contains 22 (cond b 24 25 ∷ []) ≡ 
 not_a_flow code true = (refl, refl, refl)
 not_a_flow code false = (refl, refl, refl)
 
-module _ (k : ℕ) (small : k < 8) (ts : List Tree) (good : Good AddOn ts) where
+module _ (k : ℕ) (small : k < 8) (ts : List Tree) (good : GoodSettings AddOn ts) where
   one_served : (t : Tree) → Stands (Top AddOn) t → IsServed ts t → IsServed (map (raised k) ts) (raised k t)
   one_served t stands served n e =
       let dir : ℕ = direction_of (code_of t) in
@@ -167,7 +168,7 @@ add_ons_served least (a ∷ adds) good =
 none_named : (n : ℕ) (P : Type 0) → None ≡ Some n → P
 none_named n P e = cc
 
-active_served : (cpes : ℕ) (class : List Tree) (adds : List (ℕ × List Tree)) → Good Class class → AllGood 0 adds → AllByRecursion (IsServed (active_profile cpes class adds)) (active_profile cpes class adds)
+active_served : (cpes : ℕ) (class : List Tree) (adds : List (ℕ × List Tree)) → GoodSettings Class class → AllGood 0 adds → AllByRecursion (IsServed (active_profile cpes class adds)) (active_profile cpes class adds)
 active_served cpes class adds good all =
     let whole : List Tree = active_profile cpes class adds in (
       (λ n e. none_named n (contains n (numbers (flow_number (direction_of 3 ∷ [])) (active_profile cpes class adds)) ≡ true) e),
@@ -184,13 +185,13 @@ active_served cpes class adds good all =
 two_differ : (n : ℕ) → cond (eqb 1 n) 1 0 + (cond (eqb 2 n) 1 0 + 0) ≤ 1
 two_differ n = grind (arith, nat_tests)
 
-suspended_flows : (n : ℕ) → count_of n (1 ∷ 2 ∷ []) ≤ 1
+suspended_flows : (n : ℕ) → times_in n (1 ∷ 2 ∷ []) ≤ 1
 suspended_flows n =
-    let e : count_of n (1 ∷ 2 ∷ []) ≡ cond (eqb 1 n) 1 0 + (cond (eqb 2 n) 1 0 + 0) =
+    let e : times_in n (1 ∷ 2 ∷ []) ≡ cond (eqb 1 n) 1 0 + (cond (eqb 2 n) 1 0 + 0) =
     count-cons n 1 (2 ∷ []) ∙ ap (λ (c : ℕ). cond (eqb 1 n) 1 0 + c) (count-cons n 2 []) in
     omega (arith, two_differ n)
 
-pub profile_agrees : (active : Bool) (cpes : ℕ) (class : List Tree) (adds : List (ℕ × List Tree)) → Good Class class → AllGood 0 adds → Agree (profile_of active cpes class adds)
+pub profile_agrees : (active : Bool) (cpes : ℕ) (class : List Tree) (adds : List (ℕ × List Tree)) → GoodSettings Class class → AllGood 0 adds → Agree (profile_of active cpes class adds)
 profile_agrees true cpes class adds good all =
     record { flows = active_flows cpes class adds good all; classifiers = active_classifiers cpes class adds good all; served = active_served cpes class adds good all }
 profile_agrees false cpes class adds good all =

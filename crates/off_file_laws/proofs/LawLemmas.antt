@@ -1,9 +1,8 @@
 -- The laws, from rows as they are read.
 use Rattle.std.proofs.Common.{◌≡◌, ℕ, ◌+◌, ◌-◌, ◌%◌, ◌<◌, ◌≤◌, Bool, true, false, cond, List, [], ◌∷◌, ◌++◌, length, take, refl, sym, ap, subst, ◌∙◌, arith, lit≤, Option, Some, None, Ok}
-use Rattle.std.specs.Prelude.{◌&&◌, not, is_none, nat_le, option_map, option_and_then}
+use Rattle.std.specs.Prelude.{◌&&◌, is_none, nat_le, option_map, option_and_then}
 use Rattle.std.specs.List.{filter_map, cons_option, AllByRecursion}
-use Rattle.std.proofs.lemmas.List.Elements.{filter-append}
-use Rattle.off_base.specs.Tree.{Tree, code_of, spelling, trees_length}
+use Rattle.off_base.specs.Tree.{Tree, spelling, trees_length}
 use Rattle.off_base.specs.declared.addresses.Ip4.{Ip4}
 use Rattle.off_base.specs.declared.macs.Mac.{Mac}
 use Rattle.off_tlv.specs.Grammar.{in_file, AllStand}
@@ -11,10 +10,10 @@ use Rattle.off_tlv.proofs.GrammarLemmas.{one_reading}
 use Rattle.off_tree.specs.declared.tables.Kind.TheVariants as kind
 use Rattle.off_tree.specs.declared.paths.TreeFault.{TreeFault}
 use Rattle.off_tree.specs.Fault.{first_fault}
-use Rattle.off_tree.specs.Good.{Good}
+use Rattle.off_tree.specs.Good.{GoodSettings}
 use Rattle.off_tree.proofs.GoodLemmas.{no_fault_good}
-use Rattle.off_mic.specs.Mic.{is_mic, without_mics, of_code, with_both, Sealed}
-use Rattle.off_mic.proofs.SealLemmas.{end_pushed, sealed_is, sealed_is_one, sealed_verifies}
+use Rattle.off_mic.specs.Mic.{without_mics, of_code, with_both, Sealed}
+use Rattle.off_mic.proofs.SealLemmas.{neither_join, end_pushed, sealed_is, sealed_is_one, sealed_verifies}
 use Rattle.off_defs.specs.declared.keys.Key.TheVariants as key
 use Rattle.off_defs.specs.declared.tables.Row.{Row}
 use Rattle.off_defs.specs.declared.tables.Row.TheVariants as row
@@ -25,11 +24,12 @@ use Rattle.off_defs.specs.declared.tables.Subscriber.{Subscriber}
 use Rattle.off_defs.specs.State.{Tables}
 use Rattle.off_defs.specs.Tables.{row_at}
 use Rattle.off_rules.specs.Rows.{class_is_good, add_on_is_good, possible, as_class, as_add_on, subscriber_in, modem_in, class_in, add_on_in}
-use Rattle.off_file_rules.specs.Profile.{profile_of, add_on_numbers, numbered, add_ons_in, profile_at, profile_in}
+use Rattle.off_defs.specs.Bounds.{add_on_numbers}
+use Rattle.off_file_rules.specs.Profile.{profile_of, numbered_add_on, add_ons_in, profile_at, profile_in}
 use Rattle.off_file_rules.specs.File.{stamps, with_stamps}
-use Rattle.off_file_laws.specs.Laws.{Agree, own_codes, ProfilesAgree, ProfilesSpell, Spells, OwnSettingsOnce, FileIsOne, FileIsThere, FilesAreShort, FilesBoot}
+use Rattle.off_file_laws.specs.Laws.{Agree, own_codes, ProfilesAgree, ProfilesSpell, SpellsProfile, OwnSettingsOnce, FileIsOne, FileIsThere, FilesAreShort, FilesBoot}
 use Rattle.off_file_laws.proofs.AgreeLemmas.{AllGood, profile_agrees}
-use Rattle.off_file_laws.proofs.ShapeLemmas.{profile_spells}
+use Rattle.off_file_laws.proofs.ShapeLemmas.{both_right, profile_spells}
 use Rattle.off_file_laws.proofs.OwnLemmas.{once_each}
 use Rattle.off_file_laws.proofs.SizeLemmas.{profile_short, file_short}
 
@@ -39,11 +39,11 @@ no_fault : (o : Option TreeFault) → is_none o ≡ true → o ≡ None
 no_fault None e = refl
 no_fault (Some fault) e = cc
 
-class_good : (trees : List Tree) → class_is_good trees ≡ true → Good kind.Class trees
+class_good : (trees : List Tree) → class_is_good trees ≡ true → GoodSettings kind.Class trees
 unfolding class_is_good
 class_good trees e = no_fault_good kind.Class trees (no_fault (first_fault kind.Class trees) e)
 
-add_on_good : (trees : List Tree) → add_on_is_good trees ≡ true → Good kind.AddOn trees
+add_on_good : (trees : List Tree) → add_on_is_good trees ≡ true → GoodSettings kind.AddOn trees
 unfolding add_on_is_good
 add_on_good trees e = no_fault_good kind.AddOn trees (no_fault (first_fault kind.AddOn trees) e)
 
@@ -56,10 +56,6 @@ class_row n None c e = cc
 class_row n (Some (row.Class class)) c e = class_by class c (class_is_good class.settings) refl e
 class_row n (Some other) c e = cc
 
-right_by : (a b : Bool) → (a && b) ≡ true → b ≡ true
-right_by true b e = e
-right_by false b e = cc
-
 add_on_by : (settings found : List Tree) (b : Bool) → (b ≡ true → add_on_is_good settings ≡ true) → option_and_then as_add_on (cond b (Some (row.AddOn settings)) None) ≡ Some found
     → add_on_is_good found ≡ true
 add_on_by settings found true good e = let same : settings ≡ found = cc in ap add_on_is_good (sym same) ∙ good refl
@@ -68,7 +64,7 @@ add_on_by settings found false good e = cc
 add_on_row : (n k : ℕ) (o : Option Row) (found : List Tree) → option_and_then as_add_on (possible (key.AddOn n k) o) ≡ Some found → add_on_is_good found ≡ true
 add_on_row n k None found e = cc
 add_on_row n k (Some (row.AddOn settings)) found e =
-    add_on_by settings found (nat_le k 7 && add_on_is_good settings) (λ both. right_by (nat_le k 7) (add_on_is_good settings) both) e
+    add_on_by settings found (nat_le k 7 && add_on_is_good settings) (λ both. both_right (nat_le k 7) (add_on_is_good settings) both) e
 add_on_row n k (Some other) found e = cc
 
 -- ---- a subscriber's add-ons
@@ -81,15 +77,15 @@ abbrev Climbs : ℕ → List ℕ → Type 0
 Climbs least [] = Unit {0}
 Climbs least (k ∷ ks) = (least ≤ k) × (k < 8) × Climbs (k + 1) ks
 
-add_on_first : (least k : ℕ) (o : Option (List Tree)) (rest : List (ℕ × List Tree)) → least ≤ k → k < 8 → ((ts : List Tree) → o ≡ Some ts → Good kind.AddOn ts) → AllGood (k + 1) rest
+add_on_first : (least k : ℕ) (o : Option (List Tree)) (rest : List (ℕ × List Tree)) → least ≤ k → k < 8 → ((ts : List Tree) → o ≡ Some ts → GoodSettings kind.AddOn ts) → AllGood (k + 1) rest
     → AllGood least (cons_option (option_map (λ (settings : List Tree). (k, settings)) o) rest)
 add_on_first least k None rest le small good more = lower_good (k + 1) least rest (omega arith) more
 add_on_first least k (Some ts) rest le small good more = (le, small, good ts refl, more)
 
-numbered_good : (tables : Tables) (subscriber least : ℕ) (ks : List ℕ) → Climbs least ks → AllGood least (filter_map (numbered tables subscriber) ks)
+numbered_good : (tables : Tables) (subscriber least : ℕ) (ks : List ℕ) → Climbs least ks → AllGood least (filter_map (numbered_add_on tables subscriber) ks)
 numbered_good tables subscriber least [] climbs = tt
 numbered_good tables subscriber least (k ∷ ks) climbs =
-    add_on_first least k (add_on_in tables subscriber k) (filter_map (numbered tables subscriber) ks) climbs.0 climbs.1
+    add_on_first least k (add_on_in tables subscriber k) (filter_map (numbered_add_on tables subscriber) ks) climbs.0 climbs.1
     (λ ts e. add_on_good ts (add_on_row subscriber k (row_at tables (key.AddOn subscriber k)) ts e)) (numbered_good tables subscriber (k + 1) ks climbs.2)
 
 pub add_ons_good : (tables : Tables) (subscriber : ℕ) → AllGood 0 (add_ons_in tables subscriber)
@@ -109,7 +105,7 @@ map_some f None b P e more = cc
 map_some f (Some a) b P e more = let same : f a ≡ b = cc in more a refl same
 
 pub by_rows : (tables : Tables) (mac : Mac) (profile : List Tree) (P : List Tree → Type 0)
-    → ((active : Bool) (cpes : ℕ) (class : List Tree) (adds : List (ℕ × List Tree)) → Good kind.Class class → AllGood 0 adds → P (profile_of active cpes class adds))
+    → ((active : Bool) (cpes : ℕ) (class : List Tree) (adds : List (ℕ × List Tree)) → GoodSettings kind.Class class → AllGood 0 adds → P (profile_of active cpes class adds))
     → profile_in tables mac ≡ Some profile → P profile
 unfolding profile_in
 by_rows tables mac profile P each e =
@@ -128,7 +124,7 @@ pub profiles_agree : ProfilesAgree
 profiles_agree tables mac profile e = by_rows tables mac profile Agree profile_agrees e
 
 pub profiles_spell : ProfilesSpell
-profiles_spell tables mac profile e = by_rows tables mac profile Spells profile_spells e
+profiles_spell tables mac profile e = by_rows tables mac profile SpellsProfile profile_spells e
 
 pub own_settings_once : OwnSettingsOnce
 own_settings_once tables mac now ip secret profile e =
@@ -136,10 +132,6 @@ own_settings_once tables mac now ip secret profile e =
     (λ active cpes class adds good all. once_each active cpes class adds now ip secret good all) e
 
 -- ---- files
-
-neither_join : (ts us : List Tree) → without_mics ts ≡ ts → without_mics us ≡ us → without_mics (ts ++ us) ≡ ts ++ us
-neither_join ts us a b =
-    filter-append (λ (t : Tree). not (is_mic (code_of t))) ts us ∙ ap (λ (x : List Tree). x ++ without_mics us) a ∙ ap (λ (x : List Tree). ts ++ x) b
 
 stand_join : (ts us : List Tree) → AllStand in_file ts → AllStand in_file us → AllStand in_file (ts ++ us)
 stand_join [] us a b = b
@@ -184,7 +176,7 @@ pub file_is_there : FileIsThere
 file_is_there tables mac now ip site modem who class s m w c =
     let profile : List Tree = profile_of who.active who.cpes class.settings (add_ons_in tables modem.subscriber) in
     let is : profile_in tables mac ≡ Some (profile_of who.active who.cpes class.settings (add_ons_in tables modem.subscriber)) = profile_there tables mac modem who class m w c in
-    let spells : Spells (profile_of who.active who.cpes class.settings (add_ons_in tables modem.subscriber)) =
+    let spells : SpellsProfile (profile_of who.active who.cpes class.settings (add_ons_in tables modem.subscriber)) =
     profiles_spell tables mac (profile_of who.active who.cpes class.settings (add_ons_in tables modem.subscriber)) is in
     let sealed = seals site.secret (with_stamps (profile_of who.active who.cpes class.settings (add_ons_in tables modem.subscriber)) now ip)
     (neither_join (profile_of who.active who.cpes class.settings (add_ons_in tables modem.subscriber)) (stamps now ip) spells.neither refl) in (
@@ -204,7 +196,7 @@ files_are_short tables mac now ip file is =
 
 pub files_boot : FilesBoot
 files_boot tables mac now ip file is =
-    let spells : Spells is.profile = profiles_spell tables mac is.profile is.profile_is in
+    let spells : SpellsProfile is.profile = profiles_spell tables mac is.profile is.profile_is in
     let both = sealed_verifies file is.site.secret (with_stamps is.profile now ip) (stand_join is.profile (stamps now ip) spells.stands (stamps_stand now ip)) is.built in
     record {
       reads = both.0;

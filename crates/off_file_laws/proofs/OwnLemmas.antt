@@ -2,7 +2,6 @@
 use Rattle.std.proofs.Common.{◌≡◌, ℕ, ◌+◌, Bool, true, false, cond, eqb, List, [], ◌∷◌, ◌++◌, length, map, refl, sym, ap, ◌∙◌, arith, length-append}
 use Rattle.std.specs.Prelude.{not}
 use Rattle.std.specs.List.{AllByRecursion, list_all}
-use Rattle.std.proofs.lemmas.Bool.Decides.{nat_tests}
 use Rattle.std.proofs.lemmas.List.Elements.{filter-append}
 use Rattle.off_base.specs.Tree.{Tree, leaf, code_of}
 use Rattle.off_base.specs.declared.addresses.Ip4.{Ip4}
@@ -13,10 +12,11 @@ use Rattle.off_tree.specs.declared.tables.Kind.TheVariants.{Class, AddOn}
 use Rattle.off_tree.specs.declared.tables.Rule.{Rule}
 use Rattle.off_tree.specs.Table.{table_of}
 use Rattle.off_tree.specs.Fault.{contains}
-use Rattle.off_tree.specs.Good.{Good}
+use Rattle.off_tree.specs.Good.{GoodSettings}
 use Rattle.off_file_rules.specs.Profile.{raised, all_raised, access, devices, active_profile, profile_of}
 use Rattle.off_file_rules.specs.File.{stamps, with_stamps}
 use Rattle.off_file_laws.specs.Laws.{own_codes}
+use Rattle.off_file_laws.proofs.CountLemmas.{test_same}
 use Rattle.off_file_laws.proofs.AgreeLemmas.{AllGood, all_join, each_standing}
 use Rattle.off_file_laws.proofs.RaiseLemmas.{code_raised}
 use Rattle.off_file_laws.proofs.ShapeLemmas.{never_stands}
@@ -32,7 +32,7 @@ unfolding table_of
 tables_other Class = refl
 tables_other AddOn = refl
 
-others : (kind : Kind) (ts : List Tree) → Good kind ts → AllByRecursion Other ts
+others : (kind : Kind) (ts : List Tree) → GoodSettings kind ts → AllByRecursion Other ts
 others kind ts good = each_standing kind Other (never_stands is_own tables_other kind) ts good.stand
 
 others_raised : (k : ℕ) (ts : List Tree) → AllByRecursion Other ts → AllByRecursion Other (map (raised k) ts)
@@ -43,9 +43,6 @@ add_ons_other : (least : ℕ) (adds : List (ℕ × List Tree)) → AllGood least
 add_ons_other least [] good = tt
 add_ons_other least (a ∷ adds) good =
     all_join Other (map (raised a.0) a.1) (all_raised adds) (others_raised a.0 a.1 (others AddOn a.1 good.2)) (add_ons_other (a.0 + 1) adds good.3)
-
-test_same : (n m : ℕ) → eqb n m ≡ true → n ≡ m
-test_same n m e = grind (arith, nat_tests)
 
 skipped : (code : ℕ) (t : Tree) (ts : List Tree) (b : Bool) → eqb (code_of t) code ≡ b → is_own code ≡ true → Other t → of_code code ts ≡ [] → cond b (t ∷ of_code code ts) (of_code code ts) ≡ []
 skipped code t ts true e own other none =
@@ -63,7 +60,7 @@ times code ts = length (of_code code ts)
 times_join : (code : ℕ) (ts us : List Tree) → times code (ts ++ us) ≡ times code ts + times code us
 times_join code ts us = ap length (filter-append (λ (t : Tree). eqb (code_of t) code) ts us) ∙ length-append (of_code code ts) (of_code code us)
 
-times_active : (code cpes : ℕ) (class : List Tree) (adds : List (ℕ × List Tree)) → is_own code ≡ true → Good Class class → AllGood 0 adds
+times_active : (code cpes : ℕ) (class : List Tree) (adds : List (ℕ × List Tree)) → is_own code ≡ true → GoodSettings Class class → AllGood 0 adds
     → times code (active_profile cpes class adds) ≡ times code (access 1 ∷ []) + times code (devices cpes ∷ [])
 times_active code cpes class adds own good all =
     let none : times code class ≡ 0 = ap length (none_of code class own (others Class class good)) in
@@ -91,7 +88,7 @@ times_whole code now ip secret profile =
 abbrev Once : ℕ → Ip4 → List ℕ → List Tree → Type 0
 Once now ip secret profile = AllByRecursion (λ code. length (of_code code (with_both secret (with_stamps profile now ip))) ≡ 1) own_codes
 
-pub once_each : (active : Bool) (cpes : ℕ) (class : List Tree) (adds : List (ℕ × List Tree)) (now : ℕ) (ip : Ip4) (secret : List ℕ) → Good Class class → AllGood 0 adds
+pub once_each : (active : Bool) (cpes : ℕ) (class : List Tree) (adds : List (ℕ × List Tree)) (now : ℕ) (ip : Ip4) (secret : List ℕ) → GoodSettings Class class → AllGood 0 adds
     → Once now ip secret (profile_of active cpes class adds)
 once_each true cpes class adds now ip secret good all =
     let p : List Tree = active_profile cpes class adds in

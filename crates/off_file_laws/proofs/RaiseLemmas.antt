@@ -11,23 +11,21 @@ use Rattle.off_tree.specs.declared.tables.Kind.TheVariants.{Class, AddOn}
 use Rattle.off_tree.specs.declared.tables.Rule.{Rule}
 use Rattle.off_tree.specs.declared.tables.Form.TheVariants.{Leaf}
 use Rattle.off_tree.specs.declared.tables.Range.TheVariants.{Number}
-use Rattle.off_tree.specs.Table.{table_of, rule_of, line_of, or_other, inside_of}
-use Rattle.off_tree.specs.Fault.{or_else, contains, value_in, pair, single, flow_number, both_directions, is_classifier, classifier_number, named_flow}
+use Rattle.off_tree.specs.Table.{table_of, rule_of, rule_with, or_other, level_inside}
+use Rattle.std.specs.Option.{option_or}
+use Rattle.off_tree.specs.Fault.{contains, value_in, pair, single, flow_number, both_directions, is_classifier, classifier_number, named_flow}
 use Rattle.off_tree.specs.Good.{LeafFits, LeafStands, IsGroup, GroupStands, Stands, EachStands}
 use Rattle.off_file_rules.specs.Profile.{raised_pair, raised_single, flow_rise, classifier_rise, raised_value, raised_parts, raised}
-use Rattle.off_file_laws.proofs.CountLemmas.{Between}
-
-test_same : (n m : ℕ) → eqb n m ≡ true → n ≡ m
-test_same n m e = grind (arith, nat_tests)
+use Rattle.off_file_laws.proofs.CountLemmas.{Between, test_same}
 
 -- ---- a group's code is one of its table
 
-group_line : (code : ℕ) (rule : Rule) (rules : List Rule) (P : ℕ → Type 0) (b : Bool) → eqb rule.code code ≡ b → GroupStands (or_other (cond b (Some rule) (line_of code rules)) None)
-    → (IsGroup rule.form → P rule.code) → (GroupStands (or_other (line_of code rules) None) → P code) → P code
+group_line : (code : ℕ) (rule : Rule) (rules : List Rule) (P : ℕ → Type 0) (b : Bool) → eqb rule.code code ≡ b → GroupStands (or_other (cond b (Some rule) (rule_with code rules)) None)
+    → (IsGroup rule.form → P rule.code) → (GroupStands (or_other (rule_with code rules) None) → P code) → P code
 group_line code rule rules P true e g here more = subst P (test_same rule.code code e) (here g)
 group_line code rule rules P false e g here more = more g
 
-pub group_code : (code : ℕ) (rules : List Rule) (P : ℕ → Type 0) → GroupStands (or_other (line_of code rules) None) → AllByRecursion (λ rule. IsGroup rule.form → P rule.code) rules → P code
+pub group_code : (code : ℕ) (rules : List Rule) (P : ℕ → Type 0) → GroupStands (or_other (rule_with code rules) None) → AllByRecursion (λ rule. IsGroup rule.form → P rule.code) rules → P code
 group_code code [] P g all = absurd g
 group_code code (rule ∷ rules) P g all = group_line code rule rules P (eqb rule.code code) refl g all.0 (λ rest. group_code code rules P rest all.1)
 
@@ -43,7 +41,7 @@ add_on_group code P g a b c d e = group_code code (table_of (Top AddOn)) P g ((�
 -- ---- the value of a part
 
 found_here : (level : Level) (c p : ℕ) (v value : List ℕ) (rest : Option (List ℕ)) (b : Bool) → eqb p c ≡ b → LeafStands (rule_of level p) v
-    → (rest ≡ Some value → LeafStands (rule_of level c) value) → or_else (cond b (Some v) None) rest ≡ Some value → LeafStands (rule_of level c) value
+    → (rest ≡ Some value → LeafStands (rule_of level c) value) → option_or (cond b (Some v) None) rest ≡ Some value → LeafStands (rule_of level c) value
 found_here level c p v value rest true is stands more e =
     let same : v ≡ value = cc in
     subst (λ (x : ℕ). LeafStands (rule_of level x) value) (test_same p c is) (subst (λ (x : List ℕ). LeafStands (rule_of level p) x) same stands)
@@ -57,7 +55,7 @@ stands_value level c (followed (leaf p v) parts) value stands e =
 stands_value level c (followed (group p q) parts) value stands e = stands_value level c parts value stands.1 e
 
 raised_here : (k code c p : ℕ) (v : List ℕ) (rest raised_rest : Option (List ℕ)) (b : Bool) → eqb p c ≡ b → raised_rest ≡ option_map (raised_value k code c) rest
-    → or_else (cond b (Some (raised_value k code p v)) None) raised_rest ≡ option_map (raised_value k code c) (or_else (cond b (Some v) None) rest)
+    → option_or (cond b (Some (raised_value k code p v)) None) raised_rest ≡ option_map (raised_value k code c) (option_or (cond b (Some v) None) rest)
 raised_here k code c p v rest raised_rest true is e = ap (λ (x : ℕ). Some (raised_value k code x v)) (test_same p c is)
 raised_here k code c p v rest raised_rest false is e = e
 
@@ -186,7 +184,7 @@ no_test low high false x e = tt
 pub flow_between : (kind : Kind) (t : Tree) → Stands (Top kind) t → Between 1 256 (flow_number both_directions t)
 flow_between kind (leaf code value) stands = by_test 1 256 (contains code both_directions) None tt
 flow_between kind (group code parts) stands =
-    group_of_kind kind code (λ c. EachStands (inside_of (Top kind) c) parts → Between 1 256 (flow_number both_directions (group c parts))) stands.0
+    group_of_kind kind code (λ c. EachStands (level_inside (Top kind) c) parts → Between 1 256 (flow_number both_directions (group c parts))) stands.0
     (λ s. tt) (λ s. tt) (λ s. flow_part UpstreamFlow 1 parts upstream_rule s) (λ s. flow_part DownstreamFlow 1 parts downstream_rule s) (λ s. tt) stands.1
 
 pub classifier_between : (kind : Kind) (t : Tree) → Stands (Top kind) t → Between (least_of kind) (most_of kind + 1) (classifier_number t)
@@ -195,7 +193,7 @@ classifier_between kind (group code parts) stands =
     let part : EachStands (Classifier kind) parts → Between (least_of kind) (most_of kind + 1) (single (value_in 1 (row_items parts))) =
     λ s. between_by single refl (LeafFits (Leaf 1 1 (Number (least_of kind) (most_of kind)))) (least_of kind) (most_of kind + 1) (value_in 1 (row_items parts))
     (single_between (least_of kind) (most_of kind)) (λ v e. own_rule kind v (stands_value (Classifier kind) 1 parts v s e)) in
-    group_of_kind kind code (λ c. EachStands (inside_of (Top kind) c) parts → Between (least_of kind) (most_of kind + 1) (classifier_number (group c parts))) stands.0
+    group_of_kind kind code (λ c. EachStands (level_inside (Top kind) c) parts → Between (least_of kind) (most_of kind + 1) (classifier_number (group c parts))) stands.0
     part part (λ s. tt) (λ s. tt) (λ s. tt) stands.1
 
 -- ---- raised
@@ -214,7 +212,7 @@ module _ (k : ℕ) (small : k < 8) where
   flow_raised dirs p q r (leaf code value) stands = risen_test (flow_rise k) (contains code dirs) None None refl
   flow_raised dirs p q r (group code parts) stands =
       add_on_group code
-      (λ c. EachStands (inside_of (Top AddOn) c) parts → flow_number dirs (raised k (group c parts)) ≡ option_map (λ (n : ℕ). n + flow_rise k) (flow_number dirs (group c parts))) stands.0
+      (λ c. EachStands (level_inside (Top AddOn) c) parts → flow_number dirs (raised k (group c parts)) ≡ option_map (λ (n : ℕ). n + flow_rise k) (flow_number dirs (group c parts))) stands.0
       (λ s. risen_none (flow_rise k) (contains 22 dirs) (pair (value_in 1 (row_items (raised_parts k 22 parts)))) (pair (value_in 1 (row_items parts))) p)
       (λ s. risen_none (flow_rise k) (contains 23 dirs) (pair (value_in 1 (row_items (raised_parts k 23 parts)))) (pair (value_in 1 (row_items parts))) q)
       (λ s. risen_test (flow_rise k) (contains 24 dirs) (pair (value_in 1 (row_items (raised_parts k 24 parts)))) (pair (value_in 1 (row_items parts)))
@@ -227,7 +225,7 @@ module _ (k : ℕ) (small : k < 8) where
   pub named_raised : (t : Tree) → Stands (Top AddOn) t → named_flow (raised k t) ≡ option_map (λ (n : ℕ). n + flow_rise k) (named_flow t)
   named_raised (leaf code value) stands = risen_test (flow_rise k) (is_classifier code) None None refl
   named_raised (group code parts) stands =
-      add_on_group code (λ c. EachStands (inside_of (Top AddOn) c) parts → named_flow (raised k (group c parts)) ≡ option_map (λ (n : ℕ). n + flow_rise k) (named_flow (group c parts))) stands.0
+      add_on_group code (λ c. EachStands (level_inside (Top AddOn) c) parts → named_flow (raised k (group c parts)) ≡ option_map (λ (n : ℕ). n + flow_rise k) (named_flow (group c parts))) stands.0
       (λ s. flow_part_raised (Classifier AddOn) k 22 3 parts small (λ v. refl) (named_rule AddOn) s)
       (λ s. flow_part_raised (Classifier AddOn) k 23 3 parts small (λ v. refl) (named_rule AddOn) s) (λ s. refl) (λ s. refl) (λ s. refl) stands.1
 
@@ -235,7 +233,7 @@ module _ (k : ℕ) (small : k < 8) where
   classifier_raised (leaf code value) stands = risen_test (classifier_rise k) (is_classifier code) None None refl
   classifier_raised (group code parts) stands =
       add_on_group code
-      (λ c. EachStands (inside_of (Top AddOn) c) parts → classifier_number (raised k (group c parts)) ≡ option_map (λ (n : ℕ). n + classifier_rise k) (classifier_number (group c parts))) stands.0
+      (λ c. EachStands (level_inside (Top AddOn) c) parts → classifier_number (raised k (group c parts)) ≡ option_map (λ (n : ℕ). n + classifier_rise k) (classifier_number (group c parts))) stands.0
       (λ s. single_part_raised (Classifier AddOn) k 22 parts small (λ v. refl) (own_rule AddOn) s)
       (λ s. single_part_raised (Classifier AddOn) k 23 parts small (λ v. refl) (own_rule AddOn) s) (λ s. refl) (λ s. refl) (λ s. refl) stands.1
 

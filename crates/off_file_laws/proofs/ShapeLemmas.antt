@@ -2,7 +2,6 @@
 use Rattle.std.proofs.Common.{◌≡◌, ℕ, ◌+◌, Bool, true, false, cond, eqb, List, [], ◌∷◌, length, map, refl, sym, ap, subst, ◌∙◌, arith, lit≤, Option, Some, None}
 use Rattle.std.specs.Prelude.{◌&&◌, ◌||◌, not}
 use Rattle.std.specs.List.{AllByRecursion, list_all}
-use Rattle.std.proofs.lemmas.Bool.Decides.{nat_tests}
 use Rattle.off_base.specs.Tree.{Tree, Row, leaf, group, no_more, followed, code_of, row_of, row_length, Fits, RowFits, AllFit}
 use Rattle.off_base.proofs.TreeLemmas.{length-spelled_row}
 use Rattle.off_tlv.specs.Grammar as grammar
@@ -14,14 +13,12 @@ use Rattle.off_tree.specs.declared.tables.Kind.TheVariants.{Class, AddOn}
 use Rattle.off_tree.specs.declared.tables.Rule.{Rule}
 use Rattle.off_tree.specs.declared.tables.Form.{Form}
 use Rattle.off_tree.specs.declared.tables.Form.TheVariants.{Leaf, Group}
-use Rattle.off_tree.specs.Table.{table_of, rule_of, line_of, or_other, others, inside_of}
-use Rattle.off_tree.specs.Good.{LeafFits, LeafStands, IsGroup, GroupStands, Stands, EachStands, IsShort, EachIsShort, Good}
+use Rattle.off_tree.specs.Table.{table_of, rule_of, rule_with, or_other, others, level_inside}
+use Rattle.off_tree.specs.Good.{LeafFits, LeafStands, IsGroup, GroupStands, Stands, EachStands, IsShort, EachIsShort, GoodSettings}
 use Rattle.off_file_rules.specs.Profile.{has_flow, has_classifier, flow_rise, classifier_rise, raised_pair, raised_single, raised_value, raised_parts, raised, all_raised, access, devices, plain_flow, profile_of}
-use Rattle.off_file_laws.specs.Laws.{Spells}
+use Rattle.off_file_laws.specs.Laws.{SpellsProfile}
+use Rattle.off_file_laws.proofs.CountLemmas.{test_same}
 use Rattle.off_file_laws.proofs.AgreeLemmas.{AllGood, all_join}
-
-test_same : (n m : ℕ) → eqb n m ≡ true → n ≡ m
-test_same n m e = grind (arith, nat_tests)
 
 -- ---- the lists of settings that a profile has, by the tables and by the grammar
 
@@ -79,19 +76,19 @@ both_left : (a b : Bool) → (a && b) ≡ true → a ≡ true
 both_left true b e = refl
 both_left false b e = e
 
-both_right : (a b : Bool) → (a && b) ≡ true → b ≡ true
+pub both_right : (a b : Bool) → (a && b) ≡ true → b ≡ true
 both_right true b e = e
 both_right false b e = cc
 
 -- what all lines pass, the line of a code does
 line_here : (test : Rule → Bool) (code : ℕ) (line rule : Rule) (lines : List Rule) (b : Bool) → eqb line.code code ≡ b → test line ≡ true
-    → (line_of code lines ≡ Some rule → (test rule ≡ true) × (rule.code ≡ code)) → cond b (Some line) (line_of code lines) ≡ Some rule → (test rule ≡ true) × (rule.code ≡ code)
+    → (rule_with code lines ≡ Some rule → (test rule ≡ true) × (rule.code ≡ code)) → cond b (Some line) (rule_with code lines) ≡ Some rule → (test rule ≡ true) × (rule.code ≡ code)
 line_here test code line rule lines true is passes more e =
     let same : line ≡ rule = cc in
     (subst (λ (r : Rule). test r ≡ true) same passes, subst (λ (r : Rule). r.code ≡ code) same (test_same line.code code is))
 line_here test code line rule lines false is passes more e = more e
 
-line_passes : (test : Rule → Bool) (code : ℕ) (rule : Rule) (lines : List Rule) → list_all test lines ≡ true → line_of code lines ≡ Some rule → (test rule ≡ true) × (rule.code ≡ code)
+line_passes : (test : Rule → Bool) (code : ℕ) (rule : Rule) (lines : List Rule) → list_all test lines ≡ true → rule_with code lines ≡ Some rule → (test rule ≡ true) × (rule.code ≡ code)
 line_passes test code rule [] all e = cc
 line_passes test code rule (line ∷ lines) all e =
     line_here test code line rule lines (eqb line.code code) refl (both_left (test line) (list_all test lines) all)
@@ -101,7 +98,7 @@ line_passes test code rule (line ∷ lines) all e =
 abbrev RuleFits : grammar.Level → ℕ → Rule → Type 0
 RuleFits level code rule = (grammar.is_code level code ≡ true) × (form_fits (grammar.is_group level code) rule.form ≡ true)
 
-line_right : (s : Spot) (code : ℕ) (rule : Rule) → line_of code (table_of (place_of s)) ≡ Some rule → RuleFits (level_of s) code rule
+line_right : (s : Spot) (code : ℕ) (rule : Rule) → rule_with code (table_of (place_of s)) ≡ Some rule → RuleFits (level_of s) code rule
 line_right s code rule e =
     let p = line_passes (line_fits (level_of s)) code rule (table_of (place_of s)) (tables_fit s) e in (
       subst (λ (c : ℕ). grammar.is_code (level_of s) c ≡ true) p.1 (both_left (grammar.is_code (level_of s) rule.code) (form_fits (grammar.is_group (level_of s) rule.code) rule.form) p.0),
@@ -136,7 +133,7 @@ rule_by (Some r) other rule P e here more = here e
 
 rule_right : (s : Spot) (code : ℕ) (rule : Rule) → rule_of (place_of s) code ≡ Some rule → RuleFits (level_of s) code rule
 rule_right s code rule e =
-    rule_by (line_of code (table_of (place_of s))) (others (place_of s)) rule (RuleFits (level_of s) code rule) e (line_right s code rule) (other_right s code rule)
+    rule_by (rule_with code (table_of (place_of s))) (others (place_of s)) rule (RuleFits (level_of s) code rule) e (line_right s code rule) (other_right s code rule)
 
 -- ---- the shape
 
@@ -181,9 +178,9 @@ file_group code P e a b c d f =
 
 -- the parts of a group, where parts are as the grammar has them wherever they stand
 inside : (s : Spot) (code : ℕ) (parts : Row) → ((q : Spot) → EachStands (place_of q) parts → grammar.RowShaped (level_of q) parts) → grammar.is_group (level_of s) code ≡ true
-    → EachStands (inside_of (place_of s) code) parts → grammar.RowShaped (grammar.inside_of (level_of s) code) parts
+    → EachStands (level_inside (place_of s) code) parts → grammar.RowShaped (grammar.inside_of (level_of s) code) parts
 inside (whole kind) code parts each e stands =
-    file_group code (λ c. EachStands (inside_of (Top kind) c) parts → grammar.RowShaped (grammar.in_group c) parts) e (each (upstream_rules kind)) (each (downstream_rules kind)) (each upstream)
+    file_group code (λ c. EachStands (level_inside (Top kind) c) parts → grammar.RowShaped (grammar.in_group c) parts) e (each (upstream_rules kind)) (each (downstream_rules kind)) (each upstream)
     (each downstream) (each extension) stands
 inside (upstream_rules kind) code parts each e stands = each addresses stands
 inside (downstream_rules kind) code parts each e stands = each addresses stands
@@ -274,7 +271,7 @@ group_some (Some rule) stands = (rule, refl)
 module _ (is : ℕ → Bool) (none : (kind : Kind) → list_all (λ (rule : Rule). not (is rule.code)) (table_of (Top kind)) ≡ true) where
   other_code : (kind : Kind) (code : ℕ) (rule : Rule) → rule_of (Top kind) code ≡ Some rule → is code ≡ false
   other_code kind code rule e =
-      rule_by (line_of code (table_of (Top kind))) None rule (is code ≡ false) e
+      rule_by (rule_with code (table_of (Top kind))) None rule (is code ≡ false) e
       (λ found. let p = line_passes (λ (r : Rule). not (is r.code)) code rule (table_of (Top kind)) (none kind) found in
       subst (λ (c : ℕ). is c ≡ false) p.1 (not_true (is rule.code) p.0))
       (λ nowhere. no_rule rule (is code ≡ false) nowhere)
@@ -334,7 +331,7 @@ upstream_fine = (record { shaped = (refl, refl, ((refl, refl), ((refl, refl), tt
 downstream_fine : Fine (plain_flow 25 2)
 downstream_fine = (record { shaped = (refl, refl, ((refl, refl), ((refl, refl), tt))); fits = (lit≤ tt, (lit≤ tt, (lit≤ tt, tt))) }, refl)
 
-profile_fine : (active : Bool) (cpes : ℕ) (class : List Tree) (adds : List (ℕ × List Tree)) → Good Class class → AllGood 0 adds → AllByRecursion Fine (profile_of active cpes class adds)
+profile_fine : (active : Bool) (cpes : ℕ) (class : List Tree) (adds : List (ℕ × List Tree)) → GoodSettings Class class → AllGood 0 adds → AllByRecursion Fine (profile_of active cpes class adds)
 profile_fine true cpes class adds good all =
     (access_fine 1, all_join Fine class (devices cpes ∷ all_raised adds) (all_fine Class class good.stand good.short) (devices_fine cpes, add_ons_fine 0 adds all))
 profile_fine false cpes class adds good all = (access_fine 0, (upstream_fine, (downstream_fine, (devices_fine cpes, tt))))
@@ -351,7 +348,7 @@ neither : (ts : List Tree) → AllByRecursion Fine ts → without_mics ts ≡ ts
 neither [] all = refl
 neither (t ∷ ts) all = ap (λ (b : Bool). cond (not b) (t ∷ without_mics ts) (without_mics ts)) all.0.1 ∙ ap (λ (x : List Tree). t ∷ x) (neither ts all.1)
 
-pub profile_spells : (active : Bool) (cpes : ℕ) (class : List Tree) (adds : List (ℕ × List Tree)) → Good Class class → AllGood 0 adds → Spells (profile_of active cpes class adds)
+pub profile_spells : (active : Bool) (cpes : ℕ) (class : List Tree) (adds : List (ℕ × List Tree)) → GoodSettings Class class → AllGood 0 adds → SpellsProfile (profile_of active cpes class adds)
 profile_spells active cpes class adds good all =
     let f = profile_fine active cpes class adds good all in
     record {

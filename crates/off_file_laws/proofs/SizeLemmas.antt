@@ -1,15 +1,14 @@
 -- How long a file is.
 use Rattle.std.proofs.Common.{◌≡◌, ℕ, suc, ◌+◌, ◌*◌, ◌%◌, ◌<◌, ◌≤◌, Bool, true, false, List, [], ◌∷◌, ◌++◌, length, map, replicate, refl, ap, ◌∙◌, arith, length-append}
 use Rattle.std.proofs.lemmas.List.{length-replicate}
-use Rattle.md5.specs.Md5.{md5}
 use Rattle.md5.proofs.StandardFacts.{length-md5}
 use Rattle.off_base.specs.Tree.{Tree, leaf, group, spelling, tree_length, trees_length}
 use Rattle.off_base.specs.declared.addresses.Ip4.{Ip4}
 use Rattle.off_base.proofs.TreeLemmas.{length-spelling}
-use Rattle.off_mic.specs.Hmac.{hmac, inner_pad, outer_pad}
+use Rattle.off_mic.proofs.SealLemmas.{length-hmac}
 use Rattle.off_mic.specs.Mic.{without_mics, cm_mic_of, cmts_mic_of, digest_text, with_cm, with_both, Sealed}
 use Rattle.off_tree.specs.declared.tables.Kind.TheVariants.{Class}
-use Rattle.off_tree.specs.Good.{Good}
+use Rattle.off_tree.specs.Good.{GoodSettings}
 use Rattle.off_file_rules.specs.Profile.{raised, all_raised, devices, profile_of}
 use Rattle.off_file_rules.specs.File.{stamps, with_stamps}
 use Rattle.off_file_laws.proofs.AgreeLemmas.{AllGood}
@@ -36,15 +35,11 @@ add_ons_short least (a ∷ adds) room good =
     let rest : trees_length (all_raised adds) + 512 * (a.0 + 1) ≤ 4096 = add_ons_short (a.0 + 1) adds (omega arith) good.3 in
     omega (arith, length_join (map (raised a.0) a.1) (all_raised adds), length_raised a.0 a.1)
 
-pub profile_short : (active : Bool) (cpes : ℕ) (class : List Tree) (adds : List (ℕ × List Tree)) → Good Class class → AllGood 0 adds → trees_length (profile_of active cpes class adds) ≤ 6150
+pub profile_short : (active : Bool) (cpes : ℕ) (class : List Tree) (adds : List (ℕ × List Tree)) → GoodSettings Class class → AllGood 0 adds → trees_length (profile_of active cpes class adds) ≤ 6150
 profile_short true cpes class adds good all =
     let own : trees_length class ≤ 2048 = good.whole in
     omega (arith, length_join class (devices cpes ∷ all_raised adds), add_ons_short 0 adds (omega arith) all)
 profile_short false cpes class adds good all = omega arith
-
-length_hmac : (key message : List ℕ) → length (hmac key message) ≡ 16
-unfolding hmac
-length_hmac key message = length-md5 (outer_pad key ++ md5 (inner_pad key ++ message))
 
 length_both : (secret : List ℕ) (ts : List Tree) → trees_length (with_both secret ts) ≡ trees_length ts + 36
 length_both secret ts =
@@ -52,7 +47,7 @@ length_both secret ts =
       arith,
       length_join (with_cm ts) (leaf 7 (cmts_mic_of secret (with_cm ts)) ∷ []),
       length_join ts (leaf 6 (cm_mic_of ts) ∷ []),
-      length_hmac secret (digest_text (with_cm ts)),
+      length-hmac secret (digest_text (with_cm ts)),
       length-md5 (spelling (without_mics ts)),
     )
 

@@ -6,8 +6,8 @@ use Rattle.off_base.specs.declared.addresses.Ip4.{Ip4}
 use Rattle.off_base.specs.declared.macs.Mac.{Mac}
 use Rattle.off_tlv.specs.Grammar.{in_file, AllStand, FileOf}
 use Rattle.off_tree.specs.Fault.{numbers, flow_number, both_directions, classifier_number}
-use Rattle.off_tree.specs.Good.{count_of, IsServed}
-use Rattle.off_mic.specs.Mic.{without_mics, of_code, with_both, Verifies}
+use Rattle.off_tree.specs.Good.{times_in, IsServed}
+use Rattle.off_mic.specs.Mic.{without_mics, of_code, with_both, VerifiesFile}
 use Rattle.off_defs.specs.State.{Tables}
 use Rattle.off_defs.specs.declared.tables.Site.{Site}
 use Rattle.off_defs.specs.declared.tables.Subscriber.{Subscriber}
@@ -20,8 +20,8 @@ use Rattle.off_file_rules.specs.File.{with_stamps, IsFile}
 -- The references of flows differ over both directions, and so do those of classifiers; the flow that a classifier names is there, in the
 -- classifier's direction.
 pub record Agree (trees : List Tree) : Type 0 where
-  pub flows : (n : ℕ) → count_of n (numbers (flow_number both_directions) trees) ≤ 1
-  pub classifiers : (n : ℕ) → count_of n (numbers classifier_number trees) ≤ 1
+  pub flows : (n : ℕ) → times_in n (numbers (flow_number both_directions) trees) ≤ 1
+  pub classifiers : (n : ℕ) → times_in n (numbers classifier_number trees) ≤ 1
   pub served : AllByRecursion (IsServed trees) trees
 
 -- a profile's references agree, whatever add-ons are in it
@@ -29,13 +29,13 @@ abbrev pub ProfilesAgree : Type 0
 ProfilesAgree = (tables : Tables) (mac : Mac) (profile : List Tree) → profile_in tables mac ≡ Some profile → Agree profile
 
 -- A profile is as the grammar of files has settings, each length fits its byte, and it has neither of the two integrity checks
-pub record Spells (profile : List Tree) : Type 0 where
+pub record SpellsProfile (profile : List Tree) : Type 0 where
   pub stands : AllStand in_file profile
   pub fits : AllFit profile
   pub neither : without_mics profile ≡ profile
 
 abbrev pub ProfilesSpell : Type 0
-ProfilesSpell = (tables : Tables) (mac : Mac) (profile : List Tree) → profile_in tables mac ≡ Some profile → Spells profile
+ProfilesSpell = (tables : Tables) (mac : Mac) (profile : List Tree) → profile_in tables mac ≡ Some profile → SpellsProfile profile
 
 -- the settings that the office writes itself: access, both checks, devices, time and address
 abbrev pub own_codes : List ℕ
@@ -64,7 +64,7 @@ FilesAreShort = (tables : Tables) (mac : Mac) (now : ℕ) (ip : Ip4) (file : Lis
 pub record Boots (secret file : List ℕ) (trees : List Tree) : Type 0 where
   pub reads : FileOf file (with_both secret trees)
   pub alone : (other : List Tree) → FileOf file other → other ≡ with_both secret trees
-  pub verifies : Verifies file secret
+  pub verifies : VerifiesFile file secret
 
 abbrev pub FilesBoot : Type 0
 FilesBoot = (tables : Tables) (mac : Mac) (now : ℕ) (ip : Ip4) (file : List ℕ) (is : IsFile tables mac now ip file)

@@ -4,6 +4,8 @@ use Rattle.std.specs.Prelude.{ℕ, ◌+◌, ◌*◌, ◌/◌, ◌%◌, ◌==◌,
 use Rattle.std.specs.List.{flat_map, filter_map}
 use Rattle.off_base.specs.Tree.{Tree, Row, leaf, group, no_more, followed}
 use Rattle.off_base.specs.declared.macs.Mac.{Mac}
+use Rattle.off_tree.specs.Fault.{is_classifier}
+use Rattle.off_defs.specs.Bounds.{add_on_numbers}
 use Rattle.off_defs.specs.State.{Tables}
 use Rattle.off_rules.specs.Rows.{subscriber_in, class_in, modem_in, add_on_in}
 
@@ -32,9 +34,6 @@ classifier_rise k = 128 + 16 * k
 -- part 1 is the classifier's reference and part 3 the one of its flow
 abbrev pub is_flow : ℕ → Bool
 is_flow code = code == 24 || code == 25
-
-abbrev pub is_classifier : ℕ → Bool
-is_classifier code = code == 22 || code == 23
 
 abbrev pub has_flow : ℕ → ℕ → Bool
 has_flow code part = (is_flow code && part == 1) || (is_classifier code && part == 3)
@@ -88,14 +87,11 @@ profile_of true cpes class add_ons = active_profile cpes class add_ons
 profile_of false cpes class add_ons = suspended_profile cpes
 
 -- a subscriber's add-ons in the tables, in ascending number
-abbrev pub add_on_numbers : List ℕ
-add_on_numbers = 0 ∷ 1 ∷ 2 ∷ 3 ∷ 4 ∷ 5 ∷ 6 ∷ 7 ∷ []
-
-abbrev pub numbered : Tables → ℕ → ℕ → Option (ℕ × List Tree)
-numbered tables subscriber k = option_map (λ settings. (k, settings)) (add_on_in tables subscriber k)
+abbrev pub numbered_add_on : Tables → ℕ → ℕ → Option (ℕ × List Tree)
+numbered_add_on tables subscriber k = option_map (λ settings. (k, settings)) (add_on_in tables subscriber k)
 
 abbrev pub add_ons_in : Tables → ℕ → List (ℕ × List Tree)
-add_ons_in tables subscriber = filter_map (numbered tables subscriber) add_on_numbers
+add_ons_in tables subscriber = filter_map (numbered_add_on tables subscriber) add_on_numbers
 
 -- the profile by a subscriber and a class in the tables, where both are there
 abbrev pub profile_at : Tables → ℕ → ℕ → Option (List Tree)

@@ -3,8 +3,8 @@ use Rattle.std.proofs.Common.{◌≡◌, ℕ, zero, suc, ◌+◌, ◌-◌, ◌^�
 use Rattle.off_keepmem.specs.declared.tree.Node.{Node}
 use Rattle.off_keepmem.specs.declared.tree.Node.TheVariants.{Leaf, Fork}
 use Rattle.off_keepmem.specs.declared.tree.Branch.{Branch}
-use Rattle.off_keepmem.specs.Heights.{TreeHeld, bare, least_entries, most_entries, Fits}
-use Rattle.off_keepmem.specs.Nodes.{branch_entries, branch_depth, branch_held, held_in, SidesEven, IsBalanced}
+use Rattle.off_keepmem.specs.Heights.{TreeHeld, bare, least_entries, most_entries, FitsDepth}
+use Rattle.off_keepmem.specs.Nodes.{branch_entries, branch_depth, branch_held, node_held, SidesEven, IsBalanced}
 
 least_after : (d : ℕ) → least_entries (suc (suc d)) ≡ least_entries d + least_entries (suc d) + 1
 unfolding least_entries
@@ -81,16 +81,16 @@ most_over a b =
       | inr (inr l) ↦ omega (arith, most_under b a (max a b + 1) (omega arith) (omega arith))
     ]
 
-pub fits_over : (b : Branch) → SidesEven b → Fits (branch_held b)
+pub fits_over : (b : Branch) → SidesEven b → FitsDepth (branch_held b)
 fits_over b even = record {
   least = omega (arith, length-append b.left.entries ((b.key, b.row) ∷ b.right.entries), even.left.least, even.right.least, even.near.0, even.near.1, least_over b.left.depth b.right.depth even.near.0 even.near.1);
   most = omega (arith, length-append b.left.entries ((b.key, b.row) ∷ b.right.entries), even.left.most, even.right.most, most_over b.left.depth b.right.depth);
 }
 
-pub fits_bare : Fits bare
+pub fits_bare : FitsDepth bare
 fits_bare = record { least = omega (arith, least_none); most = omega arith }
 
-pub node_fits : (n : Node) → IsBalanced n → Fits (held_in n)
+pub node_fits : (n : Node) → IsBalanced n → FitsDepth (node_held n)
 node_fits Leaf h = fits_bare
 node_fits (Fork height branch) h = fits_over branch.value h.1
 
@@ -119,11 +119,11 @@ most_64 = refl
 pub few_in_45 : (d n : ℕ) → least_entries d ≤ n → n < 2 ^ 32 → d ≤ 45
 few_in_45 d n has few = not_reached d 45 n has (omega (arith, least_46))
 
-pub few_in_96 : (t : TreeHeld) → Fits t → length t.entries < 2 ^ 66 → t.depth ≤ 96
+pub few_in_96 : (t : TreeHeld) → FitsDepth t → length t.entries < 2 ^ 66 → t.depth ≤ 96
 few_in_96 t fits few = not_reached t.depth 96 (length t.entries) fits.least (omega (arith, least_97))
 
 -- 64 levels have fewer than 2 ^ 64 entries
-pub most_in_64 : (t : TreeHeld) → Fits t → t.depth ≤ 64 → length t.entries < 2 ^ 64
+pub most_in_64 : (t : TreeHeld) → FitsDepth t → t.depth ≤ 64 → length t.entries < 2 ^ 64
 most_in_64 t fits low = omega (arith, fits.most, most_up t.depth 64 low, most_64)
 
 -- a box over few entries stands above few levels

@@ -20,9 +20,9 @@ use Rattle.off_outside.specs.InMemory.{CallsHeld}
 use Rattle.off_outside.specs.KeeperCalls.{Still, Crash, Reads, NotDone, Looks, Commits, WasCounted, keeper_faults_in}
 use Rattle.off_keepmem.specs.KeeperInMemory.{MemKeeperHeld, keeper_seen, MemRead, MemUndone, MemLooks, MemCommits, IsShallow}
 use Rattle.off_keepmem.specs.Trees.{Rises, row_in, put_entry, but_key, next_in, entries_written, rows_after}
-use Rattle.off_keepmem.specs.Heights.{TreeHeld, Fits, least_entries}
-use Rattle.off_keepmem.proofs.TreeLemmas.{put_rises, drop_rises}
-use Rattle.off_keepmem.proofs.HeightLemmas.{few_in_45}
+use Rattle.off_keepmem.specs.Heights.{TreeHeld, FitsDepth, least_entries}
+use Rattle.off_keepmem.proofs.TreeLemmas.{rises_none, put_rises, drop_rises}
+use Rattle.off_keepmem.proofs.HeightLemmas.{few_in_45, fits_bare}
 
 abbrev tables_of : List (Key × Row) → Tables
 tables_of entries = map.from_sorted {R = key_cmp} entries
@@ -38,7 +38,7 @@ pub next_held : (es : List (Key × Row)) (place : Option Key) → Rises es → n
 unfolding Rises next_in
 next_held es place h = ap (λ (v : List (Key × Row)). find (is_after place) v) (sym (map.entries-from_sorted key_cmp es h))
 
-pub shallow_held : (m : MemKeeperHeld) (rows : TreeHeld) → Rises rows.entries → Fits rows → m.tables ≡ tables_of rows.entries → m.depth ≡ rows.depth → IsShallow m
+pub shallow_held : (m : MemKeeperHeld) (rows : TreeHeld) → Rises rows.entries → FitsDepth rows → m.tables ≡ tables_of rows.entries → m.depth ≡ rows.depth → IsShallow m
 unfolding Rises
 shallow_held m rows rises fits tables depth =
     let len : map.len m.tables ≡ length rows.entries = ap (λ (t : Tables). map.len t) tables
@@ -161,11 +161,5 @@ pub commit_counted : (writes : List Write) (r : Result (Unit {0}) KeepErr) (old 
 commit_counted writes (Ok a) old new h = counted_by old new h.fits (ap (λ (v : CallsHeld). v.made) h.calls)
 commit_counted writes (Err err) old new h = counted_by old new h.calls_fit (ap (λ (v : CallsHeld). v.made) h.calls)
 
--- one more item of a list that is read by places
-take_got : {A : Type 0} (xs : List A) (i : ℕ) (x : A) → slice_get xs i ≡ Some x → take (suc i) xs ≡ take i xs ++ x ∷ []
-take_got [] i x e = cc
-take_got (y ∷ ys) zero x e = cc
-take_got (y ∷ ys) (suc i) x e = ap (λ v. y ∷ v) (take_got ys i x e)
-
-pub take_read : {A : Type 0} (xs : List A) (i : ℕ) (x : A) → slice_get xs i ≡ Some x → take (i + 1) xs ≡ take i xs ++ x ∷ []
-take_read xs i x e = rw add-one (take_got xs i x e)
+-- a keeper without rows
+pub ruleset none_rules = (none_held, rises_none, fits_bare)

@@ -104,3 +104,12 @@ put_rises k w es h = list.is_sorted-put key_cmp key_total k w es h
 pub drop_rises : (k : Key) (es : List (Key × Row)) → Rises es → Rises (but_key k es)
 unfolding Rises but_key
 drop_rises k es h = list.is_sorted-where_key key_cmp (λ x. not (eq_by_cmp key_cmp k x)) es h
+
+-- what a way down one side comes to, for each walk
+pub ruleset put_rules = (left_rises, right_rises, put_left, put_here, put_right, put_none)
+
+pub ruleset cut_rules = (left_rises, right_rises, drop_left, drop_here, drop_right, drop_none)
+
+pub ruleset row_rules = (left_rises, right_rises, row_left, row_here, row_right, row_none)
+
+pub ruleset next_rules = (left_rises, right_rises, next_left, next_here, next_right, next_none)

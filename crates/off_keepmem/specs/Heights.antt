@@ -33,7 +33,7 @@ most_at (suc depth) = doubled (most_at depth)
 unfoldable pub most_entries : ℕ → ℕ
 most_entries depth = most_at depth
 
-pub record Fits (t : TreeHeld) : Type 0 where
+pub record FitsDepth (t : TreeHeld) : Type 0 where
   pub least : least_entries t.depth ≤ length t.entries
   pub most : length t.entries ≤ most_entries t.depth
 

@@ -5,7 +5,7 @@ use Rattle.off_defs.specs.declared.tables.Row.{Row}
 use Rattle.off_keepmem.specs.declared.tree.Node.{Node}
 use Rattle.off_keepmem.specs.declared.tree.Node.TheVariants.{Leaf, Fork}
 use Rattle.off_keepmem.specs.declared.tree.Branch.{Branch}
-use Rattle.off_keepmem.specs.Heights.{TreeHeld, bare, Fits, Near, SettlesTo}
+use Rattle.off_keepmem.specs.Heights.{TreeHeld, bare, FitsDepth, Near, SettlesTo}
 
 -- the entries of the left side, the box's own, those of the right side
 abbrev pub branch_entries : Branch → List (Key × Row)
@@ -22,15 +22,15 @@ branch_depth b = max b.left.depth b.right.depth + 1
 abbrev pub branch_held : Branch → TreeHeld
 branch_held b = record { entries = branch_entries b; depth = branch_depth b }
 
-abbrev pub held_in : Node → TreeHeld
-held_in Leaf = bare
-held_in (Fork height branch) = branch_held branch.value
+abbrev pub node_held : Node → TreeHeld
+node_held Leaf = bare
+node_held (Fork height branch) = branch_held branch.value
 
 -- the sides differ by at most one in depth, and each has as many entries as that wants
 pub record SidesEven (b : Branch) : Type 0 where
   pub near : Near 1 b.left.depth b.right.depth
-  pub left : Fits b.left
-  pub right : Fits b.right
+  pub left : FitsDepth b.left
+  pub right : FitsDepth b.right
 
 -- the height beside the box is the depth, and the sides are even
 abbrev pub IsBalanced : Node → Type 0
@@ -49,13 +49,13 @@ SidesSettleTo b depth = SettlesTo b.left.depth b.right.depth depth
 -- what settling makes of a box, beside which there was this height. Where it says that the height is the same, it is
 pub record SettledAbove (b : Branch) (height : ℕ) (is_other : Bool) (new : Node) : Type 0 where
   pub balanced : IsBalanced new
-  pub entries : (held_in new).entries ≡ branch_entries b
-  pub depth : SidesSettleTo b (held_in new).depth
-  pub said : is_other ≡ false → (held_in new).depth ≡ height
+  pub entries : (node_held new).entries ≡ branch_entries b
+  pub depth : SidesSettleTo b (node_held new).depth
+  pub said : is_other ≡ false → (node_held new).depth ≡ height
 
-abbrev pub Settled : Bool → Node → Node → Type 0
-Settled is_other Leaf new = new ≡ Leaf
-Settled is_other (Fork height branch) new = SettledAbove branch.value height is_other new
+abbrev pub SettledNode : Bool → Node → Node → Type 0
+SettledNode is_other Leaf new = new ≡ Leaf
+SettledNode is_other (Fork height branch) new = SettledAbove branch.value height is_other new
 
 -- a box above a first and a last one, between which its sides are shared
 abbrev pub three_entries : Branch → Branch → Branch → List (Key × Row)

@@ -1,7 +1,7 @@
-ghost use Rattle.std.specs.Prelude.{◌≡◌, ◌+◌, ◌<◌, ◌≤◌, ◌++◌, ◌∷◌, max, MatchOption};
-ghost use Rattle.off_keepmem.specs.Heights.{bare, Fits, Near, SettlesTo};
-ghost use Rattle.off_keepmem.specs.Nodes.{branch_entries, branch_depth, held_in, SidesEven};
-ghost use Rattle.off_keepmem.specs.Nodes.{IsBalanced, IsNearlyBalanced, Settled, SidesSettleTo};
+ghost use Rattle.std.specs.Prelude.{◌≡◌, ◌+◌, ◌<◌, ◌≤◌, ◌++◌, max, MatchOption};
+ghost use Rattle.off_keepmem.specs.Heights.{bare, FitsDepth, Near, SettlesTo};
+ghost use Rattle.off_keepmem.specs.Nodes.{branch_entries, branch_depth, node_held, SidesEven};
+ghost use Rattle.off_keepmem.specs.Nodes.{IsBalanced, IsNearlyBalanced, SettledNode, SidesSettleTo};
 ghost use Rattle.off_keepmem.specs.Nodes.{ThreeEven, three_entries, entries_around};
 ghost use Rattle.off_keepmem.specs.Taken.{TopTaken, FirstTaken};
 
@@ -12,7 +12,7 @@ use std::mem;
 /// and its height right. Says whether the height is another one.
 pub(crate) fn settle(node: &mut Node) -> bool
     requires { IsNearlyBalanced node.old }
-    ensures { Settled result node.old node.new }
+    ensures { SettledNode result node.old node.new }
 {
     let Node::Fork(before, branch) = mem::replace(node, Node::Leaf) else {
         return false;
@@ -24,7 +24,7 @@ pub(crate) fn settle(node: &mut Node) -> bool
 /// How many boxes stand one below another.
 fn height_of(node: &Node) -> u8
     requires { IsBalanced node.now }
-    ensures { result ≡ (held_in node.now).depth }
+    ensures { result ≡ (node_held node.now).depth }
 {
     match node {
         Node::Leaf => 0,
@@ -37,8 +37,8 @@ fn settled(branch: Box<Branch>) -> Node
     requires near { Near 2 branch.value.left.depth branch.value.right.depth }
     requires low { branch_depth branch.value ≤ 254 }
     ensures balanced { IsBalanced result }
-    ensures entries { (held_in result).entries ≡ branch_entries branch.value }
-    ensures depth { SidesSettleTo branch.value (held_in result).depth }
+    ensures entries { (node_held result).entries ≡ branch_entries branch.value }
+    ensures depth { SidesSettleTo branch.value (node_held result).depth }
 {
     let left = branch.left.height();
     let right = branch.right.height();
@@ -56,9 +56,9 @@ fn lower_left(branch: Box<Branch>) -> Node
     requires higher { branch.value.left.depth ≡ branch.value.right.depth + 2 }
     requires low { branch_depth branch.value ≤ 254 }
     ensures balanced { IsBalanced result }
-    ensures entries { (held_in result).entries ≡ branch_entries branch.value }
-    ensures not_lower { branch.value.left.depth ≤ (held_in result).depth }
-    ensures not_higher { (held_in result).depth ≤ branch.value.left.depth + 1 }
+    ensures entries { (node_held result).entries ≡ branch_entries branch.value }
+    ensures not_lower { branch.value.left.depth ≤ (node_held result).depth }
+    ensures not_higher { (node_held result).depth ≤ branch.value.left.depth + 1 }
 {
     let mut lower = branch;
     let Some(mut upper) = mem::replace(&mut lower.left, Tree::new()).into_box() else {
@@ -80,9 +80,9 @@ fn lower_right(branch: Box<Branch>) -> Node
     requires higher { branch.value.right.depth ≡ branch.value.left.depth + 2 }
     requires low { branch_depth branch.value ≤ 254 }
     ensures balanced { IsBalanced result }
-    ensures entries { (held_in result).entries ≡ branch_entries branch.value }
-    ensures not_lower { branch.value.right.depth ≤ (held_in result).depth }
-    ensures not_higher { (held_in result).depth ≤ branch.value.right.depth + 1 }
+    ensures entries { (node_held result).entries ≡ branch_entries branch.value }
+    ensures not_lower { branch.value.right.depth ≤ (node_held result).depth }
+    ensures not_higher { (node_held result).depth ≤ branch.value.right.depth + 1 }
 {
     let mut lower = branch;
     let Some(mut upper) = mem::replace(&mut lower.right, Tree::new()).into_box() else {
@@ -103,8 +103,8 @@ fn lower_right(branch: Box<Branch>) -> Node
 fn topped(top: Box<Branch>, first: Box<Branch>, last: Box<Branch>) -> Node
     requires { ThreeEven top.value first.value last.value }
     ensures balanced { IsBalanced result }
-    ensures entries { (held_in result).entries ≡ three_entries top.value first.value last.value }
-    ensures depth { (held_in result).depth ≡ max first.value.left.depth top.value.left.depth + 2 }
+    ensures entries { (node_held result).entries ≡ three_entries top.value first.value last.value }
+    ensures depth { (node_held result).depth ≡ max first.value.left.depth top.value.left.depth + 2 }
 {
     let (mut upper, mut left, mut right) = (top, first, last);
     left.right = mem::replace(&mut upper.left, Tree::new());
@@ -134,7 +134,7 @@ fn put_top(tree: &mut Tree, top: Box<Branch>, left: Tree)
     requires low { max left.depth tree.old.depth < 254 }
     ensures entries { tree.new.entries ≡ entries_around top.value left tree.old }
     ensures depth { SettlesTo left.depth tree.old.depth tree.new.depth }
-    ensures fits { Fits tree.new }
+    ensures fits { FitsDepth tree.new }
 {
     let mut whole = top;
     whole.left = left;
@@ -168,7 +168,7 @@ pub(crate) fn glue_sides(branch: &mut Branch) -> Tree
     ensures entries { result.entries ≡ branch.old.left.entries ++ branch.old.right.entries }
     ensures not_lower { max branch.old.left.depth branch.old.right.depth ≤ result.depth }
     ensures not_higher { result.depth ≤ branch_depth branch.old }
-    ensures fits { Fits result }
+    ensures fits { FitsDepth result }
 {
     let left = mem::replace(&mut branch.left, Tree::new());
     let mut right = mem::replace(&mut branch.right, Tree::new());

@@ -1,5 +1,5 @@
 ghost use Rattle.std.specs.Prelude.{◌≡◌, ◌+◌, ◌<◌, ◌≤◌, ◌^◌, [], ◌∷◌, length};
-ghost use Rattle.off_keepmem.specs.Heights.{Fits, HigherBy, LowerBy};
+ghost use Rattle.off_keepmem.specs.Heights.{FitsDepth, HigherBy, LowerBy};
 ghost use Rattle.off_keepmem.specs.Trees.{Rises, put_entry, but_key, entries_written, rows_after};
 ghost use Rattle.off_keepmem.specs.Puts.{puts_in};
 
@@ -13,7 +13,7 @@ use std::mem;
 /// Gives the key this row, in place. The row is taken out from behind its reference, and so isn't
 /// moved at each step down. It takes a spare box where the key had none. Says whether the height is
 /// another one, since the nodes above need no look where it isn't.
-#[tactic(auto, using(crate::proofs::TreeLemmas::left_rises, crate::proofs::TreeLemmas::right_rises, crate::proofs::TreeLemmas::put_left, crate::proofs::TreeLemmas::put_here, crate::proofs::TreeLemmas::put_right, crate::proofs::TreeLemmas::put_none, crate::proofs::HeightLemmas::node_fits))]
+#[tactic(auto, using(crate::proofs::TreeLemmas::put_rules, crate::proofs::HeightLemmas::node_fits))]
 pub(crate) fn put(tree: &mut Tree, key: Key, row: &mut Row, spare: &mut Spare) -> bool
     requires room { 0 < spare.old }
     requires rises { Rises tree.old.entries }
@@ -22,7 +22,7 @@ pub(crate) fn put(tree: &mut Tree, key: Key, row: &mut Row, spare: &mut Spare) -
     ensures spent { spare.old ≤ spare.new + 1 }
     ensures boxes { length tree.new.entries + spare.new ≤ length tree.old.entries + spare.old }
     ensures depth { HigherBy result tree.old.depth tree.new.depth }
-    ensures fits { Fits tree.new }
+    ensures fits { FitsDepth tree.new }
 {
     let mut is_higher = false;
     if let Node::Fork(_, branch) = &mut tree.node {
@@ -43,7 +43,7 @@ fn single(key: Key, row: &mut Row, spare: &mut Spare) -> Tree
     requires { 0 < spare.old }
     ensures entries { result.entries ≡ (key, row.old) ∷ [] }
     ensures depth { result.depth ≡ 1 }
-    ensures fits { Fits result }
+    ensures fits { FitsDepth result }
     ensures spent { spare.old ≡ spare.new + 1 }
 {
     let Some(mut frame) = spare.take() else {
@@ -60,14 +60,14 @@ fn single(key: Key, row: &mut Row, spare: &mut Spare) -> Tree
 
 /// Takes the key's row away, in place. The box is given back to memory. Says whether the height may
 /// be another one.
-#[tactic(auto, using(crate::proofs::TreeLemmas::left_rises, crate::proofs::TreeLemmas::right_rises, crate::proofs::TreeLemmas::drop_left, crate::proofs::TreeLemmas::drop_here, crate::proofs::TreeLemmas::drop_right, crate::proofs::TreeLemmas::drop_none, crate::proofs::HeightLemmas::node_fits))]
+#[tactic(auto, using(crate::proofs::TreeLemmas::cut_rules, crate::proofs::HeightLemmas::node_fits))]
 pub(crate) fn remove(tree: &mut Tree, key: Key) -> bool
     requires rises { Rises tree.old.entries }
     requires few { length tree.old.entries < 2 ^ 66 }
     ensures entries { tree.new.entries ≡ but_key key tree.old.entries }
     ensures boxes { length tree.new.entries ≤ length tree.old.entries }
     ensures depth { LowerBy result tree.old.depth tree.new.depth }
-    ensures fits { Fits tree.new }
+    ensures fits { FitsDepth tree.new }
 {
     let mut is_lower = false;
     if let Node::Fork(_, branch) = &mut tree.node {
@@ -93,7 +93,7 @@ fn do_write(tree: &mut Tree, write: Write, spare: &mut Spare)
     ensures rises { Rises tree.new.entries }
     ensures spent { spare.old ≤ spare.new + puts_in (write ∷ []) }
     ensures boxes { length tree.new.entries + spare.new ≤ length tree.old.entries + spare.old }
-    ensures fits { Fits tree.new }
+    ensures fits { FitsDepth tree.new }
 {
     match write {
         Write::Put(key, row) => {
@@ -111,12 +111,12 @@ pub(crate) fn write_all(tree: Tree, writes: Vec<Write>, spare: &mut Spare) -> Tr
     requires room { puts_in writes.items ≤ spare.old }
     requires rises { Rises tree.entries }
     requires few { length tree.entries + spare.old < 2 ^ 66 }
-    requires fits { Fits tree }
+    requires fits { FitsDepth tree }
     ensures entries { result.entries ≡ rows_after tree.entries writes.items }
     ensures rises { Rises result.entries }
     ensures spent { spare.old ≤ spare.new + puts_in writes.items }
     ensures boxes { length result.entries + spare.new ≤ length tree.entries + spare.old }
-    ensures fits { Fits result }
+    ensures fits { FitsDepth result }
 {
     let mut grown = tree;
     for write in writes {

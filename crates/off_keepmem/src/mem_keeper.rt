@@ -78,7 +78,7 @@ impl Model for Plan {
 
 impl MemKeeper {
     /// A keeper of empty tables, whose calls of the listed numbers fail. It takes no memory.
-    #[tactic(auto, using(crate::proofs::MemKeeperLemmas::none_held, crate::proofs::TreeLemmas::rises_none, crate::proofs::HeightLemmas::fits_bare))]
+    #[tactic(auto, using(crate::proofs::MemKeeperLemmas::none_rules))]
     pub fn new(alloc: Global, fails: Calls) -> MemKeeper
         ensures empty { result ≡ empty_keeper fails }
         ensures tells { KeeperTells result (⟦<MemKeeper as Keeper>⟧.seen result) }

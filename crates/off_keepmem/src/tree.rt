@@ -1,7 +1,7 @@
 ghost use Rattle.std.specs.Prelude.{◌≡◌, ◌≤◌, MatchOption};
 ghost use Rattle.std.specs.Option.{option_map};
-ghost use Rattle.off_keepmem.specs.Heights.{bare, Fits, Near};
-ghost use Rattle.off_keepmem.specs.Nodes.{branch_held, branch_depth, held_in, SidesEven};
+ghost use Rattle.off_keepmem.specs.Heights.{bare, FitsDepth, Near};
+ghost use Rattle.off_keepmem.specs.Nodes.{branch_held, branch_depth, node_held, SidesEven};
 ghost use Rattle.off_keepmem.specs.Nodes.{IsBalanced};
 ghost use Rattle.off_keepmem.specs.Trees.{Rises, row_in, next_in, compared, key_after, lent_entry};
 
@@ -49,9 +49,9 @@ impl Model for Tree {
 
     ghost coded = { Prim.hlevel (codes, key.the_row.coded, row.the_row.coded) };
 
-    ghost use Rattle.off_keepmem.specs.Nodes.{held_in, IsBalanced};
+    ghost use Rattle.off_keepmem.specs.Nodes.{node_held, IsBalanced};
 
-    ghost view = { λ t. held_in t.node };
+    ghost view = { λ t. node_held t.node };
 
     ghost invariant = { λ t. IsBalanced t.node };
 
@@ -81,7 +81,7 @@ impl Tree {
     #[tactic(auto, using(crate::proofs::HeightLemmas::node_fits))]
     pub(crate) fn height(&self) -> u8
         ensures height { result ≡ self.now.depth }
-        ensures fits { Fits self.now }
+        ensures fits { FitsDepth self.now }
     {
         match self.node {
             Node::Leaf => 0,
@@ -95,7 +95,7 @@ impl Tree {
         requires near { Near 1 branch.value.left.depth branch.value.right.depth }
         requires low { branch_depth branch.value ≤ 255 }
         ensures held { result ≡ branch_held branch.value }
-        ensures fits { Fits result }
+        ensures fits { FitsDepth result }
     {
         Tree {
             node: Node::over(branch),
@@ -114,7 +114,7 @@ impl Tree {
     }
 
     /// The row of a key.
-    #[tactic(auto, using(crate::proofs::TreeLemmas::left_rises, crate::proofs::TreeLemmas::right_rises, crate::proofs::TreeLemmas::row_left, crate::proofs::TreeLemmas::row_here, crate::proofs::TreeLemmas::row_right, crate::proofs::TreeLemmas::row_none))]
+    #[tactic(auto, using(crate::proofs::TreeLemmas::row_rules))]
     pub(crate) fn find(&self, key: Key) -> Option<&Row>
         requires { Rises self.now.entries }
         ensures { option_map (λ row. row.now) result ≡ row_in key self.now.entries }
@@ -130,7 +130,7 @@ impl Tree {
     }
 
     /// The first entry behind a place of a walk.
-    #[tactic(auto, using(crate::proofs::TreeLemmas::left_rises, crate::proofs::TreeLemmas::right_rises, crate::proofs::TreeLemmas::next_none, crate::proofs::TreeLemmas::next_right, crate::proofs::TreeLemmas::next_left, crate::proofs::TreeLemmas::next_here))]
+    #[tactic(auto, using(crate::proofs::TreeLemmas::next_rules))]
     pub(crate) fn next(&self, place: Option<Key>) -> Option<EntryRef<'_>>
         requires { Rises self.now.entries }
         ensures { option_map lent_entry result ≡ next_in place self.now.entries }
@@ -157,7 +157,7 @@ impl Node {
         requires near { Near 1 branch.value.left.depth branch.value.right.depth }
         requires low { branch_depth branch.value ≤ 255 }
         ensures balanced { IsBalanced result }
-        ensures held { held_in result ≡ branch_held branch.value }
+        ensures held { node_held result ≡ branch_held branch.value }
     {
         let left = branch.left.height();
         let right = branch.right.height();

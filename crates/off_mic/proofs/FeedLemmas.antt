@@ -8,19 +8,19 @@ use Rattle.md5.specs.declared.Md5.{Md5}
 use Rattle.off_base.specs.Tree.{Tree, leaf, group, code_of, spelled, spelling}
 use Rattle.off_tlv.specs.Grammar.{in_file}
 use Rattle.off_tlv.specs.Fault.{IsShort}
-use Rattle.off_tlv.specs.Walk.{Walk, Takes}
+use Rattle.off_tlv.specs.Walk.{Walk, TakesSetting}
 use Rattle.off_tlv.proofs.ReadingLemmas.{front_is, not_short_by}
 use Rattle.std.proofs.lemmas.List.{take_more, take_all}
 use Rattle.off_mic.specs.declared.feeding.Wanted.TheVariants.{OfCode}
 use Rattle.off_mic.specs.Mic.{of_code, text_of_codes, digest_order, digest_text}
-use Rattle.off_mic.specs.Feed.{Came, Fed, Copied, is_wanted, wanted_text}
+use Rattle.off_mic.specs.Feed.{Came, Fed, Copied, is_fed, wanted_text}
 use Rattle.off_mic.specs.declared.feeding.Wanted.{Wanted}
 
 pub wanted_text-append : (wanted : Wanted) (ts us : List Tree) → wanted_text wanted (ts ++ us) ≡ wanted_text wanted ts ++ wanted_text wanted us
 wanted_text-append wanted ts us =
-    let test : Tree → Bool = λ t. is_wanted wanted (code_of t) in
-    ap spelling (filter-append (λ t. is_wanted wanted (code_of t)) ts us)
-    ∙ flat_map-append spelled (filter (λ t. is_wanted wanted (code_of t)) ts) (filter (λ t. is_wanted wanted (code_of t)) us)
+    let test : Tree → Bool = λ t. is_fed wanted (code_of t) in
+    ap spelling (filter-append (λ t. is_fed wanted (code_of t)) ts us)
+    ∙ flat_map-append spelled (filter (λ t. is_fed wanted (code_of t)) ts) (filter (λ t. is_fed wanted (code_of t)) us)
 
 code_first : (t : Tree) (code : ℕ) (more : List ℕ) → spelled t ≡ code ∷ more → code_of t ≡ code
 code_first (leaf c v) code more e = cc
@@ -30,9 +30,9 @@ one_text : (t : Tree) (b : Bool) → spelling (cond b (t ∷ []) []) ≡ cond b 
 one_text t true = append-nil (spelled t)
 one_text t false = refl
 
-wanted_one : (wanted : Wanted) (t : Tree) (code : ℕ) (text : List ℕ) → code_of t ≡ code → spelled t ≡ text → wanted_text wanted (t ∷ []) ≡ cond (is_wanted wanted code) text []
+wanted_one : (wanted : Wanted) (t : Tree) (code : ℕ) (text : List ℕ) → code_of t ≡ code → spelled t ≡ text → wanted_text wanted (t ∷ []) ≡ cond (is_fed wanted code) text []
 wanted_one wanted t code text codes e =
-    one_text t (is_wanted wanted (code_of t)) ∙ ap (λ (x : ℕ). cond (is_wanted wanted x) (spelled t) []) codes ∙ ap (λ (x : List ℕ). cond (is_wanted wanted code) x []) e
+    one_text t (is_fed wanted (code_of t)) ∙ ap (λ (x : ℕ). cond (is_fed wanted x) (spelled t) []) codes ∙ ap (λ (x : List ℕ). cond (is_fed wanted code) x []) e
 
 nothing_behind : (us : List Tree) → spelling us ≡ [] → us ≡ []
 nothing_behind [] e = refl
@@ -51,26 +51,26 @@ pub came_short : (wanted : Wanted) (trees : List Tree) (rest text : List ℕ) �
 came_short wanted trees rest text f short = not_short_by in_file rest f.behind f.left short
 
 came_on : (wanted : Wanted) (trees before behind : List Tree) (old new : Walk) (code : ℕ) (value text : List ℕ)
-    → trees ≡ before ++ behind → old.rest ≡ spelling behind → text ≡ wanted_text wanted before → Takes old code value new
-    → Came wanted trees new.rest (text ++ cond (is_wanted wanted code) (code ∷ length value ∷ value) [])
+    → trees ≡ before ++ behind → old.rest ≡ spelling behind → text ≡ wanted_text wanted before → TakesSetting old code value new
+    → Came wanted trees new.rest (text ++ cond (is_fed wanted code) (code ∷ length value ∷ value) [])
 came_on wanted trees before [] old new code value text split left passed takes = let front = takes.spelled in cc
 came_on wanted trees before (t ∷ us) old new code value text split left passed takes =
     let both = front_is code value new.rest t (spelling us) (sym takes.spelled ∙ left) in
-    let one : wanted_text wanted (t ∷ []) ≡ cond (is_wanted wanted code) (code ∷ length value ∷ value) [] =
+    let one : wanted_text wanted (t ∷ []) ≡ cond (is_fed wanted code) (code ∷ length value ∷ value) [] =
     wanted_one wanted t code (code ∷ length value ∷ value) (code_first t code (length value ∷ value) both.0) both.0 in
     record {
       before = before ++ t ∷ [];
       behind = us;
       split = split ∙ sym (append_assoc before (t ∷ []) us);
       left = both.1;
-      passed = ap (λ (x : List ℕ). x ++ cond (is_wanted wanted code) (code ∷ length value ∷ value) []) passed
+      passed = ap (λ (x : List ℕ). x ++ cond (is_fed wanted code) (code ∷ length value ∷ value) []) passed
           ∙ ap (λ (x : List ℕ). wanted_text wanted before ++ x) (sym one) ∙ sym (wanted_text-append wanted before (t ∷ []));
     }
 
 -- one setting on
 pub came_more : (wanted : Wanted) (trees : List Tree) (old new : Walk) (code : ℕ) (value text : List ℕ)
-    → Came wanted trees old.rest text → Takes old code value new
-    → Came wanted trees new.rest (text ++ cond (is_wanted wanted code) (code ∷ length value ∷ value) [])
+    → Came wanted trees old.rest text → TakesSetting old code value new
+    → Came wanted trees new.rest (text ++ cond (is_fed wanted code) (code ∷ length value ∷ value) [])
 came_more wanted trees old new code value text f takes = came_on wanted trees f.before f.behind old new code value text f.split f.left f.passed takes
 
 pub fed_all : (wanted : Wanted) (message : List ℕ) (trees : List Tree) (rest : List ℕ) (hasher : Md5) → Fed wanted message trees rest hasher → rest ≡ []
@@ -78,25 +78,25 @@ pub fed_all : (wanted : Wanted) (message : List ℕ) (trees : List Tree) (rest :
 fed_all wanted message trees rest hasher f e = subst (λ (x : List ℕ). Holds hasher (message ++ x)) (came_all wanted trees rest f.text f.came e) f.held
 
 pub fed_more : (wanted : Wanted) (message : List ℕ) (trees : List Tree) (old new : Walk) (code : ℕ) (value : List ℕ) (hasher after : Md5)
-    → Fed wanted message trees old.rest hasher → Takes old code value new
-    → ((m : List ℕ) → Holds hasher m → Holds after (m ++ cond (is_wanted wanted code) (code ∷ length value ∷ value) [])) → Fed wanted message trees new.rest after
+    → Fed wanted message trees old.rest hasher → TakesSetting old code value new
+    → ((m : List ℕ) → Holds hasher m → Holds after (m ++ cond (is_fed wanted code) (code ∷ length value ∷ value) [])) → Fed wanted message trees new.rest after
 fed_more wanted message trees old new code value hasher after f takes step =
-    let one : List ℕ = cond (is_wanted wanted code) (code ∷ length value ∷ value) [] in
+    let one : List ℕ = cond (is_fed wanted code) (code ∷ length value ∷ value) [] in
     record {
-      text = f.text ++ cond (is_wanted wanted code) (code ∷ length value ∷ value) [];
+      text = f.text ++ cond (is_fed wanted code) (code ∷ length value ∷ value) [];
       came = came_more wanted trees old new code value f.text f.came takes;
-      held = subst (Holds after) (append_assoc message f.text (cond (is_wanted wanted code) (code ∷ length value ∷ value) [])) (step (message ++ f.text) f.held);
+      held = subst (Holds after) (append_assoc message f.text (cond (is_fed wanted code) (code ∷ length value ∷ value) [])) (step (message ++ f.text) f.held);
     }
 
 pub copied_more : (wanted : Wanted) (trees : List Tree) (old new : Walk) (code : ℕ) (value before out after : List ℕ)
-    → Copied wanted trees old.rest before out → Takes old code value new
-    → after ≡ out ++ cond (is_wanted wanted code) (code ∷ length value ∷ value) [] → Copied wanted trees new.rest before after
+    → Copied wanted trees old.rest before out → TakesSetting old code value new
+    → after ≡ out ++ cond (is_fed wanted code) (code ∷ length value ∷ value) [] → Copied wanted trees new.rest before after
 copied_more wanted trees old new code value before out after f takes e =
     record {
-      text = f.text ++ cond (is_wanted wanted code) (code ∷ length value ∷ value) [];
+      text = f.text ++ cond (is_fed wanted code) (code ∷ length value ∷ value) [];
       came = came_more wanted trees old new code value f.text f.came takes;
-      appended = e ∙ ap (λ (x : List ℕ). x ++ cond (is_wanted wanted code) (code ∷ length value ∷ value) []) f.appended
-          ∙ append_assoc before f.text (cond (is_wanted wanted code) (code ∷ length value ∷ value) []);
+      appended = e ∙ ap (λ (x : List ℕ). x ++ cond (is_fed wanted code) (code ∷ length value ∷ value) []) f.appended
+          ∙ append_assoc before f.text (cond (is_fed wanted code) (code ∷ length value ∷ value) []);
     }
 
 pub copied_all : (wanted : Wanted) (trees : List Tree) (rest before after : List ℕ) → Copied wanted trees rest before after → rest ≡ []

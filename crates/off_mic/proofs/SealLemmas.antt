@@ -8,7 +8,7 @@ use Rattle.std.proofs.lemmas.List.Elements.{filter-append}
 use Rattle.md5.specs.Md5.{md5}
 use Rattle.md5.proofs.StandardFacts.{length-md5}
 use Rattle.off_base.specs.Tree.{Tree, leaf, code_of, spelling}
-use Rattle.off_tlv.specs.Grammar.{in_file, is_code, is_group, Stands, AllStand, FileOf}
+use Rattle.off_tlv.specs.Grammar.{end_byte, pad_byte, in_file, is_code, is_group, Stands, AllStand, FileOf}
 use Rattle.off_tlv.specs.Fault.{IsFirstFault}
 use Rattle.off_tlv.specs.Told.{WhyNotRead}
 use Rattle.off_tlv.specs.declared.faults.ReadFault.{ReadFault}
@@ -17,11 +17,11 @@ use Rattle.off_tlv.specs.declared.faults.FileErr.TheVariants.{Read, Memory}
 use Rattle.off_tlv.proofs.GrammarLemmas.{one_reading}
 use Rattle.off_tlv.proofs.FrontLemmas.{AllStand-push, spelling-push}
 use Rattle.off_mic.specs.Hmac.{hmac, inner_pad, outer_pad}
-use Rattle.off_mic.specs.Mic.{is_mic, without_mics, of_code, value_of, values_of, cm_mic_of, cmts_mic_of, digest_order, text_of_codes, digest_text, with_cm, with_both, Sealed}
-use Rattle.off_mic.specs.Seal.{SealsFile, GivesSealed, Ended}
+use Rattle.off_mic.specs.Mic.{is_mic, without_mics, of_code, value_of, setting_values, cm_mic_of, cmts_mic_of, digest_order, text_of_codes, digest_text, with_cm, with_both, Sealed}
+use Rattle.off_mic.specs.Seal.{SealsFile, GivesSealed, EndsPadded}
 use Rattle.off_mic.specs.Laws.{SealedIsOne, SealedVerifies, SealedStays, VerdictTells}
 
-length-hmac : (key message : List ℕ) → length (hmac key message) ≡ 16
+pub length-hmac : (key message : List ℕ) → length (hmac key message) ≡ 16
 unfolding hmac
 length-hmac key message = length-md5 (outer_pad key ++ md5 (inner_pad key ++ message))
 
@@ -56,6 +56,10 @@ of_code-append code ts us = filter-append (λ t. eqb (code_of t) code) ts us
 
 without_mics-append : (ts us : List Tree) → without_mics (ts ++ us) ≡ without_mics ts ++ without_mics us
 without_mics-append ts us = filter-append (λ t. not (is_mic (code_of t))) ts us
+
+-- settings without the two values' codes behind others
+pub neither_join : (ts us : List Tree) → without_mics ts ≡ ts → without_mics us ≡ us → without_mics (ts ++ us) ≡ ts ++ us
+neither_join ts us a b = without_mics-append ts us ∙ ap (λ (x : List Tree). x ++ without_mics us) a ∙ ap (λ (x : List Tree). ts ++ x) b
 
 -- the settings with both values, without them
 pub without_both : (secret : List ℕ) (ts : List Tree) → without_mics ts ≡ ts → without_mics (with_both secret ts) ≡ ts
@@ -112,7 +116,7 @@ both_pushed secret ts out mic new a m e =
     ∙ ap (λ (x : ℕ). spelling (with_cm ts) ++ 7 ∷ x ∷ cmts_mic_of secret (with_cm ts)) (sym (length-hmac secret (digest_text (with_cm ts))))
     ∙ sym (spelling-push (with_cm ts) (leaf 7 (cmts_mic_of secret (with_cm ts))))
 
-pub end_pushed : (old out new : List ℕ) (pads : ℕ) → out ≡ old ++ 255 ∷ [] → pads ≡ (4 - length out % 4) % 4 → new ≡ out ++ take pads (0 ∷ 0 ∷ 0 ∷ []) → Ended old new
+pub end_pushed : (old out new : List ℕ) (pads : ℕ) → out ≡ old ++ end_byte ∷ [] → pads ≡ (4 - length out % 4) % 4 → new ≡ out ++ take pads (0 ∷ 0 ∷ 0 ∷ []) → EndsPadded old new
 end_pushed old out new pads a n e =
     let few : pads ≤ 3 = omega arith in
     let zeros : take pads (0 ∷ 0 ∷ 0 ∷ []) ≡ replicate pads 0 = take-replicate pads 3 0 few in
@@ -120,20 +124,20 @@ end_pushed old out new pads a n e =
     record {
       pads = pads;
       few = few;
-      whole = e ∙ ap (λ (x : List ℕ). out ++ x) zeros ∙ ap (λ (x : List ℕ). x ++ replicate pads 0) a ∙ append_assoc old (255 ∷ []) (replicate pads 0);
+      whole = e ∙ ap (λ (x : List ℕ). out ++ x) zeros ∙ ap (λ (x : List ℕ). x ++ replicate pads 0) a ∙ append_assoc old (end_byte ∷ []) (replicate pads 0);
       aligned = omega arith;
     }
 
-pub sealed_is : (secret : List ℕ) (ts : List Tree) (out new : List ℕ) → without_mics ts ≡ ts → out ≡ spelling (with_both secret ts) → Ended out new → Sealed new ts secret
+pub sealed_is : (secret : List ℕ) (ts : List Tree) (out new : List ℕ) → without_mics ts ≡ ts → out ≡ spelling (with_both secret ts) → EndsPadded out new → Sealed new ts secret
 sealed_is secret ts out new neither a e =
-    record { neither = neither; pads = e.pads; few = e.few; whole = e.whole ∙ ap (λ (x : List ℕ). x ++ 255 ∷ replicate e.pads 0) a; aligned = e.aligned }
+    record { neither = neither; pads = e.pads; few = e.few; whole = e.whole ∙ ap (λ (x : List ℕ). x ++ end_byte ∷ replicate e.pads pad_byte) a; aligned = e.aligned }
 
 -- ---- the laws
 
 pub sealed_is_one : SealedIsOne
 sealed_is_one file other secret trees a b =
     let long : (f : List ℕ) (s : Sealed f trees secret) → length f ≡ length (spelling (with_both secret trees)) + (1 + s.pads) =
-    λ f s. ap length s.whole ∙ length-append (spelling (with_both secret trees)) (255 ∷ replicate s.pads 0) ∙ ap (λ (x : ℕ). length (spelling (with_both secret trees)) + x) (ap suc (length-replicate s.pads 0) ∙ omega arith) in
+    λ f s. ap length s.whole ∙ length-append (spelling (with_both secret trees)) (end_byte ∷ replicate s.pads pad_byte) ∙ ap (λ (x : ℕ). length (spelling (with_both secret trees)) + x) (ap suc (length-replicate s.pads 0) ∙ omega arith) in
     let one : length file ≡ length (spelling (with_both secret trees)) + (1 + a.pads) = long file a in
     let two : length other ≡ length (spelling (with_both secret trees)) + (1 + b.pads) = long other b in
     let fa : a.pads ≤ 3 = a.few in
@@ -141,7 +145,7 @@ sealed_is_one file other secret trees a b =
     let ma : length file % 4 ≡ 0 = a.aligned in
     let mb : length other % 4 ≡ 0 = b.aligned in
     let same : a.pads ≡ b.pads = omega arith in
-    a.whole ∙ ap (λ (n : ℕ). spelling (with_both secret trees) ++ 255 ∷ replicate n 0) same ∙ sym b.whole
+    a.whole ∙ ap (λ (n : ℕ). spelling (with_both secret trees) ++ end_byte ∷ replicate n pad_byte) same ∙ sym b.whole
 
 mic_stands : (code : ℕ) (value : List ℕ) → (is_code in_file code ≡ true) → (is_group in_file code ≡ false) → length value ≡ 16 → Stands in_file (leaf code value)
 mic_stands code value is single long = record { shaped = (is, single); fits = omega (arith, long) }
@@ -182,7 +186,7 @@ verdict_tells file secret trees verdict spells is = (
   (λ v.
       let same : Ok v.trees ≡ Ok trees = one_reading file (Ok v.trees) (Ok trees) v.spells spells in
       let one : v.trees ≡ trees = cc in
-      (is.cm.1 (subst (λ (x : List Tree). values_of 6 x ≡ cm_mic_of x ∷ []) one v.cm), is.cmts.1 (subst (λ (x : List Tree). values_of 7 x ≡ cmts_mic_of secret x ∷ []) one v.cmts))),
+      (is.cm.1 (subst (λ (x : List Tree). setting_values 6 x ≡ cm_mic_of x ∷ []) one v.cm), is.cmts.1 (subst (λ (x : List Tree). setting_values 7 x ≡ cmts_mic_of secret x ∷ []) one v.cmts))),
 )
 
 -- ---- what `seal` answers

@@ -4,17 +4,17 @@ use Rattle.std.specs.List.{filter}
 use Rattle.md5.specs.Md5.{Holds}
 use Rattle.md5.specs.declared.Md5.{Md5}
 use Rattle.off_base.specs.Tree.{Tree, code_of, spelling}
-use Rattle.off_mic.specs.Mic.{is_mic, values_of}
+use Rattle.off_mic.specs.Mic.{is_mic, setting_values}
 use Rattle.off_mic.specs.declared.feeding.Wanted.{Wanted}
 use Rattle.off_mic.specs.declared.feeding.Wanted.TheVariants.{ButMics, OfCode}
 
-abbrev pub is_wanted : Wanted → ℕ → Bool
-is_wanted ButMics code = not (is_mic code)
-is_wanted (OfCode wanted) code = code == wanted
+abbrev pub is_fed : Wanted → ℕ → Bool
+is_fed ButMics code = not (is_mic code)
+is_fed (OfCode wanted) code = code == wanted
 
 -- the bytes of the wanted settings
 abbrev pub wanted_text : Wanted → List Tree → List ℕ
-wanted_text wanted trees = spelling (filter (λ t. is_wanted wanted (code_of t)) trees)
+wanted_text wanted trees = spelling (filter (λ t. is_fed wanted (code_of t)) trees)
 
 -- a walk over settings has come to the rest of the bytes, and the wanted ones before it have this text
 pub record Came (wanted : Wanted) (trees : List Tree) (rest text : List ℕ) : Type 0 where
@@ -40,10 +40,10 @@ pub record Copied (wanted : Wanted) (trees : List Tree) (rest old new : List ℕ
 pub record Passed (code : ℕ) (trees : List Tree) (rest : List ℕ) : Type 0 where
   pub behind : List Tree
   pub left : rest ≡ spelling behind
-  pub same : values_of code trees ≡ values_of code behind
+  pub same : setting_values code trees ≡ setting_values code behind
 
 -- the next value of a code, and what is left behind it
 pub record NextValue (code : ℕ) (trees : List Tree) (value rest : List ℕ) : Type 0 where
   pub behind : List Tree
   pub left : rest ≡ spelling behind
-  pub next : values_of code trees ≡ value ∷ values_of code behind
+  pub next : setting_values code trees ≡ value ∷ setting_values code behind

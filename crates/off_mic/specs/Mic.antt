@@ -3,7 +3,7 @@ use Rattle.std.specs.Prelude.{◌≡◌, ℕ, ◌≤◌, ◌%◌, Bool, ◌==◌
 use Rattle.std.specs.List.{filter, flat_map}
 use Rattle.md5.specs.Md5.{md5}
 use Rattle.off_base.specs.Tree.{Tree, leaf, group, code_of, spelled_row, spelling}
-use Rattle.off_tlv.specs.Grammar.{FileOf}
+use Rattle.off_tlv.specs.Grammar.{end_byte, pad_byte, FileOf}
 use Rattle.off_mic.specs.Hmac.{hmac}
 
 -- the settings that hold the two values: that of the modem, and that of the termination system
@@ -21,8 +21,8 @@ abbrev pub value_of : Tree → List ℕ
 value_of (leaf code value) = value
 value_of (group code parts) = spelled_row parts
 
-abbrev pub values_of : ℕ → List Tree → List (List ℕ)
-values_of code trees = map value_of (of_code code trees)
+abbrev pub setting_values : ℕ → List Tree → List (List ℕ)
+setting_values code trees = map value_of (of_code code trees)
 
 -- The modem's: the digest of all settings as they stand but these two. The marker and the pads aren't counted.
 abbrev pub cm_mic_of : List Tree → List ℕ
@@ -44,11 +44,11 @@ abbrev pub cmts_mic_of : List ℕ → List Tree → List ℕ
 cmts_mic_of secret trees = hmac secret (digest_text trees)
 
 -- both values are right in a file that has one setting for each
-pub record Verifies (file secret : List ℕ) : Type 0 where
+pub record VerifiesFile (file secret : List ℕ) : Type 0 where
   pub trees : List Tree
   pub spells : FileOf file trees
-  pub cm : values_of 6 trees ≡ cm_mic_of trees ∷ []
-  pub cmts : values_of 7 trees ≡ cmts_mic_of secret trees ∷ []
+  pub cm : setting_values 6 trees ≡ cm_mic_of trees ∷ []
+  pub cmts : setting_values 7 trees ≡ cmts_mic_of secret trees ∷ []
 
 -- the settings with the modem's value behind them, and then with both
 abbrev pub with_cm : List Tree → List Tree
@@ -62,5 +62,5 @@ pub record Sealed (file : List ℕ) (trees : List Tree) (secret : List ℕ) : Ty
   pub neither : without_mics trees ≡ trees
   pub pads : ℕ
   pub few : pads ≤ 3
-  pub whole : file ≡ spelling (with_both secret trees) ++ 255 ∷ replicate pads 0
+  pub whole : file ≡ spelling (with_both secret trees) ++ end_byte ∷ replicate pads pad_byte
   pub aligned : length file % 4 ≡ 0

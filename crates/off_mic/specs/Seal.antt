@@ -1,7 +1,7 @@
 -- What `seal` gives.
 use Rattle.std.specs.Prelude.{◌≡◌, ℕ, ◌≤◌, ◌%◌, List, ◌∷◌, ◌++◌, length, replicate, Result, Ok, Err}
 use Rattle.off_base.specs.Tree.{Tree}
-use Rattle.off_tlv.specs.Grammar.{FileOf}
+use Rattle.off_tlv.specs.Grammar.{end_byte, pad_byte, FileOf}
 use Rattle.off_tlv.specs.declared.faults.FileErr.{FileErr}
 use Rattle.off_tlv.specs.declared.faults.FileErr.TheVariants.{Memory}
 use Rattle.off_mic.specs.Mic.{without_mics, Sealed}
@@ -18,8 +18,8 @@ GivesSealed trees secret (Ok sealed) = Sealed sealed (without_mics trees) secret
 GivesSealed trees secret (Err err) = err ≡ Memory
 
 -- the end marker and zeros to a multiple of four bytes are appended
-pub record Ended (old new : List ℕ) : Type 0 where
+pub record EndsPadded (old new : List ℕ) : Type 0 where
   pub pads : ℕ
   pub few : pads ≤ 3
-  pub whole : new ≡ old ++ 255 ∷ replicate pads 0
+  pub whole : new ≡ old ++ end_byte ∷ replicate pads pad_byte
   pub aligned : length new % 4 ≡ 0

@@ -1,9 +1,9 @@
-ghost use Rattle.std.specs.Prelude.{◌≡◌, ◌↔◌, ◌∷◌, [], List, Result, IsTrue, None, Some, length};
+ghost use Rattle.std.specs.Prelude.{◌≡◌, ◌↔◌, ◌∷◌, [], List, Result, IsTrue, None, Some};
 ghost use Rattle.std.specs.Prelude.{MatchOption, MatchResult};
 ghost use Rattle.off_base.specs.Tree.{Tree, spelling};
 ghost use Rattle.off_tlv.specs.Fault.{Reads};
 ghost use Rattle.off_tlv.specs.declared.faults.ReadFault.{ReadFault as FirstFault};
-ghost use Rattle.off_mic.specs.Mic.{values_of};
+ghost use Rattle.off_mic.specs.Mic.{setting_values};
 ghost use Rattle.off_mic.specs.Check.{values_fault, mic_fault, IsVerdict, Verified};
 ghost use Rattle.off_mic.specs.Feed.{NextValue};
 
@@ -85,9 +85,9 @@ fn is_same(value: &[u8], mic: [u8; 16]) -> bool
 fn one_value(code: u8, settings: &[u8]) -> Result<&[u8], MicFault>
     ensures { (trees : List Tree) → settings.now ≡ spelling trees
         → MatchResult result
-        (λ value. (values_of code trees ≡ value.now ∷ [])
-        × (values_fault code (values_of code trees) ≡ None))
-        (λ fault. values_fault code (values_of code trees) ≡ Some fault) }
+        (λ value. (setting_values code trees ≡ value.now ∷ [])
+        × (values_fault code (setting_values code trees) ≡ None))
+        (λ fault. values_fault code (setting_values code trees) ≡ Some fault) }
 {
     let mut walk = Tlvs::over(settings);
     let Some(value) = next_value(code, &mut walk) else {
@@ -106,7 +106,7 @@ fn one_value(code: u8, settings: &[u8]) -> Result<&[u8], MicFault>
 // The value of the next setting of a code. The walk goes on behind it.
 fn next_value<'a>(code: u8, walk: &mut Tlvs<'a>) -> Option<&'a [u8]>
     ensures { (trees : List Tree) → walk.old.rest ≡ spelling trees
-        → MatchOption result (values_of code trees ≡ [])
+        → MatchOption result (setting_values code trees ≡ [])
         (λ value. NextValue code trees value.now walk.new.rest) }
 {
     'settings: loop {

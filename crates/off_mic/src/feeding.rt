@@ -1,7 +1,7 @@
 ghost use Rattle.std.specs.Prelude.{◌≡◌, ◌≤◌, ◌==◌, ◌∷◌, ◌++◌, [], ℕ, List, length, if◌then◌else◌};
 ghost use Rattle.md5.specs.Md5.{Holds};
 ghost use Rattle.off_base.specs.Tree.{Tree, spelling};
-ghost use Rattle.off_mic.specs.Feed.{is_wanted, wanted_text};
+ghost use Rattle.off_mic.specs.Feed.{is_fed, wanted_text};
 
 use md5::{Digest, Md5};
 use off_tlv::Tlvs;
@@ -22,7 +22,7 @@ pub(crate) enum Wanted {
 
 impl Wanted {
     pub(crate) fn has(self, code: u8) -> bool
-        ensures { result ≡ is_wanted self code }
+        ensures { result ≡ is_fed self code }
     {
         match self {
             Wanted::ButMics => !(code == CM_MIC || code == CMTS_MIC),
@@ -56,7 +56,7 @@ fn feed_one(hasher: &mut Md5, wanted: Wanted, code: u8, value: &[u8])
     ensures { (message : List ℕ) → Holds hasher.old message
         → Holds hasher.new
         (message ++
-        (if is_wanted wanted code then code ∷ length value.now ∷ value.now else [])) }
+        (if is_fed wanted code then code ∷ length value.now ∷ value.now else [])) }
 {
     if wanted.has(code) {
         hasher.update([code, value.len() as u8]);

@@ -8,8 +8,8 @@ ghost use Rattle.off_tlv.specs.declared.faults.FileErr.TheVariants.{Read};
 ghost use Rattle.off_tlv.specs.declared.faults.ReadFault.{ReadFault};
 ghost use Rattle.off_mic.specs.declared.feeding.Wanted.TheVariants.{ButMics as but_mics};
 ghost use Rattle.off_mic.specs.Mic.{without_mics, Sealed};
-ghost use Rattle.off_mic.specs.Feed.{is_wanted, wanted_text};
-ghost use Rattle.off_mic.specs.Seal.{SealsFile, GivesSealed, Ended};
+ghost use Rattle.off_mic.specs.Feed.{is_fed, wanted_text};
+ghost use Rattle.off_mic.specs.Seal.{SealsFile, GivesSealed, EndsPadded};
 
 use crate::digests::{cm_mic, cmts_mic};
 use crate::feeding::{CM_MIC, CMTS_MIC, Wanted};
@@ -82,7 +82,7 @@ fn push_wanted(code: u8, value: &[u8], out: &mut Bytes) -> Result<(), NoMemory>
     requires { length value.now ≤ 255 }
     ensures { OnOk result
         (out.new ≡ out.old ++
-        (if is_wanted but_mics code then code ∷ length value.now ∷ value.now else [])) }
+        (if is_fed but_mics code then code ∷ length value.now ∷ value.now else [])) }
 {
     if Wanted::ButMics.has(code) {
         out.push_all(&[code, value.len() as u8])?;
@@ -101,7 +101,7 @@ fn push_mic(code: u8, mic: &[u8; 16], out: &mut Bytes) -> Result<(), NoMemory>
 
 // Appends the end marker, and zeros to a multiple of four bytes.
 fn push_end(out: &mut Bytes) -> Result<(), NoMemory>
-    ensures { OnOk result (Ended out.old out.new) }
+    ensures { OnOk result (EndsPadded out.old out.new) }
 {
     out.push_all(&[END_MARKER])?;
     let pads = (4 - out.len() % 4) % 4;

@@ -2,6 +2,7 @@
 use Rattle.std.proofs.Common.{◌≡◌, ℕ, ◌+◌, min, Bool, cond, Option, Some, None, List, [], ◌∷◌, count_by, refl, sym, ap, subst, ◌∙◌, arith, add-zero, zero-add}
 use Rattle.std.proofs.lemmas.List.Sums.{sum_by-cons}
 use Rattle.std.specs.FinMap as map
+use Rattle.off_base.specs.Number.{greatest_u64}
 use Rattle.off_defs.specs.declared.keys.Key.{Key}
 use Rattle.off_defs.specs.declared.tables.Row.{Row}
 use Rattle.off_defs.specs.declared.orders.Kind.TheVariants.{Subscribers, AddOns, Modems, Classes, Pools, Batches}
@@ -12,7 +13,7 @@ use Rattle.off_outside.specs.KeeperSeen.{KeeperSeen}
 use Rattle.off_outside.specs.KeeperCalls.{Reads}
 use Rattle.off_outside.proofs.KeeperLemmas.{reads_then, reads_none}
 use Rattle.off_rules.specs.declared.counts.Counts.{Counts}
-use Rattle.off_rules.specs.Rows.{is_counted, counts_of, greatest_count}
+use Rattle.off_rules.specs.Rows.{is_counted, counts_of}
 use Rattle.off_opening.specs.Counting.{with_one, with_entry, with_entries}
 use Rattle.off_readers.proofs.StepLemmas.{all_left}
 
@@ -34,15 +35,15 @@ entry_first counts entry entries =
     let c = one_first counts.modems (is_counted Modems) entry entries in
     let d = one_first counts.classes (is_counted Classes) entry entries in
     let e = one_first counts.pools (is_counted Pools) entry entries in
-    let f = capped_first greatest_count counts.batches (is_counted Batches) entry entries in
+    let f = capped_first greatest_u64 counts.batches (is_counted Batches) entry entries in
     cc
 
-none_left : (counts : Counts) → min greatest_count counts.batches ≡ counts.batches → with_entries counts [] ≡ counts
+none_left : (counts : Counts) → min greatest_u64 counts.batches ≡ counts.batches → with_entries counts [] ≡ counts
 none_left counts held = simp (add-zero, held)
 
 -- what is counted, with what is left of the walk, are the counts; and the batches are capped already
 abbrev pub Counted : Counts → Option Key → Tables → Type 0
-Counted counts place t = (counts_of t ≡ with_entries counts (behind place (map.entries t))) × (min greatest_count counts.batches ≡ counts.batches)
+Counted counts place t = (counts_of t ≡ with_entries counts (behind place (map.entries t))) × (min greatest_u64 counts.batches ≡ counts.batches)
 
 abbrev nothing : Counts
 nothing = record { subscribers = 0; addons = 0; modems = 0; classes = 0; pools = 0; batches = 0 }
@@ -54,7 +55,7 @@ from_nothing : (es : List (Key × Row)) → with_entries nothing es
       modems = count_by (is_counted Modems) es;
       classes = count_by (is_counted Classes) es;
       pools = count_by (is_counted Pools) es;
-      batches = min greatest_count (count_by (is_counted Batches) es);
+      batches = min greatest_u64 (count_by (is_counted Batches) es);
     }
 from_nothing es = simp zero-add
 
@@ -68,7 +69,7 @@ more_counted counts more place entry so_far next is = reads_then so_far next (λ
       ∙ ap (λ v. with_entries counts v) (next_of place entry t (sym one))
       ∙ entry_first counts entry (behind (Some entry.0) (map.entries t))
       ∙ ap (λ v. with_entries v (behind (Some entry.0) (map.entries t))) (sym is),
-  subst (λ (v : Counts). min greatest_count v.batches ≡ v.batches) (sym is) (capped_twice greatest_count (with_one counts.batches (is_counted Batches entry))),
+  subst (λ (v : Counts). min greatest_u64 v.batches ≡ v.batches) (sym is) (capped_twice greatest_u64 (with_one counts.batches (is_counted Batches entry))),
 ))
 
 pub all_counted : {a b c : KeeperSeen} (counts : Counts) (place : Option Key)

@@ -1,13 +1,10 @@
 -- Pools that are gathered by a walk.
-use Rattle.std.proofs.Common.{◌≡◌, ℕ, Some, None, List, [], ◌++◌, refl, sym, ap, ◌∙◌, arith}
-use Rattle.off_defs.specs.declared.keys.Key.{Key}
+use Rattle.std.proofs.Common.{◌≡◌, ℕ, Some, List, [], ◌++◌, sym, ap, ◌∙◌, arith}
 use Rattle.off_defs.specs.declared.keys.Key.TheVariants as key
-use Rattle.off_defs.specs.declared.tables.Row.{Row}
 use Rattle.off_defs.specs.declared.tables.Pool.{Pool}
 use Rattle.off_outside.specs.KeeperSeen.{KeeperSeen}
 use Rattle.off_outside.specs.KeeperCalls.{Reads}
 use Rattle.off_outside.proofs.KeeperLemmas.{reads_none}
-use Rattle.off_rows.specs.KeyBytes.{kind_of}
 use Rattle.off_rules.specs.Good.{raw_pool_of, raw_pools}
 use Rattle.off_readers.proofs.WalkLemmas.{left_of, kind_begins}
 use Rattle.off_readers.proofs.KindLemmas.{only_raw_pools}

@@ -1,7 +1,8 @@
 ghost use Rattle.std.specs.Prelude.{◌≡◌, ◌&&◌, min, IfErr, IfOk};
 ghost use Rattle.off_defs.specs.declared.orders.Kind.TheVariants.{Batches};
 ghost use Rattle.off_outside.specs.KeeperCalls.{Looks};
-ghost use Rattle.off_rules.specs.Rows.{counts_of, is_of_kind, greatest_count};
+ghost use Rattle.off_base.specs.Number.{greatest_u64};
+ghost use Rattle.off_rules.specs.Rows.{counts_of, is_of_kind};
 ghost use Rattle.off_opening.specs.Counting.{with_one, with_entry};
 
 use off_defs::{Key, Kind, Row};
@@ -78,7 +79,7 @@ fn with_one(count: u64, kind: Kind, key: Key, fits: bool) -> Result<u64, KeepErr
 // The count of batches with one more row, where the row fits and is a batch. There may be as many
 // as 2^64 batches, so that the greatest `u64` stays as it is.
 fn with_batch(count: u64, key: Key, fits: bool) -> u64
-    ensures { result ≡ min greatest_count (with_one count (is_of_kind Batches key && fits)) }
+    ensures { result ≡ min greatest_u64 (with_one count (is_of_kind Batches key && fits)) }
 {
     if !(is_of_kind(Kind::Batches, key) && fits) {
         return count;

@@ -14,7 +14,7 @@ use std::alloc::Global;
 ///
 /// An error is the keeper's, or `Memory` where the list of pools has no memory. The time grows as
 /// the number of rows times the number of pools.
-#[tactic(auto, using(off_outside::proofs::KeeperLemmas::reads_then, off_outside::proofs::KeeperLemmas::failed_then))]
+#[tactic(auto, using(off_readers::proofs::ReadRules::chained_reads))]
 pub fn first_bad<K: Keeper>(alloc: Global, keeper: &mut K) -> Result<Option<Key>, KeepErr>
     ensures told { Looks result (K.seen keeper.old) (K.seen keeper.new)
         (λ bad t. Judged t bad) }

@@ -7,7 +7,7 @@ ghost use Rattle.off_rules.specs.Good.{modem_stands, lease_stands, owner_of, own
 ghost use Rattle.off_rules.specs.Good.{stands_right, keeps};
 
 use off_base::{Ip4, Mac};
-use off_defs::{Hold, Key, Lease, Modem, Pool, Row};
+use off_defs::{Key, Lease, Modem, Pool, Row};
 use off_outside::{KeepErr, Keeper};
 use off_readers::{has_address, is_possible, overlaps, owner_of};
 use std::alloc::Global;
@@ -15,7 +15,7 @@ use std::cmp::Ordering;
 
 /// Whether the row of a key keeps its line, in tables that have these pools, whatever the pools'
 /// values. It reads two rows at most, by their keys.
-#[tactic(auto, using(off_outside::proofs::KeeperLemmas::reads_as, off_outside::proofs::KeeperLemmas::reads_none, off_outside::proofs::KeeperLemmas::spent_none, off_outside::proofs::KeeperLemmas::spent_one, off_outside::proofs::KeeperLemmas::spent_then, off_outside::proofs::KeeperLemmas::spent_within))]
+#[tactic(auto, using(off_readers::proofs::ReadRules::counted_reads))]
 pub(crate) fn keeps<K: Keeper>(
     alloc: Global,
     keeper: &mut K,
@@ -34,7 +34,7 @@ pub(crate) fn keeps<K: Keeper>(
 }
 
 // Whether the row stands in the right relations to the other rows.
-#[tactic(auto, using(off_outside::proofs::KeeperLemmas::reads_as, off_outside::proofs::KeeperLemmas::reads_none, off_outside::proofs::KeeperLemmas::spent_none, off_outside::proofs::KeeperLemmas::spent_one, off_outside::proofs::KeeperLemmas::spent_then, off_outside::proofs::KeeperLemmas::spent_within))]
+#[tactic(auto, using(off_readers::proofs::ReadRules::counted_reads))]
 fn stands_right<K: Keeper>(
     alloc: Global,
     keeper: &mut K,
@@ -69,7 +69,7 @@ fn stands_right<K: Keeper>(
     }
 }
 
-#[tactic(auto, using(off_outside::proofs::KeeperLemmas::reads_as, off_outside::proofs::KeeperLemmas::spent_none, off_outside::proofs::KeeperLemmas::spent_one, off_outside::proofs::KeeperLemmas::spent_then, off_outside::proofs::KeeperLemmas::spent_within))]
+#[tactic(auto, using(off_readers::proofs::ReadRules::counted_reads))]
 fn is_there<K: Keeper>(alloc: Global, keeper: &mut K, key: Key) -> Result<bool, KeepErr>
     ensures told { Looks result (K.seen keeper.old) (K.seen keeper.new)
         (λ there t. there
@@ -81,7 +81,7 @@ fn is_there<K: Keeper>(alloc: Global, keeper: &mut K, key: Key) -> Result<bool, 
 }
 
 // A modem has its subscriber and its class.
-#[tactic(auto, using(off_outside::proofs::KeeperLemmas::reads_then, off_outside::proofs::KeeperLemmas::failed_then, off_outside::proofs::KeeperLemmas::reads_as, off_outside::proofs::KeeperLemmas::spent_none, off_outside::proofs::KeeperLemmas::spent_one, off_outside::proofs::KeeperLemmas::spent_then, off_outside::proofs::KeeperLemmas::spent_within))]
+#[tactic(auto, using(off_readers::proofs::ReadRules::counted_chain))]
 fn modem_stands<K: Keeper>(alloc: Global, keeper: &mut K, modem: &Modem) -> Result<bool, KeepErr>
     ensures told { Looks result (K.seen keeper.old) (K.seen keeper.new)
         (λ right t. right
@@ -108,7 +108,7 @@ fn is_apart(number: u32, pool: &Pool, other: &(u32, Pool)) -> bool
 }
 
 // A lease has its site and its one pool, and who has it holds its address.
-#[tactic(auto, using(off_outside::proofs::KeeperLemmas::reads_then, off_outside::proofs::KeeperLemmas::failed_then, off_outside::proofs::KeeperLemmas::reads_as, off_outside::proofs::KeeperLemmas::spent_none, off_outside::proofs::KeeperLemmas::spent_one, off_outside::proofs::KeeperLemmas::spent_then, off_outside::proofs::KeeperLemmas::spent_within))]
+#[tactic(auto, using(off_readers::proofs::ReadRules::counted_chain))]
 fn lease_stands<K: Keeper>(
     alloc: Global,
     keeper: &mut K,
@@ -143,7 +143,7 @@ fn pools_with(pools: &[(u32, Pool)], address: Ip4) -> usize
         .count()
 }
 
-#[tactic(auto, using(off_outside::proofs::KeeperLemmas::reads_as, off_outside::proofs::KeeperLemmas::reads_none, off_outside::proofs::KeeperLemmas::spent_none, off_outside::proofs::KeeperLemmas::spent_one, off_outside::proofs::KeeperLemmas::spent_then, off_outside::proofs::KeeperLemmas::spent_within))]
+#[tactic(auto, using(off_readers::proofs::ReadRules::counted_reads))]
 fn owner_holds<K: Keeper>(
     alloc: Global,
     keeper: &mut K,
@@ -182,7 +182,7 @@ fn is_held(row: &Row, address: Ip4) -> bool
 }
 
 // Whether the modem has the lease of the address.
-#[tactic(auto, using(off_outside::proofs::KeeperLemmas::reads_as, off_outside::proofs::KeeperLemmas::spent_none, off_outside::proofs::KeeperLemmas::spent_one, off_outside::proofs::KeeperLemmas::spent_then, off_outside::proofs::KeeperLemmas::spent_within))]
+#[tactic(auto, using(off_readers::proofs::ReadRules::counted_reads))]
 fn owns<K: Keeper>(alloc: Global, keeper: &mut K, mac: Mac, address: Ip4) -> Result<bool, KeepErr>
     ensures told { Looks result (K.seen keeper.old) (K.seen keeper.new)
         (λ right t. right

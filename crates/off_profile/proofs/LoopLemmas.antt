@@ -1,14 +1,11 @@
 -- Loops over settings, one setting on.
 use Rattle.std.proofs.Common.{◌≡◌, ℕ, ◌+◌, List, [], ◌∷◌, ◌++◌, map, take, sym, ap, refl, ◌∙◌, append_assoc, append-nil, Some}
 use Rattle.std.specs.List.{slice_get}
-use Rattle.std.proofs.lemmas.List.{take_more, map-append}
+use Rattle.std.proofs.lemmas.List.{map-append}
 use Rattle.std.proofs.lemmas.List.Concat.{flat_map-append}
-use Rattle.std.proofs.lemmas.Option.{slice_get_within, get_or_from_slice_get}
 use Rattle.off_base.specs.Tree.{Tree, row_of, followed}
+use Rattle.off_base.proofs.TreeLemmas.{taken}
 use Rattle.off_file_rules.specs.Profile.{raised, raised_part, raised_parts, all_raised}
-
-taken : {A : Type 0} (xs : List A) (i : ℕ) (x : A) → slice_get xs i ≡ Some x → take (i + 1) xs ≡ take i xs ++ x ∷ []
-taken {A} xs i x e = take_more xs i x (slice_get_within xs i x e) ∙ ap (λ (y : A). take i xs ++ y ∷ []) (get_or_from_slice_get xs i x x e)
 
 -- a setting is copied
 pub copied_more : (old out new xs : List Tree) (i : ℕ) (x made : Tree) → slice_get xs i ≡ Some x → out ≡ old ++ take i xs → made ≡ x → new ≡ out ++ made ∷ [] → new ≡ old ++ take (i + 1) xs

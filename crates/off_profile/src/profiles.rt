@@ -1,4 +1,4 @@
-ghost use Rattle.std.specs.Prelude.{◌≡◌, ◌++◌, [], ◌∷◌, IfOk, OnOk};
+ghost use Rattle.std.specs.Prelude.{◌≡◌, ◌++◌, IfOk, OnOk};
 ghost use Rattle.off_base.specs.Tree.{leaf};
 ghost use Rattle.off_base.specs.Setting.{tree_of};
 ghost use Rattle.off_file_rules.specs.Profile.{profile_of, active_profile, suspended_profile};

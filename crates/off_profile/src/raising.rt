@@ -4,7 +4,8 @@ ghost use Rattle.std.specs.Prelude.{◌≡◌, ◌++◌, ◌<◌, ◌^◌, map, 
 ghost use Rattle.off_base.specs.Setting.{tree_of};
 ghost use Rattle.off_file_rules.specs.Profile.{raised, raised_part, raised_value, raised_pair};
 ghost use Rattle.off_file_rules.specs.Profile.{raised_single, has_flow, has_classifier, is_flow};
-ghost use Rattle.off_file_rules.specs.Profile.{is_classifier, flow_rise, classifier_rise};
+ghost use Rattle.off_tree.specs.Fault.{is_classifier};
+ghost use Rattle.off_file_rules.specs.Profile.{flow_rise, classifier_rise};
 
 use off_base::{Bytes, NoMemory, Setting, Settings};
 use std::alloc::Global;

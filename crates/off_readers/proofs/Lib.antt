@@ -5,3 +5,4 @@ pub mod HeightLemmas
 pub mod KindLemmas
 pub mod StepLemmas
 pub mod WalkLemmas
+pub mod ReadRules

@@ -1,15 +1,15 @@
 ghost use Rattle.std.specs.Prelude.{◌≡◌, ◌&&◌, nat_le};
+ghost use Rattle.off_defs.specs.Bounds.{last_add_on};
 ghost use Rattle.off_rules.specs.Rows.{passes, is_possible, site_fits, is_offset, is_lease_time};
 ghost use Rattle.off_rules.specs.Rows.{subscriber_fits, class_is_good, add_on_is_good};
 ghost use Rattle.off_rules.specs.Rows.{has_pool_size, pool_fits};
 ghost use Rattle.off_rules.specs.Rows.{as_site, as_subscriber, as_add_on, as_class, as_pool};
 
 use off_base::Settings;
-use off_defs::{Key, Pool, Row, Site, Subscriber};
+use off_defs::{
+    Key, LAST_ADD_ON, LEAST_PREFIX, MOST_DEVICES, MOST_PREFIX, Pool, Row, Site, Subscriber,
+};
 use off_tree::{check_addon, check_class};
-
-// The greatest number of an add-on.
-const LAST_ADD_ON: u8 = 7;
 
 // How many seconds the local time may differ from UTC: a day.
 const MOST_OFFSET: i32 = 86_400;
@@ -59,8 +59,8 @@ fn is_possible_subscriber(row: &Row) -> bool
 }
 
 fn is_possible_add_on(number: u8, row: &Row) -> bool
-    ensures { result
-        ≡ passes (λ settings. nat_le number 7 && add_on_is_good settings) (as_add_on row.now) }
+    ensures { result ≡ passes
+        (λ settings. nat_le number last_add_on && add_on_is_good settings) (as_add_on row.now) }
 {
     match row {
         Row::AddOn(settings) => number <= LAST_ADD_ON && add_on_is_good(settings),
@@ -112,7 +112,7 @@ pub fn is_lease_time(seconds: u32) -> bool
 fn subscriber_fits(subscriber: &Subscriber) -> bool
     ensures { result ≡ subscriber_fits subscriber.now }
 {
-    1 <= subscriber.cpes && subscriber.cpes <= 254
+    1 <= subscriber.cpes && subscriber.cpes <= MOST_DEVICES
 }
 
 #[tactic(auto, unfolding(off_rules::specs::Rows::class_is_good))]
@@ -132,7 +132,10 @@ fn add_on_is_good(settings: &Settings) -> bool
 fn pool_fits(pool: &Pool) -> bool
     ensures { result ≡ pool_fits pool.now }
 {
-    has_pool_size(pool) && 8 <= pool.prefix && pool.prefix <= 30 && pool.relay.0 != 0
+    has_pool_size(pool)
+        && LEAST_PREFIX <= pool.prefix
+        && pool.prefix <= MOST_PREFIX
+        && pool.relay.0 != 0
 }
 
 pub fn has_pool_size(pool: &Pool) -> bool

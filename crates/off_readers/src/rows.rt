@@ -125,7 +125,7 @@ fn as_site(row: Option<Row>) -> Option<Site>
 {
     let Some(row) = row else { return None };
     match &row {
-        Row::Site(site) => Some(copy_site(site)),
+        Row::Site(site) => Some(site.copy()),
         _ => None,
     }
 }
@@ -135,7 +135,7 @@ fn as_subscriber(row: Option<Row>) -> Option<Subscriber>
 {
     let Some(row) = row else { return None };
     match &row {
-        Row::Subscriber(subscriber) => Some(copy_subscriber(subscriber)),
+        Row::Subscriber(subscriber) => Some(subscriber.copy()),
         _ => None,
     }
 }
@@ -155,7 +155,7 @@ fn as_modem(row: Option<Row>) -> Option<Modem>
 {
     let Some(row) = row else { return None };
     match &row {
-        Row::Modem(modem) => Some(copy_modem(modem)),
+        Row::Modem(modem) => Some(modem.copy()),
         _ => None,
     }
 }
@@ -207,37 +207,5 @@ fn as_batch(row: Option<Row>) -> Option<Batch>
     match row {
         Row::Batch(batch) => Some(batch),
         _ => None,
-    }
-}
-
-fn copy_site(site: &Site) -> Site
-    ensures { result ≡ site.now }
-{
-    Site {
-        server: site.server,
-        secret: site.secret.copy(),
-        offset: site.offset,
-        lease: site.lease,
-        log: site.log,
-    }
-}
-
-fn copy_subscriber(subscriber: &Subscriber) -> Subscriber
-    ensures { result ≡ subscriber.now }
-{
-    Subscriber {
-        active: subscriber.active,
-        cpes: subscriber.cpes,
-        name: subscriber.name.copy(),
-    }
-}
-
-fn copy_modem(modem: &Modem) -> Modem
-    ensures { result ≡ modem.now }
-{
-    Modem {
-        subscriber: modem.subscriber,
-        class: modem.class,
-        serial: modem.serial.copy(),
     }
 }

@@ -8,13 +8,13 @@ use Rattle.off_defs.specs.declared.tables.Row.TheVariants as row
 use Rattle.off_rows.specs.RowBytes.{counted, row_bytes, settings_bytes, IsShortSpelling, IsText, RowRanged, SettingsStand}
 use Rattle.off_rows.specs.Left.{Left}
 use Rattle.off_rows.specs.BadRow.{Field, bytes_of, one_of, text, settings, hold_fields, unread, behind, left_over}
-use Rattle.off_rows.specs.Reading.{Takes, Fails, IsLeft, BadIn, Passes, IsSettings, TakesSpelled, from_start}
+use Rattle.off_rows.specs.Reading.{TakesField, FieldFails, IsLeft, BadIn, Passes, IsSettings, TakesSpelled, from_start}
 use Rattle.off_rows.specs.declared.faults.RowErr.{RowErr}
 
-pub bad_here : {field : Field} {fields : List Field} {old : Left} {err : RowErr} → Fails field old err → BadIn (field ∷ fields) old err
+pub bad_here : {field : Field} {fields : List Field} {old : Left} {err : RowErr} → FieldFails field old err → BadIn (field ∷ fields) old err
 bad_here {old = old} f = record { place = old.place; is = f.place; bad = unread f.none refl }
 
-pub bad_behind : {field : Field} {fields : List Field} {first : List ℕ} {old new : Left} {err : RowErr} → Takes field first old new → BadIn fields new err → BadIn (field ∷ fields) old err
+pub bad_behind : {field : Field} {fields : List Field} {first : List ℕ} {old new : Left} {err : RowErr} → TakesField field first old new → BadIn fields new err → BadIn (field ∷ fields) old err
 bad_behind {first = first} {new = new} t b = record { place = b.place; is = b.is; bad = behind first new.rest new.place t.is t.front t.onward b.bad }
 
 pub bad_left : {old : Left} {err : RowErr} → IsLeft old err → BadIn [] old err
@@ -31,19 +31,19 @@ owned_fields bytes rest mark e m =
     ap hold_fields e ∙ ap (λ (b : Bool). cond b (one_of (1 ∷ 2 ∷ 3 ∷ []) ∷ []) (one_of (1 ∷ 2 ∷ 3 ∷ []) ∷ bytes_of 6 ∷ [])) no
 
 -- whichever fields stand there, the mark is the first
-by_test : (b : Bool) (more : List Field) {old : Left} {err : RowErr} → Fails (one_of (1 ∷ 2 ∷ 3 ∷ [])) old err → BadIn (cond b (one_of (1 ∷ 2 ∷ 3 ∷ []) ∷ []) (one_of (1 ∷ 2 ∷ 3 ∷ []) ∷ bytes_of 6 ∷ []) ++ more) old err
+by_test : (b : Bool) (more : List Field) {old : Left} {err : RowErr} → FieldFails (one_of (1 ∷ 2 ∷ 3 ∷ [])) old err → BadIn (cond b (one_of (1 ∷ 2 ∷ 3 ∷ []) ∷ []) (one_of (1 ∷ 2 ∷ 3 ∷ []) ∷ bytes_of 6 ∷ []) ++ more) old err
 by_test true more f = bad_here f
 by_test false more f = bad_here f
 
-pub mark_bad : {old : Left} {err : RowErr} → Fails (one_of (1 ∷ 2 ∷ 3 ∷ [])) old err → (more : List Field) → BadIn (hold_fields old.rest ++ more) old err
+pub mark_bad : {old : Left} {err : RowErr} → FieldFails (one_of (1 ∷ 2 ∷ 3 ∷ [])) old err → (more : List Field) → BadIn (hold_fields old.rest ++ more) old err
 mark_bad {old = old} f more = by_test (eqb (slice_index old.rest 0) 3) more f
 
-pub owner_bad : {old mid : Left} {err : RowErr} (mark : ℕ) → mark ≢ 3 → Takes (one_of (1 ∷ 2 ∷ 3 ∷ [])) (mark ∷ []) old mid → Fails (bytes_of 6) mid err → (more : List Field) → BadIn (hold_fields old.rest ++ more) old err
+pub owner_bad : {old mid : Left} {err : RowErr} (mark : ℕ) → mark ≢ 3 → TakesField (one_of (1 ∷ 2 ∷ 3 ∷ [])) (mark ∷ []) old mid → FieldFails (bytes_of 6) mid err → (more : List Field) → BadIn (hold_fields old.rest ++ more) old err
 owner_bad {old = old} {mid = mid} {err = err} mark m t f more =
     let e = owned_fields old.rest mid.rest mark t.front m in
     subst (λ (x : List Field). BadIn (x ++ more) old err) (sym e) (bad_behind t (bad_here f))
 
-pub declined_passes : {old new : Left} (mark : ℕ) → mark ≡ 3 → Takes (one_of (1 ∷ 2 ∷ 3 ∷ [])) (mark ∷ []) old new → Passes (hold_fields old.rest) (3 ∷ []) old new
+pub declined_passes : {old new : Left} (mark : ℕ) → mark ≡ 3 → TakesField (one_of (1 ∷ 2 ∷ 3 ∷ [])) (mark ∷ []) old new → Passes (hold_fields old.rest) (3 ∷ []) old new
 declined_passes {old = old} {new = new} mark m t = record {
   front = t.front ∙ ap (λ (x : ℕ). x ∷ new.rest) m;
   later = λ more err b.
@@ -51,7 +51,7 @@ declined_passes {old = old} {new = new} mark m t = record {
       subst (λ (x : List Field). BadIn (x ++ more) old err) (sym e) (bad_behind t b);
 }
 
-pub owner_passes : {old mid new : Left} (mark other : ℕ) (owner : List ℕ) → mark ≡ other → mark ≢ 3 → Takes (one_of (1 ∷ 2 ∷ 3 ∷ [])) (mark ∷ []) old mid → Takes (bytes_of 6) owner mid new → Passes (hold_fields old.rest) (other ∷ owner) old new
+pub owner_passes : {old mid new : Left} (mark other : ℕ) (owner : List ℕ) → mark ≡ other → mark ≢ 3 → TakesField (one_of (1 ∷ 2 ∷ 3 ∷ [])) (mark ∷ []) old mid → TakesField (bytes_of 6) owner mid new → Passes (hold_fields old.rest) (other ∷ owner) old new
 owner_passes {old = old} {mid = mid} {new = new} mark other owner same m t o = record {
   front = t.front ∙ (ap (λ (x : List ℕ). mark ∷ x) o.front ∙ ap (λ (x : ℕ). x ∷ (owner ++ new.rest)) same);
   later = λ more err b.
@@ -69,7 +69,7 @@ lease_bad {err = err} e b = subst (λ (o : Left). BadIn (hold_fields o.rest ++ b
 
 -- ---- settings
 
-pub settings_taken : {held : List ℕ} {old new : Left} (s : IsSettings held) → length held ≤ 65535 → TakesSpelled held old new → IsShortSpelling s.trees × Takes settings (settings_bytes s.trees) old new
+pub settings_taken : {held : List ℕ} {old new : Left} (s : IsSettings held) → length held ≤ 65535 → TakesSpelled held old new → IsShortSpelling s.trees × TakesField settings (settings_bytes s.trees) old new
 settings_taken {held = held} {old = old} {new = new} s long t =
     let short : IsShortSpelling s.trees = subst (λ (x : List ℕ). length x ≤ 65535) s.whole long in (
       short,
@@ -87,7 +87,7 @@ add_on_there {old = old} {new = new} e s long t end =
     let all = both.1.front ∙ (ap (λ (x : List ℕ). settings_bytes s.trees ++ x) end ∙ append-nil (settings_bytes s.trees)) in
     (s.trees, (s.stand, both.0), sym all ∙ ap (λ (o : Left). o.rest) e)
 
-pub class_there : {bytes held : List ℕ} {old mid new : Left} (name : List ℕ) → old ≡ from_start bytes → IsText name → Takes text (counted name) old mid → IsSettings held → length held ≤ 65535 → TakesSpelled held mid new → new.rest ≡ [] → (class : Class) × RowRanged (row.Class class) × SettingsStand (row.Class class) × (row_bytes (row.Class class) ≡ bytes)
+pub class_there : {bytes held : List ℕ} {old mid new : Left} (name : List ℕ) → old ≡ from_start bytes → IsText name → TakesField text (counted name) old mid → IsSettings held → length held ≤ 65535 → TakesSpelled held mid new → new.rest ≡ [] → (class : Class) × RowRanged (row.Class class) × SettingsStand (row.Class class) × (row_bytes (row.Class class) ≡ bytes)
 class_there {old = old} {new = new} name e is n s long t end =
     let both = settings_taken s long t in
     let rest = both.1.front ∙ (ap (λ (x : List ℕ). settings_bytes s.trees ++ x) end ∙ append-nil (settings_bytes s.trees)) in

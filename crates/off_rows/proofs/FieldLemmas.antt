@@ -9,7 +9,7 @@ use Rattle.off_tlv.specs.declared.faults.ReadFault.TheVariants.{NoEnd}
 use Rattle.off_tlv.proofs.GrammarLemmas.{same_parts}
 use Rattle.off_rows.specs.Left.{Left}
 use Rattle.off_rows.specs.BadRow.{bytes_of}
-use Rattle.off_rows.specs.Reading.{Takes, Fails, FailsSpelled, IsSettings, TakesSpelled}
+use Rattle.off_rows.specs.Reading.{TakesField, FieldFails, FailsSpelled, IsSettings, TakesSpelled}
 use Rattle.off_rows.specs.declared.faults.RowErr.{RowErr}
 use Rattle.off_rows.specs.declared.faults.RowErr.TheVariants.{BadRow}
 
@@ -22,14 +22,14 @@ pub same_length : (n m : ℕ) → n < 2 ^ 16 → m < 2 ^ 16 → to_be_bytes w16 
 same_length n m p q e = sym (from_be_bytes-to_be_bytes_2 n p) ∙ (ap (from_be_bytes w16) e ∙ from_be_bytes-to_be_bytes_2 m q)
 
 -- the length is cut
-pub length_cut : {old : Left} {err : RowErr} → Fails (bytes_of 2) old err → FailsSpelled old err
+pub length_cut : {old : Left} {err : RowErr} → FieldFails (bytes_of 2) old err → FailsSpelled old err
 length_cut f = record {
   place = f.place;
   none = λ held rest short e. f.none (to_be_bytes w16 (length held)) (held ++ rest) refl (e ∙ append_assoc (to_be_bytes w16 (length held)) held rest);
 }
 
 -- what stands behind the length is cut
-pub held_cut : (old mid : Left) (n : ℕ) → n < 2 ^ 16 → Takes (bytes_of 2) (to_be_bytes w16 n) old mid → length mid.rest < n → FailsSpelled old (BadRow old.place)
+pub held_cut : (old mid : Left) (n : ℕ) → n < 2 ^ 16 → TakesField (bytes_of 2) (to_be_bytes w16 n) old mid → length mid.rest < n → FailsSpelled old (BadRow old.place)
 held_cut old mid n small t cut = record {
   place = refl;
   none = λ held rest short e.
@@ -40,7 +40,7 @@ held_cut old mid n small t cut = record {
 }
 
 -- both are there
-pub held_taken : (old mid new : Left) (n : ℕ) (held : List ℕ) → n < 2 ^ 16 → Takes (bytes_of 2) (to_be_bytes w16 n) old mid → length held ≡ n → mid.rest ≡ held ++ new.rest → new.place ≡ mid.place + n → (length held ≤ 65535) × TakesSpelled held old new
+pub held_taken : (old mid new : Left) (n : ℕ) (held : List ℕ) → n < 2 ^ 16 → TakesField (bytes_of 2) (to_be_bytes w16 n) old mid → length held ≡ n → mid.rest ≡ held ++ new.rest → new.place ≡ mid.place + n → (length held ≤ 65535) × TakesSpelled held old new
 held_taken old mid new n held small t long front onward =
     let same : to_be_bytes w16 n ≡ to_be_bytes w16 (length held) = ap (to_be_bytes w16) (sym long) in (
       omega arith,

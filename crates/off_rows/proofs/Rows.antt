@@ -18,7 +18,7 @@ use Rattle.off_defs.specs.declared.tables.Row.{Row}
 use Rattle.off_defs.specs.declared.tables.Row.TheVariants.{Site, Subscriber, AddOn, Modem, Class, Pool, Lease, Held, Batch}
 use Rattle.off_rows.specs.RowBytes.{counted, settings_bytes, flag_bytes, hold_bytes, import_kind_bytes, row_bytes, IsOfKind, RowRanged, SettingsStand, CanSpell, OwnerIsMac, IsText, IsRowOf, IsShortSpelling}
 use Rattle.off_rows.specs.BadRow.{bytes_of, one_of, text, settings, IsField, IsBadAt, fields_of, hold_fields}
-use Rattle.off_rows.specs.Reading.{WhyNotRead, Gives, BadIn, WhyNoAddOn, WhyNoClass, from_start}
+use Rattle.off_rows.specs.Reading.{WhyNoRow, GivesRow, BadIn, WhyNoAddOn, WhyNoClass, from_start}
 use Rattle.off_rows.specs.Laws.{RowsReadBack, OneBadPlace}
 use Rattle.off_rows.specs.declared.faults.RowErr.{RowErr}
 use Rattle.off_rows.specs.declared.faults.RowErr.TheVariants.{BadRow, Memory}
@@ -255,27 +255,27 @@ bad_no_row k bytes place bad row is e =
     no_values bad (values_of row) (subst (λ (x : List ℕ). AllFields (fields_of k x) (values_of row)) e (values_are k row is.kind is.ranged is.stand)) (values_joined row ∙ e)
 
 -- why a row isn't read
-pub why_bad : (k : Key) (bytes : List ℕ) (err : RowErr) → BadIn (fields_of k bytes) (from_start bytes) err → WhyNotRead k bytes err
+pub why_bad : (k : Key) (bytes : List ℕ) (err : RowErr) → BadIn (fields_of k bytes) (from_start bytes) err → WhyNoRow k bytes err
 why_bad k bytes err b =
-    subst (WhyNotRead k bytes) (sym b.is) (b.bad, bad_no_row k bytes b.place b.bad)
+    subst (WhyNoRow k bytes) (sym b.is) (b.bad, bad_no_row k bytes b.place b.bad)
 
 -- what is read is the one row
-pub only_row : (k : Key) (bytes : List ℕ) (result : Result Row RowErr) → MatchResult result (λ row. IsRowOf k row × (row_bytes row ≡ bytes)) (WhyNotRead k bytes) → (row : Row) → IsRowOf k row → row_bytes row ≡ bytes → Gives row result
+pub only_row : (k : Key) (bytes : List ℕ) (result : Result Row RowErr) → MatchResult result (λ row. IsRowOf k row × (row_bytes row ≡ bytes)) (WhyNoRow k bytes) → (row : Row) → IsRowOf k row → row_bytes row ≡ bytes → GivesRow row result
 only_row k bytes (Ok given) found row is e = one_row k given row found.0 is (found.1 ∙ sym e)
 only_row k bytes (Err (BadRow place)) found row is e = absurd (found.1 row is e)
 only_row k bytes (Err Memory) found row is e = refl
 
-pub why_no_add_on : (n i : ℕ) (bytes : List ℕ) (err : RowErr) → WhyNoAddOn bytes err → WhyNotRead (key.AddOn n i) bytes err
+pub why_no_add_on : (n i : ℕ) (bytes : List ℕ) (err : RowErr) → WhyNoAddOn bytes err → WhyNoRow (key.AddOn n i) bytes err
 why_no_add_on n i bytes err (inl b) = why_bad (key.AddOn n i) bytes err b
 why_no_add_on n i bytes err (inr m) =
-    subst (WhyNotRead (key.AddOn n i) bytes) (sym m.0) (AddOn m.1.0, record { kind = tt; ranged = tt; stand = m.1.1 }, m.1.2)
+    subst (WhyNoRow (key.AddOn n i) bytes) (sym m.0) (AddOn m.1.0, record { kind = tt; ranged = tt; stand = m.1.1 }, m.1.2)
 
-pub why_no_class : (n : ℕ) (bytes : List ℕ) (err : RowErr) → WhyNoClass bytes err → WhyNotRead (key.Class n) bytes err
+pub why_no_class : (n : ℕ) (bytes : List ℕ) (err : RowErr) → WhyNoClass bytes err → WhyNoRow (key.Class n) bytes err
 why_no_class n bytes err (inl b) = why_bad (key.Class n) bytes err b
 why_no_class n bytes err (inr m) =
-    subst (WhyNotRead (key.Class n) bytes) (sym m.0) (Class m.1.0, record { kind = tt; ranged = m.1.1; stand = m.1.2 }, m.1.3)
+    subst (WhyNoRow (key.Class n) bytes) (sym m.0) (Class m.1.0, record { kind = tt; ranged = m.1.1; stand = m.1.2 }, m.1.3)
 
-pub first_bad : (k : Key) (bytes : List ℕ) (result : Result Row RowErr) → MatchResult result (λ row. IsRowOf k row × (row_bytes row ≡ bytes)) (WhyNotRead k bytes) → (place : ℕ) → IsBadAt k bytes place → result ≡ Err (BadRow place)
+pub first_bad : (k : Key) (bytes : List ℕ) (result : Result Row RowErr) → MatchResult result (λ row. IsRowOf k row × (row_bytes row ≡ bytes)) (WhyNoRow k bytes) → (place : ℕ) → IsBadAt k bytes place → result ≡ Err (BadRow place)
 first_bad k bytes (Ok row) found place bad = absurd (bad_no_row k bytes place bad row found.0 found.1)
 first_bad k bytes (Err (BadRow other)) found place bad = let same = one_place found.0 bad in ap (λ (p : ℕ). Err (BadRow p)) same
 first_bad k bytes (Err Memory) found place bad = absurd (bad_no_row k bytes place bad found.0 found.1 found.2)

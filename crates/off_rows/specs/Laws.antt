@@ -8,7 +8,7 @@ use Rattle.off_defs.specs.Keys.{key_cmp}
 use Rattle.off_rows.specs.KeyBytes.{key_bytes, IsRanged}
 use Rattle.off_rows.specs.RowBytes.{row_bytes, IsRowOf}
 use Rattle.off_rows.specs.BadRow.{IsBadAt}
-use Rattle.off_rows.specs.Reading.{WhyNotRead, Gives}
+use Rattle.off_rows.specs.Reading.{WhyNoRow, GivesRow}
 use Rattle.off_rows.specs.declared.faults.RowErr.{RowErr}
 
 -- keys are ordered as their bytes are
@@ -26,7 +26,7 @@ OneSpelling = (key : Key) (a b : Row) → IsRowOf key a → IsRowOf key b → ro
 -- what `decode` promises to answer gives a row back from its bytes, unless memory runs out
 abbrev pub RowsReadBack : Type 0
 RowsReadBack =
-    (key : Key) (row : Row) (result : Result Row RowErr) → IsRowOf key row → MatchResult result (λ given. IsRowOf key given × (row_bytes given ≡ row_bytes row)) (WhyNotRead key (row_bytes row)) → Gives row result
+    (key : Key) (row : Row) (result : Result Row RowErr) → IsRowOf key row → MatchResult result (λ given. IsRowOf key given × (row_bytes given ≡ row_bytes row)) (WhyNoRow key (row_bytes row)) → GivesRow row result
 
 -- bytes have one bad place at most
 abbrev pub OneBadPlace : Type 0

@@ -14,17 +14,17 @@ use Rattle.off_rows.specs.declared.faults.RowErr.{RowErr}
 use Rattle.off_rows.specs.declared.faults.RowErr.TheVariants.{BadRow, Memory}
 
 -- why a row isn't read: no row of the key's kind has the bytes, or one has them and memory was wanted
-abbrev pub WhyNotRead : Key → List ℕ → RowErr → Type 0
-WhyNotRead key bytes (BadRow place) = IsBadAt key bytes place × ((row : Row) → IsRowOf key row → row_bytes row ≢ bytes)
-WhyNotRead key bytes Memory = (row : Row) × IsRowOf key row × (row_bytes row ≡ bytes)
+abbrev pub WhyNoRow : Key → List ℕ → RowErr → Type 0
+WhyNoRow key bytes (BadRow place) = IsBadAt key bytes place × ((row : Row) → IsRowOf key row → row_bytes row ≢ bytes)
+WhyNoRow key bytes Memory = (row : Row) × IsRowOf key row × (row_bytes row ≡ bytes)
 
 -- the row is given, unless memory runs out
-abbrev pub Gives : Row → Result Row RowErr → Type 0
-Gives row (Ok given) = given ≡ row
-Gives row (Err err) = err ≡ Memory
+abbrev pub GivesRow : Row → Result Row RowErr → Type 0
+GivesRow row (Ok given) = given ≡ row
+GivesRow row (Err err) = err ≡ Memory
 
 -- a value of a field was read
-pub record Takes (field : Field) (first : List ℕ) (old new : Left) : Type 0 where
+pub record TakesField (field : Field) (first : List ℕ) (old new : Left) : Type 0 where
   pub is : IsField field first
   pub front : old.rest ≡ first ++ new.rest
   pub onward : new.place ≡ old.place + length first
@@ -40,7 +40,7 @@ pub record TakesSpelled (held : List ℕ) (old new : Left) : Type 0 where
   pub onward : new.place ≡ old.place + (2 + length held)
 
 -- no value of the field stands there
-pub record Fails (field : Field) (old : Left) (err : RowErr) : Type 0 where
+pub record FieldFails (field : Field) (old : Left) (err : RowErr) : Type 0 where
   pub place : err ≡ BadRow old.place
   pub none : CannotRead field old.rest
 

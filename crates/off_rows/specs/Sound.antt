@@ -3,6 +3,7 @@
 use Rattle.std.specs.Prelude.{ℕ, ◌==◌, Bool, true, false, not, ◌&&◌, nat_le, length}
 use Rattle.std.specs.List.{list_all}
 use Rattle.std.specs.Int.{is_in_range}
+use Rattle.off_defs.specs.Bounds.{last_add_on, most_devices, least_prefix, most_prefix}
 use Rattle.off_defs.specs.declared.keys.Key.{Key}
 use Rattle.off_defs.specs.declared.keys.Key.TheVariants as key
 use Rattle.off_defs.specs.declared.tables.Pool.{Pool}
@@ -16,15 +17,15 @@ use Rattle.off_defs.specs.declared.orders.Command.TheVariants.{SetSite, PutSubsc
 
 -- behind a modem may be 1 to 254 devices
 abbrev pub is_sound_subscriber : Subscriber → Bool
-is_sound_subscriber subscriber = is_in_range 1 254 subscriber.cpes
+is_sound_subscriber subscriber = is_in_range 1 most_devices subscriber.cpes
 
 -- a subscriber's add-ons have the numbers 0 to 7
 abbrev pub is_add_on_number : ℕ → Bool
-is_add_on_number number = nat_le number 7
+is_add_on_number number = nat_le number last_add_on
 
 -- a network's prefix has 8 to 30 bits, and its relay an address
 abbrev pub is_sound_pool : Pool → Bool
-is_sound_pool pool = is_in_range 8 30 pool.prefix && not (pool.relay.0 == 0)
+is_sound_pool pool = is_in_range least_prefix most_prefix pool.prefix && not (pool.relay.0 == 0)
 
 -- the rows that a clerk removes
 abbrev pub is_removable : Key → Bool

@@ -3,10 +3,10 @@ ghost use Rattle.std.specs.List.{list_all};
 ghost use Rattle.off_rows.specs.Sound.{is_sound, is_sound_subscriber, is_add_on_number};
 ghost use Rattle.off_rows.specs.Sound.{is_sound_pool, is_removable, is_shown, is_row_of};
 
-use off_defs::{Command, ImportKind, ImportRow, ImportRows, Key, Pool, Subscriber};
-
-// The greatest number of an add-on.
-const LAST_ADD_ON: u8 = 7;
+use off_defs::{
+    Command, ImportKind, ImportRow, ImportRows, Key, LAST_ADD_ON, LEAST_PREFIX, MOST_DEVICES,
+    MOST_PREFIX, Pool, Subscriber,
+};
 
 // How many rows an import may have.
 const MOST_ROWS: usize = 2_000;
@@ -33,7 +33,7 @@ pub fn sound(c: &Command) -> bool
 fn has_devices(subscriber: &Subscriber) -> bool
     ensures { result ≡ is_sound_subscriber subscriber.now }
 {
-    1 <= subscriber.cpes && subscriber.cpes <= 254
+    1 <= subscriber.cpes && subscriber.cpes <= MOST_DEVICES
 }
 
 fn is_add_on(number: u8) -> bool
@@ -45,7 +45,7 @@ fn is_add_on(number: u8) -> bool
 fn has_network(pool: &Pool) -> bool
     ensures { result ≡ is_sound_pool pool.now }
 {
-    8 <= pool.prefix && pool.prefix <= 30 && pool.relay.0 != 0
+    LEAST_PREFIX <= pool.prefix && pool.prefix <= MOST_PREFIX && pool.relay.0 != 0
 }
 
 fn can_remove(key: &Key) -> bool

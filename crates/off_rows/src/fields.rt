@@ -1,10 +1,11 @@
 ghost use Rattle.std.specs.Prelude.{◌≡◌, ◌≢◌, ℕ, ◌+◌, ◌<◌, ◌≤◌, ◌^◌, List, [], ◌∷◌, ◌++◌, length};
 ghost use Rattle.std.specs.Prelude.{MatchResult, MatchOption, MatchBool, Contains, FitsSigned};
 ghost use Rattle.std.specs.Int.{to_be_bytes, cast_unsigned, w16, w32, w64};
-ghost use Rattle.off_rows.specs.RowBytes.{counted, settings_bytes, flag_bytes, import_kind_bytes};
+ghost use Rattle.off_rows.specs.RowBytes.{counted, flag_bytes, import_kind_bytes};
 ghost use Rattle.off_rows.specs.RowBytes.{IsText};
-ghost use Rattle.off_rows.specs.BadRow.{bytes_of, one_of, text, secret, settings, IsField};
-ghost use Rattle.off_rows.specs.Reading.{Takes, TakesCounted, TakesSpelled, Fails, FailsSpelled};
+ghost use Rattle.off_rows.specs.BadRow.{bytes_of, one_of, text, secret, settings};
+ghost use Rattle.off_rows.specs.Reading.{TakesField, TakesCounted, TakesSpelled};
+ghost use Rattle.off_rows.specs.Reading.{FieldFails, FailsSpelled};
 ghost use Rattle.off_rows.specs.Reading.{IsLeft, IsSettings};
 ghost use Rattle.off_rows.specs.declared.faults.RowErr.TheVariants.{BadRow};
 
@@ -53,8 +54,8 @@ impl<'a> Fields<'a> {
     // One byte.
     pub(crate) fn byte(&mut self) -> Result<u8, RowErr>
         ensures { MatchResult result
-            (λ byte. (byte < 256) × Takes (bytes_of 1) (byte ∷ []) self.old self.new)
-            (Fails (bytes_of 1) self.old) }
+            (λ byte. (byte < 256) × TakesField (bytes_of 1) (byte ∷ []) self.old self.new)
+            (FieldFails (bytes_of 1) self.old) }
     {
         let bytes = self.array::<1>()?;
         Ok(bytes[0])
@@ -62,8 +63,8 @@ impl<'a> Fields<'a> {
 
     // An array of bytes.
     pub(crate) fn array<const N: usize>(&mut self) -> Result<[u8; N], RowErr>
-        ensures { MatchResult result (λ bytes. Takes (bytes_of N) bytes self.old self.new)
-            (Fails (bytes_of N) self.old) }
+        ensures { MatchResult result (λ bytes. TakesField (bytes_of N) bytes self.old self.new)
+            (FieldFails (bytes_of N) self.old) }
     {
         let place = self.place;
         match self.bytes[place..].first_chunk() {
@@ -79,8 +80,8 @@ impl<'a> Fields<'a> {
     pub(crate) fn number(&mut self) -> Result<u32, RowErr>
         ensures { MatchResult result
             (λ number. (number < 2 ^ 32)
-            × Takes (bytes_of 4) (to_be_bytes w32 number) self.old self.new)
-            (Fails (bytes_of 4) self.old) }
+            × TakesField (bytes_of 4) (to_be_bytes w32 number) self.old self.new)
+            (FieldFails (bytes_of 4) self.old) }
     {
         let bytes = self.array::<4>()?;
         Ok(u32::from_be_bytes(bytes))
@@ -90,8 +91,8 @@ impl<'a> Fields<'a> {
     pub(crate) fn long(&mut self) -> Result<u64, RowErr>
         ensures { MatchResult result
             (λ number. (number < 2 ^ 64)
-            × Takes (bytes_of 8) (to_be_bytes w64 number) self.old self.new)
-            (Fails (bytes_of 8) self.old) }
+            × TakesField (bytes_of 8) (to_be_bytes w64 number) self.old self.new)
+            (FieldFails (bytes_of 8) self.old) }
     {
         let bytes = self.array::<8>()?;
         Ok(number_of(&bytes))
@@ -101,8 +102,9 @@ impl<'a> Fields<'a> {
     pub(crate) fn offset(&mut self) -> Result<i32, RowErr>
         ensures { MatchResult result
             (λ offset. FitsSigned w32 offset
-            × Takes (bytes_of 4) (to_be_bytes w32 (cast_unsigned w32 offset)) self.old self.new)
-            (Fails (bytes_of 4) self.old) }
+            × TakesField (bytes_of 4) (to_be_bytes w32 (cast_unsigned w32 offset))
+            self.old self.new)
+            (FieldFails (bytes_of 4) self.old) }
     {
         let number = self.number()?;
         Ok(number.cast_signed())
@@ -112,8 +114,8 @@ impl<'a> Fields<'a> {
     pub(crate) fn address(&mut self) -> Result<Ip4, RowErr>
         ensures { MatchResult result
             (λ address. (address.0 < 2 ^ 32)
-            × Takes (bytes_of 4) (to_be_bytes w32 address.0) self.old self.new)
-            (Fails (bytes_of 4) self.old) }
+            × TakesField (bytes_of 4) (to_be_bytes w32 address.0) self.old self.new)
+            (FieldFails (bytes_of 4) self.old) }
     {
         let number = self.number()?;
         Ok(Ip4(number))
@@ -122,8 +124,8 @@ impl<'a> Fields<'a> {
     // A hardware address.
     pub(crate) fn mac(&mut self) -> Result<Mac, RowErr>
         ensures { MatchResult result
-            (λ mac. (length mac.0 ≡ 6) × Takes (bytes_of 6) mac.0 self.old self.new)
-            (Fails (bytes_of 6) self.old) }
+            (λ mac. (length mac.0 ≡ 6) × TakesField (bytes_of 6) mac.0 self.old self.new)
+            (FieldFails (bytes_of 6) self.old) }
     {
         let bytes = self.array::<6>()?;
         Ok(Mac(bytes))
@@ -133,8 +135,8 @@ impl<'a> Fields<'a> {
     pub(crate) fn one_of(&mut self, marks: &[u8]) -> Result<u8, RowErr>
         ensures { MatchResult result
             (λ mark. Contains marks.now mark
-            × Takes (one_of marks.now) (mark ∷ []) self.old self.new)
-            (Fails (one_of marks.now) self.old) }
+            × TakesField (one_of marks.now) (mark ∷ []) self.old self.new)
+            (FieldFails (one_of marks.now) self.old) }
     {
         let place = self.place;
         if place == self.bytes.len() {
@@ -151,8 +153,8 @@ impl<'a> Fields<'a> {
     // Whether a byte is 1, and not 0.
     pub(crate) fn flag(&mut self) -> Result<bool, RowErr>
         ensures { MatchResult result
-            (λ flag. Takes (one_of (0 ∷ 1 ∷ [])) (flag_bytes flag) self.old self.new)
-            (Fails (one_of (0 ∷ 1 ∷ [])) self.old) }
+            (λ flag. TakesField (one_of (0 ∷ 1 ∷ [])) (flag_bytes flag) self.old self.new)
+            (FieldFails (one_of (0 ∷ 1 ∷ [])) self.old) }
     {
         let mark = self.one_of(&[0, 1])?;
         Ok(mark == 1)
@@ -161,8 +163,8 @@ impl<'a> Fields<'a> {
     // The kind of an import.
     pub(crate) fn import_kind(&mut self) -> Result<ImportKind, RowErr>
         ensures { MatchResult result
-            (λ kind. Takes (one_of (1 ∷ 2 ∷ [])) (import_kind_bytes kind) self.old self.new)
-            (Fails (one_of (1 ∷ 2 ∷ [])) self.old) }
+            (λ kind. TakesField (one_of (1 ∷ 2 ∷ [])) (import_kind_bytes kind) self.old self.new)
+            (FieldFails (one_of (1 ∷ 2 ∷ [])) self.old) }
     {
         let mark = self.one_of(&[1, 2])?;
         if mark == 1 {
@@ -194,8 +196,8 @@ impl<'a> Fields<'a> {
     // A text.
     pub(crate) fn text(&mut self) -> Result<Short, RowErr>
         ensures { MatchResult result
-            (λ held. IsText held × Takes text (counted held) self.old self.new)
-            (Fails text self.old) }
+            (λ held. IsText held × TakesField text (counted held) self.old self.new)
+            (FieldFails text self.old) }
     {
         let place = self.place;
         let held = self.counted()?;
@@ -208,8 +210,8 @@ impl<'a> Fields<'a> {
     // A secret.
     pub(crate) fn secret(&mut self) -> Result<Secret, RowErr>
         ensures { MatchResult result
-            (λ held. (length held ≤ 64) × Takes secret (counted held) self.old self.new)
-            (Fails secret self.old) }
+            (λ held. (length held ≤ 64) × TakesField secret (counted held) self.old self.new)
+            (FieldFails secret self.old) }
     {
         let place = self.place;
         let held = self.counted()?;
@@ -223,7 +225,7 @@ impl<'a> Fields<'a> {
     pub(crate) fn spelling(&mut self) -> Result<&'a [u8], RowErr>
         ensures { MatchResult result
             (λ held. IsSettings held.now × (length held.now ≤ 65535)
-            × TakesSpelled held.now self.old self.new) (Fails settings self.old) }
+            × TakesSpelled held.now self.old self.new) (FieldFails settings self.old) }
     {
         let place = self.place;
         let held = self.long_counted()?;
@@ -252,8 +254,8 @@ impl<'a> Fields<'a> {
     fn length(&mut self) -> Result<u16, RowErr>
         ensures { MatchResult result
             (λ length. (length < 2 ^ 16)
-            × Takes (bytes_of 2) (to_be_bytes w16 length) self.old self.new)
-            (Fails (bytes_of 2) self.old) }
+            × TakesField (bytes_of 2) (to_be_bytes w16 length) self.old self.new)
+            (FieldFails (bytes_of 2) self.old) }
     {
         let bytes = self.array::<2>()?;
         Ok(u16::from_be_bytes(bytes))

@@ -7,9 +7,9 @@ ghost use Rattle.off_defs.specs.declared.tables.Row.TheVariants as row;
 ghost use Rattle.off_rows.specs.RowBytes.{row_bytes, hold_bytes, RowRanged, SettingsStand};
 ghost use Rattle.off_rows.specs.RowBytes.{OwnerIsMac, IsRowOf};
 ghost use Rattle.off_rows.specs.BadRow.{Field, IsBadAt, bytes_of, hold_fields, site_fields};
-ghost use Rattle.off_rows.specs.BadRow.{subscriber_fields, add_on_fields, modem_fields};
-ghost use Rattle.off_rows.specs.BadRow.{class_fields, pool_fields, held_fields, batch_fields};
-ghost use Rattle.off_rows.specs.Reading.{WhyNotRead, Gives, BadIn, Passes, WhyNoAddOn, WhyNoClass};
+ghost use Rattle.off_rows.specs.BadRow.{subscriber_fields, modem_fields};
+ghost use Rattle.off_rows.specs.BadRow.{pool_fields, held_fields, batch_fields};
+ghost use Rattle.off_rows.specs.Reading.{WhyNoRow, GivesRow, BadIn, Passes, WhyNoAddOn, WhyNoClass};
 ghost use Rattle.off_rows.specs.Reading.{IsSettings, from_start};
 ghost use Rattle.off_rows.specs.declared.faults.RowErr.TheVariants.{BadRow};
 
@@ -26,16 +26,17 @@ use std::alloc::Global;
 /// can't be read. Want of memory comes only where a row has them.
 pub fn decode(alloc: Global, k: &Key, bytes: &[u8]) -> Result<Row, RowErr>
     ensures found { MatchResult result (λ row. IsRowOf k.now row × (row_bytes row ≡ bytes.now))
-        (WhyNotRead k.now bytes.now) }
+        (WhyNoRow k.now bytes.now) }
     ensures first { (place : ℕ) → IsBadAt k.now bytes.now place → result ≡ Err (BadRow place) }
-    ensures only { (row : Row) → IsRowOf k.now row → row_bytes row ≡ bytes.now → Gives row result }
+    ensures only { (row : Row) → IsRowOf k.now row → row_bytes row ≡ bytes.now
+        → GivesRow row result }
 {
     found_row(alloc, *k, bytes)
 }
 
 fn found_row(alloc: Global, key: Key, bytes: &[u8]) -> Result<Row, RowErr>
     ensures { MatchResult result (λ row. IsRowOf key row × (row_bytes row ≡ bytes.now))
-        (WhyNotRead key bytes.now) }
+        (WhyNoRow key bytes.now) }
 {
     match key {
         Key::Site => Ok(Row::Site(site(bytes)?)),

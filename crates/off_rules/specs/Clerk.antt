@@ -1,6 +1,6 @@
 -- What a clerk's command does. Its rules are tested in order, and the first that is broken is the answer; then nothing changes. Else the
 -- command's writes are done, all of them.
-use Rattle.std.specs.Prelude.{◌≡◌, ℕ, ◌+◌, ◌==◌, Bool, true, false, not, ◌&&◌, nat_le, nat_lt, List, [], ◌∷◌, ◌++◌, length, map, Option, Some, None, is_none, option_map, Result, Ok, Err}
+use Rattle.std.specs.Prelude.{ℕ, ◌+◌, ◌==◌, Bool, true, false, not, ◌&&◌, nat_le, nat_lt, List, [], ◌∷◌, ◌++◌, length, map, Option, Some, None, is_none, option_map, Result, Ok, Err}
 use Rattle.std.specs.List.{find, filter, flat_map, list_any}
 use Rattle.std.specs.Ordering.{eq_by_cmp, nat_cmp}
 use Rattle.std.specs.Cmp.Lexicographic.{slice_cmp}
@@ -8,6 +8,7 @@ use Rattle.off_base.specs.declared.addresses.Ip4.{Ip4}
 use Rattle.off_base.specs.declared.macs.Mac.{Mac}
 use Rattle.off_tree.specs.declared.tables.Kind.TheVariants as tree
 use Rattle.off_tree.specs.Fault.{first_fault}
+use Rattle.off_defs.specs.Bounds.{add_on_numbers}
 use Rattle.off_defs.specs.declared.keys.Key.{Key}
 use Rattle.off_defs.specs.declared.keys.Key.TheVariants as key
 use Rattle.off_defs.specs.declared.tables.Row.{Row}
@@ -149,7 +150,7 @@ lease_drops entry = Drop (key.Lease entry.0) ∷ held_drop (owner_of entry.1.hol
 
 -- the keys of a subscriber's add-ons
 abbrev pub add_on_keys : ℕ → List Key
-add_on_keys n = map (key.AddOn n) (0 ∷ 1 ∷ 2 ∷ 3 ∷ 4 ∷ 5 ∷ 6 ∷ 7 ∷ [])
+add_on_keys n = map (key.AddOn n) add_on_numbers
 
 abbrev pub removal_writes : Tables → Key → List Write
 removal_writes tables (key.Subscriber n) = Drop (key.Subscriber n) ∷ map Drop (add_on_keys n)

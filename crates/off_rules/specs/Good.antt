@@ -55,11 +55,11 @@ is_mac mac other = eq_by_cmp (slice_cmp nat_cmp) mac.0 other.0
 abbrev pub is_address : Ip4 → Ip4 → Bool
 is_address address other = other.0 == address.0
 
-abbrev pub held_at : Tables → Mac → Option Ip4
-held_at tables mac = option_and_then as_held (row_at tables (key.Held mac))
+abbrev pub stored_held : Tables → Mac → Option Ip4
+stored_held tables mac = option_and_then as_held (row_at tables (key.Held mac))
 
 abbrev pub holds : Tables → Ip4 → Mac → Bool
-holds tables address mac = passes (is_address address) (held_at tables mac)
+holds tables address mac = passes (is_address address) (stored_held tables mac)
 
 abbrev pub owner_holds : Tables → Ip4 → Option Mac → Bool
 owner_holds tables address None = true

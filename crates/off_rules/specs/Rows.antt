@@ -4,11 +4,13 @@ use Rattle.std.specs.Prelude.{ℕ, ℤ, pos, neg_ℤ, ◌-◌, ◌==◌, Bool, t
 use Rattle.std.specs.List.{filter_map, count_by}
 use Rattle.std.specs.Int.{is_in_range}
 use Rattle.std.specs.FinMap as map
+use Rattle.off_base.specs.Number.{greatest_u64}
 use Rattle.off_base.specs.Tree.{Tree}
 use Rattle.off_base.specs.declared.addresses.Ip4.{Ip4}
 use Rattle.off_base.specs.declared.macs.Mac.{Mac}
 use Rattle.off_tree.specs.declared.tables.Kind.TheVariants as tree
 use Rattle.off_tree.specs.Fault.{first_fault}
+use Rattle.off_defs.specs.Bounds.{last_add_on, most_devices, least_prefix, most_prefix}
 use Rattle.off_defs.specs.declared.keys.Key.{Key}
 use Rattle.off_defs.specs.declared.keys.Key.TheVariants as key
 use Rattle.off_defs.specs.declared.tables.Row.{Row}
@@ -38,7 +40,7 @@ site_fits site = not (site.server.0 == 0) && (is_in_range 1 64 (length site.secr
 
 -- behind a modem may be 1 to 254 devices
 abbrev pub subscriber_fits : Subscriber → Bool
-subscriber_fits subscriber = is_in_range 1 254 subscriber.cpes
+subscriber_fits subscriber = is_in_range 1 most_devices subscriber.cpes
 
 -- the settings of a class or an add-on are good where they have no first fault
 unfoldable pub class_is_good : List Tree → Bool
@@ -52,7 +54,7 @@ abbrev pub has_pool_size : Pool → Bool
 has_pool_size pool = nat_le pool.first.0 pool.last.0 && nat_lt (pool.last.0 - pool.first.0) 4096
 
 abbrev pub pool_fits : Pool → Bool
-pool_fits pool = has_pool_size pool && (is_in_range 8 30 pool.prefix && not (pool.relay.0 == 0))
+pool_fits pool = has_pool_size pool && (is_in_range least_prefix most_prefix pool.prefix && not (pool.relay.0 == 0))
 
 -- the row, where it is of the kind; each reader takes the rows of its own kind and no others
 abbrev pub as_site : Row → Option Site
@@ -99,7 +101,7 @@ passes test (Some x) = test x
 abbrev pub is_possible : Key → Row → Bool
 is_possible key.Site held = passes site_fits (as_site held)
 is_possible (key.Subscriber n) held = passes subscriber_fits (as_subscriber held)
-is_possible (key.AddOn n number) held = passes (λ settings. nat_le number 7 && add_on_is_good settings) (as_add_on held)
+is_possible (key.AddOn n number) held = passes (λ settings. nat_le number last_add_on && add_on_is_good settings) (as_add_on held)
 is_possible (key.Modem mac) held = is_some (as_modem held)
 is_possible (key.Class n) held = passes (λ class. class_is_good class.settings) (as_class held)
 is_possible (key.Pool n) held = passes pool_fits (as_pool held)
@@ -191,11 +193,7 @@ is_counted kind entry = is_of_kind kind entry.0 && is_possible entry.0 entry.1
 abbrev pub count_of : Kind → Tables → ℕ
 count_of kind tables = count_by (is_counted kind) (map.entries tables)
 
--- the greatest count of batches, 2^64 - 1: as many or more count as that one
-abbrev pub greatest_count : ℕ
-greatest_count = 18446744073709551615
-
--- All counts as the office keeps them. There are fewer keys of each kind but the last than 2^64.
+-- All counts as the office keeps them. There are fewer keys of each kind but the last than 2^64; so many batches or more count as 2^64 - 1.
 abbrev pub counts_of : Tables → Counts
 counts_of tables = record {
   subscribers = count_of Subscribers tables;
@@ -203,5 +201,5 @@ counts_of tables = record {
   modems = count_of Modems tables;
   classes = count_of Classes tables;
   pools = count_of Pools tables;
-  batches = min greatest_count (count_of Batches tables);
+  batches = min greatest_u64 (count_of Batches tables);
 }

@@ -144,7 +144,7 @@ row_shaped : (level : Level) (r : Row) → RowShaped level r → AllShaped level
 row_shaped level no_more s = tt
 row_shaped level (followed t r) s = (s.0, row_shaped level r s.1)
 
-row_spelled : (r : Row) → spelling (row_items r) ≡ spelled_row r
+pub row_spelled : (r : Row) → spelling (row_items r) ≡ spelled_row r
 row_spelled no_more = refl
 row_spelled (followed t r) = ap (λ (x : List ℕ). spelled t ++ x) (row_spelled r)
 

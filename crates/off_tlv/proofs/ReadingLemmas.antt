@@ -7,10 +7,10 @@ use Rattle.off_tlv.specs.declared.faults.FileErr.{FileErr}
 use Rattle.off_tlv.specs.declared.faults.FileErr.TheVariants.{Read, Memory}
 use Rattle.off_tlv.specs.Grammar.{end_byte, pad_byte, EndsAt, Level, in_file, is_group, is_code, inside_of, RowShaped, Stands, AllStand, FileOf}
 use Rattle.off_tlv.specs.Fault.{IsShort, IsFirstFault, HasReading}
-use Rattle.off_tlv.specs.Front.{IsSetting, IsSpelled, Spells}
+use Rattle.off_tlv.specs.Front.{IsSetting, IsSpelled, SpellsSetting}
 use Rattle.off_tlv.specs.Told.{WhyNotRead, Gives}
 use Rattle.off_tlv.specs.Walk.{TakesAt}
-use Rattle.off_tlv.proofs.GrammarLemmas.{same_parts, true_not_false, whole_not_short, one_reading}
+use Rattle.off_tlv.proofs.GrammarLemmas.{row_spelled, same_parts, true_not_false, whole_not_short, one_reading}
 use Rattle.off_tlv.proofs.FrontLemmas.{AllStand-push, spelling-push, group_stands, group_spells}
 
 pub not_short_by : (level : Level) (rest : List ℕ) (ts : List Tree) → rest ≡ spelling ts → IsShort rest → ⊥
@@ -55,10 +55,6 @@ row_stands : (level : Level) (r : Row) → RowShaped level r → RowFits r → A
 row_stands level no_more s f = tt
 row_stands level (followed t r) s f = (record { shaped = s.0; fits = f.0 }, row_stands level r s.1 f.1)
 
-pub row_spelled : (r : Row) → spelling (row_items r) ≡ spelled_row r
-row_spelled no_more = refl
-row_spelled (followed t r) = ap (λ (x : List ℕ). spelled t ++ x) (row_spelled r)
-
 inner : (level : Level) (code : ℕ) (value : List ℕ) (t : Tree) → Stands level t → spelled t ≡ code ∷ length value ∷ value → is_group level code ≡ true → IsSpelled (inside_of level code) value
 inner level code value (leaf c v) stands e grouped =
     let codes : c ≡ code = cc in
@@ -72,7 +68,7 @@ inner level code value (group c r) stands e grouped =
 pub inner_spelled : (level : Level) (code : ℕ) (value : List ℕ) → IsSetting level code value → is_group level code ≡ true → IsSpelled (inside_of level code) value
 inner_spelled level code value s grouped = inner level code value s.setting s.stands s.spells grouped
 
-single : (level : Level) (code : ℕ) (value : List ℕ) (t : Tree) → Stands level t → spelled t ≡ code ∷ length value ∷ value → is_group level code ≡ false → Spells level code value (leaf code value)
+single : (level : Level) (code : ℕ) (value : List ℕ) (t : Tree) → Stands level t → spelled t ≡ code ∷ length value ∷ value → is_group level code ≡ false → SpellsSetting level code value (leaf code value)
 single level code value (leaf c v) stands e leafy =
     let codes : c ≡ code = cc in
     let body : v ≡ value = cc in
@@ -82,7 +78,7 @@ single level code value (group c r) stands e leafy =
     let codes : c ≡ code = cc in
     true_not_false (sym stands.shaped.1 ∙ ap (is_group level) codes ∙ leafy)
 
-pub leaf_spells : (level : Level) (code : ℕ) (value : List ℕ) → IsSetting level code value → is_group level code ≡ false → Spells level code value (leaf code value)
+pub leaf_spells : (level : Level) (code : ℕ) (value : List ℕ) → IsSetting level code value → is_group level code ≡ false → SpellsSetting level code value (leaf code value)
 leaf_spells level code value s leafy = single level code value s.setting s.stands s.spells leafy
 
 -- a setting's code is one of the level, and its value has at most 255 bytes
@@ -97,14 +93,14 @@ coded level code value (group c r) stands e =
     (subst (λ (x : ℕ). is_code level x ≡ true) codes stands.shaped.0, omega (arith, stands.fits.0, ap length body))
 
 pub group_spelled : (level : Level) (code : ℕ) (value : List ℕ) (parts : List Tree) → IsSetting level code value → is_group level code ≡ true → AllStand (inside_of level code) parts
-    → value ≡ spelling parts → Spells level code value (group code (row_of parts))
+    → value ≡ spelling parts → SpellsSetting level code value (group code (row_of parts))
 group_spelled level code value parts s grouped stand e =
     let c = coded level code value s.setting s.stands s.spells in
     record { stands = group_stands level code value parts c.0 grouped c.1 stand e; spells = group_spells code value parts e }
 
 -- one setting more is built
 pub built_more : (level : Level) (bytes value : List ℕ) (place : ℕ) (settings new : List Tree) (t : Tree) → bytes ≡ spelling settings ++ drop place bytes → AllStand level settings
-    → TakesAt bytes place value → Spells level (get_or bytes place 0) value t → new ≡ settings ++ t ∷ []
+    → TakesAt bytes place value → SpellsSetting level (get_or bytes place 0) value t → new ≡ settings ++ t ∷ []
     → AllStand level new × (bytes ≡ spelling new ++ drop (place + 2 + length value) bytes)
 built_more level bytes value place settings new t whole stand takes s e =
     let one : drop place bytes ≡ spelled t ++ drop (place + 2 + length value) bytes = takes.spelled ∙ ap (λ (x : List ℕ). x ++ drop (place + 2 + length value) bytes) (sym s.spells) in (

@@ -34,13 +34,13 @@ pub record FirstOther (bytes : List ℕ) (place : ℕ) : Type 0 where
   pub other : slice_index bytes place ≢ pad_byte
 
 -- a setting of the level has the code and the value
-pub record Spells (level : Level) (code : ℕ) (value : List ℕ) (setting : Tree) : Type 0 where
+pub record SpellsSetting (level : Level) (code : ℕ) (value : List ℕ) (setting : Tree) : Type 0 where
   pub stands : Stands level setting
   pub spells : spelled setting ≡ code ∷ length value ∷ value
 
 -- the new bytes are the old ones, and perhaps more
-abbrev pub Begins : List ℕ → List ℕ → Type 0
-Begins old new = (more : List ℕ) × (new ≡ old ++ more)
+abbrev pub BeginsWith : List ℕ → List ℕ → Type 0
+BeginsWith old new = (more : List ℕ) × (new ≡ old ++ more)
 
 -- whether settings have their shape, as a test
 abbrev mutual

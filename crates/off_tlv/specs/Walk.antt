@@ -7,7 +7,7 @@ pub record Walk : Type 0 where
   pub rest : List ℕ
 
 -- a setting is taken: its code, its length and its value stand first, and the walk goes on behind them
-pub record Takes (old : Walk) (code : ℕ) (value : List ℕ) (new : Walk) : Type 0 where
+pub record TakesSetting (old : Walk) (code : ℕ) (value : List ℕ) (new : Walk) : Type 0 where
   pub spelled : old.rest ≡ code ∷ length value ∷ value ++ new.rest
   pub onward : new.place ≡ old.place + 2 + length value
   pub byte : length value ≤ 255

@@ -1,9 +1,9 @@
 ghost use Rattle.std.specs.Prelude.{◌≡◌, List, Err, IfOk, MatchResult};
 ghost use Rattle.off_base.specs.Tree.{Tree, spelling};
 ghost use Rattle.off_base.specs.Setting.{tree_of};
-ghost use Rattle.off_tlv.specs.Grammar.{in_file, AllStand, FileOf};
+ghost use Rattle.off_tlv.specs.Grammar.{AllStand, FileOf};
 ghost use Rattle.off_tlv.specs.Fault.{IsFirstFault};
-ghost use Rattle.off_tlv.specs.Front.{IsSpelled, IsSetting, Spells};
+ghost use Rattle.off_tlv.specs.Front.{IsSpelled, IsSetting, SpellsSetting};
 ghost use Rattle.off_tlv.specs.Told.{WhyNotRead, Gives};
 ghost use Rattle.off_tlv.specs.Seen.{level_of};
 ghost use Rattle.off_tlv.specs.declared.faults.FileErr.TheVariants.{Read};
@@ -62,7 +62,8 @@ fn settings_of(alloc: Global, level: Level, bytes: &[u8]) -> Result<Settings, No
 #[cycle(settings)]
 fn setting_of(alloc: Global, level: Level, code: u8, value: &[u8]) -> Result<Setting, NoMemory>
     requires { IsSetting (level_of level) code value.now }
-    ensures { IfOk result (λ setting. Spells (level_of level) code value.now (tree_of setting)) }
+    ensures { IfOk result
+        (λ setting. SpellsSetting (level_of level) code value.now (tree_of setting)) }
 {
     if level.is_group(code) {
         let parts = settings_of(alloc, level.inside(code), value)?;

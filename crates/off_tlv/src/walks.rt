@@ -1,7 +1,7 @@
-ghost use Rattle.std.specs.Prelude.{◌≡◌, ◌+◌, ◌<◌, ◌≤◌, [], ◌∷◌, ◌++◌, length, drop, MatchOption};
-ghost use Rattle.std.specs.Prelude.{IfOk, IfErr, IfSome, IfNone, slice_index};
+ghost use Rattle.std.specs.Prelude.{◌≡◌, ◌+◌, ◌<◌, ◌≤◌, [], length, drop, MatchOption};
+ghost use Rattle.std.specs.Prelude.{IfOk, IfErr, IfSome, IfNone};
 ghost use Rattle.off_tlv.specs.Fault.{IsShort};
-ghost use Rattle.off_tlv.specs.Walk.{Takes, TakesAt};
+ghost use Rattle.off_tlv.specs.Walk.{TakesSetting, TakesAt};
 
 use std::marker::Model;
 
@@ -46,7 +46,7 @@ impl<'a> Tlvs<'a> {
     /// The `Err` is the place of a setting that passes the end. After it the walk is as before.
     pub fn next(&mut self) -> Result<Option<Tlv<'a>>, usize>
         ensures taken { IfOk result
-            (λ found. IfSome found (λ tlv. Takes self.old tlv.code tlv.value.now self.new)) }
+            (λ found. IfSome found (λ tlv. TakesSetting self.old tlv.code tlv.value.now self.new)) }
         ensures place { IfOk result (λ found. IfSome found (λ tlv. tlv.place ≡ self.old.place)) }
         ensures end { IfOk result
             (λ found. IfNone found ((self.old.rest ≡ []) × (self.new ≡ self.old))) }

@@ -1,9 +1,9 @@
-ghost use Rattle.std.specs.Prelude.{◌≡◌, ◌+◌, ◌^◌, ◌<◌, ◌≤◌, ◌++◌, ◌-◌, ◌∷◌, [], min, length, OnOk};
+ghost use Rattle.std.specs.Prelude.{◌≡◌, ◌+◌, ◌<◌, ◌≤◌, ◌++◌, ◌-◌, ◌∷◌, [], min, length, OnOk};
 ghost use Rattle.std.specs.Prelude.{OnErr, MatchOption};
 ghost use Rattle.off_base.specs.Number.{greatest_u64};
 ghost use Rattle.off_base.specs.Tree.{spelling, spelled, AllFit, Fits};
 ghost use Rattle.off_base.specs.Setting.{tree_of};
-ghost use Rattle.off_tlv.specs.Front.{Begins};
+ghost use Rattle.off_tlv.specs.Front.{BeginsWith};
 
 use off_base::{Bytes, NoMemory, Setting, Settings};
 
@@ -72,7 +72,7 @@ pub fn write_settings(settings: &Settings, out: &mut Bytes) -> Result<(), NoMemo
 fn push_settings(settings: &Settings, out: &mut Bytes) -> Result<(), NoMemory>
     requires { AllFit settings.now }
     ensures ok { OnOk result (out.new ≡ out.old ++ spelling settings.now) }
-    ensures err { OnErr result (Begins out.old out.new) }
+    ensures err { OnErr result (BeginsWith out.old out.new) }
 {
     for place in 0..settings.len() {
         push_setting(settings.get(place), out)?;
@@ -84,7 +84,7 @@ fn push_settings(settings: &Settings, out: &mut Bytes) -> Result<(), NoMemory>
 fn push_setting(setting: &Setting, out: &mut Bytes) -> Result<(), NoMemory>
     requires { Fits (tree_of setting.now) }
     ensures ok { OnOk result (out.new ≡ out.old ++ spelled (tree_of setting.now)) }
-    ensures err { OnErr result (Begins out.old out.new) }
+    ensures err { OnErr result (BeginsWith out.old out.new) }
 {
     match setting {
         Setting::Leaf { code, value } => {
@@ -105,7 +105,7 @@ fn push_setting(setting: &Setting, out: &mut Bytes) -> Result<(), NoMemory>
 fn push_head(code: u8, length: usize, out: &mut Bytes) -> Result<(), NoMemory>
     requires { length ≤ 255 }
     ensures ok { OnOk result (out.new ≡ out.old ++ code ∷ length ∷ []) }
-    ensures err { OnErr result (Begins out.old out.new) }
+    ensures err { OnErr result (BeginsWith out.old out.new) }
 {
     out.push_all(&[code, length as u8])
 }

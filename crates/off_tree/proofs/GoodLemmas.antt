@@ -15,24 +15,25 @@ use Rattle.off_tree.specs.declared.paths.Path.{Path}
 use Rattle.off_tree.specs.declared.paths.TreeFault.{TreeFault}
 use Rattle.off_tree.specs.declared.paths.TreeFault.TheVariants.{Length, Range, Missing, Twice, UnknownCode, FlowReference, ClassifierReference, TooLong}
 use Rattle.off_tree.specs.Place.{below}
-use Rattle.off_tree.specs.Table.{table_of, rule_of, inside_of, is_single, is_needed}
+use Rattle.off_tree.specs.Table.{table_of, rule_of, level_inside, is_single, is_needed}
 use Rattle.off_tree.specs.Value.{in_range}
-use Rattle.off_tree.specs.Fault.{or_else, contains, leaf_broken, leaf_fault, group_broken, group_fault, missing_in, setting_fault, parts_fault, numbers, flow_number, both_directions, classifier_number, named_flow, direction_of, first_repeat, unless, lost_number, lost_flow, first_lost, flow_fault, classifier_fault, too_many, long_setting, long_part, limit_of, length_fault, root, first_fault}
-use Rattle.off_tree.specs.Good.{count_of, LeafFits, LeafStands, IsGroup, GroupStands, single_rule, Counted, row_codes, Stands, EachStands, IsServed, IsShort, EachIsShort, Good, checked}
+use Rattle.std.specs.Option.{option_or}
+use Rattle.off_tree.specs.Fault.{contains, leaf_broken, leaf_fault, group_broken, group_fault, missing_in, setting_fault, parts_fault, numbers, flow_number, both_directions, classifier_number, named_flow, direction_of, first_repeat, unless, lost_number, lost_flow, first_lost, flow_fault, classifier_fault, too_many, long_setting, long_part, size_limit, length_fault, root, first_fault}
+use Rattle.off_tree.specs.Good.{times_in, LeafFits, LeafStands, IsGroup, GroupStands, single_rule, KeepsTimes, row_codes, Stands, EachStands, IsServed, IsShort, EachIsShort, GoodSettings, checked}
 use Rattle.off_tree.proofs.ReferenceLemmas.{contains_front, contains_back}
 
 some_none : {X Y : Type 0} (x : X) → Some x ≡ None → Y
 some_none x e = cc
 
-or_left : {X : Type 0} (a b : Option X) → or_else a b ≡ None → a ≡ None
+or_left : {X : Type 0} (a b : Option X) → option_or a b ≡ None → a ≡ None
 or_left None b e = refl
 or_left (Some x) b e = some_none x e
 
-or_right : {X : Type 0} (a b : Option X) → or_else a b ≡ None → b ≡ None
+or_right : {X : Type 0} (a b : Option X) → option_or a b ≡ None → b ≡ None
 or_right None b e = e
 or_right (Some x) b e = some_none x e
 
-or_both : {X : Type 0} (a b : Option X) → a ≡ None → b ≡ None → or_else a b ≡ None
+or_both : {X : Type 0} (a b : Option X) → a ≡ None → b ≡ None → option_or a b ≡ None
 or_both None b e f = f
 or_both (Some x) b e f = some_none x e
 
@@ -125,8 +126,8 @@ abbrev NoneTwice : (ℕ → Bool) → List ℕ → List ℕ → Type 0
 NoneTwice p before [] = Unit {0}
 NoneTwice p before (n ∷ ns) = ((contains n before && p n) ≡ false) × NoneTwice p (before ++ n ∷ []) ns
 
-count_cons : (n m : ℕ) (ns : List ℕ) → count_of n (m ∷ ns) ≡ cond (eqb m n) 1 0 + count_of n ns
-count_cons n m ns = sum_by-cons (λ (x : ℕ). cond (eqb x n) 1 0) m ns
+pub count-cons : (n m : ℕ) (ns : List ℕ) → times_in n (m ∷ ns) ≡ cond (eqb m n) 1 0 + times_in n ns
+count-cons n m ns = sum_by-cons (λ (x : ℕ). cond (eqb x n) 1 0) m ns
 
 contains_self : (n : ℕ) (before : List ℕ) → contains n (before ++ n ∷ []) ≡ true
 contains_self n before = contains_back n before (n ∷ []) (grind (arith, nat_tests))
@@ -141,20 +142,20 @@ and_false true false h = refl
 and_false false b h = refl
 
 once_by : (p : ℕ → Bool) (m : ℕ) (ns before : List ℕ) → NoneTwice p before (m ∷ ns) → (n : ℕ) → p n ≡ true → (b : Bool) → eqb m n ≡ b
-    → (contains n (before ++ m ∷ []) ≡ true → count_of n ns ≡ 0) × (count_of n ns ≤ 1) → (contains n before ≡ true → count_of n (m ∷ ns) ≡ 0) × (count_of n (m ∷ ns) ≤ 1)
+    → (contains n (before ++ m ∷ []) ≡ true → times_in n ns ≡ 0) × (times_in n ns ≤ 1) → (contains n before ≡ true → times_in n (m ∷ ns) ≡ 0) × (times_in n (m ∷ ns) ≤ 1)
 once_by p m ns before once n is true e rest =
     let same : m ≡ n = grind (arith, nat_tests) in
     let single : p m ≡ true = ap p same ∙ is in
     let fresh : contains m before ≡ false = and_true (contains m before) (p m) once.0 single in
     let there : contains n (before ++ m ∷ []) ≡ true = subst (λ (x : ℕ). contains n (before ++ x ∷ []) ≡ true) (sym same) (contains_self n before) in
-    let none : count_of n ns ≡ 0 = rest.0 there in
-    let one : count_of n (m ∷ ns) ≡ 1 + count_of n ns = count_cons n m ns ∙ ap (λ (x : Bool). cond x 1 0 + count_of n ns) e in
+    let none : times_in n ns ≡ 0 = rest.0 there in
+    let one : times_in n (m ∷ ns) ≡ 1 + times_in n ns = count-cons n m ns ∙ ap (λ (x : Bool). cond x 1 0 + times_in n ns) e in
     ((λ h. let f : contains n before ≡ false = ap (λ (x : ℕ). contains x before) (sym same) ∙ fresh in let bad : true ≡ false = sym h ∙ f in cc), omega arith)
 once_by p m ns before once n is false e rest =
-    let one : count_of n (m ∷ ns) ≡ 0 + count_of n ns = count_cons n m ns ∙ ap (λ (x : Bool). cond x 1 0 + count_of n ns) e in
-    ((λ h. let none : count_of n ns ≡ 0 = rest.0 (contains_front n before (m ∷ []) h) in omega arith), omega (arith, rest.1))
+    let one : times_in n (m ∷ ns) ≡ 0 + times_in n ns = count-cons n m ns ∙ ap (λ (x : Bool). cond x 1 0 + times_in n ns) e in
+    ((λ h. let none : times_in n ns ≡ 0 = rest.0 (contains_front n before (m ∷ []) h) in omega arith), omega (arith, rest.1))
 
-pub once_counted : (p : ℕ → Bool) (ns before : List ℕ) → NoneTwice p before ns → (n : ℕ) → p n ≡ true → (contains n before ≡ true → count_of n ns ≡ 0) × (count_of n ns ≤ 1)
+pub once_counted : (p : ℕ → Bool) (ns before : List ℕ) → NoneTwice p before ns → (n : ℕ) → p n ≡ true → (contains n before ≡ true → times_in n ns ≡ 0) × (times_in n ns ≤ 1)
 once_counted p [] before once n is = ((λ _. refl), omega arith)
 once_counted p (m ∷ ns) before once n is = once_by p m ns before once n is (eqb m n) refl (once_counted p ns (before ++ m ∷ []) once.1 n is)
 
@@ -167,24 +168,24 @@ split_last : (n m : ℕ) (before : List ℕ) → contains n (before ++ m ∷ [])
 split_last n m [] h b e ne = let bad : false ≡ true = sym (ap (λ (x : Bool). x || false) ne) ∙ h in cc
 split_last n m (x ∷ before) h b e ne = sym e ∙ last_by (eqb x n) (contains n before) (contains n (before ++ m ∷ [])) h (λ k. split_last n m before k (contains n before) refl ne)
 
-counted_head : (p : ℕ → Bool) (m : ℕ) (ns before : List ℕ) → (p m ≡ true → (contains m before ≡ true → count_of m (m ∷ ns) ≡ 0)) → (b : Bool) → contains m before ≡ b → p m ≡ true → b ≡ false
+counted_head : (p : ℕ → Bool) (m : ℕ) (ns before : List ℕ) → (p m ≡ true → (contains m before ≡ true → times_in m (m ∷ ns) ≡ 0)) → (b : Bool) → contains m before ≡ b → p m ≡ true → b ≡ false
 counted_head p m ns before h true e is =
     let self : eqb m m ≡ true = grind (arith, nat_tests) in
-    let one : count_of m (m ∷ ns) ≡ 1 + count_of m ns = count_cons m m ns ∙ ap (λ (x : Bool). cond x 1 0 + count_of m ns) self in
-    let none : count_of m (m ∷ ns) ≡ 0 = h is e in
+    let one : times_in m (m ∷ ns) ≡ 1 + times_in m ns = count-cons m m ns ∙ ap (λ (x : Bool). cond x 1 0 + times_in m ns) self in
+    let none : times_in m (m ∷ ns) ≡ 0 = h is e in
     absurd (omega arith)
 counted_head p m ns before h false e is = refl
 
-counted_tail : (m : ℕ) (ns before : List ℕ) (n : ℕ) → (contains n before ≡ true → count_of n (m ∷ ns) ≡ 0) × (count_of n (m ∷ ns) ≤ 1) → (b : Bool) → eqb m n ≡ b
-    → (contains n (before ++ m ∷ []) ≡ true → count_of n ns ≡ 0) × (count_of n ns ≤ 1)
+counted_tail : (m : ℕ) (ns before : List ℕ) (n : ℕ) → (contains n before ≡ true → times_in n (m ∷ ns) ≡ 0) × (times_in n (m ∷ ns) ≤ 1) → (b : Bool) → eqb m n ≡ b
+    → (contains n (before ++ m ∷ []) ≡ true → times_in n ns ≡ 0) × (times_in n ns ≤ 1)
 counted_tail m ns before n h true e =
-    let one : count_of n (m ∷ ns) ≡ 1 + count_of n ns = count_cons n m ns ∙ ap (λ (x : Bool). cond x 1 0 + count_of n ns) e in
+    let one : times_in n (m ∷ ns) ≡ 1 + times_in n ns = count-cons n m ns ∙ ap (λ (x : Bool). cond x 1 0 + times_in n ns) e in
     ((λ _. omega (arith, h.1)), omega (arith, h.1))
 counted_tail m ns before n h false e =
-    let one : count_of n (m ∷ ns) ≡ 0 + count_of n ns = count_cons n m ns ∙ ap (λ (x : Bool). cond x 1 0 + count_of n ns) e in
-    ((λ k. let none : count_of n (m ∷ ns) ≡ 0 = h.0 (split_last n m before k (contains n before) refl e) in omega arith), omega (arith, h.1))
+    let one : times_in n (m ∷ ns) ≡ 0 + times_in n ns = count-cons n m ns ∙ ap (λ (x : Bool). cond x 1 0 + times_in n ns) e in
+    ((λ k. let none : times_in n (m ∷ ns) ≡ 0 = h.0 (split_last n m before k (contains n before) refl e) in omega arith), omega (arith, h.1))
 
-pub counted_once : (p : ℕ → Bool) (ns before : List ℕ) → ((n : ℕ) → p n ≡ true → (contains n before ≡ true → count_of n ns ≡ 0) × (count_of n ns ≤ 1)) → NoneTwice p before ns
+pub counted_once : (p : ℕ → Bool) (ns before : List ℕ) → ((n : ℕ) → p n ≡ true → (contains n before ≡ true → times_in n ns ≡ 0) × (times_in n ns ≤ 1)) → NoneTwice p before ns
 counted_once p [] before h = tt
 counted_once p (m ∷ ns) before h = (
   and_false (contains m before) (p m) (λ is. counted_head p m ns before (λ k. (h m k).0) (contains m before) refl is),
@@ -196,19 +197,19 @@ counted_once p (m ∷ ns) before h = (
 abbrev single_at : Level → ℕ → Bool
 single_at level code = single_rule (rule_of level code)
 
-counted_of : (level : Level) (codes : List ℕ) → NoneTwice (single_at level) [] codes → Needed (table_of level) codes → Counted level codes
+counted_of : (level : Level) (codes : List ℕ) → NoneTwice (single_at level) [] codes → Needed (table_of level) codes → KeepsTimes level codes
 counted_of level codes once needed = ((λ code is. (once_counted (single_at level) codes [] once code is).1), needed)
 
-none_twice_of : (level : Level) (codes : List ℕ) → Counted level codes → NoneTwice (single_at level) [] codes
+none_twice_of : (level : Level) (codes : List ℕ) → KeepsTimes level codes → NoneTwice (single_at level) [] codes
 none_twice_of level codes c = counted_once (single_at level) codes [] (λ n is. ((λ bad. cc), c.0 n is))
 
 mutual
   tree_good : (t : Tree) (level : Level) (path : Path) (codes : List ℕ) → setting_fault level path codes t ≡ None → Stands level t × ((contains (code_of t) codes && single_rule (rule_of level (code_of t))) ≡ false)
   tree_good (leaf code value) level path codes e = leaf_rule_good (rule_of level code) (below path code) (contains code codes) value e
   tree_good (group code parts) level path codes e =
-      let own = group_rule_good (rule_of level code) (below path code) (contains code codes) (or_left (group_fault (rule_of level code) (below path code) (contains code codes)) (parts_fault (inside_of level code) (below path code) [] parts) e) in
-      let inner = row_good parts (inside_of level code) (below path code) [] (or_right (group_fault (rule_of level code) (below path code) (contains code codes)) (parts_fault (inside_of level code) (below path code) [] parts) e) in
-      ((own.0, inner.0, counted_of (inside_of level code) (row_codes parts) inner.1 inner.2), own.1)
+      let own = group_rule_good (rule_of level code) (below path code) (contains code codes) (or_left (group_fault (rule_of level code) (below path code) (contains code codes)) (parts_fault (level_inside level code) (below path code) [] parts) e) in
+      let inner = row_good parts (level_inside level code) (below path code) [] (or_right (group_fault (rule_of level code) (below path code) (contains code codes)) (parts_fault (level_inside level code) (below path code) [] parts) e) in
+      ((own.0, inner.0, counted_of (level_inside level code) (row_codes parts) inner.1 inner.2), own.1)
 
   row_good : (r : Row) (level : Level) (path : Path) (codes : List ℕ) → parts_fault level path codes r ≡ None
       → EachStands level r × NoneTwice (single_at level) codes (row_codes r) × Needed (table_of level) (codes ++ row_codes r)
@@ -222,9 +223,9 @@ mutual
   tree_none : (t : Tree) (level : Level) (path : Path) (codes : List ℕ) → Stands level t → (contains (code_of t) codes && single_rule (rule_of level (code_of t))) ≡ false → setting_fault level path codes t ≡ None
   tree_none (leaf code value) level path codes stands once = leaf_rule_none (rule_of level code) (below path code) (contains code codes) value stands once
   tree_none (group code parts) level path codes stands once =
-      or_both (group_fault (rule_of level code) (below path code) (contains code codes)) (parts_fault (inside_of level code) (below path code) [] parts)
+      or_both (group_fault (rule_of level code) (below path code) (contains code codes)) (parts_fault (level_inside level code) (below path code) [] parts)
       (group_rule_none (rule_of level code) (below path code) (contains code codes) stands.0 once)
-      (row_none parts (inside_of level code) (below path code) [] stands.1 (none_twice_of (inside_of level code) (row_codes parts) stands.2) stands.2.1)
+      (row_none parts (level_inside level code) (below path code) [] stands.1 (none_twice_of (level_inside level code) (row_codes parts) stands.2) stands.2.1)
 
   row_none : (r : Row) (level : Level) (path : Path) (codes : List ℕ) → EachStands level r → NoneTwice (single_at level) codes (row_codes r) → Needed (table_of level) (codes ++ row_codes r)
       → parts_fault level path codes r ≡ None
@@ -258,10 +259,10 @@ distinct_none [] before once = refl
 distinct_none (n ∷ ns) before once =
     repeat_right (contains n before) n (first_repeat (before ++ n ∷ []) ns) (and_true (contains n before) true once.0 refl) (distinct_none ns (before ++ n ∷ []) once.1)
 
-differ_good : (ns : List ℕ) → first_repeat [] ns ≡ None → (n : ℕ) → count_of n ns ≤ 1
+differ_good : (ns : List ℕ) → first_repeat [] ns ≡ None → (n : ℕ) → times_in n ns ≤ 1
 differ_good ns e n = (once_counted all_true ns [] (distinct_good ns [] e) n refl).1
 
-differ_none : (ns : List ℕ) → ((n : ℕ) → count_of n ns ≤ 1) → first_repeat [] ns ≡ None
+differ_none : (ns : List ℕ) → ((n : ℕ) → times_in n ns ≤ 1) → first_repeat [] ns ≡ None
 differ_none ns h = distinct_none ns [] (counted_once all_true ns [] (λ n is. ((λ bad. cc), h n)))
 
 unless_good : (b : Bool) (m : ℕ) → unless b (Some m) ≡ None → b ≡ true
@@ -327,15 +328,15 @@ map_none f None e = refl
 map_none f (Some x) e = some_none x e
 
 module _ (kind : Kind) (trees : List Tree) where
-  pub no_fault_good : first_fault kind trees ≡ None → Good kind trees
+  pub no_fault_good : first_fault kind trees ≡ None → GoodSettings kind trees
   no_fault_good e =
-      let rest = or_right (parts_fault (Top kind) root [] (row_of trees)) (or_else (flow_fault trees) (or_else (classifier_fault trees) (length_fault kind trees))) e in
-      let shapes = row_good (row_of trees) (Top kind) root [] (or_left (parts_fault (Top kind) root [] (row_of trees)) (or_else (flow_fault trees) (or_else (classifier_fault trees) (length_fault kind trees))) e) in
-      let flows = map_good FlowReference (or_else (first_repeat [] (numbers (flow_number both_directions) trees)) (first_lost trees trees))
-      (or_left (flow_fault trees) (or_else (classifier_fault trees) (length_fault kind trees)) rest) in
-      let rest2 = or_right (flow_fault trees) (or_else (classifier_fault trees) (length_fault kind trees)) rest in
+      let rest = or_right (parts_fault (Top kind) root [] (row_of trees)) (option_or (flow_fault trees) (option_or (classifier_fault trees) (length_fault kind trees))) e in
+      let shapes = row_good (row_of trees) (Top kind) root [] (or_left (parts_fault (Top kind) root [] (row_of trees)) (option_or (flow_fault trees) (option_or (classifier_fault trees) (length_fault kind trees))) e) in
+      let flows = map_good FlowReference (option_or (first_repeat [] (numbers (flow_number both_directions) trees)) (first_lost trees trees))
+      (or_left (flow_fault trees) (option_or (classifier_fault trees) (length_fault kind trees)) rest) in
+      let rest2 = or_right (flow_fault trees) (option_or (classifier_fault trees) (length_fault kind trees)) rest in
       let classifiers = map_good ClassifierReference (first_repeat [] (numbers classifier_number trees)) (or_left (classifier_fault trees) (length_fault kind trees) rest2) in
-      let lengths = map_good (λ (n : ℕ). TooLong (min n (2 ^ 32 - 1))) (or_else (long_part (row_of trees)) (too_many (limit_of kind) (trees_length trees)))
+      let lengths = map_good (λ (n : ℕ). TooLong (min n (2 ^ 32 - 1))) (option_or (long_part (row_of trees)) (too_many (size_limit kind) (trees_length trees)))
       (or_right (classifier_fault trees) (length_fault kind trees) rest2) in
       record {
         stand = shapes.0;
@@ -343,21 +344,21 @@ module _ (kind : Kind) (trees : List Tree) where
         flows = differ_good (numbers (flow_number both_directions) trees) (or_left (first_repeat [] (numbers (flow_number both_directions) trees)) (first_lost trees trees) flows);
         served = served_good trees trees (or_right (first_repeat [] (numbers (flow_number both_directions) trees)) (first_lost trees trees) flows);
         classifiers = differ_good (numbers classifier_number trees) classifiers;
-        short = short_row (row_of trees) (or_left (long_part (row_of trees)) (too_many (limit_of kind) (trees_length trees)) lengths);
-        whole = many_good (limit_of kind) (trees_length trees) (or_right (long_part (row_of trees)) (too_many (limit_of kind) (trees_length trees)) lengths);
+        short = short_row (row_of trees) (or_left (long_part (row_of trees)) (too_many (size_limit kind) (trees_length trees)) lengths);
+        whole = many_good (size_limit kind) (trees_length trees) (or_right (long_part (row_of trees)) (too_many (size_limit kind) (trees_length trees)) lengths);
       }
 
-  pub good_no_fault : Good kind trees → first_fault kind trees ≡ None
+  pub good_no_fault : GoodSettings kind trees → first_fault kind trees ≡ None
   good_no_fault g =
-      or_both (parts_fault (Top kind) root [] (row_of trees)) (or_else (flow_fault trees) (or_else (classifier_fault trees) (length_fault kind trees)))
+      or_both (parts_fault (Top kind) root [] (row_of trees)) (option_or (flow_fault trees) (option_or (classifier_fault trees) (length_fault kind trees)))
       (row_none (row_of trees) (Top kind) root [] g.stand (none_twice_of (Top kind) (row_codes (row_of trees)) g.counted) g.counted.1)
-      (or_both (flow_fault trees) (or_else (classifier_fault trees) (length_fault kind trees))
-      (map_none FlowReference (or_else (first_repeat [] (numbers (flow_number both_directions) trees)) (first_lost trees trees))
+      (or_both (flow_fault trees) (option_or (classifier_fault trees) (length_fault kind trees))
+      (map_none FlowReference (option_or (first_repeat [] (numbers (flow_number both_directions) trees)) (first_lost trees trees))
       (or_both (first_repeat [] (numbers (flow_number both_directions) trees)) (first_lost trees trees) (differ_none (numbers (flow_number both_directions) trees) g.flows) (served_none trees trees g.served)))
       (or_both (classifier_fault trees) (length_fault kind trees)
       (map_none ClassifierReference (first_repeat [] (numbers classifier_number trees)) (differ_none (numbers classifier_number trees) g.classifiers))
-      (map_none (λ (n : ℕ). TooLong (min n (2 ^ 32 - 1))) (or_else (long_part (row_of trees)) (too_many (limit_of kind) (trees_length trees)))
-      (or_both (long_part (row_of trees)) (too_many (limit_of kind) (trees_length trees)) (row_short (row_of trees) g.short) (many_none (limit_of kind) (trees_length trees) g.whole)))))
+      (map_none (λ (n : ℕ). TooLong (min n (2 ^ 32 - 1))) (option_or (long_part (row_of trees)) (too_many (size_limit kind) (trees_length trees)))
+      (or_both (long_part (row_of trees)) (too_many (size_limit kind) (trees_length trees)) (row_short (row_of trees) g.short) (many_none (size_limit kind) (trees_length trees) g.whole)))))
 
 checked_good : (o : Option TreeFault) → IsOk (checked o) → o ≡ None
 checked_good None is = refl
@@ -367,7 +368,7 @@ checked_ok : (o : Option TreeFault) → o ≡ None → IsOk (checked o)
 checked_ok None e = refl
 checked_ok (Some fault) e = some_none fault e
 
-pub answer_good : (kind : Kind) (trees : List Tree) (answer : Result (Unit {0}) TreeFault) → answer ≡ checked (first_fault kind trees) → IsOk answer ↔ Good kind trees
+pub answer_good : (kind : Kind) (trees : List Tree) (answer : Result (Unit {0}) TreeFault) → answer ≡ checked (first_fault kind trees) → IsOk answer ↔ GoodSettings kind trees
 answer_good kind trees answer is = (
   (λ ok. no_fault_good kind trees (checked_good (first_fault kind trees) (subst IsOk is ok))),
   (λ good. subst IsOk (sym is) (checked_ok (first_fault kind trees) (good_no_fault kind trees good))),

@@ -5,7 +5,8 @@ use Rattle.std.specs.List.{slice_get}
 use Rattle.std.proofs.lemmas.Bool.Decides.{nat_tests}
 use Rattle.off_base.specs.Tree.{Tree, leaf, group, row_of, tree_length, trees_length, tree_size, trees_size}
 use Rattle.off_base.proofs.TreeLemmas.{row_length-row_of, row_size-row_of}
-use Rattle.off_tree.specs.Fault.{or_else, too_many, long_setting, long_part}
+use Rattle.std.specs.Option.{option_or}
+use Rattle.off_tree.specs.Fault.{too_many, long_setting, long_part}
 use Rattle.off_tree.specs.Length.{value_length, at_most_u32}
 use Rattle.off_base.proofs.TreeLemmas.{taken}
 
@@ -41,19 +42,19 @@ too_many_u32 most n small =
     let same : nat_lt most (at_most_u32 n) ≡ nat_lt most n = grind (arith, nat_tests) in
     ap (λ (b : Bool). cond b (Some (at_most_u32 n)) None) same ∙ by_test (nat_lt most n) n
 
-pub map_or_else : (a b : Option ℕ) → option_map at_most_u32 (or_else a b) ≡ or_else (option_map at_most_u32 a) (option_map at_most_u32 b)
-map_or_else None b = refl
-map_or_else (Some x) b = refl
+pub map_option_or : (a b : Option ℕ) → option_map at_most_u32 (option_or a b) ≡ option_or (option_map at_most_u32 a) (option_map at_most_u32 b)
+map_option_or None b = refl
+map_option_or (Some x) b = refl
 
 inner_long : Tree → Option ℕ
 inner_long (leaf c v) = None
 inner_long (group c r) = long_part r
 
-or_none : (o : Option ℕ) → or_else o None ≡ o
+or_none : (o : Option ℕ) → option_or o None ≡ o
 or_none None = refl
 or_none (Some n) = refl
 
-long_is : (t : Tree) → long_setting t ≡ or_else (too_many 254 (value_length t)) (inner_long t)
+long_is : (t : Tree) → long_setting t ≡ option_or (too_many 254 (value_length t)) (inner_long t)
 unfolding inner_long
 long_is (leaf c v) = sym (or_none (too_many 254 (length v)))
 long_is (group c r) = refl
@@ -62,12 +63,12 @@ long_is (group c r) = refl
 pub long_itself : (t : Tree) (n value : ℕ) → value ≡ at_most_u32 (value_length t) → Some n ≡ too_many 254 value → Some n ≡ option_map at_most_u32 (long_setting t)
 long_itself t n value is e =
     let mapped : Some n ≡ option_map at_most_u32 (too_many 254 (value_length t)) = e ∙ ap (too_many 254) is ∙ too_many_u32 254 (value_length t) (lit< tt) in
-    ap (λ (o : Option ℕ). or_else o (option_map at_most_u32 (inner_long t))) mapped ∙ sym (map_or_else (too_many 254 (value_length t)) (inner_long t)) ∙ ap (option_map at_most_u32) (sym (long_is t))
+    ap (λ (o : Option ℕ). option_or o (option_map at_most_u32 (inner_long t))) mapped ∙ sym (map_option_or (too_many 254 (value_length t)) (inner_long t)) ∙ ap (option_map at_most_u32) (sym (long_is t))
 
 not_itself : (t : Tree) (value : ℕ) → value ≡ at_most_u32 (value_length t) → None ≡ too_many 254 value → option_map at_most_u32 (inner_long t) ≡ option_map at_most_u32 (long_setting t)
 not_itself t value is e =
     let mapped : None ≡ option_map at_most_u32 (too_many 254 (value_length t)) = e ∙ ap (too_many 254) is ∙ too_many_u32 254 (value_length t) (lit< tt) in
-    ap (λ (o : Option ℕ). or_else o (option_map at_most_u32 (inner_long t))) mapped ∙ sym (map_or_else (too_many 254 (value_length t)) (inner_long t)) ∙ ap (option_map at_most_u32) (sym (long_is t))
+    ap (λ (o : Option ℕ). option_or o (option_map at_most_u32 (inner_long t))) mapped ∙ sym (map_option_or (too_many 254 (value_length t)) (inner_long t)) ∙ ap (option_map at_most_u32) (sym (long_is t))
 
 pub long_leaf : (t : Tree) (code value : ℕ) (bytes : List ℕ) → t ≡ leaf code bytes → value ≡ at_most_u32 (value_length t) → None ≡ too_many 254 value → None ≡ option_map at_most_u32 (long_setting t)
 unfolding inner_long

@@ -5,7 +5,8 @@ use Rattle.std.specs.List.{slice_get}
 use Rattle.std.proofs.lemmas.List.Concat.{flat_map-append}
 use Rattle.std.proofs.lemmas.Option.{slice_get-get_or}
 use Rattle.off_base.specs.Tree.{Tree, leaf}
-use Rattle.off_tree.specs.Fault.{or_else, contains, as_list, numbers, first_repeat}
+use Rattle.std.specs.Option.{option_or}
+use Rattle.off_tree.specs.Fault.{contains, as_list, numbers, first_repeat}
 use Rattle.off_tree.specs.Reference.{repeat_here, is_same}
 use Rattle.off_base.proofs.TreeLemmas.{taken, dropped}
 
@@ -41,7 +42,7 @@ other_out : (n : ℕ) (o : Option ℕ) → is_same n o ≡ false → contains n 
 other_out n None h = refl
 other_out n (Some m) h = ap (λ (b : Bool). b || false) h
 
-repeat_by : (before rest : List ℕ) (n : ℕ) (b : Bool) → cond b (Some n) (first_repeat (before ++ n ∷ []) rest) ≡ or_else (cond b (Some n) None) (first_repeat (before ++ n ∷ []) rest)
+repeat_by : (before rest : List ℕ) (n : ℕ) (b : Bool) → cond b (Some n) (first_repeat (before ++ n ∷ []) rest) ≡ option_or (cond b (Some n) None) (first_repeat (before ++ n ∷ []) rest)
 repeat_by before rest n true = refl
 repeat_by before rest n false = refl
 
@@ -63,23 +64,23 @@ module _ (f : Tree → Option ℕ) where
   number_more ts i t n e so_far other =
       subst (λ (x : List ℕ). contains n x ≡ false) (sym (numbers_push ts i t e)) (contains_neither n (numbers f (take i ts)) (as_list (f t)) so_far (other_out n (f t) other))
 
-  repeat_on : (before rest : List ℕ) (o : Option ℕ) → first_repeat before (as_list o ++ rest) ≡ or_else (repeat_here before o) (first_repeat (before ++ as_list o) rest)
+  repeat_on : (before rest : List ℕ) (o : Option ℕ) → first_repeat before (as_list o ++ rest) ≡ option_or (repeat_here before o) (first_repeat (before ++ as_list o) rest)
   repeat_on before rest None = ap (λ (x : List ℕ). first_repeat x rest) (sym (append-nil before))
   repeat_on before rest (Some n) = repeat_by before rest n (contains n before)
 
   repeat_step : (ts : List Tree) (i : ℕ) (t : Tree) → slice_get ts i ≡ Some t
       → first_repeat (numbers f (take i ts)) (numbers f (drop i ts))
-      ≡ or_else (repeat_here (numbers f (take i ts)) (f t)) (first_repeat (numbers f (take (i + 1) ts)) (numbers f (drop (i + 1) ts)))
+      ≡ option_or (repeat_here (numbers f (take i ts)) (f t)) (first_repeat (numbers f (take (i + 1) ts)) (numbers f (drop (i + 1) ts)))
   repeat_step ts i t e =
       ap (λ (x : List Tree). first_repeat (numbers f (take i ts)) (numbers f x)) (dropped ts i t e)
       ∙ repeat_on (numbers f (take i ts)) (numbers f (drop (i + 1) ts)) (f t)
-      ∙ ap (λ (x : List ℕ). or_else (repeat_here (numbers f (take i ts)) (f t)) (first_repeat x (numbers f (drop (i + 1) ts)))) (sym (numbers_push ts i t e))
+      ∙ ap (λ (x : List ℕ). option_or (repeat_here (numbers f (take i ts)) (f t)) (first_repeat x (numbers f (drop (i + 1) ts)))) (sym (numbers_push ts i t e))
 
   pub repeat_found : (ts : List Tree) (i n : ℕ) → i < length ts → first_repeat (numbers f (take i ts)) (numbers f (drop i ts)) ≡ first_repeat [] (numbers f ts)
       → ((t : Tree) → slice_get ts i ≡ Some t → Some n ≡ repeat_here (numbers f (take i ts)) (f t)) → Some n ≡ first_repeat [] (numbers f ts)
   repeat_found ts i n at so_far here =
       let e : slice_get ts i ≡ Some (get_or ts i (leaf 0 [])) = slice_get-get_or ts i (leaf 0 []) at in
-      ap (λ (x : Option ℕ). or_else x (first_repeat (numbers f (take (i + 1) ts)) (numbers f (drop (i + 1) ts)))) (here (get_or ts i (leaf 0 [])) e)
+      ap (λ (x : Option ℕ). option_or x (first_repeat (numbers f (take (i + 1) ts)) (numbers f (drop (i + 1) ts)))) (here (get_or ts i (leaf 0 [])) e)
       ∙ sym (repeat_step ts i (get_or ts i (leaf 0 [])) e) ∙ so_far
 
   pub repeat_none : (ts : List Tree) (i : ℕ) → i < length ts → first_repeat (numbers f (take i ts)) (numbers f (drop i ts)) ≡ first_repeat [] (numbers f ts)
@@ -87,15 +88,15 @@ module _ (f : Tree → Option ℕ) where
       → first_repeat (numbers f (take (i + 1) ts)) (numbers f (drop (i + 1) ts)) ≡ first_repeat [] (numbers f ts)
   repeat_none ts i at so_far here =
       let e : slice_get ts i ≡ Some (get_or ts i (leaf 0 [])) = slice_get-get_or ts i (leaf 0 []) at in
-      ap (λ (x : Option ℕ). or_else x (first_repeat (numbers f (take (i + 1) ts)) (numbers f (drop (i + 1) ts)))) (here (get_or ts i (leaf 0 [])) e)
+      ap (λ (x : Option ℕ). option_or x (first_repeat (numbers f (take (i + 1) ts)) (numbers f (drop (i + 1) ts)))) (here (get_or ts i (leaf 0 [])) e)
       ∙ sym (repeat_step ts i (get_or ts i (leaf 0 [])) e) ∙ so_far
 
 -- a search over settings for the first that has something
-module _ {X : Type 0} (g : Tree → Option X) (search_in : List Tree → Option X) (opens : (t : Tree) (ts : List Tree) → search_in (t ∷ ts) ≡ or_else (g t) (search_in ts)) where
+module _ {X : Type 0} (g : Tree → Option X) (search_in : List Tree → Option X) (opens : (t : Tree) (ts : List Tree) → search_in (t ∷ ts) ≡ option_or (g t) (search_in ts)) where
   pub search_found : (ts : List Tree) (i : ℕ) (t : Tree) (x : X) → slice_get ts i ≡ Some t → search_in (drop i ts) ≡ search_in ts → Some x ≡ g t → Some x ≡ search_in ts
   search_found ts i t x e so_far here =
-      ap (λ (o : Option X). or_else o (search_in (drop (i + 1) ts))) here ∙ sym (opens t (drop (i + 1) ts)) ∙ ap search_in (sym (dropped ts i t e)) ∙ so_far
+      ap (λ (o : Option X). option_or o (search_in (drop (i + 1) ts))) here ∙ sym (opens t (drop (i + 1) ts)) ∙ ap search_in (sym (dropped ts i t e)) ∙ so_far
 
   pub search_none : (ts : List Tree) (i : ℕ) (t : Tree) → slice_get ts i ≡ Some t → search_in (drop i ts) ≡ search_in ts → None ≡ g t → search_in (drop (i + 1) ts) ≡ search_in ts
   search_none ts i t e so_far here =
-      ap (λ (o : Option X). or_else o (search_in (drop (i + 1) ts))) here ∙ sym (opens t (drop (i + 1) ts)) ∙ ap search_in (sym (dropped ts i t e)) ∙ so_far
+      ap (λ (o : Option X). option_or o (search_in (drop (i + 1) ts))) here ∙ sym (opens t (drop (i + 1) ts)) ∙ ap search_in (sym (dropped ts i t e)) ∙ so_far

@@ -7,7 +7,8 @@ use Rattle.std.proofs.lemmas.List.{map-append}
 use Rattle.std.proofs.lemmas.Option.{slice_get-get_or}
 use Rattle.off_base.specs.Tree.{Tree, leaf, group, code_of, row_of, tree_size, trees_size}
 use Rattle.off_base.proofs.TreeLemmas.{row_size-row_of, size_at, taken, dropped}
-use Rattle.off_tree.specs.Fault.{or_else, contains, setting_fault, parts_fault}
+use Rattle.std.specs.Option.{option_or}
+use Rattle.off_tree.specs.Fault.{contains, setting_fault, parts_fault}
 use Rattle.off_tree.specs.declared.tables.Level.{Level}
 use Rattle.off_tree.specs.declared.paths.Path.{Path}
 use Rattle.off_tree.specs.declared.paths.TreeFault.{TreeFault}
@@ -44,23 +45,23 @@ stands_at (u ∷ ts) (suc i) (suc end) t code e lt is =
 -- one setting on
 pub step : (level : Level) (path : Path) (ts : List Tree) (i : ℕ) (t : Tree) → slice_get ts i ≡ Some t
     → parts_fault level path (map code_of (take i ts)) (row_of (drop i ts))
-    ≡ or_else (setting_fault level path (map code_of (take i ts)) t) (parts_fault level path (map code_of (take (i + 1) ts)) (row_of (drop (i + 1) ts)))
+    ≡ option_or (setting_fault level path (map code_of (take i ts)) t) (parts_fault level path (map code_of (take (i + 1) ts)) (row_of (drop (i + 1) ts)))
 step level path ts i t e =
     ap (λ (x : List Tree). parts_fault level path (map code_of (take i ts)) (row_of x)) (dropped ts i t e)
-    ∙ ap (λ (x : List ℕ). or_else (setting_fault level path (map code_of (take i ts)) t) (parts_fault level path x (row_of (drop (i + 1) ts)))) (sym (codes_more ts i t e))
+    ∙ ap (λ (x : List ℕ). option_or (setting_fault level path (map code_of (take i ts)) t) (parts_fault level path x (row_of (drop (i + 1) ts)))) (sym (codes_more ts i t e))
 
 pub found_here : (level : Level) (path : Path) (ts : List Tree) (i : ℕ) (t : Tree) (fault : TreeFault) → slice_get ts i ≡ Some t
     → parts_fault level path (map code_of (take i ts)) (row_of (drop i ts)) ≡ parts_fault level path [] (row_of ts)
     → Some fault ≡ setting_fault level path (map code_of (take i ts)) t → Some fault ≡ parts_fault level path [] (row_of ts)
 found_here level path ts i t fault e so_far here =
-    ap (λ (x : Option TreeFault). or_else x (parts_fault level path (map code_of (take (i + 1) ts)) (row_of (drop (i + 1) ts)))) here ∙ sym (step level path ts i t e) ∙ so_far
+    ap (λ (x : Option TreeFault). option_or x (parts_fault level path (map code_of (take (i + 1) ts)) (row_of (drop (i + 1) ts)))) here ∙ sym (step level path ts i t e) ∙ so_far
 
 pub none_here : (level : Level) (path : Path) (ts : List Tree) (i : ℕ) (t : Tree) → slice_get ts i ≡ Some t
     → parts_fault level path (map code_of (take i ts)) (row_of (drop i ts)) ≡ parts_fault level path [] (row_of ts)
     → None ≡ setting_fault level path (map code_of (take i ts)) t
     → parts_fault level path (map code_of (take (i + 1) ts)) (row_of (drop (i + 1) ts)) ≡ parts_fault level path [] (row_of ts)
 none_here level path ts i t e so_far here =
-    ap (λ (x : Option TreeFault). or_else x (parts_fault level path (map code_of (take (i + 1) ts)) (row_of (drop (i + 1) ts)))) here ∙ sym (step level path ts i t e) ∙ so_far
+    ap (λ (x : Option TreeFault). option_or x (parts_fault level path (map code_of (take (i + 1) ts)) (row_of (drop (i + 1) ts)))) here ∙ sym (step level path ts i t e) ∙ so_far
 
 -- the same at a place in range, for whatever stands there
 pub found_at : (level : Level) (path : Path) (ts : List Tree) (i : ℕ) (fault : TreeFault) → i < length ts

@@ -1,5 +1,6 @@
 -- The first broken rule of a tree of settings: a walk over the tree, each setting before its parts, then the references, then the lengths.
 use Rattle.std.specs.Prelude.{ℕ, ◌+◌, ◌*◌, ◌==◌, ◌&&◌, ◌||◌, Bool, true, false, not, nat_lt, min, ◌-◌, ◌^◌, List, [], ◌∷◌, ◌++◌, length, Option, Some, None, option_map, if◌then◌else◌}
+use Rattle.std.specs.Option.{option_or}
 use Rattle.std.specs.List.{list_any, flat_map}
 use Rattle.off_base.specs.Tree.{Tree, Row, leaf, group, no_more, followed, code_of, row_of, row_items, row_length, trees_length}
 use Rattle.off_tree.specs.declared.tables.Level.{Level}
@@ -13,13 +14,8 @@ use Rattle.off_tree.specs.declared.paths.Path.{Path}
 use Rattle.off_tree.specs.declared.paths.TreeFault.{TreeFault}
 use Rattle.off_tree.specs.declared.paths.TreeFault.TheVariants.{UnknownCode, Length, Range, Missing, Twice, FlowReference, ClassifierReference, TooLong}
 use Rattle.off_tree.specs.Place.{below}
-use Rattle.off_tree.specs.Table.{table_of, rule_of, inside_of, is_single, is_needed}
+use Rattle.off_tree.specs.Table.{table_of, rule_of, level_inside, is_single, is_needed}
 use Rattle.off_tree.specs.Value.{in_range}
-
--- the first fault of two
-abbrev pub or_else : {X : Type 0} → Option X → Option X → Option X
-or_else None other = other
-or_else (Some fault) other = Some fault
 
 abbrev pub contains : ℕ → List ℕ → Bool
 contains code codes = list_any (λ c. c == code) codes
@@ -46,7 +42,7 @@ abbrev pub group_fault : Option Rule → Path → Bool → Option TreeFault
 group_fault None path seen = Some (UnknownCode path)
 group_fault (Some rule) path seen = group_broken rule.form path (seen && is_single rule.times)
 
--- the first line of a table that has to stand and doesn't
+-- the first line of a table that has to stand and doesn't; each table's codes ascend (`proofs/TableFacts.antt`), so it's the least such code
 abbrev pub missing_in : List Rule → Path → List ℕ → Option TreeFault
 missing_in [] path codes = None
 missing_in (rule ∷ rules) path codes = if is_needed rule.times && not (contains rule.code codes) then Some (Missing (below path rule.code)) else missing_in rules path codes
@@ -56,11 +52,11 @@ abbrev mutual
   pub setting_fault : Level → Path → List ℕ → Tree → Option TreeFault
   setting_fault level path codes (leaf code value) = leaf_fault (rule_of level code) (below path code) (contains code codes) value
   setting_fault level path codes (group code parts) =
-      or_else (group_fault (rule_of level code) (below path code) (contains code codes)) (parts_fault (inside_of level code) (below path code) [] parts)
+      option_or (group_fault (rule_of level code) (below path code) (contains code codes)) (parts_fault (level_inside level code) (below path code) [] parts)
 
   pub parts_fault : Level → Path → List ℕ → Row → Option TreeFault
   parts_fault level path codes no_more = missing_in (table_of level) path codes
-  parts_fault level path codes (followed t r) = or_else (setting_fault level path codes t) (parts_fault level path (codes ++ code_of t ∷ []) r)
+  parts_fault level path codes (followed t r) = option_or (setting_fault level path codes t) (parts_fault level path (codes ++ code_of t ∷ []) r)
 
 -- the value of the first leaf of a code among settings
 abbrev pub leaf_value : ℕ → Tree → Option (List ℕ)
@@ -69,11 +65,11 @@ leaf_value code (group c parts) = None
 
 abbrev pub value_in : ℕ → List Tree → Option (List ℕ)
 value_in code [] = None
-value_in code (t ∷ ts) = or_else (leaf_value code t) (value_in code ts)
+value_in code (t ∷ ts) = option_or (leaf_value code t) (value_in code ts)
 
-abbrev pub part_of : ℕ → Tree → Option (List ℕ)
-part_of code (leaf c value) = None
-part_of code (group c parts) = value_in code (row_items parts)
+abbrev pub part_value : ℕ → Tree → Option (List ℕ)
+part_value code (leaf c value) = None
+part_value code (group c parts) = value_in code (row_items parts)
 
 -- a number of two bytes, big-endian, and one of one byte
 abbrev pub pair : Option (List ℕ) → Option ℕ
@@ -91,16 +87,16 @@ single (Some (a ∷ b ∷ more)) = None
 
 -- the reference of a service flow of some directions, that of a classifier, and that of the flow which a classifier names
 abbrev pub flow_number : List ℕ → Tree → Option ℕ
-flow_number directions t = if contains (code_of t) directions then pair (part_of 1 t) else None
+flow_number directions t = if contains (code_of t) directions then pair (part_value 1 t) else None
 
 abbrev pub is_classifier : ℕ → Bool
 is_classifier code = code == 22 || code == 23
 
 abbrev pub classifier_number : Tree → Option ℕ
-classifier_number t = if is_classifier (code_of t) then single (part_of 1 t) else None
+classifier_number t = if is_classifier (code_of t) then single (part_value 1 t) else None
 
 abbrev pub named_flow : Tree → Option ℕ
-named_flow t = if is_classifier (code_of t) then pair (part_of 3 t) else None
+named_flow t = if is_classifier (code_of t) then pair (part_value 3 t) else None
 
 -- the direction of the flows that a classifier may name
 abbrev pub direction_of : ℕ → ℕ
@@ -136,10 +132,10 @@ lost_flow all t = lost_number (numbers (flow_number (direction_of (code_of t) �
 
 abbrev pub first_lost : List Tree → List Tree → Option ℕ
 first_lost all [] = None
-first_lost all (t ∷ ts) = or_else (lost_flow all t) (first_lost all ts)
+first_lost all (t ∷ ts) = option_or (lost_flow all t) (first_lost all ts)
 
 abbrev pub flow_fault : List Tree → Option TreeFault
-flow_fault trees = option_map FlowReference (or_else (first_repeat [] (numbers (flow_number both_directions) trees)) (first_lost trees trees))
+flow_fault trees = option_map FlowReference (option_or (first_repeat [] (numbers (flow_number both_directions) trees)) (first_lost trees trees))
 
 abbrev pub classifier_fault : List Tree → Option TreeFault
 classifier_fault trees = option_map ClassifierReference (first_repeat [] (numbers classifier_number trees))
@@ -151,23 +147,23 @@ too_many most n = if nat_lt most n then Some n else None
 abbrev mutual
   pub long_setting : Tree → Option ℕ
   long_setting (leaf code value) = too_many 254 (length value)
-  long_setting (group code parts) = or_else (too_many 254 (row_length parts)) (long_part parts)
+  long_setting (group code parts) = option_or (too_many 254 (row_length parts)) (long_part parts)
 
   pub long_part : Row → Option ℕ
   long_part no_more = None
-  long_part (followed t r) = or_else (long_setting t) (long_part r)
+  long_part (followed t r) = option_or (long_setting t) (long_part r)
 
 -- the most bytes of a whole tree's spelling
-abbrev pub limit_of : Kind → ℕ
-limit_of Class = 2048
-limit_of AddOn = 512
+abbrev pub size_limit : Kind → ℕ
+size_limit Class = 2048
+size_limit AddOn = 512
 
 abbrev pub length_fault : Kind → List Tree → Option TreeFault
-length_fault kind trees = option_map (λ n. TooLong (min n (2 ^ 32 - 1))) (or_else (long_part (row_of trees)) (too_many (limit_of kind) (trees_length trees)))
+length_fault kind trees = option_map (λ n. TooLong (min n (2 ^ 32 - 1))) (option_or (long_part (row_of trees)) (too_many (size_limit kind) (trees_length trees)))
 
 abbrev pub root : Path
 root = record { depth = 0; a = 0; b = 0; c = 0 }
 
 -- the first broken rule: by the tables, then the references of flows, then those of classifiers, then the lengths
 abbrev pub first_fault : Kind → List Tree → Option TreeFault
-first_fault kind trees = or_else (parts_fault (Top kind) root [] (row_of trees)) (or_else (flow_fault trees) (or_else (classifier_fault trees) (length_fault kind trees)))
+first_fault kind trees = option_or (parts_fault (Top kind) root [] (row_of trees)) (option_or (flow_fault trees) (option_or (classifier_fault trees) (length_fault kind trees)))

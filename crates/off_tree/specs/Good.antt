@@ -9,12 +9,12 @@ use Rattle.off_tree.specs.declared.tables.Rule.{Rule}
 use Rattle.off_tree.specs.declared.tables.Form.{Form}
 use Rattle.off_tree.specs.declared.tables.Form.TheVariants.{Leaf, Group}
 use Rattle.off_tree.specs.declared.paths.TreeFault.{TreeFault}
-use Rattle.off_tree.specs.Table.{table_of, rule_of, inside_of, is_single, is_needed}
+use Rattle.off_tree.specs.Table.{table_of, rule_of, level_inside, is_single, is_needed}
 use Rattle.off_tree.specs.Value.{in_range}
-use Rattle.off_tree.specs.Fault.{contains, numbers, flow_number, both_directions, classifier_number, named_flow, direction_of, limit_of}
+use Rattle.off_tree.specs.Fault.{contains, numbers, flow_number, both_directions, classifier_number, named_flow, direction_of, size_limit}
 
-abbrev pub count_of : ℕ → List ℕ → ℕ
-count_of n ns = count_by (λ x. x == n) ns
+abbrev pub times_in : ℕ → List ℕ → ℕ
+times_in n ns = count_by (λ x. x == n) ns
 
 -- a leaf is one of the table, with a length and a value in their ranges
 abbrev pub LeafFits : Form → List ℕ → Type 0
@@ -40,9 +40,9 @@ single_rule None = false
 single_rule (Some rule) = is_single rule.times
 
 -- what stands at most once does, and what has to stand does
-abbrev pub Counted : Level → List ℕ → Type 0
-Counted level codes =
-    ((code : ℕ) → IsTrue (single_rule (rule_of level code)) → count_of code codes ≤ 1)
+abbrev pub KeepsTimes : Level → List ℕ → Type 0
+KeepsTimes level codes =
+    ((code : ℕ) → IsTrue (single_rule (rule_of level code)) → times_in code codes ≤ 1)
     × AllByRecursion (λ rule. IsTrue (is_needed rule.times) → IsTrue (contains rule.code codes)) (table_of level)
 
 abbrev pub row_codes : Row → List ℕ
@@ -53,7 +53,7 @@ row_codes (followed t r) = code_of t ∷ row_codes r
 abbrev mutual
   pub Stands : Level → Tree → Type 0
   Stands level (leaf code value) = LeafStands (rule_of level code) value
-  Stands level (group code parts) = GroupStands (rule_of level code) × EachStands (inside_of level code) parts × Counted (inside_of level code) (row_codes parts)
+  Stands level (group code parts) = GroupStands (rule_of level code) × EachStands (level_inside level code) parts × KeepsTimes (level_inside level code) (row_codes parts)
 
   pub EachStands : Level → Row → Type 0
   EachStands level no_more = Unit {0}
@@ -73,15 +73,15 @@ abbrev mutual
   EachIsShort no_more = Unit {0}
   EachIsShort (followed t r) = IsShort t × EachIsShort r
 
-pub record Good (kind : Kind) (trees : List Tree) : Type 0 where
+pub record GoodSettings (kind : Kind) (trees : List Tree) : Type 0 where
   pub stand : EachStands (Top kind) (row_of trees)
-  pub counted : Counted (Top kind) (row_codes (row_of trees))
+  pub counted : KeepsTimes (Top kind) (row_codes (row_of trees))
   -- the references of flows differ over both directions, and those of classifiers
-  pub flows : (n : ℕ) → count_of n (numbers (flow_number both_directions) trees) ≤ 1
+  pub flows : (n : ℕ) → times_in n (numbers (flow_number both_directions) trees) ≤ 1
   pub served : AllByRecursion (IsServed trees) trees
-  pub classifiers : (n : ℕ) → count_of n (numbers classifier_number trees) ≤ 1
+  pub classifiers : (n : ℕ) → times_in n (numbers classifier_number trees) ≤ 1
   pub short : EachIsShort (row_of trees)
-  pub whole : trees_length trees ≤ limit_of kind
+  pub whole : trees_length trees ≤ size_limit kind
 
 -- the answer that a first fault makes
 abbrev pub checked : Option TreeFault → Result (Unit {0}) TreeFault

@@ -19,8 +19,8 @@ leaf_of n = Leaf n n range.Any
 abbrev pub within : ℕ → ℕ → ℕ → Form
 within n least most = Leaf n n (range.Number least most)
 
-abbrev pub name_text : Form
-name_text = Leaf 2 16 range.Name
+abbrev pub name_form : Form
+name_form = Leaf 2 16 range.Name
 
 abbrev pub a_group : Form
 a_group = Group
@@ -69,7 +69,7 @@ top_settings =
 abbrev pub flow_parts : List Listed
 flow_parts =
     listed 1 (within 2 1 255) must must  -- reference
-    ∷ listed 4 name_text once once  -- service class name
+    ∷ listed 4 name_form once once  -- service class name
     ∷ listed 6 (within 1 1 7) must must  -- QoS set type: bit 0 provisioned, 1 admitted, 2 active
     ∷ listed 7 (within 1 0 7) once once  -- traffic priority
     ∷ listed 8 (leaf_of 4) once once  -- maximum sustained rate, bits per second
@@ -150,9 +150,9 @@ table_of Ip = ip_parts
 table_of Extension = extension_parts
 
 -- the line for a code
-abbrev pub line_of : ℕ → List Rule → Option Rule
-line_of code [] = None
-line_of code (first ∷ rules) = if first.code == code then Some first else line_of code rules
+abbrev pub rule_with : ℕ → List Rule → Option Rule
+rule_with code [] = None
+rule_with code (first ∷ rules) = if first.code == code then Some first else rule_with code rules
 
 -- an extension field may have any other part
 abbrev pub others : Level → Option Rule
@@ -168,20 +168,21 @@ or_other None other = other
 or_other (Some found) other = Some found
 
 abbrev pub rule_of : Level → ℕ → Option Rule
-rule_of level code = or_other (line_of code (table_of level)) (others level)
+rule_of level code = or_other (rule_with code (table_of level)) (others level)
 
--- where the parts of a group stand
-abbrev pub inside_of : Level → ℕ → Level
-inside_of (Top kind) code =
+-- Where the parts of a group stand: of 22 to 25 and 43 at the top, and of 9 in a classifier. No table has another group, so a group of
+-- another code or in another place is a fault (or isn't good) by its line alone, and what stands here for it is of no effect.
+abbrev pub level_inside : Level → ℕ → Level
+level_inside (Top kind) code =
     if code == 22 || code == 23 then Classifier kind
     else if code == 24 then UpstreamFlow
     else if code == 25 then DownstreamFlow
     else Extension
-inside_of (Classifier kind) code = Ip
-inside_of UpstreamFlow code = Ip
-inside_of DownstreamFlow code = Ip
-inside_of Ip code = Ip
-inside_of Extension code = Ip
+level_inside (Classifier kind) code = Ip
+level_inside UpstreamFlow code = Ip
+level_inside DownstreamFlow code = Ip
+level_inside Ip code = Ip
+level_inside Extension code = Ip
 
 abbrev pub is_single : Times → Bool
 is_single Any = false

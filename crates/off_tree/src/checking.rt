@@ -1,7 +1,7 @@
-ghost use Rattle.std.specs.Prelude.{◌≡◌, ◌↔◌, IsOk, option_map};
+ghost use Rattle.std.specs.Prelude.{◌≡◌, ◌↔◌, IsOk};
 ghost use Rattle.off_tree.specs.Fault.{first_fault, flow_fault, classifier_fault, length_fault};
-ghost use Rattle.off_tree.specs.Fault.{limit_of};
-ghost use Rattle.off_tree.specs.Good.{Good, checked};
+ghost use Rattle.off_tree.specs.Fault.{size_limit};
+ghost use Rattle.off_tree.specs.Good.{GoodSettings, checked};
 ghost use Rattle.off_tree.specs.declared.tables.Kind.TheVariants.{Class as a_class};
 ghost use Rattle.off_tree.specs.declared.tables.Kind.TheVariants.{AddOn as an_add_on};
 
@@ -19,7 +19,7 @@ use off_base::Settings;
 /// most 300 in a good class.
 pub fn check_class(settings: &Settings) -> Result<(), TreeFault>
     ensures first { result ≡ checked (first_fault a_class settings.now) }
-    ensures good { IsOk result ↔ Good a_class settings.now }
+    ensures good { IsOk result ↔ GoodSettings a_class settings.now }
 {
     check(Kind::Class, settings)
 }
@@ -28,7 +28,7 @@ pub fn check_class(settings: &Settings) -> Result<(), TreeFault>
 /// memory.
 pub fn check_addon(settings: &Settings) -> Result<(), TreeFault>
     ensures first { result ≡ checked (first_fault an_add_on settings.now) }
-    ensures good { IsOk result ↔ Good an_add_on settings.now }
+    ensures good { IsOk result ↔ GoodSettings an_add_on settings.now }
 {
     check(Kind::AddOn, settings)
 }
@@ -86,7 +86,7 @@ fn length_fault(kind: Kind, settings: &Settings) -> Option<TreeFault>
 
 // The most bytes of a whole tree's spelling.
 fn limit(kind: Kind) -> u32
-    ensures { result ≡ limit_of kind }
+    ensures { result ≡ size_limit kind }
 {
     match kind {
         Kind::Class => 2048,

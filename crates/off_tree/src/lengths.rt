@@ -1,5 +1,5 @@
-ghost use Rattle.std.specs.Prelude.{◌≡◌, ◌-◌, ◌^◌, min, option_map};
-ghost use Rattle.off_base.specs.Tree.{trees_length, tree_length, row_of};
+ghost use Rattle.std.specs.Prelude.{◌≡◌, ◌-◌, option_map};
+ghost use Rattle.off_base.specs.Tree.{trees_length, row_of};
 ghost use Rattle.off_base.specs.Setting.{tree_of};
 ghost use Rattle.off_tree.specs.Fault.{too_many, long_setting, long_part};
 ghost use Rattle.off_tree.specs.Length.{value_length, at_most_u32};

@@ -1,11 +1,11 @@
-ghost use Rattle.std.specs.Prelude.{◌≡◌, ◌<◌, ◌≤◌, [], Some, List, ℕ, length, take, option_map};
+ghost use Rattle.std.specs.Prelude.{◌≡◌, ◌<◌, ◌≤◌, [], Some, ℕ, length, take, option_map};
 ghost use Rattle.std.specs.Prelude.{slice_get};
 ghost use Rattle.off_base.specs.Tree.{Tree, code_of};
 ghost use Rattle.off_base.specs.Setting.{tree_of};
-ghost use Rattle.off_tree.specs.Fault.{contains, leaf_value, value_in, part_of, pair, single};
+ghost use Rattle.off_tree.specs.Fault.{contains, leaf_value, value_in, part_value, pair, single};
 ghost use Rattle.off_tree.specs.Fault.{flow_number, classifier_number, named_flow, is_classifier};
-ghost use Rattle.off_tree.specs.Fault.{direction_of, both_directions, numbers, first_repeat};
-ghost use Rattle.off_tree.specs.Fault.{lost_flow, first_lost, lost_number};
+ghost use Rattle.off_tree.specs.Fault.{both_directions, numbers, first_repeat};
+ghost use Rattle.off_tree.specs.Fault.{lost_flow, first_lost};
 ghost use Rattle.off_tree.specs.Reference.{directions_of, repeat_here, is_same};
 
 use crate::shapes::code_of;
@@ -206,9 +206,9 @@ fn classifier_number(setting: &Setting) -> Option<u8>
 
 // The number of two bytes in a part.
 fn pair_in(part: u8, setting: &Setting) -> Option<u16>
-    ensures { result ≡ pair (part_of part (tree_of setting.now)) }
+    ensures { result ≡ pair (part_value part (tree_of setting.now)) }
 {
-    let Some(value) = part_of(part, setting) else {
+    let Some(value) = part_value(part, setting) else {
         return None;
     };
     match value {
@@ -219,9 +219,9 @@ fn pair_in(part: u8, setting: &Setting) -> Option<u16>
 
 // The number of one byte in a part.
 fn single_in(part: u8, setting: &Setting) -> Option<u8>
-    ensures { result ≡ single (part_of part (tree_of setting.now)) }
+    ensures { result ≡ single (part_value part (tree_of setting.now)) }
 {
-    let Some(value) = part_of(part, setting) else {
+    let Some(value) = part_value(part, setting) else {
         return None;
     };
     match value {
@@ -231,8 +231,8 @@ fn single_in(part: u8, setting: &Setting) -> Option<u8>
 }
 
 // The value of the first leaf of a code among a group's parts.
-fn part_of(part: u8, setting: &Setting) -> Option<&[u8]>
-    ensures { option_map (λ value. value.now) result ≡ part_of part (tree_of setting.now) }
+fn part_value(part: u8, setting: &Setting) -> Option<&[u8]>
+    ensures { option_map (λ value. value.now) result ≡ part_value part (tree_of setting.now) }
 {
     match setting {
         Setting::Leaf { .. } => None,

@@ -1,7 +1,8 @@
 //! Which settings a class or an add-on may have: this project's profile of CM-SP-MULPIv3.1, annex
 //! C.
 ghost use Rattle.std.specs.Prelude.{◌≡◌, ◌==◌};
-ghost use Rattle.off_tree.specs.Table.{table_of, rule_of, line_of, inside_of, is_single, is_needed};
+ghost use Rattle.off_tree.specs.Table.{table_of, rule_of, rule_with, level_inside};
+ghost use Rattle.off_tree.specs.Table.{is_single, is_needed};
 
 /// How often a setting stands among its neighbours.
 #[derive(Clone, Copy, Debug, PartialEq, Eq)]
@@ -219,7 +220,7 @@ impl Level {
     pub(crate) fn rule(self, code: u8) -> Option<Rule>
         ensures { result ≡ rule_of self code }
     {
-        match line_of(code, self.table()) {
+        match rule_with(code, self.table()) {
             Some(rule) => Some(rule),
             None => match self {
                 Level::Extension => Some(OTHER_EXTENSION),
@@ -230,7 +231,7 @@ impl Level {
 
     // Where the parts of a group of the code stand.
     pub(crate) fn inside(self, code: u8) -> Level
-        ensures { result ≡ inside_of self code }
+        ensures { result ≡ level_inside self code }
     {
         match self {
             Level::Top(kind) => match code {
@@ -244,8 +245,8 @@ impl Level {
     }
 }
 
-fn line_of(code: u8, table: &[Rule]) -> Option<Rule>
-    ensures { result ≡ line_of code table.now }
+fn rule_with(code: u8, table: &[Rule]) -> Option<Rule>
+    ensures { result ≡ rule_with code table.now }
 {
     for rule in table {
         if rule.code == code {

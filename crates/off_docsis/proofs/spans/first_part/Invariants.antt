@@ -1,7 +1,8 @@
 use Rattle.std.proofs.Common.{false, length, ◌-◌, ◌≡◌, ◌≤◌}
 use Rattle.off_base.specs.Parts.{bytes_of, parts_in}
 use Rattle.off_base.specs.Walk.{left}
-use Rattle.off_docsis.specs.Spans.{span_in, span_before}
+use Rattle.off_docsis.specs.Cable.{span_in}
+use Rattle.off_docsis.proofs.SpanLemmas.{span_before}
 use Rattle.off_docsis.proofs.spans.first_part.Given as goal
 
 abbrev pub invariant-parts : goal.invariant-parts

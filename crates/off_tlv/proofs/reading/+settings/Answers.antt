@@ -1,7 +1,7 @@
 use Rattle.std.proofs.Common.{◌≡◌, ℕ, ◌+◌, List, ◌++◌, drop, length, sym, subst, ap, ◌∙◌, arith}
 use Rattle.off_base.specs.Tree.{leaf}
 use Rattle.off_tlv.specs.Grammar.{Level, AllStand}
-use Rattle.off_tlv.specs.Front.{IsSpelled, Spells}
+use Rattle.off_tlv.specs.Front.{IsSpelled, SpellsSetting}
 use Rattle.off_tlv.specs.Seen.{level_of}
 use Rattle.off_tlv.proofs.ReadingLemmas.{spelled_not_short, one_spelled, inner_spelled, leaf_spells, group_spelled, built_more}
 use Rattle.off_tlv.proofs.reading.+settings.Goals as goal
@@ -22,7 +22,7 @@ setting_of-returns-then-is_group t c =
 pub setting_of-returns : goal.setting_of-returns
 setting_of-returns t c =
     let copied : c.push_all.new.self ≡ c.args.value.now = c.in_ok-push_all.ensures.ok ∙ ap (λ (x : List ℕ). x ++ c.args.value.now) c.new-bytes.ensures in
-    subst (λ (x : List ℕ). Spells (level_of c.args.level) c.args.code c.args.value.now (leaf c.args.code x)) (sym copied)
+    subst (λ (x : List ℕ). SpellsSetting (level_of c.args.level) c.args.code c.args.value.now (leaf c.args.code x)) (sym copied)
     (leaf_spells (level_of c.args.level) c.args.code c.args.value.now c.requires (sym c.is_group.ensures ∙ c.if-is_group.false))
 
 pub settings_of-unreachable-requires : goal.settings_of-unreachable-requires

@@ -6,7 +6,7 @@ use Rattle.off_tree.specs.Fault.{long_setting, long_part}
 use Rattle.off_tree.specs.Length.{at_most_u32}
 use Rattle.off_base.proofs.TreeLemmas.{size_at}
 use Rattle.off_tree.proofs.ReferenceLemmas.{search_found, search_none}
-use Rattle.off_tree.proofs.LengthLemmas.{parts_smaller, map_or_else, long_itself, long_leaf, long_group}
+use Rattle.off_tree.proofs.LengthLemmas.{parts_smaller, map_option_or, long_itself, long_leaf, long_group}
 use Rattle.off_tree.proofs.lengths.+long.Goals as goal
 
 pub long_part-long_setting-requires : goal.long_part-long_setting-requires
@@ -15,12 +15,12 @@ long_part-long_setting-requires t c = (omega (arith, size_at c.args.settings.now
 pub long_part-returns-in-Some : goal.long_part-returns-in-Some
 long_part-returns-in-Some t c =
     search_found (λ (x : Tree). option_map at_most_u32 (long_setting x)) (λ (xs : List Tree). option_map at_most_u32 (long_part (row_of xs)))
-    (λ x xs. map_or_else (long_setting x) (long_part (row_of xs))) c.args.settings.now c.loop-place.place (tree_of c.get.result.now) c.in-Some.length c.get.ensures c.loop-place.invariant c.in-Some.ensures
+    (λ x xs. map_option_or (long_setting x) (long_part (row_of xs))) c.args.settings.now c.loop-place.place (tree_of c.get.result.now) c.in-Some.length c.get.ensures c.loop-place.invariant c.in-Some.ensures
 
 pub long_part-loop-place-preserved : goal.long_part-loop-place-preserved
 long_part-loop-place-preserved t c =
     search_none (λ (x : Tree). option_map at_most_u32 (long_setting x)) (λ (xs : List Tree). option_map at_most_u32 (long_part (row_of xs)))
-    (λ x xs. map_or_else (long_setting x) (long_part (row_of xs))) c.args.settings.now c.loop-place.place (tree_of c.get.result.now) c.get.ensures c.loop-place.invariant c.in_default.ensures
+    (λ x xs. map_option_or (long_setting x) (long_part (row_of xs))) c.args.settings.now c.loop-place.place (tree_of c.get.result.now) c.get.ensures c.loop-place.invariant c.in_default.ensures
 
 pub long_setting-long_part-requires : goal.long_setting-long_part-requires
 long_setting-long_part-requires t c = (omega (arith, parts_smaller c.in-Group.code c.in-Group.parts (tree_of c.args.setting.now) (ap tree_of c.in-Group.is)), tt)

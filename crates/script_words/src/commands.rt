@@ -1,0 +1,34 @@
+use crate::entries::read_write;
+use crate::line::{Line, Unread};
+use crate::rows::read_key;
+use off_defs::{Command, Key, Row, Write};
+use std::alloc::Global;
+
+/// Reads what a clerk wants done: `put ROW`, `remove KEY` or `show KEY`.
+pub fn read_command(alloc: Global, line: &mut Line<'_>) -> Result<Command, Unread> {
+    match line.word() {
+        b"put" => put_of(alloc, line),
+        b"remove" => Ok(Command::Remove(read_key(line)?)),
+        b"show" => Ok(Command::Show(read_key(line)?)),
+        _ => Err(Unread::Words),
+    }
+}
+
+fn put_of(alloc: Global, line: &mut Line<'_>) -> Result<Command, Unread> {
+    let Write::Put(key, row) = read_write(alloc, line)? else {
+        return Err(Unread::Words);
+    };
+    put_row(key, row)
+}
+
+fn put_row(key: Key, row: Row) -> Result<Command, Unread> {
+    match (key, row) {
+        (Key::Site, Row::Site(site)) => Ok(Command::SetSite(site)),
+        (Key::Subscriber(number), Row::Subscriber(row)) => Ok(Command::PutSubscriber(number, row)),
+        (Key::AddOn(owner, number), Row::AddOn(row)) => Ok(Command::PutAddOn(owner, number, row)),
+        (Key::Modem(mac), Row::Modem(row)) => Ok(Command::PutModem(mac, row)),
+        (Key::Class(number), Row::Class(row)) => Ok(Command::PutClass(number, row)),
+        (Key::Pool(number), Row::Pool(row)) => Ok(Command::PutPool(number, row)),
+        _ => Err(Unread::Words),
+    }
+}
