@@ -19,7 +19,8 @@ fn read_writes(alloc: Global, text: &[u8]) -> Result<Writes, Unread> {
     Ok(writes)
 }
 
-fn keeper_of(alloc: Global, text: &[u8]) -> Result<MemKeeper, Unread> {
+/// A keeper in memory behind a commit of these changes.
+pub fn keeper_of(alloc: Global, text: &[u8]) -> Result<MemKeeper, Unread> {
     let writes = read_writes(alloc, text)?;
     let mut keeper = MemKeeper::new(alloc, Calls::new(alloc));
     match keeper.commit(alloc, &writes) {
@@ -33,7 +34,8 @@ fn counted(page: &mut Page, word: &str, number: u64) -> Result<(), NoMemory> {
     page.number(number)
 }
 
-fn show_counts(page: &mut Page, counts: &Counts) -> Result<(), NoMemory> {
+/// Prints how many rows of each kind there are.
+pub fn show_counts(page: &mut Page, counts: &Counts) -> Result<(), NoMemory> {
     counted(page, "subscribers ", counts.subscribers)?;
     counted(page, " add-ons ", counts.addons)?;
     counted(page, " modems ", counts.modems)?;

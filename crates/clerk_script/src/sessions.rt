@@ -1,4 +1,4 @@
-ghost use Rattle.std.specs.Prelude.{◌≡◌, ◌<◌, IfOk, IsTrue};
+ghost use Rattle.std.specs.Prelude.{◌≡◌, ◌<◌, IfOk};
 ghost use Rattle.off_http.specs.Request.{Waits};
 ghost use Rattle.off_http.specs.Heard.{Answers, IsAsked};
 ghost use Rattle.off_http.specs.Reply.{is_reply_status};

@@ -2,14 +2,14 @@ ghost use Rattle.std.specs.Prelude.{◌≡◌, ◌≢◌, MatchResult, Ok, Err, 
 ghost use Rattle.serde_json.specs.View.{view};
 ghost use Rattle.off_rows.specs.Sound.{is_sound_subscriber, is_sound_pool};
 ghost use Rattle.off_clerk_rules.specs.declared.faults.ClerkErr.TheVariants.{Memory};
-ghost use Rattle.off_clerk_rules.specs.Commands.{Answers, object_in, site_in, subscriber_in};
+ghost use Rattle.off_clerk_rules.specs.Commands.{GivesWanted, object_in, site_in, subscriber_in};
 ghost use Rattle.off_clerk_rules.specs.Commands.{add_on_in, modem_in, class_in, pool_in};
 
 use crate::fields::{address, flag, number, offset, relay, secret, small, text};
 use crate::trees::settings;
 use off_base::Settings;
 use off_clerk_rules::{ClerkErr, Name};
-use off_defs::{Class, Modem, Pool, Site, Subscriber};
+use off_defs::{Class, LEAST_PREFIX, MOST_DEVICES, MOST_PREFIX, Modem, Pool, Site, Subscriber};
 use serde_json::Value;
 use std::alloc::Global;
 
@@ -60,13 +60,13 @@ pub(crate) fn subscriber_of(body: &Value) -> Result<Subscriber, ClerkErr>
     ensures sound { IfOk result (λ subscriber. IsTrue (is_sound_subscriber subscriber)) }
 {
     let active = flag(body, Name::Active)?;
-    let cpes = small(body, Name::Cpes, 1, 254)?;
+    let cpes = small(body, Name::Cpes, 1, MOST_DEVICES)?;
     let name = text(body, Name::Name)?;
     Ok(Subscriber { active, cpes, name })
 }
 
 pub(crate) fn add_on_of(alloc: Global, body: &Value) -> Result<Settings, ClerkErr>
-    ensures { Answers (add_on_in (view body.now)) result }
+    ensures { GivesWanted (add_on_in (view body.now)) result }
 {
     settings(alloc, body, Name::Settings)
 }
@@ -85,7 +85,7 @@ pub(crate) fn modem_of(body: &Value) -> Result<Modem, ClerkErr>
 }
 
 pub(crate) fn class_of(alloc: Global, body: &Value) -> Result<Class, ClerkErr>
-    ensures { Answers (class_in (view body.now)) result }
+    ensures { GivesWanted (class_in (view body.now)) result }
 {
     let name = text(body, Name::Name)?;
     let settings = settings(alloc, body, Name::Settings)?;
@@ -98,7 +98,7 @@ pub(crate) fn pool_of(body: &Value) -> Result<Pool, ClerkErr>
 {
     let first = address(body, Name::First)?;
     let last = address(body, Name::Last)?;
-    let prefix = small(body, Name::Prefix, 8, 30)?;
+    let prefix = small(body, Name::Prefix, LEAST_PREFIX, MOST_PREFIX)?;
     let router = address(body, Name::Router)?;
     let relay = relay(body, Name::Relay)?;
     Ok(Pool {

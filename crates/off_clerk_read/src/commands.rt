@@ -1,6 +1,6 @@
 ghost use Rattle.std.specs.Prelude.{IsTrue, IfOk};
 ghost use Rattle.off_rows.specs.Sound.{is_sound, is_shown, is_add_on_number};
-ghost use Rattle.off_clerk_rules.specs.Commands.{Answers, command_read, asked_of, put_read};
+ghost use Rattle.off_clerk_rules.specs.Commands.{GivesWanted, command_read, asked_of, put_read};
 ghost use Rattle.off_clerk_rules.specs.Paths.{IsNamed};
 ghost use Rattle.off_defs.specs.declared.keys.Key.TheVariants as key;
 
@@ -24,7 +24,7 @@ pub fn command_of(
     path: &[u8],
     body: &[u8],
 ) -> Result<Command, ClerkErr>
-    ensures exact { Answers (command_read method.now path.now body.now) result }
+    ensures exact { GivesWanted (command_read method.now path.now body.now) result }
     ensures sound { IfOk result (λ command. IsTrue (is_sound command)) }
 {
     match place_at(path_of(path)) {
@@ -36,13 +36,13 @@ pub fn command_of(
 // What a method asks of the row that a path names.
 fn asked(alloc: Global, place: Place, method: &[u8], body: &[u8]) -> Result<Command, ClerkErr>
     requires { IsNamed place }
-    ensures exact { Answers (asked_of place method.now body.now) result }
+    ensures exact { GivesWanted (asked_of place method.now body.now) result }
     ensures sound { IfOk result (λ command. IsTrue (is_sound command)) }
 {
     if method == b"GET".as_slice() {
         return Ok(Command::Show(place.key));
     }
-    if method == b"PUT".as_slice() {
+    if method == b"PUT".as_slice() && place.puts {
         return put(alloc, place.key, body);
     }
     if method == b"DELETE".as_slice() && place.deletes {
@@ -53,7 +53,7 @@ fn asked(alloc: Global, place: Place, method: &[u8], body: &[u8]) -> Result<Comm
 
 fn put(alloc: Global, key: Key, body: &[u8]) -> Result<Command, ClerkErr>
     requires { IsTrue (is_shown key) }
-    ensures exact { Answers (put_read key body.now) result }
+    ensures exact { GivesWanted (put_read key body.now) result }
     ensures sound { IfOk result (λ command. IsTrue (is_sound command)) }
 {
     match key {
@@ -70,7 +70,7 @@ fn put(alloc: Global, key: Key, body: &[u8]) -> Result<Command, ClerkErr>
 }
 
 fn put_site(alloc: Global, body: &[u8]) -> Result<Command, ClerkErr>
-    ensures exact { Answers (put_read key.Site body.now) result }
+    ensures exact { GivesWanted (put_read key.Site body.now) result }
     ensures sound { IfOk result (λ command. IsTrue (is_sound command)) }
 {
     let fields = object_of(alloc, body)?;
@@ -79,7 +79,7 @@ fn put_site(alloc: Global, body: &[u8]) -> Result<Command, ClerkErr>
 }
 
 fn put_subscriber(alloc: Global, number: u32, body: &[u8]) -> Result<Command, ClerkErr>
-    ensures exact { Answers (put_read (key.Subscriber number) body.now) result }
+    ensures exact { GivesWanted (put_read (key.Subscriber number) body.now) result }
     ensures sound { IfOk result (λ command. IsTrue (is_sound command)) }
 {
     let fields = object_of(alloc, body)?;
@@ -89,7 +89,7 @@ fn put_subscriber(alloc: Global, number: u32, body: &[u8]) -> Result<Command, Cl
 
 fn put_add_on(alloc: Global, owner: u32, number: u8, body: &[u8]) -> Result<Command, ClerkErr>
     requires { IsTrue (is_add_on_number number) }
-    ensures exact { Answers (put_read (key.AddOn owner number) body.now) result }
+    ensures exact { GivesWanted (put_read (key.AddOn owner number) body.now) result }
     ensures sound { IfOk result (λ command. IsTrue (is_sound command)) }
 {
     let fields = object_of(alloc, body)?;
@@ -98,7 +98,7 @@ fn put_add_on(alloc: Global, owner: u32, number: u8, body: &[u8]) -> Result<Comm
 }
 
 fn put_modem(alloc: Global, mac: Mac, body: &[u8]) -> Result<Command, ClerkErr>
-    ensures exact { Answers (put_read (key.Modem mac) body.now) result }
+    ensures exact { GivesWanted (put_read (key.Modem mac) body.now) result }
     ensures sound { IfOk result (λ command. IsTrue (is_sound command)) }
 {
     let fields = object_of(alloc, body)?;
@@ -107,7 +107,7 @@ fn put_modem(alloc: Global, mac: Mac, body: &[u8]) -> Result<Command, ClerkErr>
 }
 
 fn put_class(alloc: Global, number: u32, body: &[u8]) -> Result<Command, ClerkErr>
-    ensures exact { Answers (put_read (key.Class number) body.now) result }
+    ensures exact { GivesWanted (put_read (key.Class number) body.now) result }
     ensures sound { IfOk result (λ command. IsTrue (is_sound command)) }
 {
     let fields = object_of(alloc, body)?;
@@ -116,7 +116,7 @@ fn put_class(alloc: Global, number: u32, body: &[u8]) -> Result<Command, ClerkEr
 }
 
 fn put_pool(alloc: Global, number: u32, body: &[u8]) -> Result<Command, ClerkErr>
-    ensures exact { Answers (put_read (key.Pool number) body.now) result }
+    ensures exact { GivesWanted (put_read (key.Pool number) body.now) result }
     ensures sound { IfOk result (λ command. IsTrue (is_sound command)) }
 {
     let fields = object_of(alloc, body)?;

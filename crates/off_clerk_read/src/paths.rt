@@ -1,20 +1,19 @@
-ghost use Rattle.std.specs.Prelude.{◌≡◌, ◌==◌, ◌≤◌, codes, length, drop, option_map, option_copied};
+ghost use Rattle.std.specs.Prelude.{◌≡◌, ◌==◌, ◌≤◌, length, option_copied};
 ghost use Rattle.std.specs.Prelude.{Some, IfSome};
 ghost use Rattle.std.specs.List.{position};
 ghost use Rattle.off_base.specs.Number.{number_read};
-ghost use Rattle.off_clerk_rules.specs.Paths.{path_of, length_before, behind, last_number};
+ghost use Rattle.off_defs.specs.Bounds.{last_add_on};
+ghost use Rattle.off_clerk_rules.specs.Paths.{path_of, length_before, read_behind, last_number};
 ghost use Rattle.off_clerk_rules.specs.Paths.{add_on_named, site_at, subscriber_at, add_on_at};
 ghost use Rattle.off_clerk_rules.specs.Paths.{modem_at, class_at, pool_at, lease_at, place_at};
-ghost use Rattle.off_clerk_rules.specs.Paths.{kept, removable, IsNamed};
+ghost use Rattle.off_clerk_rules.specs.Paths.{only_shown, kept, removable, IsNamed};
 
 use off_base::{read_ip, read_mac, read_number};
 use off_clerk_rules::Place;
-use off_defs::Key;
+use off_defs::{Key, LAST_ADD_ON};
 
 // The greatest number of 32 bits.
 pub(crate) const LAST_NUMBER: u64 = 4_294_967_295;
-
-const LAST_ADD_ON: u64 = 7;
 
 // The path of a request's target: what stands before its first `?`.
 pub(crate) fn path_of(target: &[u8]) -> &[u8]
@@ -37,21 +36,37 @@ pub(crate) fn place_at(path: &[u8]) -> Option<Place>
         .or(lease_at(path))
 }
 
-// A path at which a row is kept.
+// A path at which a row is only shown.
+fn only_shown(key: Key) -> Place
+    ensures { result ≡ only_shown key }
+{
+    Place {
+        key,
+        puts: false,
+        deletes: false,
+    }
+}
+
+// A path at which a row may be put as well.
 fn kept(key: Key) -> Place
     ensures { result ≡ kept key }
 {
     Place {
         key,
+        puts: true,
         deletes: false,
     }
 }
 
-// A path at which a row may be removed as well.
+// A path at which a row may be put, and removed.
 fn removable(key: Key) -> Place
     ensures { result ≡ removable key }
 {
-    Place { key, deletes: true }
+    Place {
+        key,
+        puts: true,
+        deletes: true,
+    }
 }
 
 // The number of bytes before the first mark, or of all.
@@ -70,8 +85,8 @@ fn place_of(text: &[u8], mark: u8) -> Option<usize>
 }
 
 // What stands behind a front, where the text begins so.
-fn behind<'a>(front: &[u8], text: &'a [u8]) -> Option<&'a [u8]>
-    ensures { option_copied result ≡ behind front.now Some text.now }
+fn read_behind<'a>(front: &[u8], text: &'a [u8]) -> Option<&'a [u8]>
+    ensures { option_copied result ≡ read_behind front.now Some text.now }
 {
     if text.starts_with(front) {
         Some(&text[front.len()..])
@@ -90,10 +105,10 @@ fn number_of(text: &[u8]) -> Option<u32>
 }
 
 fn add_on_of(text: &[u8]) -> Option<u8>
-    ensures exact { result ≡ number_read 7 text.now }
-    ensures within { IfSome result (λ number. number ≤ 7) }
+    ensures exact { result ≡ number_read last_add_on text.now }
+    ensures within { IfSome result (λ number. number ≤ last_add_on) }
 {
-    match read_number(text, LAST_ADD_ON) {
+    match read_number(text, u64::from(LAST_ADD_ON)) {
         Some(number) => Some(number as u8),
         None => None,
     }
@@ -114,7 +129,7 @@ fn subscriber_at(path: &[u8]) -> Option<Place>
     ensures exact { result ≡ subscriber_at path.now }
     ensures named { IfSome result IsNamed }
 {
-    let Some(text) = behind(b"/subscribers/", path) else {
+    let Some(text) = read_behind(b"/subscribers/", path) else {
         return None;
     };
     let Some(number) = number_of(text) else {
@@ -127,7 +142,7 @@ fn add_on_at(path: &[u8]) -> Option<Place>
     ensures exact { result ≡ add_on_at path.now }
     ensures named { IfSome result IsNamed }
 {
-    match behind(b"/subscribers/", path) {
+    match read_behind(b"/subscribers/", path) {
         Some(text) => add_on_named(text),
         None => None,
     }
@@ -141,7 +156,7 @@ fn add_on_named(text: &[u8]) -> Option<Place>
     let Some(subscriber) = number_of(&text[..cut]) else {
         return None;
     };
-    let Some(text) = behind(b"/addons/", &text[cut..]) else {
+    let Some(text) = read_behind(b"/addons/", &text[cut..]) else {
         return None;
     };
     let Some(number) = add_on_of(text) else {
@@ -154,7 +169,7 @@ fn modem_at(path: &[u8]) -> Option<Place>
     ensures exact { result ≡ modem_at path.now }
     ensures named { IfSome result IsNamed }
 {
-    let Some(text) = behind(b"/modems/", path) else {
+    let Some(text) = read_behind(b"/modems/", path) else {
         return None;
     };
     match read_mac(text) {
@@ -167,7 +182,7 @@ fn class_at(path: &[u8]) -> Option<Place>
     ensures exact { result ≡ class_at path.now }
     ensures named { IfSome result IsNamed }
 {
-    let Some(text) = behind(b"/classes/", path) else {
+    let Some(text) = read_behind(b"/classes/", path) else {
         return None;
     };
     let Some(number) = number_of(text) else {
@@ -180,7 +195,7 @@ fn pool_at(path: &[u8]) -> Option<Place>
     ensures exact { result ≡ pool_at path.now }
     ensures named { IfSome result IsNamed }
 {
-    let Some(text) = behind(b"/pools/", path) else {
+    let Some(text) = read_behind(b"/pools/", path) else {
         return None;
     };
     let Some(number) = number_of(text) else {
@@ -193,11 +208,11 @@ fn lease_at(path: &[u8]) -> Option<Place>
     ensures exact { result ≡ lease_at path.now }
     ensures named { IfSome result IsNamed }
 {
-    let Some(text) = behind(b"/leases/", path) else {
+    let Some(text) = read_behind(b"/leases/", path) else {
         return None;
     };
     match read_ip(text) {
-        Ok(address) => Some(kept(Key::Lease(address))),
+        Ok(address) => Some(only_shown(Key::Lease(address))),
         Err(_) => None,
     }
 }

@@ -5,7 +5,7 @@ ghost use Rattle.off_base.specs.Tree.{leaf};
 ghost use Rattle.off_base.specs.Setting.{tree_of};
 ghost use Rattle.off_clerk_rules.specs.Fields.{number_in, hex_in, list_in, tree_in, field_in};
 ghost use Rattle.off_clerk_rules.specs.Fields.{settings_in};
-ghost use Rattle.off_clerk_rules.specs.Commands.{Answers};
+ghost use Rattle.off_clerk_rules.specs.Commands.{GivesWanted};
 
 use crate::fields::member;
 use crate::values::{hex_into, number_of};
@@ -19,7 +19,7 @@ const DEPTH: u8 = 3;
 
 // Reads the field of a body that has settings.
 pub(crate) fn settings(alloc: Global, body: &Value, name: Name) -> Result<Settings, ClerkErr>
-    ensures { Answers (field_in name settings_in (view body.now)) result }
+    ensures { GivesWanted (field_in name settings_in (view body.now)) result }
 {
     let value = member(body, name)?;
     match settings_within(alloc, DEPTH, value) {

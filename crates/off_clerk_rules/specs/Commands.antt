@@ -5,6 +5,7 @@ use Rattle.serde_json.specs.Data.{Data}
 use Rattle.serde_json.specs.Read.{read}
 use Rattle.serde_json.specs.Find.{as_object, as_bool}
 use Rattle.off_base.specs.Tree.{Tree}
+use Rattle.off_defs.specs.Bounds.{most_devices, least_prefix, most_prefix}
 use Rattle.off_defs.specs.declared.keys.Key.{Key}
 use Rattle.off_defs.specs.declared.keys.Key.TheVariants as key
 use Rattle.off_defs.specs.declared.tables.Site.{Site}
@@ -40,7 +41,7 @@ site_in body = do
 abbrev pub subscriber_in : Data → Result Subscriber ClerkErr
 subscriber_in body = do
   active ← field_in field.Active as_bool body
-  cpes ← field_in field.Cpes (number_in 1 254) body
+  cpes ← field_in field.Cpes (number_in 1 most_devices) body
   text ← field_in field.Name text_in body
   Ok (record { active = active; cpes = cpes; name = text })
 
@@ -64,7 +65,7 @@ abbrev pub pool_in : Data → Result Pool ClerkErr
 pool_in body = do
   first ← field_in field.First address_in body
   last ← field_in field.Last address_in body
-  prefix ← field_in field.Prefix (number_in 8 30) body
+  prefix ← field_in field.Prefix (number_in least_prefix most_prefix) body
   router ← field_in field.Router address_in body
   relay ← field_in field.Relay relay_in body
   Ok (record { first = first; last = last; prefix = prefix; router = router; relay = relay })
@@ -114,7 +115,7 @@ put_read (key.Batch number) body = Err NoMethod
 abbrev pub asked_of : Place → List ℕ → List ℕ → Result Command ClerkErr
 asked_of place method body =
     if bytes_eq method (codes "GET") then Ok (Show place.key)
-    else if bytes_eq method (codes "PUT") then put_read place.key body
+    else if bytes_eq method (codes "PUT") && place.puts then put_read place.key body
     else if bytes_eq method (codes "DELETE") && place.deletes then Ok (Remove place.key)
     else Err NoMethod
 
@@ -127,5 +128,5 @@ abbrev pub command_read : List ℕ → List ℕ → List ℕ → Result Command 
 command_read method target body = asked_at (place_at (path_of target)) method body
 
 -- this is what was wanted, or memory was wanted
-abbrev pub Answers : {A : Type 0} → Result A ClerkErr → Result A ClerkErr → Type 0
-Answers wanted result = MatchResult result (λ x. wanted ≡ Ok x) (λ err. err ≢ Memory → wanted ≡ Err err)
+abbrev pub GivesWanted : {A : Type 0} → Result A ClerkErr → Result A ClerkErr → Type 0
+GivesWanted wanted result = MatchResult result (λ x. wanted ≡ Ok x) (λ err. err ≢ Memory → wanted ≡ Err err)

@@ -6,6 +6,7 @@ use Rattle.off_base.specs.AddressText.{ip_of, mac_of}
 use Rattle.off_base.specs.Number.{number_read}
 use Rattle.off_base.specs.declared.addresses.Ip4.{Ip4}
 use Rattle.off_base.specs.declared.macs.Mac.{Mac}
+use Rattle.off_defs.specs.Bounds.{last_add_on}
 use Rattle.off_defs.specs.declared.keys.Key.{Key}
 use Rattle.off_defs.specs.declared.keys.Key.TheVariants as key
 use Rattle.off_rows.specs.Sound.{is_shown, is_removable}
@@ -20,19 +21,23 @@ abbrev pub path_of : List ℕ → List ℕ
 path_of target = take (length_before 63 target) target
 
 -- what is read behind a front, where the text begins so
-abbrev pub behind : {A : Type 0} → List ℕ → (List ℕ → Option A) → List ℕ → Option A
-behind front read text = if starts_with nat_eq text front then read (drop (length front) text) else None
+abbrev pub read_behind : {A : Type 0} → List ℕ → (List ℕ → Option A) → List ℕ → Option A
+read_behind front read text = if starts_with nat_eq text front then read (drop (length front) text) else None
 
 -- the greatest number of a subscriber, a class or a pool
 abbrev pub last_number : ℕ
 last_number = 2 ^ 32 - 1
 
--- a path at which a row is kept, and one at which it may be removed as well (DELETE, RFC 9110, section 9.3.5)
+-- The methods of a path go by the path, not by its key. A row is only shown there (GET, RFC 9110, section 9.3.1), or also put (PUT, section
+-- 9.3.4), or also removed (DELETE, section 9.3.5).
+abbrev pub only_shown : Key → Place
+only_shown row = record { key = row; puts = false; deletes = false }
+
 abbrev pub kept : Key → Place
-kept row = record { key = row; deletes = false }
+kept row = record { key = row; puts = true; deletes = false }
 
 abbrev pub removable : Key → Place
-removable row = record { key = row; deletes = true }
+removable row = record { key = row; puts = true; deletes = true }
 
 abbrev pub numbered : (ℕ → Key) → List ℕ → Option Place
 numbered named text = option_map (λ number. removable (named number)) (number_read last_number text)
@@ -47,29 +52,29 @@ ip_with number = record { 0 = number }
 abbrev pub add_on_named : List ℕ → Option Place
 add_on_named text =
     let cut = length_before 47 text in
-    option_and_then (λ subscriber. option_map (λ number. removable (key.AddOn subscriber number)) (behind (codes "/addons/") (number_read 7) (drop cut text))) (number_read last_number (take cut text))
+    option_and_then (λ subscriber. option_map (λ number. removable (key.AddOn subscriber number)) (read_behind (codes "/addons/") (number_read last_add_on) (drop cut text))) (number_read last_number (take cut text))
 
--- the paths, and what each names. A site and a lease aren't removed
+-- the paths, and what each names. A site isn't removed, and a lease is only shown
 abbrev pub site_at : List ℕ → Option Place
 site_at path = if bytes_eq path (codes "/site") then Some (kept key.Site) else None
 
 abbrev pub subscriber_at : List ℕ → Option Place
-subscriber_at path = behind (codes "/subscribers/") (numbered key.Subscriber) path
+subscriber_at path = read_behind (codes "/subscribers/") (numbered key.Subscriber) path
 
 abbrev pub add_on_at : List ℕ → Option Place
-add_on_at path = behind (codes "/subscribers/") add_on_named path
+add_on_at path = read_behind (codes "/subscribers/") add_on_named path
 
 abbrev pub modem_at : List ℕ → Option Place
-modem_at path = behind (codes "/modems/") (λ text. option_map (λ bytes. removable (key.Modem (mac_with bytes))) (mac_of text)) path
+modem_at path = read_behind (codes "/modems/") (λ text. option_map (λ bytes. removable (key.Modem (mac_with bytes))) (mac_of text)) path
 
 abbrev pub class_at : List ℕ → Option Place
-class_at path = behind (codes "/classes/") (numbered key.Class) path
+class_at path = read_behind (codes "/classes/") (numbered key.Class) path
 
 abbrev pub pool_at : List ℕ → Option Place
-pool_at path = behind (codes "/pools/") (numbered key.Pool) path
+pool_at path = read_behind (codes "/pools/") (numbered key.Pool) path
 
 abbrev pub lease_at : List ℕ → Option Place
-lease_at path = behind (codes "/leases/") (λ text. option_map (λ number. kept (key.Lease (ip_with number))) (ip_of text)) path
+lease_at path = read_behind (codes "/leases/") (λ text. option_map (λ number. only_shown (key.Lease (ip_with number))) (ip_of text)) path
 
 -- the one that the path is of
 abbrev pub place_at : List ℕ → Option Place

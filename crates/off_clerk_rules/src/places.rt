@@ -5,7 +5,9 @@ use off_defs::Key;
 pub struct Place {
     /// The row's key.
     pub key: Key,
-    /// Whether the row may be removed there: whether the path has DELETE. Two paths may name one
-    /// row, and one of them have it.
+    /// Whether the row may be put there: whether the path has PUT. Two paths may name one row, and
+    /// have different methods.
+    pub puts: bool,
+    /// Whether the row may be removed there: whether the path has DELETE.
     pub deletes: bool,
 }

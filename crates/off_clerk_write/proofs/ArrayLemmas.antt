@@ -1,27 +1,14 @@
 -- Arrays of settings, element by element.
-use Rattle.std.proofs.Common.{◌≡◌, ℕ, zero, suc, ◌+◌, ◌*◌, ◌≤◌, List, [], ◌∷◌, ◌++◌, length, take, map, codes, decimal, refl, sym, ap, ◌∙◌, arith, append_assoc, Some}
+use Rattle.std.proofs.Common.{◌≡◌, ℕ, zero, suc, ◌+◌, List, [], ◌∷◌, ◌++◌, length, take, map, codes, decimal, refl, sym, ap, ◌∙◌, arith, append_assoc, Some}
 use Rattle.std.specs.List.{slice_get, join_with_byte}
-use Rattle.std.proofs.lemmas.List.{take_more}
-use Rattle.std.proofs.lemmas.Option.{slice_get_within, get_or_from_slice_get}
-use Rattle.off_base.specs.Tree.{Tree, group, row_of, tree_size, trees_size}
-use Rattle.off_base.proofs.TreeLemmas.{row_size-row_of}
+use Rattle.off_base.specs.Tree.{Tree, group, row_of}
+use Rattle.off_base.proofs.TreeLemmas.{taken}
 use Rattle.off_clerk_write.specs.Commas.{comma_before}
 use Rattle.off_clerk_rules.specs.Replies.{tree_text, part_texts, array_text, settings_text}
-
-pub size_at : (ts : List Tree) (i : ℕ) (t : Tree) → slice_get ts i ≡ Some t → tree_size t ≤ trees_size ts
-size_at [] i t e = cc
-size_at (u ∷ ts) zero t e = let same : u ≡ t = cc in omega (arith, ap tree_size same)
-size_at (u ∷ ts) (suc i) t e = omega (arith, size_at ts i t e)
-
-pub parts_smaller : (code : ℕ) (parts : List Tree) (t : Tree) → t ≡ group code (row_of parts) → 2 * trees_size parts + 2 ≤ 2 * tree_size t
-parts_smaller code parts t is = omega (arith, ap tree_size is, row_size-row_of parts)
 
 pub part_texts-row_of : (ts : List Tree) → part_texts (row_of ts) ≡ map tree_text ts
 part_texts-row_of [] = refl
 part_texts-row_of (t ∷ ts) = ap (λ (x : List (List ℕ)). tree_text t ∷ x) (part_texts-row_of ts)
-
-taken : (ts : List Tree) (i : ℕ) (t : Tree) → slice_get ts i ≡ Some t → take (i + 1) ts ≡ take i ts ++ t ∷ []
-taken ts i t e = take_more ts i t (slice_get_within ts i t e) ∙ ap (λ (x : Tree). take i ts ++ x ∷ []) (get_or_from_slice_get ts i t t e)
 
 comma_later : (n : ℕ) → comma_before (suc n) ≡ codes ","
 comma_later n = grind arith

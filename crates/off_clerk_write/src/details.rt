@@ -1,6 +1,5 @@
 ghost use Rattle.std.specs.Prelude.{◌≡◌, ◌++◌, codes, option_map, IfOk, OnOk};
-ghost use Rattle.off_clerk_rules.specs.Names.{name_text};
-ghost use Rattle.off_clerk_rules.specs.Faults.{fault_text, with_detail, detail_of, clerk_detail};
+ghost use Rattle.off_clerk_rules.specs.Faults.{fault_text, detail_of, clerk_detail};
 ghost use Rattle.off_clerk_rules.specs.Faults.{rule_detail, tree_number, IsTold};
 ghost use Rattle.off_clerk_write.specs.Details.{detail_text};
 

@@ -1,5 +1,5 @@
 -- The counts behind each command whose rules are passed.
-use Rattle.std.proofs.Common.{◌≡◌, ℕ, ◌-◌, Bool, true, false, not, Option, Some, None, is_some, option_map, List, [], ◌∷◌, map, count_by, refl, sym, ap, subst, ◌∙◌}
+use Rattle.std.proofs.Common.{◌≡◌, ℕ, ◌-◌, Bool, true, Option, Some, None, is_some, List, [], ◌∷◌, count_by, refl, sym, ap, subst, ◌∙◌}
 use Rattle.off_base.specs.Tree.{Tree}
 use Rattle.off_defs.specs.declared.keys.Key.{Key}
 use Rattle.off_defs.specs.declared.keys.Key.TheVariants as key
@@ -13,17 +13,17 @@ use Rattle.off_defs.specs.declared.tables.Site.{Site}
 use Rattle.off_base.specs.declared.macs.Mac.{Mac}
 use Rattle.off_defs.specs.declared.rules.Rule.{Rule}
 use Rattle.off_defs.specs.declared.orders.Kind.{Kind}
-use Rattle.off_defs.specs.declared.orders.Kind.TheVariants.{Subscribers, AddOns, Modems, Classes, Pools, Batches}
+use Rattle.off_defs.specs.declared.orders.Kind.TheVariants.{Subscribers, AddOns, Modems, Classes, Pools}
 use Rattle.off_defs.specs.declared.orders.Command.{Command}
-use Rattle.off_defs.specs.declared.orders.Command.TheVariants.{SetSite, PutSubscriber, PutAddOn, PutModem, PutClass, PutPool, Remove, Show, Import}
+use Rattle.off_defs.specs.declared.orders.Command.TheVariants.{SetSite, PutSubscriber, PutAddOn, PutModem, PutClass, PutPool, Remove}
 use Rattle.off_defs.specs.State.{Tables}
-use Rattle.off_defs.specs.Tables.{with_row, without, write_all}
+use Rattle.off_defs.specs.Tables.{with_row, without}
 use Rattle.off_rows.specs.Sound.{is_add_on_number, is_sound_pool, is_sound_subscriber}
 use Rattle.off_rules.specs.declared.counts.Counts.{Counts}
 use Rattle.off_rules.specs.Rows.{seen_at, is_possible, is_of_kind, counts_of}
-use Rattle.off_rules.specs.Clerk.{limit, first_broken, rules_of, no_row, lost_leases, lease_drops, add_on_keys}
+use Rattle.off_rules.specs.Clerk.{limit, first_broken, rules_of, lost_leases, add_on_keys}
 use Rattle.off_deciding.specs.declared.subject.Subject.{Subject}
-use Rattle.off_deciding.specs.Changes.{counted, with_count, counts_put, counts_drop}
+use Rattle.off_deciding.specs.Changes.{count_in, with_count, counts_put, counts_drop}
 use Rattle.off_deciding.specs.Tests.{limit_rule}
 use Rattle.off_deciding.specs.After.{CountsAfter, CountsAfterRemoval}
 use Rattle.off_deciding.proofs.CountsLemmas.{kept, counts_with, counts_with_other}
@@ -98,7 +98,7 @@ module _ (counts after : Counts) (t : Tables) where
       drop_counts Pools (key.Pool n) t counts after (λ m. refl) refl there less agree ∙ sym (lease_counts (lost_leases t n None) (without t (key.Pool n)))
 
   pub subscriber_removed : (n lost : ℕ) (less : Counts) → lost ≡ count_by (λ key. is_some (seen_at t key)) (add_on_keys n) → less ≡ counts_drop Subscribers true counts
-      → after ≡ with_count AddOns (counted AddOns less - lost) less → CountsAfterRemoval counts (key.Subscriber n) t after
+      → after ≡ with_count AddOns (count_in AddOns less - lost) less → CountsAfterRemoval counts (key.Subscriber n) t after
   subscriber_removed n lost less lost_is less_is after_is agree there = subscriber_counts n lost t counts less after there lost_is less_is after_is agree
 
 -- a removal from a command's rules

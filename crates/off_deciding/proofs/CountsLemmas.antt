@@ -2,6 +2,7 @@
 use Rattle.std.proofs.Common.{◌≡◌, ℕ, ◌+◌, ◌-◌, min, Bool, true, false, cond, ◌&&◌, Option, Some, None, is_some, count_by, refl, sym, ap, subst, ◌∙◌, arith}
 use Rattle.std.specs.FinMap as map
 use Rattle.std.specs.FinMap.Entries as list
+use Rattle.off_base.specs.Number.{greatest_u64}
 use Rattle.off_defs.specs.declared.keys.Key.{Key}
 use Rattle.off_defs.specs.declared.keys.Key.TheVariants.{Subscriber, AddOn, Modem, Class, Pool, Batch}
 use Rattle.off_defs.specs.declared.tables.Row.{Row}
@@ -14,8 +15,7 @@ use Rattle.off_defs.proofs.KeyLemmas.{key_total, key_exact}
 use Rattle.off_defs.proofs.TableLemmas.{entries_with, entries_without}
 use Rattle.off_rules.specs.declared.counts.Counts.{Counts}
 use Rattle.off_rules.specs.Rows.{is_possible, possible, seen_at, is_of_kind, is_counted, count_of, counts_of}
-use Rattle.off_deciding.specs.Changes.{counted, with_count, counts_put, counts_drop}
-use Rattle.off_rules.specs.Rows.{greatest_count}
+use Rattle.off_deciding.specs.Changes.{count_in, with_count, counts_put, counts_drop}
 use Rattle.off_deciding.proofs.ChangeLemmas.{counted_at, counts_it, count-put, count-without}
 
 -- one row of the kind at the key, or none
@@ -53,7 +53,7 @@ count_without kind key t =
     omega (arith, drop, entries, old)
 
 -- counts that are equal for each kind are equal
-pub same_counts : (c d : Counts) → ((kind : Kind) → counted kind c ≡ counted kind d) → c ≡ d
+pub same_counts : (c d : Counts) → ((kind : Kind) → count_in kind c ≡ count_in kind d) → c ≡ d
 same_counts c d same = λ i. record {
   subscribers = same Subscribers i;
   addons = same AddOns i;
@@ -65,10 +65,10 @@ same_counts c d same = λ i. record {
 
 -- what the counts say of a number of rows of a kind
 abbrev pub kept : Kind → ℕ → ℕ
-kept Batches n = min greatest_count n
+kept Batches n = min greatest_u64 n
 kept kind n = n
 
-pub counted_of : (kind : Kind) (t : Tables) → counted kind (counts_of t) ≡ kept kind (count_of kind t)
+pub counted_of : (kind : Kind) (t : Tables) → count_in kind (counts_of t) ≡ kept kind (count_of kind t)
 counted_of Subscribers t = refl
 counted_of AddOns t = refl
 counted_of Modems t = refl
@@ -85,7 +85,7 @@ same_kind Pools Pools = true
 same_kind Batches Batches = true
 same_kind kind other = false
 
-counted_with : (kind other : Kind) (n : ℕ) (c : Counts) → counted other (with_count kind n c) ≡ cond (same_kind kind other) n (counted other c)
+counted_with : (kind other : Kind) (n : ℕ) (c : Counts) → count_in other (with_count kind n c) ≡ cond (same_kind kind other) n (count_in other c)
 counted_with Subscribers Subscribers n c = refl
 counted_with AddOns AddOns n c = refl
 counted_with Modems Modems n c = refl
@@ -127,34 +127,34 @@ same_then _ _ e = cc
 kept_whole : (kind other : Kind) → ((n : ℕ) → kept kind n ≡ n) → same_kind kind other ≡ true → (n : ℕ) → kept other n ≡ n
 kept_whole kind other whole same n = subst (λ k. kept k n ≡ n) (same_then kind other same) (whole n)
 
-stays : (other : Kind) (before after : ℕ) (c : Counts) → counted other c ≡ kept other before → before ≡ after → counted other c ≡ kept other after
+stays : (other : Kind) (before after : ℕ) (c : Counts) → count_in other c ≡ kept other before → before ≡ after → count_in other c ≡ kept other after
 stays other before after c is same = is ∙ ap (kept other) same
 
 -- a kind's count after a change of another one's, and of its own where that is kept whole
-put_one : (kind other : Kind) (seen : Option Row) (row : Row) (before after : ℕ) (c : Counts) → ((n : ℕ) → kept kind n ≡ n) → counted other c ≡ kept other before
+put_one : (kind other : Kind) (seen : Option Row) (row : Row) (before after : ℕ) (c : Counts) → ((n : ℕ) → kept kind n ≡ n) → count_in other c ≡ kept other before
     → after + cond (same_kind kind other) (cond (is_some seen) 1 0) 0 ≡ before + cond (same_kind kind other) 1 0
-    → counted other (counts_put kind (is_some seen) c) ≡ kept other after
+    → count_in other (counts_put kind (is_some seen) c) ≡ kept other after
 put_one kind other None row before after c whole is e =
-    counted_with kind other (counted kind c + 1) c
-    ∙ elim (same_kind kind other) as (λ b. same_kind kind other ≡ b → after + cond b 0 0 ≡ before + cond b 1 0 → cond b (counted kind c + 1) (counted other c) ≡ kept other after) [
+    counted_with kind other (count_in kind c + 1) c
+    ∙ elim (same_kind kind other) as (λ b. same_kind kind other ≡ b → after + cond b 0 0 ≡ before + cond b 1 0 → cond b (count_in kind c + 1) (count_in other c) ≡ kept other after) [
       | true ↦ λ same e.
-          let own : counted kind c ≡ counted other c = ap (λ k. counted k c) (same_then kind other same) in
-          let one : counted kind c + 1 ≡ after = omega (arith, own ∙ is ∙ kept_whole kind other whole same before, e) in
+          let own : count_in kind c ≡ count_in other c = ap (λ k. count_in k c) (same_then kind other same) in
+          let one : count_in kind c + 1 ≡ after = omega (arith, own ∙ is ∙ kept_whole kind other whole same before, e) in
           one ∙ sym (kept_whole kind other whole same after)
       | false ↦ λ same e. stays other before after c is (omega (arith, e))
     ] refl e
 put_one kind other (Some x) row before after c whole is e =
     stays other before after c is (elim (same_kind kind other) as (λ b. after + cond b 1 0 ≡ before + cond b 1 0 → before ≡ after) [ true ↦ λ e. omega (arith, e) | false ↦ λ e. omega (arith, e) ] e)
 
-drop_one : (kind other : Kind) (seen : Option Row) (before after : ℕ) (c : Counts) → ((n : ℕ) → kept kind n ≡ n) → counted other c ≡ kept other before
+drop_one : (kind other : Kind) (seen : Option Row) (before after : ℕ) (c : Counts) → ((n : ℕ) → kept kind n ≡ n) → count_in other c ≡ kept other before
     → after + cond (same_kind kind other) (cond (is_some seen) 1 0) 0 ≡ before
-    → counted other (counts_drop kind (is_some seen) c) ≡ kept other after
+    → count_in other (counts_drop kind (is_some seen) c) ≡ kept other after
 drop_one kind other (Some x) before after c whole is e =
-    counted_with kind other (counted kind c - 1) c
-    ∙ elim (same_kind kind other) as (λ b. same_kind kind other ≡ b → after + cond b 1 0 ≡ before → cond b (counted kind c - 1) (counted other c) ≡ kept other after) [
+    counted_with kind other (count_in kind c - 1) c
+    ∙ elim (same_kind kind other) as (λ b. same_kind kind other ≡ b → after + cond b 1 0 ≡ before → cond b (count_in kind c - 1) (count_in other c) ≡ kept other after) [
       | true ↦ λ same e.
-          let own : counted kind c ≡ counted other c = ap (λ k. counted k c) (same_then kind other same) in
-          let one : counted kind c - 1 ≡ after = omega (arith, own ∙ is ∙ kept_whole kind other whole same before, e) in
+          let own : count_in kind c ≡ count_in other c = ap (λ k. count_in k c) (same_then kind other same) in
+          let one : count_in kind c - 1 ≡ after = omega (arith, own ∙ is ∙ kept_whole kind other whole same before, e) in
           one ∙ sym (kept_whole kind other whole same after)
       | false ↦ λ same e. stays other before after c is (omega (arith, e))
     ] refl e

@@ -9,11 +9,11 @@ use Rattle.off_defs.specs.State.{Tables}
 use Rattle.off_defs.specs.Tables.{write_all}
 use Rattle.off_rules.specs.declared.counts.Counts.{Counts}
 use Rattle.off_rules.specs.Rows.{counts_of}
-use Rattle.off_rules.specs.Clerk.{first_broken, rules_of, writes_of, decided, by_rule, accepted}
+use Rattle.off_rules.specs.Clerk.{first_broken, rules_of, writes_of, by_rule, accepted}
 use Rattle.off_outside.specs.declared.keeper.KeepErr.{KeepErr}
 use Rattle.off_outside.specs.declared.keeper.KeepErr.TheVariants as keeper
 use Rattle.off_outside.specs.KeeperSeen.{KeeperSeen}
-use Rattle.off_outside.specs.KeeperCalls.{Looks, Reads, NotDone}
+use Rattle.off_outside.specs.KeeperCalls.{Reads, NotDone}
 use Rattle.off_outside.proofs.KeeperLemmas.{reads_then}
 use Rattle.off_deciding.specs.declared.results.Asked.{Asked}
 use Rattle.off_deciding.specs.declared.results.Planned.{Planned}
@@ -22,7 +22,7 @@ use Rattle.off_deciding.specs.declared.subject.Subject.{Subject}
 use Rattle.off_deciding.specs.declared.testing.Test.{Test}
 use Rattle.off_deciding.specs.After.{CountsAfter}
 use Rattle.off_deciding.specs.Tests.{says, IsSubject, tests_of}
-use Rattle.off_deciding.specs.Deciding.{is_import, IsByRules, IsDecided, IsVerdict, NotDecided, answered}
+use Rattle.off_deciding.specs.Deciding.{is_import, IsByRules, IsDecided, IsRuling, NotDecided, clerk_answer}
 use Rattle.off_deciding.proofs.TestLemmas.{tests_say}
 
 abbrev pub is_show : Command → Bool
@@ -47,13 +47,13 @@ module _ (asked : Asked) (subject : Subject) (c : Command) (tests : List Test) (
   rules_say t broken agree stands is = sym (tests_say asked.at subject t asked.counts c agree stands) ∙ ap (λ (v : List Test). first_broken (map (says t) v)) (sym are) ∙ sym is
 
   pub refused_by : {a b d : KeeperSeen} (broken : Rule) → Reads (IsSubject c subject) a b → Reads (λ t. Some broken ≡ first_broken (map (says t) tests)) b d
-      → Reads (λ t. IsVerdict asked.counts asked.at.0 c t (Err broken)) a d
+      → Reads (λ t. IsRuling asked.counts asked.at.0 c t (Err broken)) a d
   refused_by broken looked tested = reads_then looked tested (λ t stands is agree.
       by t asked.at.0 ∙ ap (by_rule 0 (accepted (writes_of t c) Done)) (rules_say t (Some broken) agree stands is))
 
   pub planned_by : {k l m n o : KeeperSeen} (writes : List Write) (after : Counts) → Reads (IsSubject c subject) k l → Reads (λ t. None ≡ first_broken (map (says t) tests)) l m
       → Reads (λ t. IsSubject c subject t → writes ≡ writes_of t c) m n → Reads (λ t. CountsAfter asked.counts subject c t after) n o
-      → Reads (λ t. IsVerdict asked.counts asked.at.0 c t (Ok (record { writes = writes; reply = Done; counts = after }))) k o
+      → Reads (λ t. IsRuling asked.counts asked.at.0 c t (Ok (record { writes = writes; reply = Done; counts = after }))) k o
   planned_by writes after looked tested planned counted =
       reads_then (reads_then {R = λ t. IsSubject c subject t × (None ≡ first_broken (map (says t) tests))} looked tested (λ t p q. (p, q)))
       (reads_then {R = λ t. (IsSubject c subject t → writes ≡ writes_of t c) × CountsAfter asked.counts subject c t after} planned counted (λ t p q. (p, q)))
@@ -66,8 +66,8 @@ module _ (asked : Asked) (subject : Subject) (c : Command) (tests : List Test) (
       })
 
 -- the answer of the whole call, from the verdict
-pub answers_so : (counts : Counts) (now : ℕ) (c : Command) (a b : KeeperSeen) (verdict : Result (Result Planned Rule) KeepErr) (result : Result Planned AccountErr) → result ≡ answered verdict
-    → MatchResult verdict (λ one. Reads (λ t. IsVerdict counts now c t one) a b) (λ err. NotDone err a b)
+pub answers_so : (counts : Counts) (now : ℕ) (c : Command) (a b : KeeperSeen) (verdict : Result (Result Planned Rule) KeepErr) (result : Result Planned AccountErr) → result ≡ clerk_answer verdict
+    → MatchResult verdict (λ one. Reads (λ t. IsRuling counts now c t one) a b) (λ err. NotDone err a b)
     → MatchResult result (λ planned. Reads (λ t. counts ≡ counts_of t → IsDecided counts now c planned t) a b) (λ err. NotDecided counts now c err a b)
 answers_so counts now c a b (Ok (Ok planned)) result is p = rw is p
 answers_so counts now c a b (Ok (Err broken)) result is p = rw is p

@@ -15,7 +15,7 @@ use Rattle.off_defs.specs.declared.rules.Rule.{Rule}
 use Rattle.off_defs.specs.declared.rules.Rule.TheVariants as rule
 use Rattle.off_defs.specs.State.{Tables}
 use Rattle.off_rules.specs.Rows.{pool_of, fitting_pool, pool_fits, lease_of, leases, modem_of, modems}
-use Rattle.off_rules.specs.Clerk.{when, pool_overlap, relay_taken, has_modems, class_in_use, is_other_overlapping, is_other_with_relay, is_live}
+use Rattle.off_rules.specs.Clerk.{when, pool_overlap, relay_taken, is_other_overlapping, is_other_with_relay, is_live}
 use Rattle.off_deciding.specs.declared.lost.Lost.{Lost}
 use Rattle.off_deciding.specs.declared.searching.Sought.{Sought}
 use Rattle.off_deciding.specs.Tests.{found_rule, sought_rule}

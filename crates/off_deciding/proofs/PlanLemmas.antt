@@ -1,5 +1,5 @@
 -- From rules that are passed to what is written, and to the counts behind it.
-use Rattle.std.proofs.Common.{◌≡◌, ℕ, Bool, true, false, Option, Some, None, is_some, is_none, not, ◌&&◌, option_map, Result, Ok, Err, MatchResult, List, [], ◌∷◌, refl, sym, ap, subst, ◌∙◌}
+use Rattle.std.proofs.Common.{◌≡◌, ℕ, Bool, true, false, Option, Some, None, is_some, is_none, not, ◌&&◌, option_map, List, [], ◌∷◌, refl, sym, ap, ◌∙◌}
 use Rattle.std.specs.List.{flat_map}
 use Rattle.off_base.specs.Tree.{Tree}
 use Rattle.off_tree.specs.declared.tables.Kind.TheVariants as tree
@@ -18,19 +18,16 @@ use Rattle.off_defs.specs.declared.orders.Kind.{Kind}
 use Rattle.off_defs.specs.declared.orders.Kind.TheVariants.{Subscribers, AddOns, Modems, Classes, Pools, Batches}
 use Rattle.off_defs.specs.declared.orders.Write.{Write}
 use Rattle.off_defs.specs.declared.orders.Write.TheVariants.{Put, Drop}
-use Rattle.off_defs.specs.declared.orders.Reply.TheVariants.{Done}
-use Rattle.off_defs.specs.declared.orders.Command.{Command}
-use Rattle.off_defs.specs.declared.orders.Command.TheVariants.{SetSite}
 use Rattle.off_defs.specs.State.{Tables}
 use Rattle.off_defs.specs.Tables.{with_row, without, write_all}
 use Rattle.off_rules.specs.declared.counts.Counts.{Counts}
 use Rattle.off_rows.specs.Sound.{is_add_on_number, is_sound_pool}
 use Rattle.off_rules.specs.Rows.{class_is_good, add_on_is_good, is_of_kind, is_possible, seen_at, has_pool_size, pool_in, counts_of}
-use Rattle.off_rules.specs.Clerk.{when, no_row, lost_leases, lease_drops, first_broken, rules_of, writes_of, decided, by_rule, accepted}
+use Rattle.off_rules.specs.Clerk.{when, no_row, lost_leases, lease_drops}
 use Rattle.off_deciding.specs.Changes.{counts_put, counts_drop}
 use Rattle.off_deciding.specs.Searches.{lost_from}
 use Rattle.off_deciding.proofs.RemovalLemmas.{drop_counts, lease_counts}
-use Rattle.off_deciding.proofs.CountsLemmas.{kept, counts_with, counts_with_other}
+use Rattle.off_deciding.proofs.CountsLemmas.{kept, counts_with}
 
 -- a put of a row of which there is a count, of a kind that is counted whole
 pub put_counts : (kind : Kind) (key : Key) (row made : Row) (t : Tables) (after : Counts) → ((n : ℕ) → kept kind n ≡ n) → is_of_kind kind key ≡ true → is_possible key row ≡ true → made ≡ row

@@ -19,7 +19,7 @@ use Rattle.off_rules.specs.declared.counts.Counts.{Counts}
 use Rattle.off_rules.specs.Rows.{possible, seen_at, is_of_kind, counts_of}
 use Rattle.off_rules.specs.Good.{owner_of}
 use Rattle.off_rules.specs.Clerk.{no_row, lease_drops, held_drop, add_on_keys}
-use Rattle.off_deciding.specs.Changes.{counted, with_count, counts_drop}
+use Rattle.off_deciding.specs.Changes.{count_in, with_count, counts_drop}
 use Rattle.off_deciding.proofs.CountsLemmas.{kept, counts_without, counts_without_other}
 use Rattle.off_deciding.proofs.PresentLemmas.{row_present}
 
@@ -89,11 +89,11 @@ seen_later : (t : Tables) (n k number : ℕ) → k ≤ number → seen_at (dropp
 seen_later t n zero number low = refl
 seen_later t n (suc k) number low = seen_without (dropped_below t n k) (AddOn n k) (AddOn n number) (apart n number k (omega (arith, low))) ∙ seen_later t n k number (omega (arith, low))
 
-one_dropped : (there : Bool) (m : ℕ) (c : Counts) → counts_drop AddOns there (with_count AddOns (counted AddOns c - m) c) ≡ with_count AddOns (counted AddOns c - (m + cond there 1 0)) c
+one_dropped : (there : Bool) (m : ℕ) (c : Counts) → counts_drop AddOns there (with_count AddOns (count_in AddOns c - m) c) ≡ with_count AddOns (count_in AddOns c - (m + cond there 1 0)) c
 one_dropped true m c = let e : (c.addons - m) - 1 ≡ c.addons - (m + 1) = omega arith in ap (λ k. with_count AddOns k c) e
 one_dropped false m c = let e : c.addons - m ≡ c.addons - (m + 0) = omega arith in ap (λ k. with_count AddOns k c) e
 
-add_ons_dropped : (t : Tables) (n k : ℕ) → counts_of (dropped_below t n k) ≡ with_count AddOns (counted AddOns (counts_of t) - add_ons_below t n k) (counts_of t)
+add_ons_dropped : (t : Tables) (n k : ℕ) → counts_of (dropped_below t n k) ≡ with_count AddOns (count_in AddOns (counts_of t) - add_ons_below t n k) (counts_of t)
 add_ons_dropped t n zero = let e : (counts_of t).addons ≡ (counts_of t).addons - 0 = omega arith in ap (λ k. with_count AddOns k (counts_of t)) e
 add_ons_dropped t n (suc k) =
     counts_without AddOns (AddOn n k) (dropped_below t n k) (λ m. refl) refl
@@ -108,9 +108,9 @@ same_add_ons t n (suc k) = λ i. same_add_ons t n k i + cond (is_some (seen_with
 -- the drop of a subscriber that was there, and of its add-ons
 pub subscriber_counts : (n lost : ℕ) (t : Tables) (counts less after : Counts) → no_row t (Subscriber n) ≡ None
     → lost ≡ count_by (λ key. is_some (seen_at t key)) (add_on_keys n)
-    → less ≡ counts_drop Subscribers true counts → after ≡ with_count AddOns (counted AddOns less - lost) less → counts ≡ counts_of t
+    → less ≡ counts_drop Subscribers true counts → after ≡ with_count AddOns (count_in AddOns less - lost) less → counts ≡ counts_of t
     → after ≡ counts_of (write_all t (Drop (Subscriber n) ∷ map Drop (add_on_keys n)))
 subscriber_counts n lost t counts less after there lost_is less_is after_is agree =
     let left = drop_counts Subscribers (Subscriber n) t counts less (λ m. refl) refl there less_is agree in
     let same : lost ≡ add_ons_below (without t (Subscriber n)) n 8 = lost_is ∙ sym (same_add_ons t n 8) in
-    after_is ∙ (λ i. with_count AddOns (counted AddOns (left i) - same i) (left i)) ∙ sym (add_ons_dropped (without t (Subscriber n)) n 8)
+    after_is ∙ (λ i. with_count AddOns (count_in AddOns (left i) - same i) (left i)) ∙ sym (add_ons_dropped (without t (Subscriber n)) n 8)

@@ -1,5 +1,5 @@
 -- The tests of a command say what its rules say.
-use Rattle.std.proofs.Common.{◌≡◌, ℕ, zero, suc, ◌+◌, ◌-◌, ◌≤◌, Bool, true, false, not, option_map, ◌||◌, Option, Some, None, is_some, List, [], ◌∷◌, ◌++◌, map, refl, sym, ap, ◌∙◌, arith}
+use Rattle.std.proofs.Common.{◌≡◌, ℕ, zero, suc, ◌+◌, not, option_map, Option, Some, None, List, [], ◌∷◌, ◌++◌, map, refl, sym, ap, ◌∙◌}
 use Rattle.off_base.specs.declared.moments.Moment.{Moment}
 use Rattle.off_defs.specs.declared.keys.Key.{Key}
 use Rattle.off_defs.specs.declared.keys.Key.TheVariants as key
@@ -16,9 +16,8 @@ use Rattle.off_rules.specs.declared.counts.Counts.{Counts}
 use Rattle.off_rules.specs.Rows.{has_pool_size, counts_of}
 use Rattle.off_rules.specs.Clerk.{when, limit, first_broken, no_subscriber, no_class, no_row, pool_overlap, relay_taken, pool_has_leases, has_modems, class_in_use, rules_of, removal_rules}
 use Rattle.off_deciding.specs.declared.subject.Subject.{Subject}
-use Rattle.off_deciding.specs.declared.testing.Test.{Test}
 use Rattle.off_deciding.specs.Searches.{live_lost}
-use Rattle.off_deciding.specs.Tests.{says, Stands, IsSubject, live_test, limit_rule, tests_of, removal_tests}
+use Rattle.off_deciding.specs.Tests.{says, SubjectStands, IsSubject, live_test, tests_of, removal_tests}
 use Rattle.off_deciding.proofs.LimitLemmas.{limit_is}
 use Rattle.off_deciding.proofs.PresentLemmas.{row_is}
 use Rattle.off_deciding.proofs.FoundLemmas.{none_lost}
@@ -41,14 +40,14 @@ live_is : (now : Moment) (old new : Option Pool) (t : Tables) → says t (live_t
 live_is now None new t = sym (none_lost now.0 new t)
 live_is now (Some old) new t = refl
 
-live_says : (now : Moment) (n : ℕ) (new : Option Pool) (subject : Subject) (t : Tables) → Stands t (key.Pool n) subject → says t (live_test now subject.pool new) ≡ pool_has_leases t now.0 n new
+live_says : (now : Moment) (n : ℕ) (new : Option Pool) (subject : Subject) (t : Tables) → SubjectStands t (key.Pool n) subject → says t (live_test now subject.pool new) ≡ pool_has_leases t now.0 n new
 live_says now n new subject t stands = live_is now subject.pool new t ∙ ap (λ (old : Option Pool). live_lost now.0 old new t) stands.1
 
 module _ (now : Moment) (subject : Subject) (t : Tables) where
-  row_alone : (removed : Key) → Stands t removed subject → first_broken (when (not subject.is_there) rule.NoRow ∷ nones 4) ≡ first_broken (no_row t removed ∷ [])
+  row_alone : (removed : Key) → SubjectStands t removed subject → first_broken (when (not subject.is_there) rule.NoRow ∷ nones 4) ≡ first_broken (no_row t removed ∷ [])
   row_alone removed stands = ap (λ (r : Option Rule). first_broken (r ∷ nones 4)) (row_is removed t subject.is_there stands.0) ∙ padded (no_row t removed ∷ []) 4
 
-  removal_says : (removed : Key) → Stands t removed subject → first_broken (map (says t) (removal_tests now subject removed)) ≡ first_broken (removal_rules t now.0 removed)
+  removal_says : (removed : Key) → SubjectStands t removed subject → first_broken (map (says t) (removal_tests now subject removed)) ≡ first_broken (removal_rules t now.0 removed)
   removal_says (key.Subscriber n) stands =
       ap (λ (r : Option Rule). first_broken (r ∷ has_modems t n ∷ nones 3)) (row_is (key.Subscriber n) t subject.is_there stands.0)
       ∙ padded (no_row t (key.Subscriber n) ∷ has_modems t n ∷ []) 3

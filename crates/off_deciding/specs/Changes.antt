@@ -5,13 +5,13 @@ use Rattle.off_defs.specs.declared.orders.Kind.TheVariants.{Subscribers, AddOns,
 use Rattle.off_rules.specs.declared.counts.Counts.{Counts}
 
 -- the count of a kind
-abbrev pub counted : Kind → Counts → ℕ
-counted Subscribers counts = counts.subscribers
-counted AddOns counts = counts.addons
-counted Modems counts = counts.modems
-counted Classes counts = counts.classes
-counted Pools counts = counts.pools
-counted Batches counts = counts.batches
+abbrev pub count_in : Kind → Counts → ℕ
+count_in Subscribers counts = counts.subscribers
+count_in AddOns counts = counts.addons
+count_in Modems counts = counts.modems
+count_in Classes counts = counts.classes
+count_in Pools counts = counts.pools
+count_in Batches counts = counts.batches
 
 -- the counts with another count of a kind
 abbrev pub with_count : Kind → ℕ → Counts → Counts
@@ -25,9 +25,9 @@ with_count Batches n counts = record counts { batches = n }
 -- after a key of the kind got a row, which was there before or wasn't
 abbrev pub counts_put : Kind → Bool → Counts → Counts
 counts_put kind true counts = counts
-counts_put kind false counts = with_count kind (counted kind counts + 1) counts
+counts_put kind false counts = with_count kind (count_in kind counts + 1) counts
 
 -- after a key of the kind lost its row, where it had one
 abbrev pub counts_drop : Kind → Bool → Counts → Counts
-counts_drop kind true counts = with_count kind (counted kind counts - 1) counts
+counts_drop kind true counts = with_count kind (count_in kind counts - 1) counts
 counts_drop kind false counts = counts

@@ -58,10 +58,10 @@ not_kept keeper.Memory = Memory
 not_kept keeper.Failed = Failed
 
 -- what a command is answered that was planned, or that a rule refused
-abbrev pub answered : Result (Result Planned Rule) KeepErr → Result Planned AccountErr
-answered (Ok (Ok planned)) = Ok planned
-answered (Ok (Err broken)) = Err (Refused 0 broken)
-answered (Err kept) = Err (not_kept kept)
+abbrev pub clerk_answer : Result (Result Planned Rule) KeepErr → Result Planned AccountErr
+clerk_answer (Ok (Ok planned)) = Ok planned
+clerk_answer (Ok (Err broken)) = Err (Refused 0 broken)
+clerk_answer (Err kept) = Err (not_kept kept)
 
 -- What was planned is what becomes of the command, and its counts are those of the tables once the writes are done.
 pub record IsDecided (counts : Counts) (now : ℕ) (command : Command) (planned : Planned) (t : Tables) : Type 0 where
@@ -69,9 +69,9 @@ pub record IsDecided (counts : Counts) (now : ℕ) (command : Command) (planned 
   pub counted : planned.counts ≡ counts_of (write_all t planned.writes)
 
 -- the command is planned so, or this rule refuses it, where the counts are those of the tables
-abbrev pub IsVerdict : Counts → ℕ → Command → Tables → Result Planned Rule → Type 0
-IsVerdict counts now command t (Ok planned) = counts ≡ counts_of t → IsDecided counts now command planned t
-IsVerdict counts now command t (Err broken) = counts ≡ counts_of t → decided t now command ≡ Err (refusal 0 broken)
+abbrev pub IsRuling : Counts → ℕ → Command → Tables → Result Planned Rule → Type 0
+IsRuling counts now command t (Ok planned) = counts ≡ counts_of t → IsDecided counts now command planned t
+IsRuling counts now command t (Err broken) = counts ≡ counts_of t → decided t now command ≡ Err (refusal 0 broken)
 
 -- the command isn't to be done: a rule refuses it, or the keeper failed, or memory was wanted
 abbrev pub NotDecided : Counts → ℕ → Command → AccountErr → KeeperSeen → KeeperSeen → Type 0

@@ -1,5 +1,5 @@
 -- What is looked for among the tables' entries, so that a rule can be tested.
-use Rattle.std.specs.Prelude.{ℕ, ◌==◌, Bool, false, ◌&&◌, Option, Some, None, List, [], option_map, cond}
+use Rattle.std.specs.Prelude.{ℕ, ◌==◌, Bool, ◌&&◌, Option, Some, None, List, [], option_map, cond}
 use Rattle.std.specs.List.{find, filter}
 use Rattle.std.specs.FinMap as map
 use Rattle.off_base.specs.declared.addresses.Ip4.{Ip4}

@@ -22,7 +22,7 @@ use Rattle.off_deciding.specs.declared.searching.Sought.{Sought}
 use Rattle.off_deciding.specs.declared.searching.Sought.TheVariants.{Overlapping, WithRelay, LiveLost, OfSubscriber, OfClass}
 use Rattle.off_deciding.specs.declared.testing.Test.{Test}
 use Rattle.off_deciding.specs.declared.testing.Test.TheVariants.{Tested, HasSubscriber, HasClass, FindsNone}
-use Rattle.off_deciding.specs.Changes.{counted}
+use Rattle.off_deciding.specs.Changes.{count_in}
 use Rattle.off_deciding.specs.Searches.{live_lost, pool_number, lease_address}
 
 -- the rule that is broken by what is found, and the same as the book says it
@@ -61,18 +61,18 @@ searches (HasClass n) = false
 searches (FindsNone sought) = true
 
 -- what the tables have at the key of a command, before it
-abbrev pub Stands : Tables → Key → Subject → Type 0
-Stands t key subject = (subject.is_there ≡ is_some (seen_at t key)) × (subject.pool ≡ option_and_then as_pool (seen_at t key))
+abbrev pub SubjectStands : Tables → Key → Subject → Type 0
+SubjectStands t key subject = (subject.is_there ≡ is_some (seen_at t key)) × (subject.pool ≡ option_and_then as_pool (seen_at t key))
 
 abbrev pub IsSubject : Command → Subject → Tables → Type 0
 IsSubject (SetSite site) subject t = Unit {0}
-IsSubject (PutSubscriber n subscriber) subject t = Stands t (key.Subscriber n) subject
-IsSubject (PutAddOn n number settings) subject t = Stands t (key.AddOn n number) subject
-IsSubject (PutModem mac modem) subject t = Stands t (key.Modem mac) subject
-IsSubject (PutClass n class) subject t = Stands t (key.Class n) subject
-IsSubject (PutPool n pool) subject t = Stands t (key.Pool n) subject
-IsSubject (Remove removed) subject t = Stands t removed subject
-IsSubject (Show shown) subject t = Stands t shown subject
+IsSubject (PutSubscriber n subscriber) subject t = SubjectStands t (key.Subscriber n) subject
+IsSubject (PutAddOn n number settings) subject t = SubjectStands t (key.AddOn n number) subject
+IsSubject (PutModem mac modem) subject t = SubjectStands t (key.Modem mac) subject
+IsSubject (PutClass n class) subject t = SubjectStands t (key.Class n) subject
+IsSubject (PutPool n pool) subject t = SubjectStands t (key.Pool n) subject
+IsSubject (Remove removed) subject t = SubjectStands t removed subject
+IsSubject (Show shown) subject t = SubjectStands t shown subject
 IsSubject (Import kind batch digest rows) subject t = Unit {0}
 
 -- how many calls that takes
@@ -83,7 +83,7 @@ calls_for_subject command = 1
 
 -- the limit of a kind, where the counts and whether the key is there are known
 abbrev pub limit_rule : Counts → Kind → Bool → Option Rule
-limit_rule counts kind there = when (not there && nat_le (limit_of kind) (counted kind counts)) (rule.Limit kind (limit_of kind))
+limit_rule counts kind there = when (not there && nat_le (limit_of kind) (count_in kind counts)) (rule.Limit kind (limit_of kind))
 
 abbrev pub limit_test : Counts → Kind → Subject → Test
 limit_test counts kind subject = Tested (limit_rule counts kind subject.is_there)

@@ -9,9 +9,8 @@ ghost use Rattle.off_deciding.specs.Deciding.{most_calls, most_calls_removing};
 ghost use Rattle.off_deciding.specs.After.{CountsAfter, CountsAfterRemoval};
 
 use crate::limits::{counts_put, fewer_add_ons, one_less};
-use crate::planning::ADD_ONS;
 use crate::subject::Subject;
-use off_defs::{Command, Key, Kind};
+use off_defs::{ADD_ONS, Command, Key, Kind};
 use off_outside::{KeepErr, Keeper};
 use off_readers::has_row;
 use off_rules::Counts;

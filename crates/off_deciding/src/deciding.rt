@@ -4,8 +4,8 @@ ghost use Rattle.off_defs.specs.declared.orders.Reply.TheVariants.{Done};
 ghost use Rattle.off_rows.specs.Sound.{is_sound};
 ghost use Rattle.off_rules.specs.Rows.{counts_of};
 ghost use Rattle.off_outside.specs.KeeperCalls.{Looks, Reads, Spent};
-ghost use Rattle.off_deciding.specs.Deciding.{is_import, most_calls, IsByRules, IsVerdict};
-ghost use Rattle.off_deciding.specs.Deciding.{IsDecided, NotDecided, AnswersCommand, answered};
+ghost use Rattle.off_deciding.specs.Deciding.{is_import, most_calls, IsByRules, IsRuling};
+ghost use Rattle.off_deciding.specs.Deciding.{IsDecided, NotDecided, AnswersCommand, clerk_answer};
 
 use crate::counting::counts_after;
 use crate::planning::writes_for;
@@ -46,7 +46,7 @@ pub fn decide<K: Keeper>(
         (λ n. Spent n (K.seen keeper.old) (K.seen keeper.new)) }
 {
     let verdict = verdict_on(alloc, keeper, counts, now, c);
-    answered(verdict)
+    clerk_answer(verdict)
 }
 
 // What is planned, or the rule that is broken.
@@ -60,7 +60,7 @@ fn verdict_on<K: Keeper>(
     requires sound { IsTrue (is_sound c.now) }
     requires not_import { is_import c.now ≡ false }
     ensures told { Looks result (K.seen keeper.old) (K.seen keeper.new)
-        (λ verdict t. IsVerdict counts.now now.0 c.now t verdict) }
+        (λ verdict t. IsRuling counts.now now.0 c.now t verdict) }
     ensures answers { IfOk result (λ verdict. IfOk verdict
         (λ planned. AnswersCommand c.now planned)) }
     ensures spent { IfSome (most_calls c.now)
@@ -76,8 +76,8 @@ fn verdict_on<K: Keeper>(
     change(alloc, keeper, &asked, c)
 }
 
-fn answered(verdict: Result<Result<Planned, Rule>, KeepErr>) -> Result<Planned, AccountErr>
-    ensures { result ≡ answered verdict }
+fn clerk_answer(verdict: Result<Result<Planned, Rule>, KeepErr>) -> Result<Planned, AccountErr>
+    ensures { result ≡ clerk_answer verdict }
 {
     match verdict? {
         Ok(planned) => Ok(planned),
@@ -94,7 +94,7 @@ fn show<K: Keeper>(
     key: &Key,
 ) -> Result<Result<Planned, Rule>, KeepErr>
     ensures told { Looks result (K.seen keeper.old) (K.seen keeper.new)
-        (λ verdict t. IsVerdict counts.now now.0 (Show key.now) t verdict) }
+        (λ verdict t. IsRuling counts.now now.0 (Show key.now) t verdict) }
     ensures answers { IfOk result (λ verdict. IfOk verdict (λ planned.
         AnswersCommand (Show key.now) planned)) }
     ensures spent { Spent 1 (K.seen keeper.old) (K.seen keeper.new) }
@@ -119,7 +119,7 @@ fn change<K: Keeper>(
     requires sound { IsTrue (is_sound c.now) }
     requires changes { IsByRules c.now }
     ensures told { Looks result (K.seen keeper.old) (K.seen keeper.new)
-        (λ verdict t. IsVerdict asked.now.counts asked.now.at.0 c.now t verdict) }
+        (λ verdict t. IsRuling asked.now.counts asked.now.at.0 c.now t verdict) }
     ensures answers { IfOk result (λ verdict. IfOk verdict (λ planned. planned.reply ≡ Done)) }
     ensures spent { IfSome (most_calls c.now)
         (λ n. Spent n (K.seen keeper.old) (K.seen keeper.new)) }

@@ -1,4 +1,4 @@
-ghost use Rattle.std.specs.Prelude.{◌≡◌, ◌∷◌, ◌++◌, Some, MatchResult, OnOk};
+ghost use Rattle.std.specs.Prelude.{◌≡◌, ◌∷◌, ◌++◌, Some, OnOk};
 ghost use Rattle.std.specs.List.{flat_map};
 ghost use Rattle.off_rules.specs.Clerk.{lease_drops, held_drop};
 ghost use Rattle.off_rules.specs.Good.{owner_of};

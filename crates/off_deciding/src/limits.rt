@@ -3,7 +3,7 @@
 ghost use Rattle.std.specs.Prelude.{◌≡◌, ◌-◌, true, None};
 ghost use Rattle.off_defs.specs.declared.orders.Kind.TheVariants.{AddOns};
 ghost use Rattle.off_rules.specs.Clerk.{limit_of};
-ghost use Rattle.off_deciding.specs.Changes.{counted, with_count, counts_put, counts_drop};
+ghost use Rattle.off_deciding.specs.Changes.{count_in, with_count, counts_put, counts_drop};
 ghost use Rattle.off_deciding.specs.Tests.{limit_rule};
 
 use off_defs::{Kind, Rule};
@@ -40,7 +40,7 @@ pub(crate) fn one_less(counts: &Counts, kind: Kind) -> Counts
 
 /// The counts after so many add-ons lose their rows.
 pub(crate) fn fewer_add_ons(counts: &Counts, lost: u64) -> Counts
-    ensures { result ≡ with_count AddOns (counted AddOns counts.now - lost) counts.now }
+    ensures { result ≡ with_count AddOns (count_in AddOns counts.now - lost) counts.now }
 {
     with_count(
         counts,
@@ -64,7 +64,7 @@ fn limit_of(kind: Kind) -> u32
 }
 
 fn count_of(counts: &Counts, kind: Kind) -> u64
-    ensures { result ≡ counted kind counts.now }
+    ensures { result ≡ count_in kind counts.now }
 {
     match kind {
         Kind::Subscribers => counts.subscribers,

@@ -9,17 +9,14 @@ ghost use Rattle.off_outside.specs.declared.keeper.KeepErr.TheVariants.{Memory};
 ghost use Rattle.off_outside.specs.KeeperCalls.{Looks, Spent};
 ghost use Rattle.off_rules.specs.Clerk.{add_on_keys, removal_writes, writes_of};
 ghost use Rattle.off_deciding.specs.Deciding.{most_calls, most_calls_removing};
-ghost use Rattle.off_deciding.specs.Tests.{Stands, IsSubject};
+ghost use Rattle.off_deciding.specs.Tests.{SubjectStands, IsSubject};
 
 use crate::dropping::with_drops;
 use crate::subject::Subject;
 use off_base::Settings;
-use off_defs::{Class, Command, Key, Modem, Row, Site, Subscriber, Write, Writes};
+use off_defs::{ADD_ONS, Class, Command, Key, Row, Write, Writes};
 use off_outside::{KeepErr, Keeper};
 use std::alloc::Global;
-
-// The numbers of a subscriber's add-ons are below this one.
-pub(crate) const ADD_ONS: u8 = 8;
 
 /// What the command writes.
 pub(crate) fn writes_for<K: Keeper>(
@@ -34,10 +31,10 @@ pub(crate) fn writes_for<K: Keeper>(
         → Spent 0 (K.seen keeper.old) (K.seen keeper.new) }
 {
     match c {
-        Command::SetSite(site) => one_write(alloc, Write::Put(Key::Site, site_row(site))),
+        Command::SetSite(site) => one_write(alloc, Write::Put(Key::Site, Row::Site(site.copy()))),
         Command::PutSubscriber(n, subscriber) => one_write(
             alloc,
-            Write::Put(Key::Subscriber(*n), subscriber_row(subscriber)),
+            Write::Put(Key::Subscriber(*n), Row::Subscriber(subscriber.copy())),
         ),
         Command::PutAddOn(n, number, settings) => one_write(
             alloc,
@@ -45,7 +42,7 @@ pub(crate) fn writes_for<K: Keeper>(
         ),
         Command::PutModem(mac, modem) => one_write(
             alloc,
-            Write::Put(Key::Modem(*mac), modem_row(modem)),
+            Write::Put(Key::Modem(*mac), Row::Modem(modem.copy())),
         ),
         Command::PutClass(n, class) => one_write(
             alloc,
@@ -70,7 +67,7 @@ fn removal_writes<K: Keeper>(
     key: &Key,
 ) -> Result<Writes, KeepErr>
     ensures told { Looks result (K.seen keeper.old) (K.seen keeper.new)
-        (λ writes t. Stands t key.now subject.now → writes ≡ removal_writes t key.now) }
+        (λ writes t. SubjectStands t key.now subject.now → writes ≡ removal_writes t key.now) }
     ensures spent { is_some (most_calls_removing key.now) ≡ true
         → Spent 0 (K.seen keeper.old) (K.seen keeper.new) }
 {
@@ -111,39 +108,7 @@ fn subscriber_drops(alloc: Global, n: u32) -> Result<Writes, KeepErr>
     Ok(writes)
 }
 
-pub(crate) fn site_row(site: &Site) -> Row
-    ensures { result ≡ row.Site site.now }
-{
-    Row::Site(Site {
-        server: site.server,
-        secret: site.secret.copy(),
-        offset: site.offset,
-        lease: site.lease,
-        log: site.log,
-    })
-}
-
-pub(crate) fn subscriber_row(subscriber: &Subscriber) -> Row
-    ensures { result ≡ row.Subscriber subscriber.now }
-{
-    Row::Subscriber(Subscriber {
-        active: subscriber.active,
-        cpes: subscriber.cpes,
-        name: subscriber.name.copy(),
-    })
-}
-
-pub(crate) fn modem_row(modem: &Modem) -> Row
-    ensures { result ≡ row.Modem modem.now }
-{
-    Row::Modem(Modem {
-        subscriber: modem.subscriber,
-        class: modem.class,
-        serial: modem.serial.copy(),
-    })
-}
-
-pub(crate) fn add_on_row(settings: &Settings) -> Result<Row, KeepErr>
+fn add_on_row(settings: &Settings) -> Result<Row, KeepErr>
     ensures { MatchResult result (λ made. made ≡ row.AddOn settings.now) (λ err. err ≡ Memory) }
 {
     match settings.copy() {
@@ -152,14 +117,11 @@ pub(crate) fn add_on_row(settings: &Settings) -> Result<Row, KeepErr>
     }
 }
 
-pub(crate) fn class_row(class: &Class) -> Result<Row, KeepErr>
+fn class_row(class: &Class) -> Result<Row, KeepErr>
     ensures { MatchResult result (λ made. made ≡ row.Class class.now) (λ err. err ≡ Memory) }
 {
-    match class.settings.copy() {
-        Ok(settings) => Ok(Row::Class(Class {
-            name: class.name.copy(),
-            settings,
-        })),
+    match class.copy() {
+        Ok(class) => Ok(Row::Class(class)),
         Err(_refused) => Err(KeepErr::Memory),
     }
 }

@@ -1,7 +1,7 @@
 ghost use Rattle.std.specs.Prelude.{◌≡◌, option_and_then};
 ghost use Rattle.off_outside.specs.KeeperCalls.{Looks, Spent, WasCounted};
 ghost use Rattle.off_rules.specs.Rows.{as_pool};
-ghost use Rattle.off_deciding.specs.Tests.{Stands, IsSubject, calls_for_subject};
+ghost use Rattle.off_deciding.specs.Tests.{SubjectStands, IsSubject, calls_for_subject};
 
 use off_defs::{Command, Key, Pool, Row};
 use off_outside::{KeepErr, Keeper};
@@ -18,7 +18,7 @@ pub(crate) struct Subject {
 }
 
 /// What the tables have at the key of the command. It's one call at most.
-#[tactic(auto, using(off_outside::proofs::KeeperLemmas::reads_none, off_outside::proofs::KeeperLemmas::spent_none, off_outside::proofs::KeeperLemmas::spent_one))]
+#[tactic(auto, using(off_readers::proofs::ReadRules::one_read))]
 pub(crate) fn subject_of<K: Keeper>(
     alloc: Global,
     keeper: &mut K,
@@ -50,7 +50,7 @@ fn nothing() -> Subject {
 #[tactic(auto, using(off_outside::proofs::KeeperLemmas::reads_as))]
 fn at_key<K: Keeper>(alloc: Global, keeper: &mut K, key: &Key) -> Result<Subject, KeepErr>
     ensures told { Looks result (K.seen keeper.old) (K.seen keeper.new)
-        (λ subject t. Stands t key.now subject) }
+        (λ subject t. SubjectStands t key.now subject) }
     ensures counted { WasCounted (K.seen keeper.old) (K.seen keeper.new) }
 {
     let row = read_row(alloc, keeper, key)?;

@@ -50,7 +50,7 @@ pub fn first_broken<K: Keeper>(
 }
 
 // The rule of the test, where it's broken.
-#[tactic(auto, using(off_outside::proofs::KeeperLemmas::reads_none, off_outside::proofs::KeeperLemmas::spent_none, off_outside::proofs::KeeperLemmas::spent_one))]
+#[tactic(auto, using(off_readers::proofs::ReadRules::one_read))]
 fn broken_by<K: Keeper>(alloc: Global, keeper: &mut K, test: &Test) -> Result<Option<Rule>, KeepErr>
     ensures told { Looks result (K.seen keeper.old) (K.seen keeper.new)
         (λ broken t. broken ≡ says t test.now) }

@@ -1,4 +1,4 @@
-ghost use Rattle.std.specs.Prelude.{◌≡◌, ◌==◌, ◌&&◌, not};
+ghost use Rattle.std.specs.Prelude.{◌≡◌, ◌==◌, ◌&&◌};
 ghost use Rattle.off_rules.specs.Rows.{pool_of, lease_of, modem_of};
 ghost use Rattle.off_rules.specs.Clerk.{is_other_overlapping, is_other_with_relay, is_live};
 ghost use Rattle.off_rules.specs.Rows.{passes};

@@ -1,7 +1,8 @@
 use Rattle.std.proofs.Common.{ap, arith}
 use Rattle.std.proofs.lemmas.Grind.{common_steps}
 use Rattle.off_base.specs.Setting.{tree_of}
-use Rattle.off_clerk_write.proofs.ArrayLemmas.{size_at, parts_smaller, element_more, group_text}
+use Rattle.off_base.proofs.TreeLemmas.{size_at, parts_smaller}
+use Rattle.off_clerk_write.proofs.ArrayLemmas.{element_more, group_text}
 use Rattle.off_clerk_write.proofs.arrays.+settings.Goals as goal
 
 pub push_setting-push_settings-requires : goal.push_setting-push_settings-requires

@@ -1,6 +1,6 @@
 use Rattle.std.proofs.Common.{sym, ap, ◌∙◌, refl}
 use Rattle.off_outside.proofs.KeeperLemmas.{reads_none}
-use Rattle.off_defs.specs.declared.orders.Command.TheVariants.{SetSite, PutSubscriber, PutAddOn, PutModem, PutClass, PutPool}
+use Rattle.off_defs.specs.declared.orders.Command.TheVariants.{PutSubscriber, PutAddOn, PutModem, PutClass, PutPool}
 use Rattle.off_rows.specs.Sound.{is_sound}
 use Rattle.off_deciding.proofs.AfterLemmas.{counted_as, site_put, subscriber_put, add_on_put, modem_put, class_put, pool_put}
 use Rattle.off_deciding.proofs.counting.counts_after.Goals as goal

@@ -1,5 +1,5 @@
 -- The tests so far are passed, and have looked up no more keys than they may.
-use Rattle.std.proofs.Common.{◌≡◌, false, map, drop}
+use Rattle.std.proofs.Common.{◌≡◌, false, drop}
 use Rattle.off_outside.specs.KeeperCalls.{Reads}
 use Rattle.off_deciding.specs.Tests.{any_searches}
 use Rattle.off_deciding.proofs.TriedLemmas.{IsLeft, Tried}
