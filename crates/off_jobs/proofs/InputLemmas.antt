@@ -1,16 +1,42 @@
 -- The input of a job, piece by piece.
-use Rattle.std.proofs.Common.{◌≡◌, ℕ, ◌+◌, ◌<◌, ◌≤◌, List, [], ◌∷◌, ◌++◌, length, take, refl, sym, ap, ◌∙◌, subst, arith, append_assoc, append-nil, length-append, inr}
-use Rattle.off_defs.proofs.ToldLemmas.{told_then, told_weaker, told_self}
+use Rattle.std.proofs.Common.{◌≡◌, ℕ, ◌+◌, ◌<◌, ◌≤◌, List, [], ◌∷◌, ◌++◌, length, take, refl, sym, ap, ◌∙◌, subst, arith, append_assoc, append-nil, length-append, length-take, inr}
+use Rattle.off_defs.specs.Counts.{Grew, one_more}
+use Rattle.off_defs.proofs.ToldLemmas.{told_then, told_weaker, told_self, then_stays}
 use Rattle.off_defs.proofs.CountLemmas.{later_grew}
 use Rattle.off_outside.specs.Streams.{SourceSeen, Gave}
+use Rattle.off_outside.proofs.StreamLemmas.{ends_met, ends_full}
 use Rattle.off_jobs.specs.declared.input.InputErr.{InputErr}
 use Rattle.off_jobs.specs.declared.input.InputErr.TheVariants.{TooLong, Failed, Memory}
-use Rattle.off_jobs.specs.Input.{Took, TookAll, TookTooMany, LackedMemory, TookPiece, NoPiece, NoInput, most_bytes}
+use Rattle.off_jobs.specs.Input.{Took, TookAll, TookTooMany, TookPiece, LostPiece, NoPiece, NoInput, most_bytes}
 
-pub gave_lacks : {n : ℕ} {out : List ℕ} {old new : SourceSeen} → Gave n out old new → LackedMemory old new
-gave_lacks {n} {out} {old} {new} gave = record {
-  bytes = take n out;
-  took = record { left = told_weaker gave.left (λ x y fits. fits.0); up = gave.up; faults = gave.faults; calls = omega (arith, gave.calls) };
+gave_took : {n : ℕ} {out : List ℕ} {old new : SourceSeen} → Gave n out old new → Took (take n out) 1 old new
+gave_took {n} {out} {old} {new} gave = record {
+  left = told_weaker gave.left (λ x y fits. fits.0);
+  up = gave.up;
+  faults = gave.faults;
+  calls = omega (arith, gave.calls);
+}
+
+-- a read that gave nothing, where there was room
+pub gave_end : {n room : ℕ} {out bytes : List ℕ} {old new : SourceSeen} → Gave n out old new → n ≡ 0 → 0 < length out → 0 < room → TookPiece 0 room bytes bytes old new
+gave_end {n} {room} {out} {bytes} {old} {new} gave none some wanted = record {
+  piece = [];
+  long = refl;
+  fits = omega arith;
+  joined = sym (append-nil bytes);
+  took = subst (λ v. Took v 1 old new) (ap (λ k. take k out) none) (gave_took gave);
+  end = λ zero. told_weaker gave.left (λ x y fits. fits.1 none some);
+  ends = gave.ends ∙ (ends_met n (length out) old.ends none some ∙ sym (ends_met 0 room old.ends refl wanted));
+}
+
+-- a read that gave bytes, for which memory was wanted
+pub gave_lost : {n room : ℕ} {out : List ℕ} {old new : SourceSeen} → Gave n out old new → 0 < n → n ≤ length out → length out ≤ room → LostPiece room old new
+gave_lost {n} {room} {out} {old} {new} gave some within fits = record {
+  piece = take n out;
+  some = omega (arith, length-take n out);
+  fits = omega (arith, length-take n out);
+  took = gave_took gave;
+  ends = gave.ends ∙ ends_full n (length out) old.ends some;
 }
 
 pub took_none : (s : SourceSeen) → Took [] 0 s s
@@ -32,9 +58,10 @@ took_within le p = record { left = p.left; up = p.up; faults = p.faults; calls =
 pub record SoFar (bytes : List ℕ) (old new : SourceSeen) : Type 0 where
   pub took : Took bytes (length bytes) old new
   pub within : length bytes ≤ most_bytes + 1
+  pub ends : new.ends ≡ old.ends
 
 pub so_far_none : (s : SourceSeen) → SoFar [] s s
-so_far_none s = record { took = took_none s; within = omega arith }
+so_far_none s = record { took = took_none s; within = omega arith; ends = refl }
 
 pub so_far_more : {count room : ℕ} {bytes longer : List ℕ} {a b c : SourceSeen} → SoFar bytes a b → TookPiece count room bytes longer b c
     → room + length bytes ≤ most_bytes + 1 → (count ≡ 0 → ⊥) → SoFar longer a c
@@ -42,6 +69,7 @@ so_far_more {count} {room} {bytes} {longer} {a} {b} {c} p q room_is some = recor
   took = (let more : length bytes + 1 ≤ length longer = omega (arith, ap length q.joined, length-append bytes q.piece, q.long) in
       took_within more (subst (λ v. Took v (length bytes + 1) a c) (sym q.joined) (took_then p.took q.took)));
   within = omega (arith, ap length q.joined, length-append bytes q.piece, q.long, q.fits);
+  ends = q.ends ∙ (ends_full count room b.ends (omega (arith, some)) ∙ p.ends);
 }
 
 pub longer_by : {count room : ℕ} {bytes longer : List ℕ} {b c : SourceSeen} → TookPiece count room bytes longer b c → length longer ≡ length bytes + count
@@ -52,8 +80,8 @@ none_of [] e = refl
 none_of (x ∷ xs) e = absurd (omega arith)
 
 -- the end of the source
-pub at_end : {room : ℕ} {bytes longer : List ℕ} {a b c : SourceSeen} → SoFar bytes a b → TookPiece 0 room bytes longer b c → length bytes ≤ most_bytes → TookAll longer a c
-at_end {room} {bytes} {longer} {a} {b} {c} p q short =
+pub at_end : {room : ℕ} {bytes longer : List ℕ} {a b c : SourceSeen} → SoFar bytes a b → TookPiece 0 room bytes longer b c → length bytes ≤ most_bytes → 0 < room → TookAll longer a c
+at_end {room} {bytes} {longer} {a} {b} {c} p q short wanted =
     let none : q.piece ≡ [] = none_of q.piece q.long in
     let same : longer ≡ bytes = q.joined ∙ (ap (λ v. bytes ++ v) none ∙ append-nil bytes) in
     record {
@@ -68,23 +96,31 @@ at_end {room} {bytes} {longer} {a} {b} {c} p q short =
       };
       took = (let few : length bytes + 1 ≤ length longer + 1 = omega (arith, ap length same) in
           took_within few (subst (λ v. Took v (length bytes + 1) a c) (sym q.joined) (took_then p.took q.took)));
+      ends = q.ends ∙ (ends_met 0 room b.ends refl wanted ∙ ap one_more p.ends);
     }
 
-pub no_input : (err : InputErr) (bytes : List ℕ) (a b c : SourceSeen) → SoFar bytes a b → NoPiece err b c → NoInput err a c
-no_input TooLong bytes a b c p q = absurd q
-no_input Failed bytes a b c p q =
-    let size = length-append bytes q.bytes in
-    let grew = later_grew (omega (arith, p.took.faults)) q.faults in
+pub no_input : (err : InputErr) (bytes : List ℕ) (room : ℕ) (a b c : SourceSeen) → SoFar bytes a b → length bytes ≤ most_bytes → room + length bytes ≤ most_bytes + 1
+    → NoPiece err room b c → NoInput err a c
+no_input TooLong bytes room a b c p short room_is q = absurd q
+no_input Failed bytes room a b c p short room_is q =
+    let grew : Grew 1 a.faults c.faults = later_grew (omega (arith, p.took.faults)) q.faults in
     record {
-      bytes = bytes ++ q.bytes;
-      left = told_then p.took.left q.left (λ x y z before after. before ∙ (ap (λ v. bytes ++ v) after ∙ sym (append_assoc bytes q.bytes z)));
+      bytes = bytes;
+      few = short;
+      left = then_stays p.took.left q.left;
       up = λ up. inr grew;
       faults = grew;
       calls = omega (arith, p.took.calls, q.calls);
+      ends = q.ends ∙ p.ends;
     }
-no_input Memory bytes a b c p q =
-    let size = length-append bytes q.bytes in
-    record { bytes = bytes ++ q.bytes; took = took_within (omega arith) (took_then p.took q.took) }
+no_input Memory bytes room a b c p short room_is q =
+    let size = length-append bytes q.piece in
+    record {
+      bytes = bytes ++ q.piece;
+      few = omega (arith, q.fits);
+      took = took_within (omega (arith, q.some)) (took_then p.took q.took);
+      ends = q.ends ∙ p.ends;
+    }
 
 pub too_many : {bytes : List ℕ} {a b : SourceSeen} → SoFar bytes a b → most_bytes < length bytes → TookTooMany a b
-too_many {bytes} p over = record { bytes = bytes; over = omega (arith, p.within); took = p.took }
+too_many {bytes} p over = record { bytes = bytes; over = omega (arith, p.within); took = p.took; ends = p.ends }

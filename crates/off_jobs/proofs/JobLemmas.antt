@@ -24,6 +24,27 @@ told_whole (inr cut) none = absurd (omega (arith, cut.1.faults.grew, none.sink_s
 source_held : {s s' : SourceSeen} {t t' : SinkSeen} → SourceFailed s s' → NoFault s s' t t' → ⊥
 source_held failed none = omega (arith, failed.faults.grew, none.source_same, none.source_count)
 
+-- where no count rose, what was up is up
+sink_kept : {of status : ℕ} {text : List ℕ} {s s' : SourceSeen} {t t' : SinkSeen} → Tells of text status t t' → NoFault s s' t t' → t.up → t'.up
+sink_kept (inl wrote) none up = wrote.1.up up
+sink_kept (inr cut) none up = absurd (omega (arith, cut.1.faults.grew, none.sink_same, none.sink_count))
+
+unread_kept : (why : Unread) (s s' : SourceSeen) (t t' : SinkSeen) → UnreadBy why s s' → NoFault s s' t t' → s.up → s'.up
+unread_kept overlong s s' t t' by none up = by.took.up up
+unread_kept memoryless s s' t t' by none up = by.took.up up
+unread_kept sourceless s s' t t' by none up = absurd (source_held by none)
+
+sealing_kept : (way : Sealing) (secret : List ℕ) (s s' : SourceSeen) (t t' : SinkSeen) → SealedBy way secret s s' → NoFault s s' t t' → s.up → s'.up
+sealing_kept (sealed_as file made) secret s s' t t' by none up = by.0.took.up up
+sealing_kept (refused_by file fault) secret s s' t t' by none up = by.0.took.up up
+sealing_kept (unsealed file) secret s s' t t' by none up = by.0.took.up up
+sealing_kept (not_sealed why) secret s s' t t' by none up = unread_kept why s s' t t' by none up
+
+checking_kept : (way : Checking) (secret : List ℕ) (s s' : SourceSeen) (t t' : SinkSeen) → CheckedBy way secret s s' → NoFault s s' t t' → s.up → s'.up
+checking_kept (answered file verdict) secret s s' t t' by none up = by.0.took.up up
+checking_kept (refused_for file fault) secret s s' t t' by none up = by.0.took.up up
+checking_kept (not_checked why) secret s s' t t' by none up = unread_kept why s s' t t' by none up
+
 six_or : (why : Unread) (of status : ℕ) (s s' : SourceSeen) (t t' : SinkSeen) → UnreadBy why s s' → NoFault s s' t t' → status ≡ unread_status of why → (status ≡ 6) ⊎ (status ≡ of)
 six_or overlong of status s s' t t' by none is = inr is
 six_or memoryless of status s s' t t' by none is = inl is
@@ -65,6 +86,7 @@ seals_by way secret status s s' t t' by told = record {
   done = by;
   told = told;
   statuses = λ none. seal_ended way secret status s s' t t' by none (told_whole told none);
+  up = λ none. record { source_up = sealing_kept way secret s s' t t' by none; sink_up = sink_kept told none };
   complete = λ file trees held spells short none other. seal_complete way secret status s s' t t' by (told_whole told none) file trees held spells short none other;
 }
 
@@ -86,7 +108,13 @@ check_ended (not_checked why) secret status s s' t t' by none is = inr (six_or w
 pub checks_by : (way : Checking) (secret : List ℕ) (status : ℕ) (s s' : SourceSeen) (t t' : SinkSeen) → CheckedBy way secret s s'
     → Tells (checking_status way) (checking_text way) status t t' → ChecksInput secret status s s' t t'
 checks_by way secret status s s' t t' by told =
-    record { way = way; done = by; told = told; statuses = λ none. check_ended way secret status s s' t t' by none (told_whole told none) }
+    record {
+      way = way;
+      done = by;
+      told = told;
+      statuses = λ none. check_ended way secret status s s' t t' by none (told_whole told none);
+      up = λ none. record { source_up = checking_kept way secret s s' t t' by none; sink_up = sink_kept told none };
+    }
 
 -- the same text, and the same status, under other names
 pub tells_as : (of given : ℕ) (status : ℕ) (text wanted : List ℕ) (t t' : SinkSeen) → of ≡ given → text ≡ wanted → Tells of text status t t' → Tells given wanted status t t'

@@ -102,6 +102,11 @@ pub record NoFault (source source' : SourceSeen) (sink sink' : SinkSeen) : Type 
   pub sink_same : sink'.faults ≡ sink.faults
   pub sink_count : sink.faults < most_count
 
+-- the source and the sink are up where they were
+pub record BothUp (source source' : SourceSeen) (sink sink' : SinkSeen) : Type 0 where
+  pub source_up : source.up → source'.up
+  pub sink_up : sink.up → sink'.up
+
 -- What `seal` did under a secret. Where no count rose and no memory was wanted, every file by the grammar that is short enough
 -- is sealed, and a status other than 0 is 9.
 pub record SealsInput (secret : List ℕ) (status : ℕ) (source source' : SourceSeen) (sink sink' : SinkSeen) : Type 0 where
@@ -109,6 +114,7 @@ pub record SealsInput (secret : List ℕ) (status : ℕ) (source source' : Sourc
   pub done : SealedBy way secret source source'
   pub told : Tells (sealing_status way) (sealing_text way) status sink sink'
   pub statuses : NoFault source source' sink sink' → (status ≡ 0) ⊎ ((status ≡ 6) ⊎ (status ≡ 9))
+  pub up : NoFault source source' sink sink' → BothUp source source' sink sink'
   pub complete : (file : List ℕ) (trees : List Tree) → source.left file → FileOf file trees → length file ≤ 65536 → NoFault source source' sink sink' → status ≢ 6 → status ≡ 0
 
 -- What `check` did under a secret. Where no count rose and no memory was wanted, a status other than 0 is 8.
@@ -117,3 +123,4 @@ pub record ChecksInput (secret : List ℕ) (status : ℕ) (source source' : Sour
   pub done : CheckedBy way secret source source'
   pub told : Tells (checking_status way) (checking_text way) status sink sink'
   pub statuses : NoFault source source' sink sink' → (status ≡ 0) ⊎ ((status ≡ 6) ⊎ (status ≡ 8))
+  pub up : NoFault source source' sink sink' → BothUp source source' sink sink'

@@ -43,11 +43,12 @@ fn read_piece<S: Source>(source: &mut S, room: usize, bytes: &mut Bytes) -> Resu
     requires { 0 < room }
     ensures { MatchResult result
         (λ count. TookPiece count room bytes.old bytes.new (S.seen source.old) (S.seen source.new))
-        (λ err. NoPiece err (S.seen source.old) (S.seen source.new)) }
+        (λ err. NoPiece err room (S.seen source.old) (S.seen source.new)) }
 {
     let mut piece = [0u8; ROOM];
     let asked = room.min(ROOM);
     match source.read(&mut piece[..asked]) {
+        Ok(0) => Ok(0),
         Ok(count) => match bytes.push_all(&piece[..count]) {
             Ok(()) => Ok(count),
             Err(NoMemory) => Err(InputErr::Memory),

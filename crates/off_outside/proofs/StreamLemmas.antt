@@ -1,12 +1,28 @@
 -- What a source in memory gives is what it tells of it.
-use Rattle.std.proofs.Common.{◌≡◌, ℕ, ◌≤◌, List, [], ◌∷◌, ◌++◌, Result, Ok, Err, MatchResult, IfOk, length, take, drop, refl, sym, ap, ◌∙◌, subst, inl, arith, length-take}
+use Rattle.std.proofs.Common.{◌≡◌, ℕ, zero, suc, ◌<◌, ◌≤◌, List, [], ◌∷◌, ◌++◌, Result, Ok, Err, MatchResult, IfOk, length, take, drop, refl, sym, ap, ◌∙◌, subst, inl, arith, length-take}
 use Rattle.std.proofs.Math.Seq.{take-append_seam}
 use Rattle.std.proofs.lemmas.List.{take-append-drop}
 use Rattle.off_defs.proofs.ToldLemmas.{told_known}
-use Rattle.off_defs.specs.Counts.{Grew}
+use Rattle.off_defs.specs.Counts.{Grew, one_more}
 use Rattle.off_outside.specs.declared.link.Failed.{Failed}
-use Rattle.off_outside.specs.Streams.{Gave, NotGiven}
+use Rattle.off_outside.specs.Streams.{Gave, NotGiven, ends_after}
 use Rattle.off_outside.specs.InMemory.{MemSourceHeld, MemGave, MemNotGiven, source_seen}
+
+pub ends_met : (n room ends : ℕ) → n ≡ 0 → 0 < room → ends_after n room ends ≡ one_more ends
+ends_met zero zero ends none some = absurd (omega arith)
+ends_met zero (suc room) ends none some = refl
+ends_met (suc n) room ends none some = absurd (omega arith)
+
+pub ends_full : (n room ends : ℕ) → 0 < n → ends_after n room ends ≡ ends
+ends_full zero room ends some = absurd (omega arith)
+ends_full (suc n) room ends some = refl
+
+pub ends_roomless : (n room ends : ℕ) → room ≡ 0 → ends_after n room ends ≡ ends
+ends_roomless zero zero ends none = refl
+ends_roomless zero (suc room) ends none = absurd (omega arith)
+ends_roomless (suc n) room ends none = refl
+
+pub ruleset ends_rules = (ends_met, ends_full, ends_roomless)
 
 none_of : (left : List ℕ) → length left ≡ 0 → left ≡ []
 none_of [] e = refl
@@ -29,6 +45,7 @@ mem_gave_tells {n} {before} {after} {old} {new} gave same = record {
   up = λ up. up;
   faults = ap (λ (m : MemSourceHeld). m.faults) gave.after_it;
   calls = ap (λ (m : MemSourceHeld). m.calls.made) gave.after_it;
+  ends = ap (λ (m : MemSourceHeld). m.ends) gave.after_it ∙ ap (λ k. ends_after n k old.ends) (sym same);
 }
 
 not_given_tells : {before after : List ℕ} {old new : MemSourceHeld} → MemNotGiven before after old new → NotGiven (source_seen old) (source_seen new)
@@ -37,6 +54,7 @@ not_given_tells {old = old} {new = new} not_given = record {
   up = λ up. inl up;
   faults = subst (λ (m : MemSourceHeld). Grew 1 old.faults m.faults) (sym not_given.after_it) (record { later = omega (arith, not_given.fits); grew = omega arith });
   calls = ap (λ (m : MemSourceHeld). m.calls.made) not_given.after_it;
+  ends = ap (λ (m : MemSourceHeld). m.ends) not_given.after_it;
 }
 
 pub read_tells : (r : Result ℕ Failed) (before after : List ℕ) (old new : MemSourceHeld)

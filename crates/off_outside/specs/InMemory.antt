@@ -5,7 +5,7 @@ use Rattle.off_defs.specs.declared.results.Sent.{Sent}
 use Rattle.off_defs.specs.Counts.{one_more, most_count}
 use Rattle.off_outside.specs.LinkSeen.{LinkSeen}
 use Rattle.off_outside.specs.LinkCalls.{first_event}
-use Rattle.off_outside.specs.Streams.{SourceSeen, SinkSeen}
+use Rattle.off_outside.specs.Streams.{SourceSeen, SinkSeen, ends_after}
 use Rattle.off_outside.specs.declared.link.LinkErr.{LinkErr}
 use Rattle.off_outside.specs.declared.link.Failed.{Failed}
 use Rattle.off_outside.specs.declared.link.LinkErr.TheVariants as link_err
@@ -117,9 +117,10 @@ pub record MemSourceHeld : Type 0 where
   pub left : List ℕ
   pub calls : CallsHeld
   pub faults : ℕ
+  pub ends : ℕ
 
 abbrev pub source_seen : MemSourceHeld → SourceSeen
-source_seen m = record { left = λ bytes. bytes ≡ m.left; up = Unit {0}; faults = m.faults; calls = m.calls.made }
+source_seen m = record { left = λ bytes. bytes ≡ m.left; up = Unit {0}; faults = m.faults; calls = m.calls.made; ends = m.ends }
 
 -- what is seen of a source in memory is all that it holds
 pub record SourceTells (m : MemSourceHeld) (seen : SourceSeen) : Type 0 where
@@ -127,13 +128,18 @@ pub record SourceTells (m : MemSourceHeld) (seen : SourceSeen) : Type 0 where
   pub up : seen.up
   pub faults : seen.faults ≡ m.faults
   pub calls : seen.calls ≡ m.calls.made
+  pub ends : seen.ends ≡ m.ends
 
 -- `read` fills `out` as far as there are bytes, exactly where the call isn't listed
 pub record MemGave (n : ℕ) (before after : List ℕ) (old new : MemSourceHeld) : Type 0 where
   pub unlisted : ¬ (IsToFail old.calls)
   pub count : n ≡ min (length before) (length old.left)
   pub filled : after ≡ take n old.left ++ drop n before
-  pub after_it : new ≡ record old { left = drop n old.left; calls = one_called old.calls }
+  pub after_it : new ≡ record old {
+    left = drop n old.left;
+    calls = one_called old.calls;
+    ends = ends_after n (length before) old.ends;
+  }
 
 pub record MemNotGiven (before after : List ℕ) (old new : MemSourceHeld) : Type 0 where
   pub listed : IsToFail old.calls
@@ -146,7 +152,7 @@ abbrev pub MemDraws : Result ℕ Failed → List ℕ → List ℕ → MemSourceH
 MemDraws result before after old new = MatchResult result (λ n. MemGave n before after old new) (λ _. MemNotGiven before after old new)
 
 abbrev pub new_source : List ℕ → List ℕ → MemSourceHeld
-new_source bytes fails = record { left = bytes; calls = record { listed = fails; made = 0 }; faults = 0 }
+new_source bytes fails = record { left = bytes; calls = record { listed = fails; made = 0 }; faults = 0; ends = 0 }
 
 -- a sink in memory
 pub record MemSinkHeld : Type 0 where

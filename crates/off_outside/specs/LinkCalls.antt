@@ -15,6 +15,10 @@ abbrev pub first_event : List Event → Event
 first_event [] = end_event
 first_event (event ∷ events) = event
 
+-- the link stays up, or has counted a failed call of `next`, or an item that wasn't sent
+abbrev pub LinkStaysUp : LinkSeen → LinkSeen → Type 0
+LinkStaysUp old new = old.up → new.up ⊎ (Grew 1 old.faults new.faults ⊎ Grew 1 old.unsent new.unsent)
+
 -- an event was taken
 pub record Took (event : Event) (old new : LinkSeen) : Type 0 where
   pub left : Told old.left new.left (λ before after. (event ≡ first_event before) × (after ≡ drop 1 before))

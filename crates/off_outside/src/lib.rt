@@ -25,4 +25,4 @@ pub use off_defs::{Event, Outcome, Sent, Service, What};
 pub use outbox::SentRef;
 pub use queue::Events;
 pub use saying::Replies;
-pub use streams::{Sink, Source};
+pub use streams::{Sink, Source, ends_after};

@@ -6,7 +6,7 @@ ghost use Rattle.off_outside.specs.InMemory.{new_source, new_sink, MemDraws, Mem
 
 use crate::failing::{Calls, Failing, one_more};
 use crate::link::Failed;
-use crate::streams::{Sink, Source};
+use crate::streams::{Sink, Source, ends_after};
 use off_base::{Bytes, NoMemory};
 use std::alloc::Global;
 use std::marker::Model;
@@ -18,6 +18,7 @@ pub struct MemSource {
     at: usize,
     failing: Failing,
     faults: u64,
+    ends: u64,
 }
 
 impl Model for MemSource {
@@ -26,7 +27,12 @@ impl Model for MemSource {
 
     ghost Value = { MemSourceHeld };
 
-    ghost view = { λ m. record { left = drop m.at m.bytes; calls = m.failing; faults = m.faults } };
+    ghost view = { λ m. record {
+      left = drop m.at m.bytes;
+      calls = m.failing;
+      faults = m.faults;
+      ends = m.ends;
+    } };
 
     ghost invariant = { λ m. m.at ≤ length m.bytes };
 }
@@ -42,6 +48,7 @@ impl MemSource {
             at: 0,
             failing: Failing::new(fails),
             faults: 0,
+            ends: 0,
         }
     }
 }
@@ -60,6 +67,7 @@ impl MemSource {
         let part = &self.bytes.as_slice()[self.at..self.at + count];
         out[..count].copy_from_slice(part);
         self.at += count;
+        self.ends = ends_after(count, out.len(), self.ends);
         Ok(count)
     }
 }

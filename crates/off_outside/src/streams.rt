@@ -1,12 +1,14 @@
-ghost use Rattle.std.specs.Prelude.{◌≤◌, length, IfOk};
+ghost use Rattle.std.specs.Prelude.{◌≡◌, ◌≤◌, length, IfOk};
 ghost use Rattle.off_defs.specs.Told.{IsOne};
-ghost use Rattle.off_outside.specs.Streams.{SourceSeen, SinkSeen, Draws, Appends};
+ghost use Rattle.off_outside.specs.Streams.{SourceSeen, SinkSeen, Draws, Appends, ends_after};
 
+use crate::failing::one_more;
 use crate::link::Failed;
 
 /// Where a job reads its bytes.
 pub trait Source {
-    // What it tells: the bytes that are left, perhaps untold, its faults and its calls.
+    // What it tells: the bytes that are left, perhaps untold, its faults, its calls, and its ends:
+    // the reads that gave nothing although there was room.
     ghost seen: { Self → SourceSeen };
 
     /// Puts the next bytes at the front of `out`, and answers how many: at most the length of
@@ -18,6 +20,17 @@ pub trait Source {
 
     // What is told is one value, as long as the source is up.
     ghost one_left: { (s : Self) → (seen s).up → IsOne (seen s).left };
+}
+
+/// A count of ends behind a read of so many bytes into so much room.
+#[tactic(auto, using(crate::proofs::StreamLemmas::ends_rules))]
+pub fn ends_after(count: usize, room: usize, ends: u64) -> u64
+    ensures { result ≡ ends_after count room ends }
+{
+    if count > 0 {
+        return ends;
+    }
+    if room > 0 { one_more(ends) } else { ends }
 }
 
 /// Where lines are written.

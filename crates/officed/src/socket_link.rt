@@ -49,7 +49,8 @@ impl SocketLink {
         addresses: Addresses,
         ports: &[u16; 4],
     ) -> Result<SocketLink, OpenErr>
-        ensures { IfOk result (λ link. link.missed ≡ 0) }
+        ensures none_missed { IfOk result (λ link. link.missed ≡ 0) }
+        ensures up { IfOk result (λ link. (⟦<SocketLink as Link>⟧.seen link).up) }
     {
         let Ok(ready) = Events::with_capacity(rt.alloc(), MOST_READY) else {
             return Err(OpenErr::Memory);

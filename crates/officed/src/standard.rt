@@ -3,7 +3,7 @@ ghost use Rattle.off_defs.specs.Told.{one_none};
 ghost use Rattle.officed.specs.Untold.{source_counts, sink_counts};
 
 use crate::system::{is_writable_within, may_wait};
-use off_outside::{Failed, Sink, Source, one_more};
+use off_outside::{Failed, Sink, Source, ends_after, one_more};
 use std::io::{ErrorKind, Read, Stdin, Stdout, Write};
 
 // How many signals may come between before a read counts as failed.
@@ -22,25 +22,32 @@ pub struct StandardInput {
     stream: Stdin,
     faults: u64,
     calls: u64,
+    ends: u64,
 }
 
 impl StandardInput {
-    pub fn new(rt: &HostRuntime) -> StandardInput {
+    pub fn new(rt: &HostRuntime) -> StandardInput
+        ensures up { (⟦<StandardInput as Source>⟧.seen result).up }
+    {
         StandardInput {
             stream: rt.stdin(),
             faults: 0,
             calls: 0,
+            ends: 0,
         }
     }
 }
 
 impl Source for StandardInput {
-    ghost seen = { λ s. source_counts s.faults s.calls };
+    ghost seen = { λ s. source_counts s.faults s.calls s.ends };
 
     fn read(&mut self, out: &mut [u8]) -> Result<usize, Failed> {
         self.calls = one_more(self.calls);
         match fill(&mut self.stream, out) {
-            Some(count) => Ok(count),
+            Some(count) => {
+                self.ends = ends_after(count, out.len(), self.ends);
+                Ok(count)
+            }
             None => {
                 self.faults = self.faults.saturating_add(1);
                 Err(Failed)
@@ -78,7 +85,9 @@ pub struct StandardOutput {
 }
 
 impl StandardOutput {
-    pub fn new(rt: &HostRuntime) -> StandardOutput {
+    pub fn new(rt: &HostRuntime) -> StandardOutput
+        ensures up { (⟦<StandardOutput as Sink>⟧.seen result).up }
+    {
         StandardOutput {
             stream: rt.stdout(),
             may_wait: may_wait(libc::STDOUT_FILENO),
