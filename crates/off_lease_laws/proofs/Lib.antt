@@ -1,0 +1,13 @@
+pub mod Tests
+pub mod RuleLemmas
+pub mod OutcomeLemmas
+pub mod ChoiceLemmas
+pub mod WriteLemmas
+pub mod ChangeLemmas
+pub mod AgreeLemmas
+pub mod CountLemmas
+pub mod KindLemmas
+pub mod GoodLemmas
+pub mod FreeLemmas
+pub mod EffectLemmas
+pub mod LawLemmas

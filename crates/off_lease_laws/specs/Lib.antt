@@ -1,0 +1,4 @@
+pub mod Outcomes
+pub mod Moves
+pub mod Effects
+pub mod Laws

@@ -1,0 +1,5 @@
+pub mod Words
+pub mod Asking
+pub mod Free
+pub mod Rules
+pub mod Steps
