@@ -1,0 +1,195 @@
+-- What is decided by a part of the rules or of the rows is what is decided by all.
+use Rattle.std.proofs.Common.{◌≡◌, ℕ, Bool, true, false, cond, ◌||◌, List, [], ◌∷◌, ◌++◌, Option, Some, None, is_some, not, option_and_then, IfSome, refl, sym, ap, ◌∙◌, subst, arith}
+use Rattle.off_base.specs.declared.addresses.Ip4.{Ip4}
+use Rattle.off_defs.specs.declared.tables.Lease.{Lease}
+use Rattle.off_defs.specs.declared.tables.Site.{Site}
+use Rattle.off_defs.specs.State.{Tables}
+use Rattle.off_dhcp.specs.Datagram.{Received}
+use Rattle.off_rules.specs.Rows.{lease_in, site_in, held_in}
+use Rattle.off_outside.specs.KeeperSeen.{KeeperSeen}
+use Rattle.off_outside.specs.KeeperCalls.{Spent}
+use Rattle.off_outside.proofs.KeeperLemmas.{spent_within}
+use Rattle.off_lease_rules.specs.Asking.{client, asks, is_discover, is_request, is_decline}
+use Rattle.off_lease_rules.specs.Free.{case_of, chosen_in}
+use Rattle.off_lease_rules.specs.Rules.{early, late, rules_for, refused_by, is_served, has_no_form, has_cut_part, relays_another, is_no_modem}
+use Rattle.off_lease_rules.specs.Steps.{settled, settled_in, lease_step, accepts, offers, acknowledges, declines, releases, refuses, unless_refused, reply_to_refused}
+use Rattle.off_lease_rules.specs.declared.cases.Case.{Case}
+use Rattle.off_lease_rules.specs.declared.results.LeaseStep.{LeaseStep}
+use Rattle.off_lease_rules.specs.declared.words.DhcpWord.{DhcpWord}
+use Rattle.off_lease_rules.specs.declared.words.DhcpWord.TheVariants as word
+use Rattle.off_lease.specs.Calls.{message_calls}
+use Rattle.off_lease.specs.Stages.{own_rules, first_rules, row_rules, knowing, seen_case}
+
+refused_none : (xs ys : List (DhcpWord × Bool)) → refused_by xs ≡ None → refused_by (xs ++ ys) ≡ refused_by ys
+refused_none [] ys none = refl
+refused_none (x ∷ xs) ys none =
+    elim x.1 as (λ b. cond b (Some x.0) (refused_by xs) ≡ None → cond b (Some x.0) (refused_by (xs ++ ys)) ≡ refused_by ys) [
+      | true ↦ λ e. cc
+      | false ↦ λ e. refused_none xs ys e
+    ] none
+
+refused_some : (xs ys : List (DhcpWord × Bool)) (w : DhcpWord) → refused_by xs ≡ Some w → refused_by (xs ++ ys) ≡ Some w
+refused_some [] ys w some = cc
+refused_some (x ∷ xs) ys w some =
+    elim x.1 as (λ b. cond b (Some x.0) (refused_by xs) ≡ Some w → cond b (Some x.0) (refused_by (xs ++ ys)) ≡ Some w) [
+      | true ↦ λ e. e
+      | false ↦ λ e. refused_some xs ys w e
+    ] some
+
+negated : (a b : Bool) → b ≡ not a → a ≡ not b
+negated true b is = sym (ap not is)
+negated false b is = sym (ap not is)
+
+-- the table of the code is that of the rules, where each condition is
+pub first_six : (m : Received) (site : Option Site) (a b c d e f : Bool) → is_some site ≡ not a → b ≡ not (is_served m) → c ≡ has_no_form m → d ≡ has_cut_part m
+    → e ≡ relays_another m → f ≡ is_no_modem m
+    → refused_by ((word.NoSite, a) ∷ (word.NotServed, b) ∷ (word.RequestForm, c) ∷ (word.PartCut, d) ∷ (word.RelayMismatch, e) ∷ (word.NotAModem, f) ∷ [])
+    ≡ refused_by (first_rules m site)
+first_six m site a b c d e f p q r s t u =
+    let none = negated a (is_some site) p in
+    rw (none, q, r, s, t, u) refl
+
+-- who is refused gets a reply by the site alone
+reply_same : (m : Received) (c : Case) (w : DhcpWord) → reply_to_refused m (knowing c.site) w ≡ reply_to_refused m c w
+reply_same m c word.NotYourAddress = refl
+reply_same m c w = refl
+
+pub refuses_same : (m : Received) (c : Case) (w : DhcpWord) → refuses m (knowing c.site) w ≡ refuses m c w
+refuses_same m c w = ap (λ reply. record { writes = []; reply = reply; word = w }) (reply_same m c w)
+
+-- ---- early rules
+
+pub early_passed : (m : Received) (site : Option Site) (c : Case) → c.site ≡ site → refused_by (first_rules m site) ≡ None → refused_by (row_rules m c) ≡ None → refused_by (early m c) ≡ None
+early_passed m site c same first rows =
+    refused_none (first_rules m c.site) (row_rules m c) (ap (λ (v : Option Site). refused_by (first_rules m v)) same ∙ first) ∙ rows
+
+early_broken : (m : Received) (site : Option Site) (c : Case) (w : DhcpWord) → c.site ≡ site → refused_by (first_rules m site) ≡ None → refused_by (row_rules m c) ≡ Some w
+    → refused_by (early m c) ≡ Some w
+early_broken m site c w same first rows =
+    refused_none (first_rules m c.site) (row_rules m c) (ap (λ (v : Option Site). refused_by (first_rules m v)) same ∙ first) ∙ rows
+
+early_first : (m : Received) (c : Case) (w : DhcpWord) → refused_by (first_rules m c.site) ≡ Some w → refused_by (early m c) ≡ Some w
+early_first m c w first = refused_some (first_rules m c.site) (row_rules m c) w first
+
+settled_early : (now : ℕ) (m : Received) (c : Case) (chosen : Option Ip4) (lease : Option Lease) (w : DhcpWord) → refused_by (early m c) ≡ Some w
+    → settled now m c chosen lease ≡ refuses m c w
+unfolding settled
+settled_early now m c chosen lease w broken =
+    ap (unless_refused m c (accepts now m c chosen lease)) (refused_some (early m c) (late m c chosen) w broken)
+
+settled_late : (now : ℕ) (m : Received) (c : Case) (chosen : Option Ip4) (lease : Option Lease) → refused_by (early m c) ≡ None
+    → settled now m c chosen lease ≡ unless_refused m c (accepts now m c chosen lease) (refused_by (late m c chosen))
+unfolding settled
+settled_late now m c chosen lease passed =
+    ap (unless_refused m c (accepts now m c chosen lease)) (refused_none (early m c) (late m c chosen) passed)
+
+pub late_refuses : (now : ℕ) (m : Received) (c : Case) (chosen : Option Ip4) (lease : Option Lease) (w : DhcpWord) → refused_by (early m c) ≡ None
+    → refused_by (late m c chosen) ≡ Some w → refuses m (knowing c.site) w ≡ settled now m c chosen lease
+late_refuses now m c chosen lease w passed broken =
+    refuses_same m c w ∙ sym (settled_late now m c chosen lease passed ∙ ap (unless_refused m c (accepts now m c chosen lease)) broken)
+
+pub late_accepts : (now : ℕ) (m : Received) (c : Case) (chosen : Option Ip4) (lease : Option Lease) → refused_by (early m c) ≡ None
+    → refused_by (late m c chosen) ≡ None → accepts now m c chosen lease ≡ settled now m c chosen lease
+late_accepts now m c chosen lease passed none =
+    sym (settled_late now m c chosen lease passed ∙ ap (unless_refused m c (accepts now m c chosen lease)) none)
+
+-- ---- rows that don't matter
+
+-- the lease matters to a DISCOVER alone
+accepts_same : (now : ℕ) (m : Received) (c : Case) (chosen : Option Ip4) (lease other : Option Lease) → (is_discover m ≡ true → lease ≡ other)
+    → accepts now m c chosen lease ≡ accepts now m c chosen other
+accepts_same now m c chosen lease other same =
+    let rest = cond (is_request m) (acknowledges now m c chosen) (cond (is_decline m) (declines now m chosen) (releases m chosen)) in
+    elim (is_discover m) as (λ b. (b ≡ true → lease ≡ other) → cond b (offers now m c chosen lease) rest ≡ cond b (offers now m c chosen other) rest) [
+      | true ↦ λ s. ap (offers now m c chosen) (s refl)
+      | false ↦ λ s. refl
+    ] same
+
+pub lease_matters : (now : ℕ) (m : Received) (c : Case) (chosen : Option Ip4) (lease other : Option Lease) → (is_discover m ≡ true → lease ≡ other)
+    → settled now m c chosen lease ≡ settled now m c chosen other
+unfolding settled
+lease_matters now m c chosen lease other same = ap (λ s. unless_refused m c s (refused_by (rules_for m c chosen))) (accepts_same now m c chosen lease other same)
+
+-- the rows that are read for a message are enough
+abbrev bare : Case → Case
+bare c = record { site = c.site; pool = None; modem = None; held = c.held }
+
+neither : (a b : Bool) → (a || b) ≡ false → (a ≡ false) × (b ≡ false)
+neither true b e = cc
+neither false b e = (refl, e)
+
+abbrev seen_by : Tables → Received → Bool → Case
+seen_by t m asking = cond asking (case_of t m) (record { site = site_in t; pool = None; modem = None; held = held_in t (client m) })
+
+bare_enough : (t : Tables) (now : ℕ) (m : Received) (c : Case) → asks m ≡ false → settled_in t now m (bare c) (chosen_in t now m (bare c)) ≡ settled_in t now m c (chosen_in t now m c)
+unfolding settled
+bare_enough t now m c none =
+    let both = neither (is_discover m) (is_request m) none in
+    let d : is_discover m ≡ false = both.0 in
+    let r : is_request m ≡ false = both.1 in
+    rw (d, r) refl
+
+unseen : (t : Tables) (now : ℕ) (m : Received) → asks m ≡ false
+    → settled_in t now m (seen_by t m false) (chosen_in t now m (seen_by t m false)) ≡ settled_in t now m (case_of t m) (chosen_in t now m (case_of t m))
+unfolding case_of
+unseen t now m none = bare_enough t now m (case_of t m) none
+
+pub seen_enough : (t : Tables) (now : ℕ) (m : Received) → settled_in t now m (seen_case t m) (chosen_in t now m (seen_case t m)) ≡ lease_step t now m
+unfolding lease_step
+seen_enough t now m =
+    elim (asks m) as (λ b. asks m ≡ b → settled_in t now m (seen_by t m b) (chosen_in t now m (seen_by t m b)) ≡ settled_in t now m (case_of t m) (chosen_in t now m (case_of t m))) [
+      | true ↦ λ e. refl
+      | false ↦ λ e. unseen t now m e
+    ] refl
+
+-- ---- what is answered at each stage is what a message does
+
+abbrev in_full : Tables → ℕ → Received → Case → LeaseStep
+in_full t now m c = settled_in t now m c (chosen_in t now m c)
+
+pub site_refuses : (t : Tables) (now : ℕ) (m : Received) (site : Option Site) (w : DhcpWord) → site ≡ site_in t → Some w ≡ refused_by (first_rules m site)
+    → refuses m (knowing site) w ≡ lease_step t now m
+unfolding lease_step case_of
+site_refuses t now m site w same broken =
+    let first = sym (broken ∙ ap (λ (v : Option Site). refused_by (first_rules m v)) same) in
+    ap (λ (v : Option Site). refuses m (knowing v) w) same
+    ∙ refuses_same m (case_of t m) w
+    ∙ sym (settled_early now m (case_of t m) _ _ w (early_first m (case_of t m) w first))
+
+pub rows_refuse : (t : Tables) (now : ℕ) (m : Received) (site : Option Site) (c : Case) (w : DhcpWord) → c ≡ seen_case t m → c.site ≡ site
+    → refused_by (first_rules m site) ≡ None → Some w ≡ refused_by (row_rules m c) → refuses m (knowing c.site) w ≡ lease_step t now m
+rows_refuse t now m site c w seen same passed broken =
+    refuses_same m c w
+    ∙ sym (settled_early now m c (chosen_in t now m c) (option_and_then (lease_in t) (chosen_in t now m c)) w (early_broken m site c w same passed (sym broken)))
+    ∙ ap (in_full t now m) seen
+    ∙ seen_enough t now m
+
+pub rows_accept : (t : Tables) (now : ℕ) (m : Received) (c : Case) (step : LeaseStep) → c ≡ seen_case t m → step ≡ settled_in t now m c (chosen_in t now m c)
+    → step ≡ lease_step t now m
+rows_accept t now m c step seen is = is ∙ ap (in_full t now m) seen ∙ seen_enough t now m
+
+pub case_answered : (t : Tables) (now : ℕ) (m : Received) (c : Case) (chosen : Option Ip4) (lease : Option Lease) → chosen ≡ chosen_in t now m c
+    → (is_discover m ≡ true → lease ≡ option_and_then (lease_in t) chosen) → settled now m c chosen lease ≡ settled_in t now m c (chosen_in t now m c)
+case_answered t now m c chosen lease chose leased =
+    lease_matters now m c chosen lease (option_and_then (lease_in t) chosen) leased ∙ ap (settled_in t now m c) chose
+
+-- ---- calls
+
+pub one_is_enough : (m : Received) {a b : KeeperSeen} → Spent 1 a b → IfSome (message_calls m) (λ n. Spent n a b)
+one_is_enough m {a} {b} spent =
+    elim (is_some (refused_by (own_rules m))) as (λ x. IfSome (cond x (Some 1) (cond (asks m) None (Some 2))) (λ n. Spent n a b)) [
+      | true ↦ spent
+      | false ↦ elim (asks m) as (λ x. IfSome (cond x None (Some 2)) (λ n. Spent n a b)) [ true ↦ tt | false ↦ spent_within spent (omega arith) ]
+    ]
+
+own_passed : (m : Received) (site : Option Site) → refused_by (first_rules m site) ≡ None → refused_by (own_rules m) ≡ None
+own_passed m None none = cc
+own_passed m (Some site) none = none
+
+pub two_are_enough : (m : Received) (site : Option Site) {a b : KeeperSeen} → refused_by (first_rules m site) ≡ None → (asks m ≡ false → Spent 2 a b) → IfSome (message_calls m) (λ n. Spent n a b)
+two_are_enough m site {a} {b} passed spent =
+    subst (λ (r : Option DhcpWord). IfSome (cond (is_some r) (Some 1) (cond (asks m) None (Some 2))) (λ n. Spent n a b)) (sym (own_passed m site passed))
+    (elim (asks m) as (λ x. asks m ≡ x → IfSome (cond x None (Some 2)) (λ n. Spent n a b)) [ true ↦ λ e. tt | false ↦ λ e. spent e ] refl)
+
+-- once the early rules are passed, the late ones say what becomes of a message
+pub ruleset late_ways = (late_refuses, late_accepts)

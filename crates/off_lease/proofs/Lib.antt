@@ -1,0 +1,5 @@
+pub mod CaseLemmas
+pub mod ChoiceLemmas
+pub mod SpanLemmas
+pub mod StageLemmas
+pub mod WalkLemmas

@@ -1,0 +1,25 @@
+-- A reading, and what is settled behind it: by the answer.
+use Rattle.std.proofs.Common.{◌≡◌, Result, Ok, Err, IfOk, MatchResult, sym, subst}
+use Rattle.off_base.specs.declared.octets.NoMemory.{NoMemory}
+use Rattle.off_defs.specs.State.{Tables}
+use Rattle.off_outside.specs.KeeperSeen.{KeeperSeen}
+use Rattle.off_outside.specs.KeeperCalls.{Looks, Reads, NotDone}
+use Rattle.off_outside.specs.declared.keeper.KeepErr.{KeepErr}
+use Rattle.off_outside.specs.declared.keeper.KeepErr.TheVariants.{Memory}
+use Rattle.off_outside.proofs.KeeperLemmas.{reads_then, reads_as, reads_none, reads_forgotten, failed_then, spent_none, spent_one, spent_then, spent_within}
+use Rattle.off_lease_rules.specs.declared.results.LeaseStep.{LeaseStep}
+
+pub looks_settled : {P : Tables → Type 0} {a b : KeeperSeen} (step : Result LeaseStep NoMemory) (kept : Result LeaseStep KeepErr) (Q : LeaseStep → Tables → Type 0) (made : LeaseStep)
+    → MatchResult kept (λ k. step ≡ Ok k) (λ err. err ≡ Memory) → IfOk step (λ s. s ≡ made) → Reads P a b → ((t : Tables) → P t → Q made t) → Looks kept a b Q
+looks_settled {P} {a} {b} step (Ok k) Q made is ok reads join =
+    let e : k ≡ made = subst (λ (r : Result LeaseStep NoMemory). IfOk r (λ s. s ≡ made)) is ok in
+    reads_as reads (λ t p. subst (λ (s : LeaseStep). Q s t) (sym e) (join t p))
+looks_settled {P} {a} {b} step (Err err) Q made is ok reads join = subst (λ (x : KeepErr). NotDone x a b) (sym is) (reads_forgotten reads)
+
+pub looks_then : {P : Tables → Type 0} {a b : KeeperSeen} (c : KeeperSeen) (result : Result LeaseStep KeepErr) (Q R : LeaseStep → Tables → Type 0) → Reads P a b → Looks result b c Q
+    → ((s : LeaseStep) (t : Tables) → P t → Q s t → R s t) → Looks result a c R
+looks_then c (Ok s) Q R p q join = reads_then p q (join s)
+looks_then c (Err err) Q R p q join = failed_then p q
+
+-- calls of a keeper in a row, and how many there are
+pub ruleset readings = (reads_then, reads_as, reads_none, reads_forgotten, failed_then, spent_none, spent_one, spent_then, spent_within)

@@ -1,0 +1,99 @@
+ghost use Rattle.std.specs.Prelude.{◌≡◌, IfSome, MatchResult, Ok, None, false};
+ghost use Rattle.off_rules.specs.Rows.{site_in};
+ghost use Rattle.off_lease_rules.specs.Rules.{early, refused_by};
+ghost use Rattle.off_lease_rules.specs.Asking.{asks};
+ghost use Rattle.off_lease_rules.specs.Steps.{lease_step, settled_in};
+ghost use Rattle.off_lease_rules.specs.Free.{chosen_in};
+ghost use Rattle.off_lease.specs.Stages.{first_rules, HasGoodPool};
+ghost use Rattle.off_lease.specs.Calls.{message_calls};
+ghost use Rattle.off_outside.specs.declared.keeper.KeepErr.TheVariants.{Memory};
+ghost use Rattle.off_outside.specs.KeeperCalls.{Looks, Spent};
+
+use crate::choosing::{choose, lease_of};
+use crate::gathering::gather;
+use crate::ruling::{first_refusal, row_refusal};
+use crate::settling::{refuse, settle};
+use off_base::{Moment, NoMemory};
+use off_defs::Site;
+use off_dhcp::Message;
+use off_lease_rules::{Case, LeaseStep};
+use off_outside::{KeepErr, Keeper};
+use off_readers::read_site;
+use std::alloc::Global;
+
+/// What a client's message does at a moment: what is to be written, what is to be sent for it, and
+/// the word with which the log has it. It writes nothing.
+///
+/// The tables needn't be good: an impossible row is taken as one that isn't there. `Failed` comes
+/// only where the keeper counted a fault.
+///
+/// A message that is refused by what it says itself makes one call of the keeper at most, and one
+/// that gives an address back two.
+#[tactic(auto, using(crate::proofs::StageLemmas::readings))]
+pub fn answer<K: Keeper>(
+    alloc: Global,
+    keeper: &mut K,
+    now: Moment,
+    m: &Message<'_>,
+) -> Result<LeaseStep, KeepErr>
+    ensures told { Looks result (K.seen keeper.old) (K.seen keeper.new)
+        (λ step t. step ≡ lease_step t now.0 m.now) }
+    ensures spent { IfSome (message_calls m.now)
+        (λ n. Spent n (K.seen keeper.old) (K.seen keeper.new)) }
+{
+    let site = read_site(alloc, keeper)?;
+    match first_refusal(m, &site) {
+        Some(word) => kept(refuse(alloc, m, &site, word)),
+        None => answer_by_rows(alloc, keeper, now, m, site),
+    }
+}
+
+// What becomes of a message that is neither refused by what it says itself, nor for want of a site.
+#[tactic(auto, using(crate::proofs::StageLemmas::readings))]
+fn answer_by_rows<K: Keeper>(
+    alloc: Global,
+    keeper: &mut K,
+    now: Moment,
+    m: &Message<'_>,
+    site: Option<Site>,
+) -> Result<LeaseStep, KeepErr>
+    requires { refused_by (first_rules m.now site) ≡ None }
+    ensures told { Looks result (K.seen keeper.old) (K.seen keeper.new)
+        (λ step t. site ≡ site_in t → step ≡ lease_step t now.0 m.now) }
+    ensures spent { asks m.now ≡ false → Spent 1 (K.seen keeper.old) (K.seen keeper.new) }
+{
+    let case = gather(alloc, keeper, m, site)?;
+    match row_refusal(m, &case) {
+        Some(word) => kept(refuse(alloc, m, &case.site, word)),
+        None => answer_case(alloc, keeper, now, m, &case),
+    }
+}
+
+// What becomes of a message of which no early rule is broken.
+#[tactic(auto, using(crate::proofs::StageLemmas::readings))]
+fn answer_case<K: Keeper>(
+    alloc: Global,
+    keeper: &mut K,
+    now: Moment,
+    m: &Message<'_>,
+    case: &Case,
+) -> Result<LeaseStep, KeepErr>
+    requires early { refused_by (early m.now case.now) ≡ None }
+    requires fits { HasGoodPool case.now }
+    ensures told { Looks result (K.seen keeper.old) (K.seen keeper.new)
+        (λ step t. step ≡ settled_in t now.0 m.now case.now (chosen_in t now.0 m.now case.now)) }
+    ensures spent { asks m.now ≡ false → Spent 0 (K.seen keeper.old) (K.seen keeper.new) }
+{
+    let chosen = choose(alloc, keeper, now, m, case)?;
+    let lease = lease_of(alloc, keeper, m, chosen)?;
+    kept(settle(alloc, now, m, case, chosen, lease))
+}
+
+fn kept(step: Result<LeaseStep, NoMemory>) -> Result<LeaseStep, KeepErr>
+    ensures { MatchResult result (λ kept. step ≡ Ok kept) (λ err. err ≡ Memory) }
+{
+    match step {
+        Ok(step) => Ok(step),
+        Err(NoMemory) => Err(KeepErr::Memory),
+    }
+}

@@ -1,0 +1,23 @@
+//! The service of leases: what a client's DHCP message does to the tables, and how it's answered
+//! (RFC 2131).
+//!
+//! `answer` reads what it needs by a keeper (`gathering`, `pools`, `free`, `choosing`); what it
+//! finds is judged by rules in their order (`judging`, `ruling`), and settled without a keeper
+//! (`writing`, `replying`, `settling`). It commits nothing.
+#![tactic(auto)]
+
+mod answering;
+mod asking;
+mod choosing;
+mod free;
+mod gathering;
+mod judging;
+mod parts;
+mod pools;
+mod replying;
+mod ruling;
+mod settling;
+mod writing;
+
+pub use answering::answer;
+pub use off_lease_rules::{DhcpWord, LeaseStep};
