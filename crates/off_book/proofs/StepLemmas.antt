@@ -12,7 +12,7 @@ use Rattle.off_book.specs.Step.{Step, Does, TellsOutcome, service_word}
 use Rattle.off_book.specs.Run.{Turn, SaysMemory, TellsItsOutcome, keeper_failures, failures_by}
 
 does_memory : (s : State) (what : What) (effect : Effect) → Does s what Memory effect → effect.said.line ≡ service_word what ++ codes " memory"
-does_memory s (Datagram Dhcp from bytes) effect does = absurd does
+does_memory s (Datagram Dhcp from bytes) effect does = ap (λ (e : Effect). e.said.line) does
 does_memory s (Datagram Time from bytes) effect does = ap (λ (e : Effect). e.said.line) does
 does_memory s (Datagram Tftp from bytes) effect does = absurd does
 does_memory s (Piece conn bytes) effect does = ap (λ (e : Effect). e.said.line) does
@@ -26,7 +26,7 @@ unfolding Step
 memory_says s event effect step = does_memory _ event.what effect step
 
 does_keeper : (s : State) (what : What) (effect : Effect) → Does s what Keeper effect → effect.said.line ≡ service_word what ++ codes " keeper"
-does_keeper s (Datagram Dhcp from bytes) effect does = absurd does
+does_keeper s (Datagram Dhcp from bytes) effect does = ap (λ (e : Effect). e.said.line) does
 does_keeper s (Datagram Time from bytes) effect does = absurd does
 does_keeper s (Datagram Tftp from bytes) effect does = absurd does
 does_keeper s (Piece conn bytes) effect does = ap (λ (e : Effect). e.said.line) does

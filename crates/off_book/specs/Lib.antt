@@ -1,5 +1,6 @@
 pub mod Time
 pub mod Http
+pub mod Dhcp
 pub mod Step
 pub mod Run
 pub mod Crashes

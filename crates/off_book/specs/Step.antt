@@ -10,6 +10,7 @@ use Rattle.off_defs.specs.declared.results.Outcome.TheVariants.{Did, Memory, Kee
 use Rattle.off_defs.specs.declared.results.Sent.{Sent}
 use Rattle.off_defs.specs.State.{State, Said, Effect, at_moment, only_line, silence}
 use Rattle.off_book.specs.Http.{PieceDid, ClosedDid, PieceFailed, answer_and_close, no_memory_reply, no_keeper_reply}
+use Rattle.off_book.specs.Dhcp.{DhcpDid}
 use Rattle.off_book.specs.Time.{TimeDid}
 
 -- the service's name, with which each line of the log begins
@@ -30,11 +31,15 @@ NotBuilt s what effect = effect ≡ only_line s (service_word what ++ codes " no
 abbrev pub WantedMemory : State → What → Effect → Type 0
 WantedMemory s what effect = effect ≡ only_line s (service_word what ++ codes " memory")
 
+-- The keeper of the tables failed: nothing is sent and all is as before.
+abbrev pub KeeperFailed : State → What → Effect → Type 0
+KeeperFailed s what effect = effect ≡ only_line s (service_word what ++ codes " keeper")
+
 -- what an event makes of a state whose moment is the event's already
 abbrev pub Does : State → What → Outcome → Effect → Type 0
-Does s (Datagram Dhcp from bytes) Did effect = NotBuilt s (Datagram Dhcp from bytes) effect
-Does s (Datagram Dhcp from bytes) Memory effect = ⊥
-Does s (Datagram Dhcp from bytes) Keeper effect = ⊥
+Does s (Datagram Dhcp from bytes) Did effect = DhcpDid s bytes effect
+Does s (Datagram Dhcp from bytes) Memory effect = WantedMemory s (Datagram Dhcp from bytes) effect
+Does s (Datagram Dhcp from bytes) Keeper effect = KeeperFailed s (Datagram Dhcp from bytes) effect
 Does s (Datagram Time from bytes) Did effect = TimeDid s from effect
 Does s (Datagram Time from bytes) Memory effect = WantedMemory s (Datagram Time from bytes) effect
 Does s (Datagram Time from bytes) Keeper effect = ⊥

@@ -4,8 +4,9 @@
 --     check HEX
 -- STORE is `memory` or a path that isn't empty and doesn't begin with `-`. Ports are numbers from 1 to 65535. N is 0 to 10^15.
 -- HEX is a secret of 1 to 64 bytes in hexadecimal pairs of either case.
-use Rattle.std.specs.Prelude.{ℕ, ◌==◌, Bool, not, ◌&&◌, nat_lt, List, [], ◌∷◌, length, codes, slice_index, Option, Some, None, option_and_then, option_map, nat_le, if◌then◌else◌}
-use Rattle.std.specs.List.{before_first, after_first}
+use Rattle.std.specs.Prelude.{ℕ, ◌==◌, Bool, not, ◌&&◌, nat_lt, List, [], ◌∷◌, length, map, codes, slice_index, Option, Some, None, option_and_then, option_map, nat_le, if◌then◌else◌}
+use Rattle.std.specs.Option.{option_or}
+use Rattle.std.specs.List.{slice_split}
 use Rattle.std.specs.Str.{bytes_eq}
 use Rattle.std.specs.Result.{result_ok}
 use Rattle.hex.specs.Hex.{decode_of}
@@ -25,26 +26,18 @@ most_turns = 1000000000000000
 abbrev pub port_of : List ℕ → Option ℕ
 port_of text = option_and_then (λ n. if n == 0 then None else Some n) (number_read 65535 text)
 
--- the texts before and behind the first comma; a text without one has nothing behind it
-abbrev pub before_comma : List ℕ → List ℕ
-before_comma text = before_first (λ c. c == 44) text
+-- the texts between commas
+abbrev pub between_commas : List ℕ → List (List ℕ)
+between_commas text = slice_split (λ c. c == 44) text
 
-abbrev pub behind_comma : List ℕ → List ℕ
-behind_comma text = after_first (λ c. c == 44) text
+-- the ports, where there are four of them
+abbrev pub four_ports : List (Option ℕ) → Option (List ℕ)
+four_ports (Some dhcp ∷ Some time ∷ Some tftp ∷ Some http ∷ []) = Some (dhcp ∷ time ∷ tftp ∷ http ∷ [])
+four_ports _ = None
 
 -- four ports with commas between them
 abbrev pub ports_of : List ℕ → Option (List ℕ)
-ports_of text =
-    let behind_one = behind_comma text in
-    let behind_two = behind_comma behind_one in
-    option_and_then (λ dhcp.
-    option_and_then (λ time.
-    option_and_then (λ tftp.
-    option_and_then (λ http. Some (dhcp ∷ time ∷ tftp ∷ http ∷ []))
-    (port_of (behind_comma behind_two)))
-    (port_of (before_comma behind_two)))
-    (port_of (before_comma behind_one)))
-    (port_of (before_comma text))
+ports_of text = four_ports (map port_of (between_commas text))
 
 -- `memory`, or a path
 abbrev pub is_store : List ℕ → Bool
@@ -79,11 +72,7 @@ abbrev pub keyed_of : List ℕ → (List ℕ → Job) → List (List ℕ) → Op
 keyed_of command job (word ∷ hex ∷ []) = if bytes_eq word command then option_map job (secret_of hex) else None
 keyed_of command job words = None
 
-abbrev pub or_else : Option Job → Option Job → Option Job
-or_else None other = other
-or_else (Some job) other = Some job
-
 -- the one form that the words have, or None where they have none
 abbrev pub job_of : List (List ℕ) → Option Job
 job_of words =
-    or_else (option_map to_serve (serve_of words)) (or_else (keyed_of (codes "seal") to_seal words) (keyed_of (codes "check") to_check words))
+    option_or (option_map to_serve (serve_of words)) (option_or (keyed_of (codes "seal") to_seal words) (keyed_of (codes "check") to_check words))

@@ -100,7 +100,7 @@ stepped_tables : (t : Tables) (decision : Decision) → (stepped_by t decision).
 stepped_tables t (Ok done) = refl
 stepped_tables t (Err refused) = refl
 
-step_tables : (t : Tables) (now : ℕ) (command : Command) → (clerk_step t now command).tables ≡ write_all t (clerk_step t now command).writes
+pub step_tables : (t : Tables) (now : ℕ) (command : Command) → (clerk_step t now command).tables ≡ write_all t (clerk_step t now command).writes
 unfolding clerk_step
 step_tables t now command = stepped_tables t (decided t now command)
 

@@ -16,7 +16,7 @@ use Rattle.off_http.specs.Request.{Meaning, Waits, Refused, Asked}
 use Rattle.off_book.specs.Http.{most_connections, by_meaning, is_full, TakesPiece}
 use Rattle.off_book.specs.Step.{Step, Does}
 use Rattle.off_laws.specs.Laws.{is_answer, ends_connection, AnsweredOnce}
-use Rattle.off_laws.proofs.Ways.{Way, stays, forgets, hears, answers, way}
+use Rattle.off_laws.proofs.Ways.{Way, stays, forgets, hears, answers, messages, way}
 
 -- few connections stay few
 abbrev Connections : Type 0
@@ -43,6 +43,7 @@ way_few : (s : State) (what : What) (outcome : Outcome) (effect : Effect) → Wa
 way_few s what outcome effect (stays is none) few = subst (λ (u : State). AreFew u) (sym is) few
 way_few s what outcome effect (forgets conn is none) few = subst (λ (u : State). AreFew u) (sym is) (removed_few s.held.connections conn few)
 way_few s what outcome effect (hears conn bytes room is none) few = subst (λ (u : State). AreFew u) (sym is) (inserted_few s.held.connections conn bytes room few)
+way_few s what outcome effect (messages from bytes came acted is) few = subst (λ (e : Effect). AreFew e.after) (sym is) few
 way_few s what outcome effect (answers conn piece method target body came acted is) few =
     subst (λ (e : Effect). AreFew e.after) (sym is) (removed_few s.held.connections conn few)
 

@@ -2,9 +2,15 @@ pub mod Paths
 pub mod Bodies
 pub mod Requests
 pub mod Answers
+pub mod Messages
 pub mod Ways
 pub mod StepLaws
 pub mod Lines
 pub mod Connections
 pub mod RunLaws
 pub mod Existence
+pub mod LiveLeases
+pub mod Standings
+pub mod Bindings
+pub mod Acknowledged
+pub mod Stretches

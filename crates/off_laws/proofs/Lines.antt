@@ -12,6 +12,10 @@ use Rattle.off_defs.specs.declared.results.Outcome.TheVariants.{Did, Memory, Kee
 use Rattle.off_defs.specs.State.{State, Effect}
 use Rattle.off_http.specs.Request.{Meaning, Waits, Refused, Asked}
 use Rattle.off_clerk_rules.specs.declared.faults.Fault.TheVariants as fault
+use Rattle.off_lease_rules.specs.declared.words.DhcpWord.{DhcpWord}
+use Rattle.off_lease_rules.specs.declared.words.DhcpWord.TheVariants as word
+use Rattle.off_lease_rules.specs.Words.{word_text}
+use Rattle.off_lease_rules.specs.Steps.{dhcp_step}
 use Rattle.off_book.specs.Http.{by_meaning, is_full, TakesPiece}
 use Rattle.off_book.specs.Step.{Step, Does, TellsOutcome, service_word}
 use Rattle.off_book.proofs.StepLemmas.{step_tells}
@@ -22,7 +26,7 @@ use Rattle.off_laws.proofs.Answers.{BeginsWithDigit, fault_digit, request_digit}
 abbrev NoFailure : List ℕ → What → Type 0
 NoFailure line what = (line ≡ service_word what ++ codes " memory" → ⊥) × (line ≡ service_word what ++ codes " keeper" → ⊥)
 
-other_byte : (xs ys : List ℕ) → nat_eq (slice_index xs 5) (slice_index ys 5) ≡ false → xs ≡ ys → ⊥
+pub other_byte : (xs ys : List ℕ) → nat_eq (slice_index xs 5) (slice_index ys 5) ≡ false → xs ≡ ys → ⊥
 other_byte xs ys apart same = let e : slice_index xs 5 ≡ slice_index ys 5 = ap (λ (zs : List ℕ). slice_index zs 5) same in grind (arith, nat_tests)
 
 says : (what : What) (effect : Effect) (line : List ℕ) → nat_eq (slice_index line 5) (slice_index (service_word what ++ codes " memory") 5) ≡ false
@@ -30,7 +34,7 @@ says : (what : What) (effect : Effect) (line : List ℕ) → nat_eq (slice_index
 says what effect line memory keeper is =
     (λ same. other_byte line (service_word what ++ codes " memory") memory (sym is ∙ same), λ same. other_byte line (service_word what ++ codes " keeper") keeper (sym is ∙ same))
 
-line_is : (one other : Effect) → one ≡ other → one.said.line ≡ other.said.line
+pub line_is : (one other : Effect) → one ≡ other → one.said.line ≡ other.said.line
 line_is one other is = ap (λ (e : Effect). e.said.line) is
 
 no_letter : (byte : ℕ) → digit_value byte < 10 → (nat_eq byte 109 ≡ false) × (nat_eq byte 107 ≡ false)
@@ -52,8 +56,38 @@ piece_line : (full : Bool) (s : State) (conn : ℕ) (piece : List ℕ) (effect :
 piece_line true s conn piece effect takes = says (Piece conn piece) effect (codes "http busy") refl refl (line_is effect _ takes)
 piece_line false s conn piece effect takes = meaning_line s conn piece _ effect takes.meaning takes.does
 
+-- no word of a DHCP datagram begins as those of the two failures
+word_says : (w : DhcpWord) → (nat_eq (slice_index (codes "dhcp " ++ word_text w) 5) 109 ≡ false) × (nat_eq (slice_index (codes "dhcp " ++ word_text w) 5) 107 ≡ false)
+word_says word.Offer = (refl, refl)
+word_says word.Ack = (refl, refl)
+word_says word.Declined = (refl, refl)
+word_says word.Released = (refl, refl)
+word_says word.Short = (refl, refl)
+word_says word.Long = (refl, refl)
+word_says word.NotRequest = (refl, refl)
+word_says word.Hardware = (refl, refl)
+word_says word.Cookie = (refl, refl)
+word_says word.OptionCut = (refl, refl)
+word_says word.NoType = (refl, refl)
+word_says word.Overload = (refl, refl)
+word_says word.NoSite = (refl, refl)
+word_says word.NotServed = (refl, refl)
+word_says word.RequestForm = (refl, refl)
+word_says word.PartCut = (refl, refl)
+word_says word.RelayMismatch = (refl, refl)
+word_says word.NotAModem = (refl, refl)
+word_says word.NoRelayPool = (refl, refl)
+word_says word.UnknownModem = (refl, refl)
+word_says word.SerialMismatch = (refl, refl)
+word_says word.OtherServer = (refl, refl)
+word_says word.PoolFull = (refl, refl)
+word_says word.NoRecord = (refl, refl)
+word_says word.NotYourAddress = (refl, refl)
+
 does_line : (s : State) (what : What) (effect : Effect) → Does s what Did effect → NoFailure effect.said.line what
-does_line s (Datagram Dhcp from bytes) effect p = says (Datagram Dhcp from bytes) effect (codes "dhcp not-built") refl refl (line_is effect _ p)
+does_line s (Datagram Dhcp from bytes) effect p =
+    let said = (dhcp_step s.tables s.held.now bytes).word in
+    says (Datagram Dhcp from bytes) effect (codes "dhcp " ++ word_text said) (word_says said).0 (word_says said).1 (line_is effect _ p)
 does_line s (Datagram Time from bytes) effect p = says (Datagram Time from bytes) effect (codes "time sent") refl refl (line_is effect _ p)
 does_line s (Datagram Tftp from bytes) effect p = says (Datagram Tftp from bytes) effect (codes "tftp not-built") refl refl (line_is effect _ p)
 does_line s (Piece conn piece) effect p = piece_line (is_full s.held.connections conn) s conn piece effect p

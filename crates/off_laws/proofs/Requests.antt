@@ -61,7 +61,7 @@ by_method place body false false delete may = delete_may place _ refl delete may
 
 at_place : (found : Option Place) (method body : List ℕ) → NamesOne found → IfOk (asked_at found method body) MayBe
 at_place (Some place) method body may =
-    by_method place body (bytes_eq method (codes "GET")) (bytes_eq method (codes "PUT")) (bytes_eq method (codes "DELETE")) may
+    by_method place body (bytes_eq method (codes "GET")) (bytes_eq method (codes "PUT") && place.puts) (bytes_eq method (codes "DELETE")) may
 at_place None method body may = tt
 
 pub request_may : (method target body : List ℕ) → IfOk (command_read method target body) MayBe

@@ -1,12 +1,15 @@
 -- The laws of runs, by the laws of their events.
-use Rattle.std.proofs.Common.{◌≡◌, ℕ, List, [], ◌∷◌, sym, ap, ◌∙◌, subst, arith}
+use Rattle.std.proofs.Common.{◌≡◌, ℕ, ◌+◌, ◌≤◌, List, [], ◌∷◌, length, All, refl, sym, ap, ◌∙◌, subst, arith}
+use Rattle.std.proofs.lemmas.List.Elements.{All-head, All-tail}
+use Rattle.off_defs.specs.declared.orders.Write.{Write}
+use Rattle.off_defs.specs.Counts.{commits_after}
 use Rattle.std.specs.Ordering.{nat_cmp}
 use Rattle.std.specs.FinMap as map
 use Rattle.off_defs.specs.State.{Tables, State, Effect, start}
 use Rattle.off_rules.specs.Good.{Good}
 use Rattle.off_book.specs.Step.{Step}
-use Rattle.off_book.specs.Run.{Turn, Run, effect_of, tables_after, moment_after}
-use Rattle.off_laws.specs.Laws.{OneEnd, MomentNeverFalls, RunKeepsGood, FewAreLive, RunTells}
+use Rattle.off_book.specs.Run.{Turn, Run, effect_of, tables_after, moment_after, commits_by}
+use Rattle.off_laws.specs.Laws.{OneEnd, MomentNeverFalls, RunKeepsGood, FewAreLive, RunTells, OneCommit}
 use Rattle.off_laws.proofs.StepLaws.{one_result, moment_is_greatest, step_good, tables_by_commit}
 use Rattle.off_laws.proofs.Connections.{AreFew, step_few}
 
@@ -53,3 +56,27 @@ run_tells s last (turn ∷ turns) p =
     let moment = moment_is_greatest s turn.event turn.outcome (turned turn p.0) p.1.0 in
     let rest = run_tells p.0 last turns p.1.1 in
     (rest.0 ∙ ap (λ (t : Tables). tables_after t turns) tables, rest.1 ∙ ap (λ n. moment_after n turns) moment)
+
+-- a turn commits once at most
+commit_most : (commit : List Write) (n : ℕ) → commits_after commit n ≤ n + 1
+commit_most [] n = omega arith
+commit_most (write ∷ writes) n = omega arith
+
+commits_most : (turns : List Turn) (n : ℕ) → commits_by turns n ≤ n + length turns
+commits_most [] n = omega arith
+commits_most (turn ∷ turns) n =
+    let one = commit_most turn.commit n in
+    let rest = commits_most turns (commits_after turn.commit n) in
+    omega (arith, one, rest)
+
+abbrev WritesNothing : Turn → Type 0
+WritesNothing turn = turn.commit ≡ []
+
+commits_none : (turns : List Turn) (n : ℕ) → All WritesNothing turns → commits_by turns n ≡ n
+commits_none [] n none = refl
+commits_none (turn ∷ turns) n none =
+    ap (λ (writes : List Write). commits_by turns (commits_after writes n)) (All-head WritesNothing turn turns none)
+    ∙ commits_none turns n (All-tail WritesNothing turn turns none)
+
+pub one_commit : OneCommit
+one_commit turns n = (commits_most turns n, commits_none turns n)

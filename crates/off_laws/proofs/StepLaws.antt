@@ -1,6 +1,8 @@
 -- The laws of one event: what it gives, the moment and the tables.
-use Rattle.std.proofs.Common.{◌≡◌, ℕ, ◌⊎◌, inl, inr, Bool, true, false, List, [], ◌++◌, codes, refl, sym, ap, ◌∙◌, subst}
-use Rattle.std.specs.Ordering.{nat_cmp}
+use Rattle.std.proofs.Common.{◌≡◌, ◌≢◌, ℕ, ◌⊎◌, inl, inr, Bool, true, false, cond, Some, None, List, [], ◌++◌, codes, refl, sym, ap, ◌∙◌, subst}
+use Rattle.std.specs.Ordering.{nat_cmp, eq_by_cmp}
+use Rattle.std.specs.Cmp.{nat_cmp_total}
+use Rattle.off_defs.proofs.EntryLemmas.{is_equal}
 use Rattle.std.specs.FinMap as map
 use Rattle.off_defs.specs.declared.events.Service.TheVariants.{Dhcp, Time, Tftp}
 use Rattle.off_defs.specs.declared.events.What.{What}
@@ -13,12 +15,17 @@ use Rattle.off_defs.specs.Tables.{write_all}
 use Rattle.off_rules.specs.Good.{Good}
 use Rattle.off_http.proofs.Meanings.{one_meaning}
 use Rattle.off_http.specs.Request.{Meaning, Waits, Refused, Asked}
-use Rattle.off_book.specs.Http.{Answered, heard_of, answer_request, by_meaning, is_full, TakesPiece}
+use Rattle.off_book.specs.Http.{Answered, heard_of, close_connection, answer_request, by_meaning, is_full, TakesPiece}
 use Rattle.off_book.specs.Step.{Step, Does}
-use Rattle.off_laws.specs.Parts.{Changes, untouched, a_connection, by_request, part_of}
+use Rattle.off_laws.specs.Parts.{Changes, untouched, a_connection, by_request, by_message, part_of}
+use Rattle.off_lease_rules.specs.Words.{acts}
+use Rattle.off_lease_rules.specs.Steps.{dhcp_step}
+use Rattle.off_laws.proofs.Messages.{datagram_refused, datagram_good}
+use Rattle.off_book.specs.Dhcp.{DhcpDid}
+use Rattle.off_defs.specs.declared.orders.Write.{Write}
 use Rattle.off_laws.specs.Laws.{OneResult, MomentIsGreatest, TablesByCommit, ChangesItsPart}
 use Rattle.off_laws.proofs.Answers.{WritesNothingOrDone, request_writes, request_good}
-use Rattle.off_laws.proofs.Ways.{Way, stays, forgets, hears, answers, way}
+use Rattle.off_laws.proofs.Ways.{Way, stays, forgets, hears, answers, messages, way}
 
 -- an event with an outcome gives one thing
 takes_one : (full : Bool) (s : State) (conn : ℕ) (piece : List ℕ) (one other : Effect) → TakesPiece full s conn piece one → TakesPiece full s conn piece other → one ≡ other
@@ -29,8 +36,8 @@ takes_one false s conn piece one other p q =
 
 does_one : (s : State) (what : What) (outcome : Outcome) (one other : Effect) → Does s what outcome one → Does s what outcome other → one ≡ other
 does_one s (Datagram Dhcp from bytes) Did one other p q = p ∙ sym q
-does_one s (Datagram Dhcp from bytes) Memory one other p q = absurd p
-does_one s (Datagram Dhcp from bytes) Keeper one other p q = absurd p
+does_one s (Datagram Dhcp from bytes) Memory one other p q = p ∙ sym q
+does_one s (Datagram Dhcp from bytes) Keeper one other p q = p ∙ sym q
 does_one s (Datagram Time from bytes) Did one other p q = p ∙ sym q
 does_one s (Datagram Time from bytes) Memory one other p q = p ∙ sym q
 does_one s (Datagram Time from bytes) Keeper one other p q = absurd p
@@ -59,6 +66,7 @@ way_now : (s : State) (what : What) (outcome : Outcome) (effect : Effect) → Wa
 way_now s what outcome effect (stays is none) = ap (λ (u : State). u.held.now) is
 way_now s what outcome effect (forgets conn is none) = ap (λ (u : State). u.held.now) is
 way_now s what outcome effect (hears conn bytes room is none) = ap (λ (u : State). u.held.now) is
+way_now s what outcome effect (messages from bytes came acted is) = ap (λ (e : Effect). e.after.held.now) is
 way_now s what outcome effect (answers conn piece method target body came acted is) = ap (λ (e : Effect). e.after.held.now) is
 
 pub moment_is_greatest : MomentIsGreatest
@@ -70,6 +78,8 @@ way_by_commit : (s : State) (what : What) (outcome : Outcome) (effect : Effect) 
 way_by_commit s what outcome effect (stays is none) = ap (λ (u : State). u.tables) is ∙ sym (ap (λ ws. write_all s.tables ws) none)
 way_by_commit s what outcome effect (forgets conn is none) = ap (λ (u : State). u.tables) is ∙ sym (ap (λ ws. write_all s.tables ws) none)
 way_by_commit s what outcome effect (hears conn bytes room is none) = ap (λ (u : State). u.tables) is ∙ sym (ap (λ ws. write_all s.tables ws) none)
+way_by_commit s what outcome effect (messages from bytes came acted is) =
+    ap (λ (e : Effect). e.after.tables) is ∙ sym (ap (λ (e : Effect). write_all s.tables e.commit) is)
 way_by_commit s what outcome effect (answers conn piece method target body came acted is) =
     ap (λ (e : Effect). e.after.tables) is ∙ sym (ap (λ (e : Effect). write_all s.tables e.commit) is)
 
@@ -85,25 +95,59 @@ quiet_part s effect is none = record {
   transfers = ap (λ (u : State). u.held.transfers) is;
 }
 
-heard_part : (s : State) (effect : Effect) (connections : map.FinMap nat_cmp (List ℕ)) → effect.after ≡ record s { held = record s.held { connections = connections } }
-    → effect.commit ≡ [] → Changes a_connection s effect
-heard_part s effect connections is none = record { commit = none; transfers = ap (λ (u : State). u.held.transfers) is }
+-- other numbers
+other_at : (q k : ℕ) (tied : Bool) → eq_by_cmp nat_cmp q k ≡ tied → q ≢ k → tied ≡ false
+other_at q k true is apart = absurd (apart (map.nat_cmp-IsAntisymmetric q k (is_equal (nat_cmp q k) is)))
+other_at q k false is apart = refl
+
+apart_from : (q k : ℕ) → q ≢ k → eq_by_cmp nat_cmp q k ≡ false
+apart_from q k apart = other_at q k (eq_by_cmp nat_cmp q k) refl apart
+
+-- what is put in for one connection, or taken out, leaves the others
+others_without : (m : map.FinMap nat_cmp (List ℕ)) (conn other : ℕ) → other ≢ conn → map.get (map.remove m conn) other ≡ map.get m other
+others_without m conn other apart =
+    map.get-remove nat_cmp_total m conn other ∙ ap (λ (b : Bool). cond b None (map.get m other)) (apart_from other conn apart)
+
+others_with : (m : map.FinMap nat_cmp (List ℕ)) (conn : ℕ) (bytes : List ℕ) (other : ℕ) → other ≢ conn → map.get (map.insert m conn bytes) other ≡ map.get m other
+others_with m conn bytes other apart =
+    map.get-insert nat_cmp_total m conn bytes other ∙ ap (λ (b : Bool). cond b (Some bytes) (map.get m other)) (apart_from other conn apart)
+
+heard_part : (s : State) (conn : ℕ) (effect : Effect) → effect.after ≡ close_connection s conn → effect.commit ≡ [] → Changes (a_connection conn) s effect
+heard_part s conn effect is none = record {
+  commit = none;
+  others = λ other apart. ap (λ (u : State). map.get u.held.connections other) is ∙ others_without s.held.connections conn other apart;
+  transfers = ap (λ (u : State). u.held.transfers) is;
+}
 
 said_done : (answer : Answered) → WritesNothingOrDone answer → (answer.writes ≡ []) ⊎ (codes "http " ++ answer.words ≡ codes "http 200")
 said_done answer (inl none) = inl none
 said_done answer (inr done) = inr (ap (λ (words : List ℕ). codes "http " ++ words) done)
 
-meaning_part : (s : State) (conn : ℕ) (bytes : List ℕ) (meaning : Meaning) → Changes by_request s (by_meaning s conn bytes meaning)
-meaning_part s conn bytes Waits = record { commit = inl refl; transfers = refl }
-meaning_part s conn bytes (Refused f) = record { commit = inl refl; transfers = refl }
+meaning_part : (s : State) (conn : ℕ) (bytes : List ℕ) (meaning : Meaning) → Changes (by_request conn) s (by_meaning s conn bytes meaning)
+meaning_part s conn bytes Waits = record { commit = inl refl; others = others_with s.held.connections conn bytes; transfers = refl }
+meaning_part s conn bytes (Refused f) = record { commit = inl refl; others = others_without s.held.connections conn; transfers = refl }
 meaning_part s conn bytes (Asked method target body) = record {
   commit = said_done (answer_request s.tables s.held.now method target body) (request_writes s.tables s.held.now method target body);
+  others = others_without s.held.connections conn;
   transfers = refl;
 }
 
-takes_part : (full : Bool) (s : State) (conn : ℕ) (piece : List ℕ) (effect : Effect) → TakesPiece full s conn piece effect → Changes by_request s effect
-takes_part true s conn piece effect takes = subst (λ (e : Effect). Changes by_request s e) (sym takes) (record { commit = inl refl; transfers = refl })
-takes_part false s conn piece effect takes = subst (λ (e : Effect). Changes by_request s e) (sym takes.does) (meaning_part s conn _ takes.meaning)
+takes_part : (full : Bool) (s : State) (conn : ℕ) (piece : List ℕ) (effect : Effect) → TakesPiece full s conn piece effect → Changes (by_request conn) s effect
+takes_part true s conn piece effect takes =
+    subst (λ (e : Effect). Changes (by_request conn) s e) (sym takes) (record { commit = inl refl; others = λ other apart. refl; transfers = refl })
+takes_part false s conn piece effect takes = subst (λ (e : Effect). Changes (by_request conn) s e) (sym takes.does) (meaning_part s conn _ takes.meaning)
+
+-- a message writes where its word is one of those that act
+acting_writes : (acting : Bool) (w : List Write) → (acting ≡ false → w ≡ []) → (w ≡ []) ⊎ (acting ≡ true)
+acting_writes true w none = inr refl
+acting_writes false w none = inl (none refl)
+
+message_part : (s : State) (bytes : List ℕ) (effect : Effect) → DhcpDid s bytes effect → Changes (by_message bytes) s effect
+message_part s bytes effect did = subst (λ (e : Effect). Changes (by_message bytes) s e) (sym did) (record {
+  commit = acting_writes (acts (dhcp_step s.tables s.held.now bytes).word) (dhcp_step s.tables s.held.now bytes).writes (datagram_refused s.tables s.held.now bytes);
+  connections = refl;
+  transfers = refl;
+})
 
 after_of : (one other : Effect) → one ≡ other → one.after ≡ other.after
 after_of one other is = ap (λ (e : Effect). e.after) is
@@ -112,9 +156,9 @@ commit_of : (one other : Effect) → one ≡ other → one.commit ≡ other.comm
 commit_of one other is = ap (λ (e : Effect). e.commit) is
 
 does_part : (s : State) (what : What) (outcome : Outcome) (effect : Effect) → Does s what outcome effect → Changes (part_of what outcome) s effect
-does_part s (Datagram Dhcp from bytes) Did effect p = quiet_part s effect (after_of effect _ p) (commit_of effect _ p)
-does_part s (Datagram Dhcp from bytes) Memory effect p = absurd p
-does_part s (Datagram Dhcp from bytes) Keeper effect p = absurd p
+does_part s (Datagram Dhcp from bytes) Did effect p = message_part s bytes effect p
+does_part s (Datagram Dhcp from bytes) Memory effect p = quiet_part s effect (after_of effect _ p) (commit_of effect _ p)
+does_part s (Datagram Dhcp from bytes) Keeper effect p = quiet_part s effect (after_of effect _ p) (commit_of effect _ p)
 does_part s (Datagram Time from bytes) Did effect p = quiet_part s effect (after_of effect _ p) (commit_of effect _ p)
 does_part s (Datagram Time from bytes) Memory effect p = quiet_part s effect (after_of effect _ p) (commit_of effect _ p)
 does_part s (Datagram Time from bytes) Keeper effect p = absurd p
@@ -122,9 +166,9 @@ does_part s (Datagram Tftp from bytes) Did effect p = quiet_part s effect (after
 does_part s (Datagram Tftp from bytes) Memory effect p = absurd p
 does_part s (Datagram Tftp from bytes) Keeper effect p = absurd p
 does_part s (Piece conn piece) Did effect p = takes_part (is_full s.held.connections conn) s conn piece effect p
-does_part s (Piece conn piece) Memory effect p = heard_part s effect _ (after_of effect _ p) (commit_of effect _ p)
-does_part s (Piece conn piece) Keeper effect p = heard_part s effect _ (after_of effect _ p) (commit_of effect _ p)
-does_part s (Closed conn) Did effect p = heard_part s effect _ (after_of effect _ p) (commit_of effect _ p)
+does_part s (Piece conn piece) Memory effect p = heard_part s conn effect (after_of effect _ p) (commit_of effect _ p)
+does_part s (Piece conn piece) Keeper effect p = heard_part s conn effect (after_of effect _ p) (commit_of effect _ p)
+does_part s (Closed conn) Did effect p = heard_part s conn effect (after_of effect _ p) (commit_of effect _ p)
 does_part s (Closed conn) Memory effect p = absurd p
 does_part s (Closed conn) Keeper effect p = absurd p
 does_part s Tick Did effect p = quiet_part s effect (after_of effect _ p) (commit_of effect _ p)
@@ -143,6 +187,8 @@ way_good : (s : State) (what : What) (outcome : Outcome) (effect : Effect) → W
 way_good s what outcome effect (stays is none) good = subst (λ (u : State). Good u.tables) (sym is) good
 way_good s what outcome effect (forgets conn is none) good = subst (λ (u : State). Good u.tables) (sym is) good
 way_good s what outcome effect (hears conn bytes room is none) good = subst (λ (u : State). Good u.tables) (sym is) good
+way_good s what outcome effect (messages from bytes came acted is) good =
+    subst (λ (e : Effect). Good e.after.tables) (sym is) (datagram_good s.tables s.held.now bytes good)
 way_good s what outcome effect (answers conn piece method target body came acted is) good =
     subst (λ (e : Effect). Good e.after.tables) (sym is) (request_good s.tables s.held.now method target body good)
 

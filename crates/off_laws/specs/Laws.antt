@@ -1,5 +1,5 @@
 -- Laws of events and of runs.
-use Rattle.std.specs.Prelude.{◌≡◌, ◌≤◌, ◌⊎◌, max, ℕ, Bool, true, false, IsTrue, List, ◌++◌, codes, ◌↔◌, count_by, None}
+use Rattle.std.specs.Prelude.{◌≡◌, ◌≤◌, max, ℕ, Bool, true, false, IsTrue, List, [], ◌++◌, ◌+◌, length, All, codes, ◌↔◌, count_by, None}
 use Rattle.std.specs.List.{list_any}
 use Rattle.std.specs.FinMap as map
 use Rattle.off_defs.specs.declared.events.Event.{Event}
@@ -14,7 +14,7 @@ use Rattle.off_defs.specs.Tables.{write_all}
 use Rattle.off_rules.specs.Good.{Good}
 use Rattle.off_book.specs.Http.{most_connections, heard_of}
 use Rattle.off_book.specs.Step.{Step, service_word}
-use Rattle.off_book.specs.Run.{Turn, Run, tables_after, moment_after}
+use Rattle.off_book.specs.Run.{Turn, Run, tables_after, moment_after, commits_by}
 use Rattle.off_laws.specs.Parts.{part_of, Changes}
 
 -- an event with an outcome gives one thing
@@ -70,8 +70,15 @@ RunTells =
     (s last : State) (turns : List Turn) → Run s turns last
     → (last.tables ≡ tables_after s.tables turns) × (last.held.now ≡ moment_after s.held.now turns)
 
--- An event changes no more than its part of the state. So datagrams, ticks and the ends of connections leave the tables, and pieces too that
--- are waited behind, refused, or couldn't be acted on.
+-- A turn makes one commit at most: the commits of a run are no more than its turns, and none where no turn has anything to write.
+abbrev pub OneCommit : Type 0
+OneCommit =
+    (turns : List Turn) (commits : ℕ)
+    → (commits_by turns commits ≤ commits + length turns)
+    × (All (λ turn. turn.commit ≡ []) turns → commits_by turns commits ≡ commits)
+
+-- An event changes no more than its part of the state. So ticks and the ends of connections leave the tables, and so do pieces that are
+-- waited behind, refused, or couldn't be acted on, and datagrams but those of clients whose word is one of those that act.
 abbrev pub ChangesItsPart : Type 0
 ChangesItsPart =
     (s : State) (event : Event) (outcome : Outcome) (effect : Effect) → Step s event outcome effect

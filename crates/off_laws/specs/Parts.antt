@@ -1,23 +1,32 @@
 -- Which part of the state an event with an outcome may change, besides the moment. A service that is built changes its line of `part_of`.
-use Rattle.std.specs.Prelude.{◌≡◌, ◌⊎◌, List, [], codes}
+use Rattle.std.specs.Prelude.{◌≡◌, ◌≢◌, ◌⊎◌, ℕ, true, List, [], codes}
+use Rattle.std.specs.FinMap as map
+use Rattle.off_defs.specs.declared.events.Service.TheVariants.{Dhcp, Time, Tftp}
 use Rattle.off_defs.specs.declared.events.What.{What}
 use Rattle.off_defs.specs.declared.events.What.TheVariants.{Datagram, Piece, Closed, Tick, End}
 use Rattle.off_defs.specs.declared.results.Outcome.{Outcome}
 use Rattle.off_defs.specs.declared.results.Outcome.TheVariants.{Did, Memory, Keeper}
 use Rattle.off_defs.specs.State.{State, Effect}
+use Rattle.off_lease_rules.specs.Words.{acts}
+use Rattle.off_lease_rules.specs.Steps.{dhcp_step}
 
--- nothing; the bytes of one connection; that and the tables, as a clerk's request asks
+-- nothing; the bytes of one connection; that and the tables, as a clerk's request asks; the tables, as a client's message asks
 pub data Part : Type 0 where
   untouched : Part
-  a_connection : Part
-  by_request : Part
+  a_connection : (conn : ℕ) → Part
+  by_request : (conn : ℕ) → Part
+  by_message : (bytes : List ℕ) → Part
 
 abbrev pub part_of : What → Outcome → Part
-part_of (Datagram service from bytes) outcome = untouched
-part_of (Piece conn bytes) Did = by_request
-part_of (Piece conn bytes) Memory = a_connection
-part_of (Piece conn bytes) Keeper = a_connection
-part_of (Closed conn) outcome = a_connection
+part_of (Datagram Dhcp from bytes) Did = by_message bytes
+part_of (Datagram Dhcp from bytes) Memory = untouched
+part_of (Datagram Dhcp from bytes) Keeper = untouched
+part_of (Datagram Time from bytes) outcome = untouched
+part_of (Datagram Tftp from bytes) outcome = untouched
+part_of (Piece conn bytes) Did = by_request conn
+part_of (Piece conn bytes) Memory = a_connection conn
+part_of (Piece conn bytes) Keeper = a_connection conn
+part_of (Closed conn) outcome = a_connection conn
 part_of Tick outcome = untouched
 part_of End outcome = untouched
 
@@ -27,17 +36,31 @@ pub record Untouched (s : State) (effect : Effect) : Type 0 where
   pub connections : effect.after.held.connections ≡ s.held.connections
   pub transfers : effect.after.held.transfers ≡ s.held.transfers
 
+-- every other connection is as it was
+abbrev pub KeepsOthers : ℕ → State → Effect → Type 0
+KeepsOthers conn s effect =
+    (other : ℕ) → other ≢ conn → map.get effect.after.held.connections other ≡ map.get s.held.connections other
+
 -- nothing is written, and the transfers stay
-pub record Hears (s : State) (effect : Effect) : Type 0 where
+pub record Hears (conn : ℕ) (s : State) (effect : Effect) : Type 0 where
   pub commit : effect.commit ≡ []
+  pub others : KeepsOthers conn s effect
   pub transfers : effect.after.held.transfers ≡ s.held.transfers
 
 -- nothing is written, or the line says that the request was done; the transfers stay
-pub record Requested (s : State) (effect : Effect) : Type 0 where
+pub record Requested (conn : ℕ) (s : State) (effect : Effect) : Type 0 where
   pub commit : (effect.commit ≡ []) ⊎ (effect.said.line ≡ codes "http 200")
+  pub others : KeepsOthers conn s effect
+  pub transfers : effect.after.held.transfers ≡ s.held.transfers
+
+-- nothing is written, or the message's word is one of those that act; what the office holds stays
+pub record Messaged (bytes : List ℕ) (s : State) (effect : Effect) : Type 0 where
+  pub commit : (effect.commit ≡ []) ⊎ (acts (dhcp_step s.tables s.held.now bytes).word ≡ true)
+  pub connections : effect.after.held.connections ≡ s.held.connections
   pub transfers : effect.after.held.transfers ≡ s.held.transfers
 
 abbrev pub Changes : Part → State → Effect → Type 0
 Changes untouched s effect = Untouched s effect
-Changes a_connection s effect = Hears s effect
-Changes by_request s effect = Requested s effect
+Changes (a_connection conn) s effect = Hears conn s effect
+Changes (by_request conn) s effect = Requested conn s effect
+Changes (by_message bytes) s effect = Messaged bytes s effect

@@ -2,11 +2,18 @@
 //! contract is the law.
 #![tactic(auto)]
 
+mod leases;
+
 ghost use Rattle.off_laws.specs.Laws.{OneResult, SomeResult, OneEnd, LineTellsOutcome};
 ghost use Rattle.off_laws.specs.Laws.{MomentIsGreatest};
 ghost use Rattle.off_laws.specs.Laws.{MomentNeverFalls, RunKeepsGood, TablesByCommit, RunTells};
-ghost use Rattle.off_laws.specs.Laws.{ChangesItsPart, AnsweredOnce, FewAreLive};
+ghost use Rattle.off_laws.specs.Laws.{OneCommit, ChangesItsPart, AnsweredOnce, FewAreLive};
 
+pub use leases::{
+    a_command_drops_only_ended_leases, a_command_keeps_live_leases, a_line_tells_its_word,
+    a_run_has_a_state_at_each_place, an_acknowledged_address_is_the_clients,
+    an_import_keeps_all_leases, leases_stay_right, what_is_bound_stays_bound,
+};
 use off_http::some_answer;
 
 /// For a state, an event and an outcome there is one thing that the office says, and one state
@@ -59,8 +66,14 @@ pub fn a_run_tells_its_tables()
     ensures { RunTells }
 {}
 
-/// An event changes no more than its part of the state. Nothing is written but by a piece of a
-/// clerk's connection whose line says `http 200`.
+/// A turn makes one commit at most, and none where it writes nothing.
+pub fn a_turn_makes_one_commit_at_most()
+    ensures { OneCommit }
+{}
+
+/// An event changes no more than its part of the state: of the connections only its own. Nothing is
+/// written but by a piece of a clerk's connection whose line says `http 200`, and by a client's
+/// message whose word is one of those that act.
 pub fn an_event_changes_its_part()
     ensures { ChangesItsPart }
 {}

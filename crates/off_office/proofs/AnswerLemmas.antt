@@ -5,7 +5,6 @@ use Rattle.off_defs.specs.declared.orders.Command.{Command}
 use Rattle.off_defs.specs.declared.rules.Rule.{Rule}
 use Rattle.off_defs.specs.State.{Tables, Said}
 use Rattle.off_defs.specs.Tables.{write_all}
-use Rattle.off_rules.specs.Rows.{counts_of}
 use Rattle.off_rules.specs.Clerk.{Stepped, clerk_step, step_done, step_refused}
 use Rattle.off_clerk_rules.specs.declared.faults.Fault.TheVariants as fault
 use Rattle.off_book.specs.Http.{Answered, answer_step}
@@ -18,11 +17,13 @@ use Rattle.off_deciding.specs.declared.results.Planned.{Planned}
 use Rattle.off_deciding.specs.declared.results.AccountErr.{AccountErr}
 use Rattle.off_deciding.specs.declared.results.AccountErr.TheVariants.{Refused, Failed, Memory}
 use Rattle.off_office.specs.Desk.{Desk}
-use Rattle.off_office.specs.Answering.{said_to, fault_said, reply_said, IsPlanned, NotPlanned, AnsweredBy, NotAnswered, AnswerBegins, IsAnswered, CarriedOut, NotCarriedOut, Refuses, answer_to}
+use Rattle.off_office.specs.Conditions.{Mirrors}
+use Rattle.off_office.proofs.CommandLemmas.{mirrors_behind}
+use Rattle.off_office.specs.Answering.{said_to, fault_said, reply_said, desk_behind, IsPlanned, NotPlanned, AnsweredBy, NotAnswered, AnswerBegins, IsAnswered, CarriedOut, NotCarriedOut, Refuses, answer_to}
 
 -- what was planned was answered and done
 carried_done : (command : Command) (planned : Planned) (conn : ℕ) (said : Said) (before after : Desk) (a b c : KeeperSeen) → Rests a
-    → Reads (IsPlanned before.counts before.held.now command planned) a b → CarriedOut planned conn said before after b c
+    → Reads (IsPlanned before command planned) a b → CarriedOut planned conn said before after b c
     → AnsweredBy (answer_to before.held.now command) conn said before after a c
 carried_done command planned conn said before after a b c rests reads did = record {
   writes = planned.writes;
@@ -34,13 +35,13 @@ carried_done command planned conn said before after a b c rests reads did = reco
           value = g.value;
           told = g.told;
           fits = record {
-            holds = λ agree. let is = read.1.holds agree in (
+            holds = λ mirrors. let is = read.1.holds mirrors in (
               (
                 did.answer ∙ ap (λ (s : Stepped). said_to conn (answer_step s)) (sym is.0),
                 ap (λ (s : Stepped). (answer_step s).writes) (sym is.0),
                 g.fits,
               ),
-              ap (λ (d : Desk). d.counts) did.counts ∙ (is.1 ∙ ap counts_of (sym g.fits)),
+              mirrors_behind before after planned t g.value did.counts g.fits is.1,
             );
           };
         };
@@ -50,14 +51,14 @@ carried_done command planned conn said before after a b c rests reads did = reco
 }
 
 -- the writes that were planned are those of the answer
-planned_writes : (command : Command) (planned : Planned) (before : Desk) (a b : KeeperSeen) → Reads (IsPlanned before.counts before.held.now command planned) a b
+planned_writes : (command : Command) (planned : Planned) (before : Desk) (a b : KeeperSeen) → Reads (IsPlanned before command planned) a b
     → (t : Tables) → a.tables t → (u : Tables) → IsWritten planned.writes t u → AnswerBegins (answer_to before.held.now command) before t u
-planned_writes command planned before a b reads t told u written agree =
-    let is = (reads.tables t told).1.holds agree in
+planned_writes command planned before a b reads t told u written mirrors =
+    let is = (reads.tables t told).1.holds mirrors in
     written ∙ ap (λ (s : Stepped). write_all t (answer_step s).writes) (sym is.0)
 
 pub carried_ends : (q : Result (Unit {0}) KeepErr) (command : Command) (planned : Planned) (conn : ℕ) (said : Said) (before after : Desk) (a b c : KeeperSeen) → Rests a
-    → Reads (IsPlanned before.counts before.held.now command planned) a b
+    → Reads (IsPlanned before command planned) a b
     → MatchResult q (λ _. CarriedOut planned conn said before after b c) (λ err. NotCarriedOut planned err before after b c)
     → IsAnswered q (answer_to before.held.now command) conn said before after a c
 carried_ends (Ok u) command planned conn said before after a b c rests reads did = carried_done command planned conn said before after a b c rests reads did
@@ -73,7 +74,7 @@ in_hand (Err e) said other none is = cc
 
 -- what a commit answers, behind an answer in hand
 pub carried_by : (q : Result (Unit {0}) KeepErr) (planned : Planned) (conn : ℕ) (said : Said) (before after : Desk) (a b : KeeperSeen)
-    → MatchResult q (λ _. Settled planned.writes a b) (λ err. NotCommitted (IsWritten planned.writes) err a b) → OnOk q (after ≡ record before { counts = planned.counts })
+    → MatchResult q (λ _. Settled planned.writes a b) (λ err. NotCommitted (IsWritten planned.writes) err a b) → OnOk q (after ≡ desk_behind before planned)
     → MatchResult q (λ _. Unit {0}) (λ _. after ≡ before) → said ≡ reply_said conn planned.reply
     → MatchResult q (λ _. CarriedOut planned conn said before after a b) (λ err. NotCarriedOut planned err before after a b)
 carried_by (Ok u) planned conn said before after a b done counts none is = record { answer = is; counts = counts; done = done }
@@ -81,18 +82,18 @@ carried_by (Err err) planned conn said before after a b not none same is = recor
 
 -- what a rule refuses is answered by the rule
 answered_refused : (command : Command) (now : ℕ) (desk : Desk) (row : ℕ) (rule : Rule) (conn : ℕ) (said : Said) (a b : KeeperSeen) → Rests a
-    → Reads (λ t. desk.counts ≡ counts_of t → clerk_step t now command ≡ step_refused t row rule) a b
+    → Reads (λ t. Mirrors desk t → clerk_step t now command ≡ step_refused t row rule) a b
     → said ≡ fault_said conn (fault.Rule row rule) → AnsweredBy (answer_to now command) conn said desk desk a b
 answered_refused command now desk row rule conn said a b rests reads is = record {
   writes = [];
   tables = reads_told reads (λ t says. record {
-    holds = λ agree. let f = says agree in (
+    holds = λ mirrors. let f = says mirrors in (
       (
         is ∙ ap (λ (s : Stepped). said_to conn (answer_step s)) (sym f),
         ap (λ (s : Stepped). (answer_step s).writes) (sym f),
         refl,
       ),
-      agree,
+      mirrors,
     );
   });
   held = refl;
@@ -104,7 +105,7 @@ pub not_answered : (answer : Tables → Answered) (err : KeepErr) (desk : Desk) 
 not_answered answer err desk a b not = record { same = refl; keeper = not }
 
 pub refuse_ends : (err : AccountErr) (q : Result (Unit {0}) KeepErr) (command : Command) (conn : ℕ) (said : Said) (desk : Desk) (a b : KeeperSeen) → Rests a
-    → NotPlanned desk.counts desk.held.now command err a b → Refuses conn err q said → IsAnswered q (answer_to desk.held.now command) conn said desk desk a b
+    → NotPlanned desk command err a b → Refuses conn err q said → IsAnswered q (answer_to desk.held.now command) conn said desk desk a b
 refuse_ends (Refused row rule) (Ok u) command conn said desk a b rests not says = answered_refused command desk.held.now desk row rule conn said a b rests not says
 refuse_ends (Refused row rule) (Err e) command conn said desk a b rests not says =
     subst (λ (x : KeepErr). NotAnswered (answer_to desk.held.now command) x desk desk a b) (sym says)

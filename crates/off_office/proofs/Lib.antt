@@ -1,4 +1,5 @@
 pub mod StepLemmas
+pub mod LeaseLemmas
 pub mod ConnectionLemmas
 pub mod CommandLemmas
 pub mod AnswerLemmas

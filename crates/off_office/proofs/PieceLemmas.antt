@@ -9,17 +9,21 @@ use Rattle.off_base.specs.declared.octets.NoMemory.{NoMemory}
 use Rattle.off_http.specs.declared.answers.HttpFault.{HttpFault}
 use Rattle.off_http.specs.Request.{Meaning, Waits, Refused, Asked, RequestIs}
 use Rattle.off_http.specs.Heard.{IsAsked}
+use Rattle.off_http.proofs.Meanings.{one_meaning}
 use Rattle.off_clerk_rules.specs.declared.faults.Fault.TheVariants as fault
+use Rattle.off_defs.specs.declared.events.What.TheVariants.{Piece}
 use Rattle.off_defs.specs.declared.orders.Write.{Write}
 use Rattle.off_defs.specs.State.{Tables, Held, Said, Effect, state_of}
 use Rattle.off_defs.specs.Tables.{write_all}
 use Rattle.off_defs.proofs.ToldLemmas.{told_self, told_weaker}
-use Rattle.off_outside.proofs.KeeperLemmas.{settled_none, nothing_begun, not_committed_as}
+use Rattle.off_outside.proofs.KeeperLemmas.{settled_none, nothing_begun, not_committed_as, spent_none}
 use Rattle.off_book.specs.Http.{answer_request, by_meaning, is_full, heard_of, without_connection, TakesPiece, PieceDid}
 use Rattle.off_outside.specs.declared.keeper.KeepErr.{KeepErr}
 use Rattle.off_outside.specs.declared.keeper.KeepErr.TheVariants as keep
 use Rattle.off_outside.specs.KeeperSeen.{KeeperSeen}
 use Rattle.off_office.specs.Desk.{Desk}
+use Rattle.off_office.specs.Asking.{Asks, PieceAsks, SpentWithin, meaning_calls}
+use Rattle.off_office.proofs.CommandLemmas.{nothing_spent}
 use Rattle.off_office.specs.Answering.{said_to, fault_said, busy_said, failed_said, had_memory, forgets, answer_asked, IsAnswered, WaitsFor, PieceOn, HeardPiece, NotHeard}
 
 abbrev Connections : Type 0
@@ -69,7 +73,7 @@ heard_quietly : (conn : ℕ) (piece : List ℕ) (said : Said) (before after : De
     → ((t : Tables) → PieceOn conn piece said [] before after t t) → HeardPiece conn piece said before after k k
 heard_quietly conn piece said before after k counts moment does = record {
   commit = [];
-  tables = told_self (λ t. record { holds = λ agree. (does t, counts ∙ agree) });
+  tables = told_self (λ t. record { holds = λ mirrors. (does t, record { counts = counts ∙ mirrors.counts }) });
   settled = settled_none [] k refl;
   moment = moment;
 }
@@ -145,8 +149,8 @@ asked_by : (conn : ℕ) (piece bytes m p b : List ℕ) (said : Said) (before aft
 asked_by conn piece bytes m p b said before after k l (Ok u) read ends = record {
   commit = ends.writes;
   tables = told_weaker ends.tables (λ t v under. record {
-    holds = λ agree.
-        let f = under.holds agree in
+    holds = λ mirrors.
+        let f = under.holds (record { counts = mirrors.counts }) in
         let reply = answer_request t before.held.now m p b in (
           takes conn piece bytes (Asked m p b) before t (record { said = said; commit = ends.writes; after = state_of v after.held }) read
               (ap (λ (x : Said). record { said = x; commit = ends.writes; after = state_of v after.held }) f.0.0
@@ -161,9 +165,9 @@ asked_by conn piece bytes m p b said before after k l (Ok u) read ends = record 
 }
 asked_by conn piece bytes m p b said before after k l (Err e) read ends = record {
   forgotten = ends.same;
-  keeper = not_committed_as ends.keeper (λ t told u begun agree.
+  keeper = not_committed_as ends.keeper (λ t told u begun mirrors.
       let effect = by_meaning (state_of t before.held) conn bytes (Asked m p b) in
-      (effect, (takes conn piece bytes (Asked m p b) before t effect read refl, begun agree)));
+      (effect, (takes conn piece bytes (Asked m p b) before t effect read refl, begun (record { counts = mirrors.counts }))));
 }
 
 by_asked : (conn : ℕ) (piece bytes : List ℕ) (meaning : Meaning) (said : Said) (before after : Desk) (k l : KeeperSeen) (q : Result (Unit {0}) KeepErr)
@@ -181,3 +185,21 @@ pub asked_hears : (conn : ℕ) (piece bytes : List ℕ) (meaning : Meaning) (sai
 asked_hears conn piece bytes meaning said before mid after k l q read is left ends =
     by_asked conn piece bytes meaning said before after k l q read is
     (subst (λ (x : Desk). IsAnswered q (answer_asked x.held.now meaning) conn said x after k l) left ends)
+
+-- what a piece asks of the keeper: where its connection is one too many, nothing
+pub full_asks : (conn : ℕ) (piece : List ℕ) (held : Held) (k : KeeperSeen) → is_full held.connections conn ≡ true → Asks (Piece conn piece) held k k
+full_asks conn piece held k full = subst (λ b. PieceAsks b (heard_of held conn ++ piece) k k) (sym full) (spent_none k)
+
+-- what no call was made for is within any bound
+pub unasked_asks : (conn : ℕ) (piece : List ℕ) (held : Held) (k : KeeperSeen) → is_full held.connections conn ≡ false → Asks (Piece conn piece) held k k
+unasked_asks conn piece held k room =
+    subst (λ b. PieceAsks b (heard_of held conn ++ piece) k k) (sym room) (λ meaning says. nothing_spent (meaning_calls meaning) k)
+
+-- and else what the bytes so far say, which is one thing
+pub read_asks : (conn : ℕ) (piece bytes : List ℕ) (meaning : Meaning) (before : Desk) (a b : KeeperSeen) → Read conn piece bytes meaning before
+    → SpentWithin (meaning_calls meaning) a b → Asks (Piece conn piece) before.held a b
+read_asks conn piece bytes meaning before a b read spent =
+    subst (λ full. PieceAsks full (heard_of before.held conn ++ piece) a b) (sym read.room)
+    (λ other says.
+    let mine = subst (λ (x : List ℕ). RequestIs x meaning) read.joins read.says in
+    subst (λ (m : Meaning). SpentWithin (meaning_calls m) a b) (one_meaning (heard_of before.held conn ++ piece) meaning other mine says) spent)

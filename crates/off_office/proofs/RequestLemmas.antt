@@ -18,6 +18,9 @@ use Rattle.off_outside.specs.KeeperSeen.{KeeperSeen}
 use Rattle.off_defs.proofs.ToldLemmas.{told_self}
 use Rattle.off_deciding.specs.Deciding.{is_import}
 use Rattle.off_office.specs.Desk.{Desk}
+use Rattle.off_http.specs.Request.{Meaning, Waits, Refused, Asked}
+use Rattle.off_http.specs.Heard.{IsAsked, asked_method, asked_target, asked_body}
+use Rattle.off_office.specs.Asking.{SpentWithin, command_calls, request_calls, meaning_calls}
 use Rattle.off_office.specs.Answering.{fault_said, had_memory, IsAnswered, answer_to}
 use Rattle.off_outside.proofs.KeeperLemmas.{settled_none, nothing_begun}
 use Rattle.off_office.proofs.AnswerLemmas.{not_answered}
@@ -49,7 +52,7 @@ either false x y p q = q
 asked_none : (k : Place) (method body : List ℕ) → NoImport (asked_of k method body)
 asked_none k method body =
     either (bytes_eq method (codes "GET")) _ _ refl
-    (either (bytes_eq method (codes "PUT")) _ _ (put_none k.key body) (either (bytes_eq method (codes "DELETE") && k.deletes) _ _ refl tt))
+    (either (bytes_eq method (codes "PUT") && k.puts) _ _ (put_none k.key body) (either (bytes_eq method (codes "DELETE") && k.deletes) _ _ refl tt))
 
 at_none : (k : Option Place) (method body : List ℕ) → NoImport (asked_at k method body)
 at_none None method body = tt
@@ -82,7 +85,7 @@ fault_by : (err : ClerkErr) (now conn : ℕ) (said : Said) (desk : Desk) (k : Ke
     → OnOk r (said ≡ fault_said conn (fault.Clerk err)) → ReadEnds (Err err) now conn said desk desk k k (had_memory r)
 fault_by err now conn said desk k (Ok u) is = record {
   writes = [];
-  tables = told_self (λ t. record { holds = λ agree. ((is, refl, refl), agree) });
+  tables = told_self (λ t. record { holds = λ mirrors. ((is, refl, refl), mirrors) });
   held = refl;
   settled = settled_none [] k refl;
 }
@@ -94,3 +97,12 @@ pub fault_ends : (method target body m p b : List ℕ) (err : ClerkErr) (now con
 fault_ends method target body m p b err now conn said desk k r q parts is told same =
     subst (λ x. ReadEnds x now conn said desk desk k k q) (sym (read_as method target body m p b parts ∙ is))
     (subst (ReadEnds (Err err) now conn said desk desk k k) (sym same) (fault_by err now conn said desk k r told))
+
+-- a request asks what its command does, and nothing where it's at fault
+pub command_asks : (meaning : Meaning) (method target body : List ℕ) (command : Command) (a b : KeeperSeen) → IsAsked meaning
+    → Parts method target body (asked_method meaning) (asked_target meaning) (asked_body meaning)
+    → command_read method target body ≡ Ok command → SpentWithin (command_calls command) a b → SpentWithin (meaning_calls meaning) a b
+command_asks Waits method target body command a b is parts read spent = absurd is
+command_asks (Refused f) method target body command a b is parts read spent = absurd is
+command_asks (Asked m p c) method target body command a b is parts read spent =
+    subst (λ r. SpentWithin (request_calls r) a b) (sym (read_as method target body m p c parts ∙ read)) spent

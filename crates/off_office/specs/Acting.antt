@@ -13,14 +13,15 @@ use Rattle.off_defs.specs.Counts.{Grew, commits_after}
 use Rattle.off_defs.specs.State.{Tables, State, Said, Effect, state_of, held_at}
 use Rattle.off_rules.specs.Good.{IsLeastBad}
 use Rattle.off_defs.specs.Tables.{doubt_behind}
-use Rattle.off_book.specs.Step.{Step, TellsOutcome, completed}
+use Rattle.off_book.specs.Step.{Step, Does, TellsOutcome, completed}
 use Rattle.off_book.specs.Crashes.{Begins, doubt_in}
 use Rattle.off_outside.specs.KeeperSeen.{KeeperSeen}
-use Rattle.off_outside.specs.KeeperCalls.{Reads, NotDone, StaysUp, Unasked, Crash}
+use Rattle.off_outside.specs.KeeperCalls.{Reads, NotDone, StaysUp, Unasked, Crash, IsWritten}
 use Rattle.off_outside.specs.declared.keeper.KeepErr.{KeepErr}
 use Rattle.off_outside.specs.declared.keeper.KeepErr.TheVariants as keep
 use Rattle.off_office.specs.Desk.{Desk}
-use Rattle.off_office.specs.Conditions.{Counted, Under, StaysFit}
+use Rattle.off_office.specs.Conditions.{Mirrors, Under, StaysFit}
+use Rattle.off_office.specs.Asking.{Asks}
 use Rattle.off_office.specs.declared.office.StartErr.{StartErr}
 use Rattle.off_office.specs.declared.office.StartErr.TheVariants.{Bad, Failed, Memory as NoMemory}
 
@@ -72,7 +73,7 @@ LeavesDoubt outcome commit begun old new =
 
 -- the tables that an event would leave, over those before it
 abbrev pub EventBegins : Event → Desk → Tables → Tables → Type 0
-EventBegins event before t u = Counted before t → Begins (state_of t before.held) event u
+EventBegins event before t u = Mirrors before t → Begins (state_of t before.held) event u
 
 -- Events that touch no tables, whatever these are: datagrams to the time port, ends of connections, ticks, the end
 abbrev pub is_quiet : What → Bool
@@ -84,21 +85,56 @@ is_quiet (Closed conn) = true
 is_quiet Tick = true
 is_quiet End = true
 
--- they are steps of the book whatever the tables, also where none are told, and the keeper isn't asked
+-- what an event does by the book at the office's moment, over tables before and after
+abbrev pub DoesOn : What → Outcome → Said → List Write → Desk → Desk → Tables → Tables → Type 0
+DoesOn what outcome said commit before after t u =
+    Does (state_of t before.held) what outcome (effect_of what outcome said commit (state_of u after.held))
+
+-- the tables that it would leave
+abbrev pub DoingBegins : What → Desk → Tables → Tables → Type 0
+DoingBegins what before t u = Mirrors before t → (effect : Effect) × (Does (state_of t before.held) what Did effect × (u ≡ effect.after.tables))
+
+-- it does so whatever the tables, also where none are told, and the keeper isn't asked
+pub record HandledQuietly (what : What) (outcome : Outcome) (said : Said) (before after : Desk) (old new : KeeperSeen) : Type 0 where
+  pub does : (t : Tables) → DoesOn what outcome said [] before after t t
+  pub counts : after.counts ≡ before.counts
+  pub keeper : Unasked old new
+
+-- What an office makes of an event whose moment is its own already, whatever service it is for. `commit` is what it wrote to the tables, in one
+-- commit, which the keeper has counted.
+pub record Handled (what : What) (outcome : Outcome) (said : Said) (before after : Desk) (old new : KeeperSeen) : Type 0 where
+  pub commit : List Write
+  pub tables : Told old.tables new.tables (Under before after (DoesOn what outcome said commit before after))
+  pub written : Told old.tables new.tables (IsWritten commit)
+  pub up : StaysUp old new
+  pub faults : CountsFaults outcome old.faults new.faults
+  pub commits : new.commits ≡ commits_after commit old.commits
+  pub asks : Asks what before.held old new
+  pub crash : Crash (begun_in outcome (IsWritten commit) (DoingBegins what before)) old new
+  pub doubts : LeavesDoubt outcome commit (DoingBegins what before) old new
+  pub tells : TellsOutcome what outcome said.line
+  pub leaves : LeavesNothing outcome said.items
+  pub quiet : is_quiet what ≡ true → HandledQuietly what outcome said before after old new
+  pub moment : after.held.now ≡ before.held.now
+
+-- Quiet events are steps of the book whatever the tables, also where none are told, and the keeper isn't asked.
 pub record ActsQuietly (event : Event) (outcome : Outcome) (said : Said) (before after : Desk) (old new : KeeperSeen) : Type 0 where
   pub step : (t : Tables) → StepOn event outcome said [] before after t t
   pub counts : after.counts ≡ before.counts
   pub keeper : Unasked old new
 
--- One event. A crash meanwhile leaves the tables before it, the commit in doubt, or what the event would leave. `commit` is what it wrote to the tables, in one commit, which the keeper has counted. Where the office's counts are those of the tables,
--- it's the step of the book, and its counts are those of the tables again; good tables stay good.
+-- One event. `commit` is what it wrote to the tables, in one commit, which the keeper has counted. Where the office mirrored the tables, it's the
+-- step of the book, and the office mirrors them again; good tables stay good. A crash meanwhile leaves the tables before it, the commit in doubt,
+-- or what the event would leave.
 pub record Acts (event : Event) (outcome : Outcome) (said : Said) (before after : Desk) (old new : KeeperSeen) : Type 0 where
   pub commit : List Write
   pub tables : Told old.tables new.tables (Under before after (StepOn event outcome said commit before after))
+  pub written : Told old.tables new.tables (IsWritten commit)
   pub fits : Told old.tables new.tables (StaysFit before after)
   pub up : StaysUp old new
   pub faults : CountsFaults outcome old.faults new.faults
   pub commits : new.commits ≡ commits_after commit old.commits
+  pub asks : Asks event.what before.held old new
   pub crash : Crash (EventBegins event before) old new
   pub doubts : LeavesDoubt outcome commit (EventBegins event before) old new
   pub tells : TellsOutcome event.what outcome said.line

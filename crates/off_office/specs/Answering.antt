@@ -12,28 +12,24 @@ use Rattle.off_defs.specs.declared.results.Outcome.{Outcome}
 use Rattle.off_defs.specs.declared.results.Outcome.TheVariants as end
 use Rattle.off_defs.specs.declared.events.What.TheVariants.{Piece}
 use Rattle.off_defs.specs.Told.{Told}
-use Rattle.off_defs.specs.Counts.{commits_after}
-use Rattle.off_defs.specs.State.{Tables, Said, Effect, state_of}
+use Rattle.off_defs.specs.State.{Tables, Said, state_of}
 use Rattle.off_defs.specs.Tables.{write_all}
-use Rattle.off_rules.specs.declared.counts.Counts.{Counts}
-use Rattle.off_rules.specs.Rows.{counts_of}
 use Rattle.off_rules.specs.Clerk.{clerk_step, step_done, step_refused}
 use Rattle.off_clerk_rules.specs.declared.faults.Fault.{Fault}
 use Rattle.off_clerk_rules.specs.declared.faults.Fault.TheVariants as fault
 use Rattle.off_clerk_rules.specs.Faults.{word_of, status_of, fault_text}
 use Rattle.off_clerk_rules.specs.Replies.{reply_text}
 use Rattle.off_book.specs.Http.{Answered, answer_step, answer_request, answer_and_close, with_connection, without_connection, PieceDid}
-use Rattle.off_book.specs.Step.{Does, TellsOutcome}
 use Rattle.off_outside.specs.declared.keeper.KeepErr.{KeepErr}
 use Rattle.off_outside.specs.declared.keeper.KeepErr.TheVariants as keep
 use Rattle.off_outside.specs.KeeperSeen.{KeeperSeen}
-use Rattle.off_outside.specs.KeeperCalls.{Reads, NotDone, IsWritten, StaysUp, Settled, Crash, NotCommitted}
+use Rattle.off_outside.specs.KeeperCalls.{Reads, NotDone, IsWritten, Settled, NotCommitted}
 use Rattle.off_deciding.specs.declared.results.Planned.{Planned}
 use Rattle.off_deciding.specs.declared.results.AccountErr.{AccountErr}
 use Rattle.off_deciding.specs.declared.results.AccountErr.TheVariants.{Refused, Failed, Memory}
 use Rattle.off_office.specs.Desk.{Desk}
-use Rattle.off_office.specs.Conditions.{Counted, Under}
-use Rattle.off_office.specs.Acting.{effect_of, CountsFaults, LeavesNothing, begun_in, LeavesDoubt}
+use Rattle.off_office.specs.Conditions.{Mirrors, Under}
+use Rattle.off_office.specs.Acting.{DoingBegins}
 
 -- an answer on a connection, its end, and the line of the log
 abbrev pub said_as : ℕ → ℕ → List ℕ → List ℕ → Said
@@ -54,21 +50,25 @@ reply_said conn done = said_as conn 200 (reply_text done) (codes "http 200")
 abbrev pub busy_said : ℕ → Said
 busy_said conn = record { items = Close conn ∷ []; line = codes "http busy" }
 
--- What a command was planned to do: where the counts are those of the tables, it's the step of the book, and the counts that were planned are those
--- of the tables behind its writes.
-pub record IsPlanned (counts : Counts) (now : ℕ) (command : Command) (planned : Planned) (t : Tables) : Type 0 where
-  pub holds : counts ≡ counts_of t
-      → (clerk_step t now command ≡ step_done t planned.writes planned.reply) × (planned.counts ≡ counts_of (write_all t planned.writes))
+-- an office that has done what was planned
+abbrev pub desk_behind : Desk → Planned → Desk
+desk_behind desk planned = record desk { counts = planned.counts }
+
+-- What a command was planned to do: where the office mirrors the tables, it's the step of the book, and the office that has done it mirrors those
+-- behind its writes.
+pub record IsPlanned (desk : Desk) (command : Command) (planned : Planned) (t : Tables) : Type 0 where
+  pub holds : Mirrors desk t
+      → (clerk_step t desk.held.now command ≡ step_done t planned.writes planned.reply) × Mirrors (desk_behind desk planned) (write_all t planned.writes)
 
 -- it isn't to be done: a rule of the book's refuses it, or the keeper failed, or memory was wanted
-abbrev pub NotPlanned : Counts → ℕ → Command → AccountErr → KeeperSeen → KeeperSeen → Type 0
-NotPlanned counts now command (Refused row rule) old new = Reads (λ t. counts ≡ counts_of t → clerk_step t now command ≡ step_refused t row rule) old new
-NotPlanned counts now command Failed old new = NotDone keep.Failed old new
-NotPlanned counts now command Memory old new = NotDone keep.Memory old new
+abbrev pub NotPlanned : Desk → Command → AccountErr → KeeperSeen → KeeperSeen → Type 0
+NotPlanned desk command (Refused row rule) old new = Reads (λ t. Mirrors desk t → clerk_step t desk.held.now command ≡ step_refused t row rule) old new
+NotPlanned desk command Failed old new = NotDone keep.Failed old new
+NotPlanned desk command Memory old new = NotDone keep.Memory old new
 
 -- the tables that a command would leave at a moment
 abbrev pub CommandBegins : Command → ℕ → Desk → Tables → Tables → Type 0
-CommandBegins command now before t u = Counted before t → u ≡ write_all t (clerk_step t now command).writes
+CommandBegins command now before t u = Mirrors before t → u ≡ write_all t (clerk_step t now command).writes
 
 -- A command was done at a moment: its writes are committed, and where the counts were those of the tables, it's the step of the book.
 pub record Commanded (command : Command) (done : Reply) (now : ℕ) (before after : Desk) (old new : KeeperSeen) : Type 0 where
@@ -79,7 +79,7 @@ pub record Commanded (command : Command) (done : Reply) (now : ℕ) (before afte
 -- it wasn't, and the tables are as before
 abbrev pub NotCommanded : Command → AccountErr → ℕ → Desk → KeeperSeen → KeeperSeen → Type 0
 NotCommanded command (Refused row rule) now before old new =
-    Reads (λ t. Counted before t → clerk_step t now command ≡ step_refused t row rule) old new
+    Reads (λ t. Mirrors before t → clerk_step t now command ≡ step_refused t row rule) old new
 NotCommanded command Failed now before old new = NotCommitted (CommandBegins command now before) keep.Failed old new
 NotCommanded command Memory now before old new = NotCommitted (CommandBegins command now before) keep.Memory old new
 
@@ -93,7 +93,7 @@ pub record AnsweredBy (answer : Tables → Answered) (conn : ℕ) (said : Said) 
 
 -- the tables that a request would leave
 abbrev pub AnswerBegins : (Tables → Answered) → Desk → Tables → Tables → Type 0
-AnswerBegins answer before t u = Counted before t → u ≡ write_all t (answer t).writes
+AnswerBegins answer before t u = Mirrors before t → u ≡ write_all t (answer t).writes
 
 -- it wasn't, and all is as before
 pub record NotAnswered (answer : Tables → Answered) (err : KeepErr) (before after : Desk) (old new : KeeperSeen) : Type 0 where
@@ -116,7 +116,7 @@ IsAnswered result answer conn said before after old new =
 -- what was planned was answered and done
 pub record CarriedOut (planned : Planned) (conn : ℕ) (said : Said) (before after : Desk) (old new : KeeperSeen) : Type 0 where
   pub answer : said ≡ reply_said conn planned.reply
-  pub counts : after ≡ record before { counts = planned.counts }
+  pub counts : after ≡ desk_behind before planned
   pub done : Settled planned.writes old new
 
 -- it wasn't
@@ -140,32 +140,10 @@ pub record HeardPiece (conn : ℕ) (piece : List ℕ) (said : Said) (before afte
   pub settled : Settled commit old new
   pub moment : after.held.now ≡ before.held.now
 
--- the tables that a piece would leave
-abbrev pub PieceBegins : ℕ → List ℕ → Desk → Tables → Tables → Type 0
-PieceBegins conn piece before t u = Counted before t → (effect : Effect) × (PieceDid (state_of t before.held) conn piece effect × (u ≡ effect.after.tables))
-
 -- it couldn't be acted on: its connection is forgotten, and all else is as before
 pub record NotHeard (err : KeepErr) (conn : ℕ) (piece : List ℕ) (before after : Desk) (old new : KeeperSeen) : Type 0 where
   pub forgotten : after ≡ forgets before conn
-  pub keeper : NotCommitted (PieceBegins conn piece before) err old new
-
--- what a piece does by the book with an outcome, over tables before and after
-abbrev pub DoesOn : ℕ → List ℕ → Outcome → Said → List Write → Desk → Desk → Tables → Tables → Type 0
-DoesOn conn piece outcome said commit before after t u =
-    Does (state_of t before.held) (Piece conn piece) outcome (effect_of (Piece conn piece) outcome said commit (state_of u after.held))
-
--- a piece, by its outcome
-pub record TookPiece (conn : ℕ) (piece : List ℕ) (outcome : Outcome) (said : Said) (before after : Desk) (old new : KeeperSeen) : Type 0 where
-  pub commit : List Write
-  pub tables : Told old.tables new.tables (Under before after (DoesOn conn piece outcome said commit before after))
-  pub up : StaysUp old new
-  pub faults : CountsFaults outcome old.faults new.faults
-  pub commits : new.commits ≡ commits_after commit old.commits
-  pub crash : Crash (begun_in outcome (IsWritten commit) (PieceBegins conn piece before)) old new
-  pub doubts : LeavesDoubt outcome commit (PieceBegins conn piece before) old new
-  pub tells : TellsOutcome (Piece conn piece) outcome said.line
-  pub leaves : LeavesNothing outcome said.items
-  pub moment : after.held.now ≡ before.held.now
+  pub keeper : NotCommitted (DoingBegins (Piece conn piece) before) err old new
 
 -- a line alone
 abbrev pub failed_said : List ℕ → Said

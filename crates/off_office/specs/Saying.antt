@@ -2,8 +2,6 @@
 use Rattle.std.specs.Prelude.{◌≡◌, ℕ, [], ◌∷◌, codes}
 use Rattle.off_base.specs.declared.addresses.Peer.{Peer}
 use Rattle.off_defs.specs.declared.results.Outcome.{Outcome}
-use Rattle.off_defs.specs.declared.events.Service.{Service}
-use Rattle.off_defs.specs.declared.events.Service.TheVariants.{Dhcp, Time, Tftp}
 use Rattle.off_defs.specs.declared.results.Outcome.TheVariants.{Did, Memory, Keeper}
 use Rattle.off_defs.specs.State.{Said}
 use Rattle.off_book.specs.Time.{time_answer}
@@ -12,9 +10,3 @@ abbrev pub SaysTime : ℕ → Peer → Outcome → Said → Type 0
 SaysTime now from Did said = said ≡ record { items = time_answer now from ∷ []; line = codes "time sent" }
 SaysTime now from Memory said = said ≡ record { items = []; line = codes "time memory" }
 SaysTime now from Keeper said = ⊥
-
--- what is said of a datagram, by its service
-abbrev pub SaysDatagram : Service → ℕ → Peer → Outcome → Said → Type 0
-SaysDatagram Dhcp now from outcome said = (outcome ≡ Did) × (said ≡ record { items = []; line = codes "dhcp not-built" })
-SaysDatagram Time now from outcome said = SaysTime now from outcome said
-SaysDatagram Tftp now from outcome said = (outcome ≡ Did) × (said ≡ record { items = []; line = codes "tftp not-built" })

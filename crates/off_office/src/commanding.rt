@@ -1,10 +1,11 @@
-ghost use Rattle.std.specs.Prelude.{◌≡◌, ◌+◌, false, IsTrue, MatchResult};
-ghost use Rattle.std.specs.Prelude.{IfOk, IfSome, OnOk, OnErr};
+ghost use Rattle.std.specs.Prelude.{◌≡◌, ◌≤◌, false, IsTrue, MatchResult, IfOk, OnOk, OnErr};
 ghost use Rattle.off_defs.specs.State.{held_at};
 ghost use Rattle.off_rows.specs.Sound.{is_sound};
 ghost use Rattle.off_clerk_rules.specs.Replies.{IsRightReply};
 ghost use Rattle.off_deciding.specs.Deciding.{is_import, most_calls};
 ghost use Rattle.off_outside.specs.KeeperCalls.{Reads, Settled, NotCommitted, IsWritten, Spent};
+ghost use Rattle.off_office.specs.Asking.{SpentWithin, command_calls, most_commits};
+ghost use Rattle.off_office.specs.Asking.{commit_calls};
 ghost use Rattle.off_office.specs.Answering.{IsPlanned, NotPlanned, Commanded, NotCommanded};
 
 use crate::office::Office;
@@ -12,6 +13,7 @@ use off_accounts::{AccountErr, Planned, decide};
 use off_base::Moment;
 use off_defs::{Command, Reply, Writes};
 use off_outside::{KeepErr, Keeper};
+use off_rules::Counts;
 use std::alloc::Global;
 
 impl Office {
@@ -36,12 +38,12 @@ impl Office {
         ensures held { self.new.held ≡ held_at self.old.held at.0 }
         ensures counts { OnErr result (self.new.counts ≡ self.old.counts) }
         ensures right { IfOk result (λ done. IsRightReply done) }
-        ensures spent { IfSome (most_calls c.now)
-            (λ n. Spent (n + 1) (K.seen keeper.old) (K.seen keeper.new)) }
+        ensures spent { SpentWithin (command_calls c.now)
+            (K.seen keeper.old) (K.seen keeper.new) }
     {
         self.reach(at);
         let planned = self.plan(keeper, c)?;
-        self.settle(keeper, &planned)?;
+        self.settle(keeper, &planned.writes, &planned.counts)?;
         Ok(planned.reply)
     }
 
@@ -51,14 +53,14 @@ impl Office {
         requires sound { IsTrue (is_sound c.now) }
         requires not_import { is_import c.now ≡ false }
         ensures told { MatchResult result
-            (λ planned. Reads
-            (IsPlanned self.entry.now.counts self.entry.now.held.now c.now planned)
+            (λ planned. Reads (IsPlanned self.entry.now c.now planned)
             (K.seen keeper.old) (K.seen keeper.new))
-            (λ err. NotPlanned self.entry.now.counts self.entry.now.held.now c.now err
+            (λ err. NotPlanned self.entry.now c.now err
             (K.seen keeper.old) (K.seen keeper.new)) }
         ensures right { IfOk result (λ planned. IsRightReply planned.reply) }
-        ensures spent { IfSome (most_calls c.now)
-            (λ n. Spent n (K.seen keeper.old) (K.seen keeper.new)) }
+        ensures commits { IfOk result
+            (λ planned. commit_calls planned.writes ≤ most_commits c.now) }
+        ensures spent { SpentWithin (most_calls c.now) (K.seen keeper.old) (K.seen keeper.new) }
     {
         match decide(self.alloc, keeper, &self.counts, self.now, c) {
             Ok(planned) => Ok(planned),
@@ -66,23 +68,24 @@ impl Office {
         }
     }
 
-    // Does what was planned: the writes in one commit, where there are any, and then what the
-    // office keeps of the tables, which takes no memory.
+    // Does what was planned, whatever service planned it: the writes in one commit, where there are
+    // any, and then what the office keeps of the tables, which takes no memory.
     pub(crate) fn settle<K: Keeper>(
         &mut self,
         keeper: &mut K,
-        planned: &Planned,
+        writes: &Writes,
+        counts: &Counts,
     ) -> Result<(), KeepErr>
         ensures told { MatchResult result
-            (λ _. Settled planned.now.writes (K.seen keeper.old) (K.seen keeper.new))
-            (λ err. NotCommitted (IsWritten planned.now.writes) err
+            (λ _. Settled writes.now (K.seen keeper.old) (K.seen keeper.new))
+            (λ err. NotCommitted (IsWritten writes.now) err
             (K.seen keeper.old) (K.seen keeper.new)) }
-        ensures ok { OnOk result (self.new ≡ record self.old { counts = planned.now.counts }) }
+        ensures ok { OnOk result (self.new ≡ record self.old { counts = counts.now }) }
         ensures err { OnErr result (self.new ≡ self.old) }
-        ensures spent { Spent 1 (K.seen keeper.old) (K.seen keeper.new) }
+        ensures spent { Spent (commit_calls writes.now) (K.seen keeper.old) (K.seen keeper.new) }
     {
-        commit_all(self.alloc, keeper, &planned.writes)?;
-        self.counts = planned.counts;
+        commit_all(self.alloc, keeper, writes)?;
+        self.counts = *counts;
         Ok(())
     }
 }
@@ -92,7 +95,7 @@ fn commit_all<K: Keeper>(alloc: Global, keeper: &mut K, writes: &Writes) -> Resu
     ensures told { MatchResult result
         (λ _. Settled writes.now (K.seen keeper.old) (K.seen keeper.new))
         (λ err. NotCommitted (IsWritten writes.now) err (K.seen keeper.old) (K.seen keeper.new)) }
-    ensures spent { Spent 1 (K.seen keeper.old) (K.seen keeper.new) }
+    ensures spent { Spent (commit_calls writes.now) (K.seen keeper.old) (K.seen keeper.new) }
 {
     if writes.is_empty() {
         return Ok(());

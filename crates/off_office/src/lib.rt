@@ -3,9 +3,9 @@
 #![tactic(auto)]
 
 mod answers;
-mod clock;
 mod commanding;
 mod connections;
+mod messages;
 mod office;
 mod pieces;
 

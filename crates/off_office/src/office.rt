@@ -3,16 +3,15 @@ ghost use Rattle.std.specs.Prelude.{MatchResult};
 ghost use Rattle.off_defs.specs.State.{held_at_start, says_nothing};
 ghost use Rattle.off_book.specs.Time.{time_answer};
 ghost use Rattle.off_outside.specs.KeeperCalls.{Reads};
-ghost use Rattle.off_office.specs.Acting.{Acts, NotStarted, start_err, desk_at};
+ghost use Rattle.off_office.specs.Acting.{Acts, Handled, NotStarted, start_err, desk_at};
 ghost use Rattle.off_office.specs.Answering.{forgets};
-ghost use Rattle.off_office.specs.Conditions.{Counted, Fits};
-ghost use Rattle.off_office.specs.Saying.{SaysTime, SaysDatagram};
+ghost use Rattle.off_office.specs.Conditions.{Mirrors, Fits};
+ghost use Rattle.off_office.specs.Saying.{SaysTime};
 
-use crate::clock::time_of_day;
 use crate::connections::Connections;
 use off_accounts::{count_rows, first_bad};
 use off_base::{Bytes, Moment, NoMemory, Peer};
-use off_defs::Key;
+use off_defs::{Key, time_of_day};
 use off_outside::{Event, KeepErr, Keeper, Outcome, Replies, Sent, Service, What};
 use off_rules::Counts;
 use std::alloc::Global;
@@ -74,7 +73,7 @@ impl Office {
     // An office whose counts are those of the tables.
     fn counted<K: Keeper>(alloc: Global, keeper: &mut K) -> Result<Office, StartErr>
         ensures told { MatchResult result
-            (λ office. Reads (Counted office) (K.seen keeper.old) (K.seen keeper.new))
+            (λ office. Reads (Mirrors office) (K.seen keeper.old) (K.seen keeper.new))
             (λ err. NotStarted err (K.seen keeper.old) (K.seen keeper.new)) }
         ensures held { IfOk result (λ office. office.held ≡ held_at_start) }
     {
@@ -106,8 +105,8 @@ impl Office {
             What::Datagram {
                 service,
                 from,
-                bytes: _,
-            } => self.take_datagram(*service, *from, out),
+                bytes,
+            } => self.take_datagram(keeper, *service, *from, bytes.as_slice(), out),
             What::Closed { conn } => {
                 self.forget(*conn);
                 only_line(out, b"http closed")
@@ -131,14 +130,21 @@ impl Office {
         let _session = self.connections.take(conn);
     }
 
-    // Takes a datagram. None needs the tables yet.
-    fn take_datagram(&mut self, service: Service, from: Peer, out: &mut Replies) -> Outcome
+    // Takes a datagram, for its service.
+    fn take_datagram<K: Keeper>(
+        &mut self,
+        keeper: &mut K,
+        service: Service,
+        from: Peer,
+        bytes: &[u8],
+        out: &mut Replies,
+    ) -> Outcome
         requires { out.old ≡ says_nothing }
-        ensures says { SaysDatagram service self.new.held.now from result out.new }
-        ensures same { self.new ≡ self.old }
+        ensures { Handled (What.Datagram service from bytes.now) result out.new self.old self.new
+            (K.seen keeper.old) (K.seen keeper.new) }
     {
         match service {
-            Service::Dhcp => only_line(out, b"dhcp not-built"),
+            Service::Dhcp => self.take_message(keeper, from, bytes, out),
             Service::Time => tell_time(self.alloc, self.now, from, out),
             Service::Tftp => only_line(out, b"tftp not-built"),
         }

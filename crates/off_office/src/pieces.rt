@@ -8,7 +8,11 @@ ghost use Rattle.off_clerk_rules.specs.Replies.{IsRightReply};
 ghost use Rattle.off_book.specs.Http.{is_full, heard_of};
 ghost use Rattle.off_office.specs.Answering.{forgets, answer_asked, answer_to, IsAnswered};
 ghost use Rattle.off_office.specs.Answering.{CarriedOut, NotCarriedOut, HeardPiece, NotHeard};
-ghost use Rattle.off_office.specs.Answering.{TookPiece, WaitsFor, Refuses, had_memory};
+ghost use Rattle.off_office.specs.Answering.{WaitsFor, Refuses, had_memory};
+ghost use Rattle.off_office.specs.Acting.{Handled};
+ghost use Rattle.off_office.specs.Asking.{Asks, SpentWithin, commit_calls, command_calls};
+ghost use Rattle.off_office.specs.Asking.{meaning_calls};
+ghost use Rattle.off_outside.specs.KeeperCalls.{Spent};
 
 use crate::answers::{answer_fault, answer_reply, close_busy, fail};
 use crate::office::Office;
@@ -17,7 +21,7 @@ use off_base::NoMemory;
 use off_clerk::{ClerkErr, Fault, command_of};
 use off_defs::Command;
 use off_http::{Fed, Session};
-use off_outside::{KeepErr, Keeper, Outcome, Replies};
+use off_outside::{KeepErr, Keeper, Outcome, Replies, What};
 
 impl Office {
     // Takes a piece of a clerk's connection.
@@ -29,7 +33,7 @@ impl Office {
         out: &mut Replies,
     ) -> Outcome
         requires { out.old ≡ says_nothing }
-        ensures { TookPiece conn piece.now result out.new self.old self.new
+        ensures { Handled (What.Piece conn piece.now) result out.new self.old self.new
             (K.seen keeper.old) (K.seen keeper.new) }
     {
         match self.hear(keeper, conn, piece, out) {
@@ -48,11 +52,13 @@ impl Office {
         out: &mut Replies,
     ) -> Result<(), KeepErr>
         requires { out.old ≡ says_nothing }
-        ensures { MatchResult result
+        ensures told { MatchResult result
             (λ _. HeardPiece conn piece.now out.new self.old self.new
             (K.seen keeper.old) (K.seen keeper.new))
             (λ err. NotHeard err conn piece.now self.old self.new
             (K.seen keeper.old) (K.seen keeper.new)) }
+        ensures asks { Asks (What.Piece conn piece.now) self.old.held
+            (K.seen keeper.old) (K.seen keeper.new) }
     {
         if self.is_full_for(conn) {
             return had_memory(close_busy(conn, out));
@@ -105,9 +111,11 @@ impl Office {
     ) -> Result<(), KeepErr>
         requires asked { IsAsked session.now.answer }
         requires clean { out.old ≡ says_nothing }
-        ensures { let answer = session.now.answer in
+        ensures told { let answer = session.now.answer in
             IsAnswered result (answer_asked self.old.held.now answer) conn out.new
             self.old self.new (K.seen keeper.old) (K.seen keeper.new) }
+        ensures spent { SpentWithin (meaning_calls session.now.answer)
+            (K.seen keeper.old) (K.seen keeper.new) }
     {
         match command_of(self.alloc, session.method(), session.path(), session.body()) {
             Ok(command) => self.answer_command(keeper, conn, &command, out),
@@ -127,8 +135,10 @@ impl Office {
         requires sound { IsTrue (is_sound command.now) }
         requires not_import { is_import command.now ≡ false }
         requires clean { out.old ≡ says_nothing }
-        ensures { IsAnswered result (answer_to self.old.held.now command.now) conn out.new
+        ensures told { IsAnswered result (answer_to self.old.held.now command.now) conn out.new
             self.old self.new (K.seen keeper.old) (K.seen keeper.new) }
+        ensures spent { SpentWithin (command_calls command.now)
+            (K.seen keeper.old) (K.seen keeper.new) }
     {
         match self.plan(keeper, command) {
             Ok(planned) => self.carry_out(keeper, conn, &planned, out),
@@ -146,16 +156,18 @@ impl Office {
     ) -> Result<(), KeepErr>
         requires right { IsRightReply planned.now.reply }
         requires clean { out.old ≡ says_nothing }
-        ensures { MatchResult result
+        ensures told { MatchResult result
             (λ _. CarriedOut planned.now conn out.new self.old self.new
             (K.seen keeper.old) (K.seen keeper.new))
             (λ err. NotCarriedOut planned.now err self.old self.new
             (K.seen keeper.old) (K.seen keeper.new)) }
+        ensures spent { Spent (commit_calls planned.now.writes)
+            (K.seen keeper.old) (K.seen keeper.new) }
     {
         if answer_reply(self.alloc, conn, &planned.reply, out).is_err() {
             return Err(KeepErr::Memory);
         }
-        self.settle(keeper, planned)
+        self.settle(keeper, &planned.writes, &planned.counts)
     }
 
     // Answers that a rule refuses a command, or hands on why it couldn't be done.

@@ -1,18 +1,31 @@
 use Rattle.std.proofs.Common.{rules}
-use Rattle.off_office.proofs.RequestLemmas.{no_import, command_ends, fault_ends}
+use Rattle.off_office.proofs.RequestLemmas.{no_import, command_ends, fault_ends, command_asks}
+use Rattle.off_office.proofs.CommandLemmas.{nothing_spent}
 use Rattle.off_office.proofs.office.Office.answer_request.Goals as goal
 
 pub answer_command-requires-clause-not_import : goal.answer_command-requires-clause-not_import
 answer_command-requires-clause-not_import g c = no_import c.method.result.now c.path.result.now c.body.result.now c.in-Ok.command c.in-Ok.ensures.exact
 
-pub returns-in-Ok : goal.returns-in-Ok
-returns-in-Ok g c =
+pub returns-in-Ok-clause-told : goal.returns-in-Ok-clause-told
+returns-in-Ok-clause-told g c =
     command_ends c.method.result.now c.path.result.now c.body.result.now _ _ _ c.in-Ok.command _ _ _ _ _ _ _ c.answer_command.result
     (record { method_is = c.method.ensures.value; target_is = c.path.ensures.value; body_is = c.body.ensures.value })
-    c.in-Ok.ensures.exact c.answer_command.ensures
+    c.in-Ok.ensures.exact c.answer_command.ensures.told
 
-pub returns-in-Err : goal.returns-in-Err
-returns-in-Err g c =
+pub returns-in-Ok-clause-spent : goal.returns-in-Ok-clause-spent
+returns-in-Ok-clause-spent g c =
+    command_asks _ c.method.result.now c.path.result.now c.body.result.now c.in-Ok.command _ _ c.requires.asked
+    (record { method_is = c.method.ensures.value; target_is = c.path.ensures.value; body_is = c.body.ensures.value })
+    c.in-Ok.ensures.exact c.answer_command.ensures.spent
+
+pub returns-in-Err-clause-told : goal.returns-in-Err-clause-told
+returns-in-Err-clause-told g c =
     fault_ends c.method.result.now c.path.result.now c.body.result.now _ _ _ c.in-Err.err _ _ _ _ _ c.answer_fault.result c.had_memory.result
     (record { method_is = c.method.ensures.value; target_is = c.path.ensures.value; body_is = c.body.ensures.value })
     (c.in-Err.ensures.exact (search rules)) c.answer_fault.ensures c.had_memory.ensures
+
+pub returns-in-Err-clause-spent : goal.returns-in-Err-clause-spent
+returns-in-Err-clause-spent g c = nothing_spent _ _
+
+pub returns-in-Err-Memory-clause-spent : goal.returns-in-Err-Memory-clause-spent
+returns-in-Err-Memory-clause-spent g c = nothing_spent _ _

@@ -1,5 +1,5 @@
 use Rattle.std.proofs.lemmas.Result.{err_from_is_err_and}
-use Rattle.off_office.proofs.CommandLemmas.{command_done, command_refused, command_undone, spent_more, spent_besides}
+use Rattle.off_office.proofs.CommandLemmas.{command_done, command_refused, command_undone, decided_spent, done_spent}
 use Rattle.off_office.proofs.office.Office.command.Goals as goal
 
 pub returns-clause-told : goal.returns-clause-told
@@ -17,10 +17,10 @@ returns-in_err-settle-clause-told g c =
     rw (p.1, p.2) (command_undone _ _ _ _ _ c.reach.new.self _ _ _ _ c.reach.ensures (g.met.K.Keeper.rests c.args.keeper.now) c.in_ok-planned.ensures.told c.in_err-settle.ensures.told c.in_err-settle.ensures.err)
 
 pub returns-clause-spent : goal.returns-clause-spent
-returns-clause-spent g c = spent_besides _ _ _ _ c.plan.ensures.spent c.settle.ensures.spent
+returns-clause-spent g c = done_spent _ _ _ _ _ _ c.plan.ensures.spent c.settle.ensures.spent c.in_ok-planned.ensures.commits
 
 pub returns-in_err-planned-clause-spent : goal.returns-in_err-planned-clause-spent
-returns-in_err-planned-clause-spent g c = spent_more _ _ _ c.plan.ensures.spent
+returns-in_err-planned-clause-spent g c = decided_spent _ _ _ _ c.plan.ensures.spent
 
 pub returns-in_err-settle-clause-spent : goal.returns-in_err-settle-clause-spent
-returns-in_err-settle-clause-spent g c = spent_besides _ _ _ _ c.plan.ensures.spent c.settle.ensures.spent
+returns-in_err-settle-clause-spent g c = done_spent _ _ _ _ _ _ c.plan.ensures.spent c.settle.ensures.spent c.in_ok-planned.ensures.commits

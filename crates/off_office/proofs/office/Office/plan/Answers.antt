@@ -2,15 +2,18 @@ use Rattle.std.proofs.Common.{subst}
 use Rattle.off_outside.specs.KeeperCalls.{Reads}
 use Rattle.off_office.specs.Desk.{Desk}
 use Rattle.off_office.specs.Answering.{IsPlanned, NotPlanned}
-use Rattle.off_office.proofs.CommandLemmas.{is_planned, not_planned}
+use Rattle.off_office.proofs.CommandLemmas.{is_planned, not_planned, commits_within}
 use Rattle.off_office.proofs.office.Office.plan.Goals as goal
 
 pub returns-in-Ok-clause-told : goal.returns-in-Ok-clause-told
 returns-in-Ok-clause-told g c =
-    subst (λ (d : Desk). Reads (IsPlanned d.counts d.held.now c.args.c.now c.in-Ok.planned) (g.K.Keeper.seen c.args.keeper.now) (g.K.Keeper.seen c.decide.new.keeper))
-    c.self.view_is (is_planned _ _ _ _ _ _ c.in-Ok.ensures.told)
+    subst (λ (d : Desk). Reads (IsPlanned d c.args.c.now c.in-Ok.planned) (g.K.Keeper.seen c.args.keeper.now) (g.K.Keeper.seen c.decide.new.keeper))
+    c.self.view_is (is_planned _ _ _ _ _ c.in-Ok.ensures.told)
+
+pub returns-in-Ok-clause-commits : goal.returns-in-Ok-clause-commits
+returns-in-Ok-clause-commits g c = commits_within _ _ c.in-Ok.ensures.answers
 
 pub returns-in-Err-clause-told : goal.returns-in-Err-clause-told
 returns-in-Err-clause-told g c =
-    subst (λ (d : Desk). NotPlanned d.counts d.held.now c.args.c.now c.in-Err.err (g.K.Keeper.seen c.args.keeper.now) (g.K.Keeper.seen c.decide.new.keeper))
-    c.self.view_is (not_planned _ _ _ _ _ _ c.in-Err.ensures.told)
+    subst (λ (d : Desk). NotPlanned d c.args.c.now c.in-Err.err (g.K.Keeper.seen c.args.keeper.now) (g.K.Keeper.seen c.decide.new.keeper))
+    c.self.view_is (not_planned _ _ _ _ _ c.in-Err.ensures.told)

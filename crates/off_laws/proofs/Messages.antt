@@ -1,0 +1,23 @@
+-- What becomes of a datagram to the DHCP port.
+use Rattle.std.proofs.Common.{◌≡◌, ℕ, false, List, [], Result, Ok, Err, refl}
+use Rattle.off_defs.specs.Tables.{write_all}
+use Rattle.off_rules.specs.Good.{Good}
+use Rattle.off_defs.specs.State.{Tables}
+use Rattle.off_dhcp.specs.declared.faults.DhcpFault.{DhcpFault}
+use Rattle.off_dhcp.specs.Datagram.{Received, message_of}
+use Rattle.off_lease_rules.specs.Words.{acts}
+use Rattle.off_lease_rules.specs.Steps.{step_of, dhcp_step}
+use Rattle.off_lease_laws.proofs.LawLemmas.{refusals_change_nothing, datagrams_leave_fit}
+
+read_refused : (t : Tables) (now : ℕ) (read : Result Received DhcpFault) → acts (step_of t now read).word ≡ false → (step_of t now read).writes ≡ []
+read_refused t now (Ok m) refused = refusals_change_nothing t now m refused
+read_refused t now (Err fault) refused = refl
+
+-- what is refused writes nothing
+pub datagram_refused : (t : Tables) (now : ℕ) (bytes : List ℕ) → acts (dhcp_step t now bytes).word ≡ false → (dhcp_step t now bytes).writes ≡ []
+unfolding dhcp_step
+datagram_refused t now bytes refused = read_refused t now (message_of bytes) refused
+
+-- good tables stay good
+pub datagram_good : (t : Tables) (now : ℕ) (bytes : List ℕ) → Good t → Good (write_all t (dhcp_step t now bytes).writes)
+datagram_good t now bytes good = (datagrams_leave_fit t now bytes _ _ _ (record { tables_after = refl; sent = refl; said = refl })).good good

@@ -1,0 +1,5 @@
+use Rattle.off_laws.proofs.Bindings.{bindings_outlast}
+use Rattle.off_laws.proofs.leases.what_is_bound_stays_bound.Goals as goal
+
+pub returns : goal.returns
+returns c = bindings_outlast

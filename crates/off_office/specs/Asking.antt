@@ -1,0 +1,74 @@
+-- How many calls of the keeper an event asks at most.
+use Rattle.std.specs.Prelude.{ℕ, ◌+◌, Bool, true, false, List, [], ◌∷◌, ◌++◌, Option, Some, None, option_map, IfSome, Result, Ok, Err}
+use Rattle.off_http.specs.Request.{Meaning, Waits, Refused, Asked, RequestIs}
+use Rattle.off_defs.specs.declared.orders.Command.{Command}
+use Rattle.off_defs.specs.declared.orders.Command.TheVariants.{SetSite, PutSubscriber, PutAddOn, PutModem, PutClass, PutPool, Remove, Show, Import}
+use Rattle.off_defs.specs.declared.orders.Write.{Write}
+use Rattle.off_defs.specs.declared.events.Service.TheVariants.{Dhcp, Time, Tftp}
+use Rattle.off_defs.specs.declared.events.What.{What}
+use Rattle.off_defs.specs.declared.events.What.TheVariants.{Datagram, Piece, Closed, Tick, End}
+use Rattle.off_defs.specs.State.{Held}
+use Rattle.off_dhcp.specs.Datagram.{Received, message_of}
+use Rattle.off_dhcp.specs.declared.faults.DhcpFault.{DhcpFault}
+use Rattle.off_lease.specs.Calls.{message_calls}
+use Rattle.off_clerk_rules.specs.declared.faults.ClerkErr.{ClerkErr}
+use Rattle.off_clerk_rules.specs.Commands.{command_read}
+use Rattle.off_book.specs.Http.{is_full, heard_of}
+use Rattle.off_outside.specs.KeeperSeen.{KeeperSeen}
+use Rattle.off_outside.specs.KeeperCalls.{Spent}
+use Rattle.off_deciding.specs.Deciding.{most_calls}
+
+-- at most so many calls, where there is a bound
+abbrev pub SpentWithin : Option ℕ → KeeperSeen → KeeperSeen → Type 0
+SpentWithin most old new = IfSome most (λ n. Spent n old new)
+
+-- writes ask one call, their commit, and none where nothing is written
+abbrev pub commit_calls : List Write → ℕ
+commit_calls [] = 0
+commit_calls (write ∷ writes) = 1
+
+-- a command that shows a row commits nothing
+abbrev pub most_commits : Command → ℕ
+most_commits (SetSite site) = 1
+most_commits (PutSubscriber number subscriber) = 1
+most_commits (PutAddOn owner number settings) = 1
+most_commits (PutModem mac modem) = 1
+most_commits (PutClass number class) = 1
+most_commits (PutPool number pool) = 1
+most_commits (Remove removed) = 1
+most_commits (Show shown) = 0
+most_commits (Import kind batch digest rows) = 1
+
+-- a command is decided, and committed
+abbrev pub command_calls : Command → Option ℕ
+command_calls command = option_map (λ n. n + most_commits command) (most_calls command)
+
+-- a request that is at fault by itself asks nothing
+abbrev pub request_calls : Result Command ClerkErr → Option ℕ
+request_calls (Ok command) = command_calls command
+request_calls (Err err) = Some 0
+
+-- nor does one that hasn't come whole
+abbrev pub meaning_calls : Meaning → Option ℕ
+meaning_calls Waits = Some 0
+meaning_calls (Refused fault) = Some 0
+meaning_calls (Asked method target body) = request_calls (command_read method target body)
+
+-- a piece asks nothing where its connection is one too many, and else what the bytes so far say
+abbrev pub PieceAsks : Bool → List ℕ → KeeperSeen → KeeperSeen → Type 0
+PieceAsks true bytes old new = Spent 0 old new
+PieceAsks false bytes old new = (meaning : Meaning) → RequestIs bytes meaning → SpentWithin (meaning_calls meaning) old new
+
+-- a message asks what deciding it does, and one call for the commit; what is no message asks nothing
+abbrev pub message_asks : Result Received DhcpFault → Option ℕ
+message_asks (Ok m) = option_map (λ n. n + 1) (message_calls m)
+message_asks (Err fault) = Some 0
+
+abbrev pub Asks : What → Held → KeeperSeen → KeeperSeen → Type 0
+Asks (Datagram Dhcp from bytes) held old new = SpentWithin (message_asks (message_of bytes)) old new
+Asks (Datagram Time from bytes) held old new = Spent 0 old new
+Asks (Datagram Tftp from bytes) held old new = Spent 0 old new
+Asks (Piece conn piece) held old new = PieceAsks (is_full held.connections conn) (heard_of held conn ++ piece) old new
+Asks (Closed conn) held old new = Spent 0 old new
+Asks Tick held old new = Spent 0 old new
+Asks End held old new = Spent 0 old new

@@ -1,0 +1,44 @@
+-- What comes of a datagram to the DHCP port.
+use Rattle.std.specs.Prelude.{◌≡◌, ℕ, List, codes, Result, MatchResult}
+use Rattle.off_dhcp.specs.Datagram.{Received}
+use Rattle.off_dhcp.specs.declared.faults.DhcpFault.{DhcpFault}
+use Rattle.off_defs.specs.declared.orders.Write.{Write}
+use Rattle.off_defs.specs.Told.{Told}
+use Rattle.off_defs.specs.State.{Tables, Said}
+use Rattle.off_defs.specs.Tables.{write_all}
+use Rattle.off_defs.specs.declared.results.Outcome.{Outcome}
+use Rattle.off_defs.specs.declared.results.Outcome.TheVariants as end
+use Rattle.off_lease_rules.specs.declared.results.LeaseStep.{LeaseStep}
+use Rattle.off_lease_rules.specs.Steps.{step_of}
+use Rattle.off_book.specs.Dhcp.{dhcp_said}
+use Rattle.off_outside.specs.declared.keeper.KeepErr.{KeepErr}
+use Rattle.off_outside.specs.declared.keeper.KeepErr.TheVariants as keep
+use Rattle.off_outside.specs.KeeperSeen.{KeeperSeen}
+use Rattle.off_outside.specs.KeeperCalls.{IsWritten, Settled, NotCommitted}
+use Rattle.off_office.specs.Answering.{failed_said}
+
+-- what was read of it is done and said at a moment, as the book has it, whatever the tables
+pub record DidMessage (read : Result Received DhcpFault) (now : ℕ) (said : Said) (old new : KeeperSeen) : Type 0 where
+  pub commit : List Write
+  pub tables : Told old.tables new.tables (λ t u.
+      (said ≡ dhcp_said (step_of t now read)) × (commit ≡ (step_of t now read).writes) × IsWritten commit t u)
+  pub settled : Settled commit old new
+
+-- the tables that it would leave
+abbrev pub MessageBegins : Result Received DhcpFault → ℕ → Tables → Tables → Type 0
+MessageBegins read now t u = u ≡ write_all t (step_of t now read).writes
+
+-- it isn't, and the tables are as before
+abbrev pub ServesMessage : Result (Unit {0}) KeepErr → Result Received DhcpFault → ℕ → Said → KeeperSeen → KeeperSeen → Type 0
+ServesMessage result read now said old new =
+    MatchResult result (λ _. DidMessage read now said old new) (λ err. NotCommitted (MessageBegins read now) err old new)
+
+-- what a step says is in hand, and what it writes is committed
+pub record DidStep (step : LeaseStep) (said : Said) (old new : KeeperSeen) : Type 0 where
+  pub said_is : said ≡ dhcp_said step
+  pub settled : Settled step.writes old new
+
+-- why a message couldn't be acted on is said
+abbrev pub FailsMessage : KeepErr → Outcome → Said → Type 0
+FailsMessage keep.Memory outcome said = (outcome ≡ end.Memory) × (said ≡ failed_said (codes "dhcp memory"))
+FailsMessage keep.Failed outcome said = (outcome ≡ end.Keeper) × (said ≡ failed_said (codes "dhcp keeper"))

@@ -1,0 +1,186 @@
+ghost use Rattle.std.specs.Prelude.{◌≡◌, ◌≤◌, length, OnOk, Ok, MatchResult};
+ghost use Rattle.off_defs.specs.State.{says_nothing};
+ghost use Rattle.off_dhcp.specs.Datagram.{message_of};
+ghost use Rattle.off_lease_rules.specs.Words.{unread};
+ghost use Rattle.off_book.specs.Dhcp.{dhcp_line, replies_of};
+ghost use Rattle.off_outside.specs.KeeperCalls.{IsWritten, NotCommitted, Spent};
+ghost use Rattle.off_office.specs.Acting.{Handled};
+ghost use Rattle.off_office.specs.Asking.{SpentWithin, message_asks, commit_calls};
+ghost use Rattle.off_office.specs.Leasing.{ServesMessage, DidStep, FailsMessage};
+
+use crate::office::Office;
+use off_base::{NoMemory, Peer};
+use off_dhcp::{DhcpFault, Message};
+use off_lease::{DhcpWord, LeaseStep, answer};
+use off_outside::{KeepErr, Keeper, Outcome, Replies, Sent, Service, What};
+
+impl Office {
+    // Takes a datagram to the DHCP port.
+    pub(crate) fn take_message<K: Keeper>(
+        &mut self,
+        keeper: &mut K,
+        from: Peer,
+        bytes: &[u8],
+        out: &mut Replies,
+    ) -> Outcome
+        requires { out.old ≡ says_nothing }
+        ensures { Handled (What.Datagram Service.Dhcp from bytes.now) result out.new
+            self.old self.new (K.seen keeper.old) (K.seen keeper.new) }
+    {
+        match self.serve_datagram(keeper, bytes, out) {
+            Ok(()) => Outcome::Did,
+            Err(err) => fail_message(err, out),
+        }
+    }
+
+    // Reads a datagram, does what its message asks, and says so; or says why it's no message.
+    fn serve_datagram<K: Keeper>(
+        &mut self,
+        keeper: &mut K,
+        bytes: &[u8],
+        out: &mut Replies,
+    ) -> Result<(), KeepErr>
+        requires { out.old ≡ says_nothing }
+        ensures told { ServesMessage result (message_of bytes.now) self.old.held.now out.new
+            (K.seen keeper.old) (K.seen keeper.new) }
+        ensures same { self.new ≡ self.old }
+        ensures spent { SpentWithin (message_asks (message_of bytes.now))
+            (K.seen keeper.old) (K.seen keeper.new) }
+    {
+        match Message::read(bytes) {
+            Ok(m) => self.serve_message(keeper, &m, out),
+            Err(fault) => {
+                out.set_line(line_of(word_of(fault)));
+                Ok(())
+            }
+        }
+    }
+
+    // Does what a message asks: the reply and the line are in hand before the one commit.
+    fn serve_message<K: Keeper>(
+        &mut self,
+        keeper: &mut K,
+        m: &Message<'_>,
+        out: &mut Replies,
+    ) -> Result<(), KeepErr>
+        requires { out.old ≡ says_nothing }
+        ensures told { ServesMessage result (Ok m.now) self.old.held.now out.new
+            (K.seen keeper.old) (K.seen keeper.new) }
+        ensures same { self.new ≡ self.old }
+        ensures spent { SpentWithin (message_asks (Ok m.now))
+            (K.seen keeper.old) (K.seen keeper.new) }
+    {
+        match answer(self.alloc, keeper, self.now, m) {
+            Ok(step) => self.carry_step(keeper, step, out),
+            Err(err) => Err(err),
+        }
+    }
+
+    // Puts in hand what a step says, and then commits what it writes.
+    fn carry_step<K: Keeper>(
+        &mut self,
+        keeper: &mut K,
+        step: LeaseStep,
+        out: &mut Replies,
+    ) -> Result<(), KeepErr>
+        requires { out.old ≡ says_nothing }
+        ensures told { MatchResult result
+            (λ _. DidStep step out.new (K.seen keeper.old) (K.seen keeper.new))
+            (λ err. NotCommitted (IsWritten step.writes) err
+            (K.seen keeper.old) (K.seen keeper.new)) }
+        ensures same { self.new ≡ self.old }
+        ensures spent { Spent (commit_calls step.writes) (K.seen keeper.old) (K.seen keeper.new) }
+    {
+        let LeaseStep {
+            writes,
+            reply,
+            word,
+        } = step;
+        if say_step(reply, word, out).is_err() {
+            return Err(KeepErr::Memory);
+        }
+        // A message changes no count of rows.
+        let counts = self.counts;
+        self.settle(keeper, &writes, &counts)
+    }
+}
+
+// Says a reply, where there is one, and the line.
+fn say_step(reply: Option<Sent>, word: DhcpWord, out: &mut Replies) -> Result<(), NoMemory>
+    requires { out.old ≡ says_nothing }
+    ensures { OnOk result (out.new
+        ≡ record { items = replies_of reply; line = dhcp_line word }) }
+{
+    if let Some(reply) = reply {
+        out.push(reply)?;
+    }
+    out.set_line(line_of(word));
+    Ok(())
+}
+
+// Says that a message couldn't be acted on, and nothing else.
+fn fail_message(err: KeepErr, out: &mut Replies) -> Outcome
+    ensures { FailsMessage err result out.new }
+{
+    out.clear();
+    match err {
+        KeepErr::Memory => {
+            out.set_line(b"dhcp memory");
+            Outcome::Memory
+        }
+        KeepErr::Failed => {
+            out.set_line(b"dhcp keeper");
+            Outcome::Keeper
+        }
+    }
+}
+
+// Why a datagram is no message, as the log has it.
+fn word_of(fault: DhcpFault) -> DhcpWord
+    ensures { result ≡ unread fault }
+{
+    match fault {
+        DhcpFault::Short => DhcpWord::Short,
+        DhcpFault::Long => DhcpWord::Long,
+        DhcpFault::NotRequest => DhcpWord::NotRequest,
+        DhcpFault::Hardware => DhcpWord::Hardware,
+        DhcpFault::Cookie => DhcpWord::Cookie,
+        DhcpFault::OptionCut(_place) => DhcpWord::OptionCut,
+        DhcpFault::NoType => DhcpWord::NoType,
+        DhcpFault::Overload => DhcpWord::Overload,
+    }
+}
+
+// The line of the log: the service and the word.
+fn line_of(word: DhcpWord) -> &'static [u8]
+    ensures line { result.now ≡ dhcp_line word }
+    ensures short { length result.now ≤ 80 }
+{
+    match word {
+        DhcpWord::Offer => b"dhcp offer",
+        DhcpWord::Ack => b"dhcp ack",
+        DhcpWord::Declined => b"dhcp declined",
+        DhcpWord::Released => b"dhcp released",
+        DhcpWord::Short => b"dhcp dhcp-short",
+        DhcpWord::Long => b"dhcp dhcp-long",
+        DhcpWord::NotRequest => b"dhcp dhcp-not-request",
+        DhcpWord::Hardware => b"dhcp dhcp-hardware",
+        DhcpWord::Cookie => b"dhcp dhcp-cookie",
+        DhcpWord::OptionCut => b"dhcp dhcp-option-cut",
+        DhcpWord::NoType => b"dhcp dhcp-no-type",
+        DhcpWord::Overload => b"dhcp dhcp-overload",
+        DhcpWord::NoSite => b"dhcp no-site",
+        DhcpWord::NotServed => b"dhcp not-served",
+        DhcpWord::RequestForm => b"dhcp request-form",
+        DhcpWord::PartCut => b"dhcp part-cut",
+        DhcpWord::RelayMismatch => b"dhcp relay-mismatch",
+        DhcpWord::NotAModem => b"dhcp not-a-modem",
+        DhcpWord::NoRelayPool => b"dhcp no-relay-pool",
+        DhcpWord::UnknownModem => b"dhcp unknown-modem",
+        DhcpWord::SerialMismatch => b"dhcp serial-mismatch",
+        DhcpWord::OtherServer => b"dhcp other-server",
+        DhcpWord::PoolFull => b"dhcp pool-full",
+        DhcpWord::NoRecord => b"dhcp no-record",
+        DhcpWord::NotYourAddress => b"dhcp not-your-address",
+    }
+}
