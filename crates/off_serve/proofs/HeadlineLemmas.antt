@@ -1,18 +1,20 @@
 -- From the loop and the run's own line to the headline.
-use Rattle.std.proofs.Common.{◌≡◌, ◌≢◌, ℕ, ◌<◌, ◌⊎◌, List, [], All, Option, Some, MatchOption, sym, ap, ◌∙◌, subst, inl, inr, arith}
+use Rattle.std.proofs.Common.{◌≡◌, ◌≢◌, ℕ, ◌<◌, ◌⊎◌, List, [], All, Option, Some, MatchOption, refl, sym, ap, ◌∙◌, subst, inl, inr, arith}
 use Rattle.off_defs.specs.Told.{Told}
 use Rattle.off_defs.specs.State.{Tables, Held, held_at_start, start, state_of}
 use Rattle.off_book.proofs.CrashLemmas.{lasts_run, lasts_front}
 use Rattle.off_book.specs.Words.{Job}
-use Rattle.off_book.specs.Run.{Turn, Run, SaysMemory, commits_by}
+use Rattle.off_book.specs.Run.{Turn, SaysMemory, commits_by}
 use Rattle.off_book.proofs.StepLemmas.{turns_did}
 use Rattle.off_defs.proofs.CountLemmas.{later_grew}
+use Rattle.off_defs.proofs.ToldLemmas.{stays_self}
 use Rattle.off_rules.specs.Good.{Good}
 use Rattle.off_outside.specs.LinkSeen.{LinkSeen}
 use Rattle.off_outside.specs.KeeperSeen.{KeeperSeen, Rests}
 use Rattle.off_defs.specs.Counts.{Grew, one_more, most_count}
 use Rattle.off_outside.specs.KeeperCalls.{Reads, Quiet}
 use Rattle.off_outside.specs.LinkCalls.{LinkUnasked}
+use Rattle.off_laws.proofs.Stretches.{leases_hold_through}
 use Rattle.off_office.specs.Conditions.{Fits}
 use Rattle.off_outside.specs.Streams.{SinkSeen}
 use Rattle.off_office.specs.Desk.{Desk}
@@ -22,8 +24,9 @@ use Rattle.off_office.specs.declared.office.StartErr.TheVariants as start_err
 use Rattle.off_serve.specs.declared.serving.Stop.{Stop}
 use Rattle.off_serve.specs.declared.serving.Stop.TheVariants as stop
 use Rattle.off_serve.specs.Serving.{World, world_of}
-use Rattle.off_serve.specs.Headline.{WroteText, CutText, LastsIn, RanTurns, KeeperRan, RanFrom, RanOffice, Stops, Served, OwnLine, OwnWritten, Ended, Ends, NoFault, Completed, ServesAsOffice, closed_status, closed_line, own_writes, memory_refused, link_refused}
-use Rattle.off_serve.proofs.ServeLemmas.{wrote_more, wrote_same, wrote_none, cut_more, cut_same, up_chain}
+use Rattle.off_serve.specs.Headline.{WroteText, CutText, LastsIn, RanTurns, KeeperRan, RanFrom, RanOffice, Stops, Served, OwnLine, OwnWritten, Ended, Ends, NoFault, AllUp, Completed, ServesAsOffice, closed_status, closed_line, own_writes, memory_refused, link_refused}
+use Rattle.off_serve.proofs.ServeLemmas.{wrote_more, wrote_same, wrote_none, cut_more, cut_same}
+use Rattle.off_serve.proofs.UpLemmas.{up_chain}
 
 own_line : (of : ℕ) (own text : List ℕ) (status : ℕ) (a b c : SinkSeen) → WroteText text a b → OwnWritten of own status b c → OwnLine of own text status a c
 own_line of own text status a b c wrote (inl w) = inl (w.0, wrote_more wrote w.1)
@@ -55,7 +58,7 @@ status_of : (reason : Stop) (budget : ℕ) (turns : List Turn) (old new : World)
 status_of stop.Finished budget turns old new status none other ends = ends.0
 status_of stop.Memory budget turns old new status none other ends =
     elim ends.1 [ inl w ↦ absurd (other w.0) | inr w ↦ absurd (cut_counts none w.1) ]
-status_of stop.Link budget turns old new status none other ends = absurd (omega (arith, none.faults, none.faults_count, ends.0.faults.grew))
+status_of stop.Link budget turns old new status none other ends = absurd (omega (arith, none.faults, none.faults_count, ends.0.faults.faults.grew.grew))
 status_of stop.Sink budget turns old new status none other ends = absurd (cut_counts none ends.1.text)
 
 complete_of : (reason : Stop) (budget : ℕ) (turns : List Turn) (held : Held) (old new : World) (status : ℕ) → RanTurns turns old.link new.link
@@ -73,7 +76,7 @@ keeper_opened turns a b c quiet ran = record {
   faults = later_grew (omega (arith, quiet.faults)) ran.faults;
   stands = λ none. ran.stands none ∙ quiet.faults;
   commits = ran.commits ∙ ap (commits_by turns) quiet.commits;
-  up = up_chain a b c (omega (arith, quiet.faults)) ran.faults.later (λ up. inl (quiet.up up)) ran.up;
+  up = up_chain (omega (arith, quiet.faults)) ran.faults.later (λ up. inl (quiet.up up)) ran.up;
 }
 
 -- what a crash leaves from the opening on
@@ -96,7 +99,7 @@ ran_office {turns} {first} {last} {a} {b} {c} rests opened fresh ran = record {
           value = g.value;
           told = g.told;
           fits = lasts_run c.opened c.doubt a.doubt a.moment (start t) turns c.moment (state_of g.value last.held)
-              (lasts_opened turns first last a b c rests opened fresh ran t g.value told (g.fits.holds before.1.counted).0);
+              (lasts_opened turns first last a b c rests opened fresh ran t g.value told (g.fits.holds before.1.mirrors).0);
         };
   };
   crash = record {
@@ -106,7 +109,7 @@ ran_office {turns} {first} {last} {a} {b} {c} rests opened fresh ran = record {
         record {
           value = g.value;
           told = g.told;
-          fits = lasts_opened turns first last a b c rests opened fresh ran t g.value told (g.fits.holds before.1.counted).0;
+          fits = lasts_opened turns first last a b c rests opened fresh ran t g.value told (g.fits.holds before.1.mirrors).0;
         };
   };
   keeper = keeper_opened turns a b c opened.quiet ran.keeper;
@@ -132,10 +135,47 @@ ended_writes stop.Memory status a b ended = own_one 6 memory_refused status a b 
 ended_writes stop.Link status a b ended = own_one 5 link_refused status a b ended
 ended_writes stop.Sink status a b ended = ended.1.calls
 
--- a keeper whose count didn't rise is up
-up_kept : (a b : KeeperSeen) → b.faults ≡ a.faults → a.faults < most_count → b.up ⊎ Grew 1 a.faults b.faults → b.up
-up_kept a b same fits (inl up) = up
-up_kept a b same fits (inr grew) = absurd (omega (arith, same, fits, grew.grew))
+-- where a count didn't rise, what stays up by it is up
+up_kept : {P : Type 0} (x y : ℕ) → y ≡ x → x < most_count → P ⊎ Grew 1 x y → P
+up_kept x y same fits (inl up) = up
+up_kept x y same fits (inr grew) = absurd (omega (arith, same, fits, grew.grew))
+
+link_kept : (old new : World) → NoFault old new → new.link.up ⊎ (Grew 1 old.link.faults new.link.faults ⊎ Grew 1 old.link.unsent new.link.unsent) → new.link.up
+link_kept old new none (inl up) = up
+link_kept old new none (inr (inl grew)) = absurd (omega (arith, none.faults, none.faults_count, grew.grew))
+link_kept old new none (inr (inr grew)) = absurd (omega (arith, none.unsent, none.unsent_count, grew.grew))
+
+own_kept : (of : ℕ) (own text : List ℕ) (status : ℕ) (old new : World) → NoFault old new → OwnLine of own text status old.sink new.sink → old.sink.up → new.sink.up
+own_kept of own text status old new none (inl wrote) up = wrote.1.up up
+own_kept of own text status old new none (inr cut) up = absurd (cut_counts none cut.1)
+
+sink_kept : (reason : Stop) (budget : ℕ) (turns : List Turn) (old new : World) (status : ℕ) → NoFault old new → Ends reason budget turns old new status → old.sink.up → new.sink.up
+sink_kept stop.Finished budget turns old new status none ends up = ends.1.text.up up
+sink_kept stop.Memory budget turns old new status none ends up = own_kept _ _ _ status old new none ends.1 up
+sink_kept stop.Link budget turns old new status none ends up = own_kept _ _ _ status old new none ends.1 up
+sink_kept stop.Sink budget turns old new status none ends up = absurd (cut_counts none ends.1.text)
+
+all_kept : (reason : Stop) (budget : ℕ) (turns : List Turn) (held : Held) (old new : World) (status : ℕ) → RanTurns turns old.link new.link
+    → RanOffice turns held old.keeper new.keeper → Ends reason budget turns old new status → NoFault old new → AllUp old new
+all_kept reason budget turns held old new status ran office ends none = record {
+  link = λ up. link_kept old new none (ran.up up);
+  keeper = λ up. up_kept old.keeper.faults new.keeper.faults none.keeper none.keeper_count (office.keeper.up up);
+  sink = sink_kept reason budget turns old new status none ends;
+}
+
+-- an office that didn't open has asked its keeper to read alone
+closed_keeper : (why : StartErr) (old new : World) → NotStarted why old.keeper new.keeper → NoFault old new → old.keeper.up → new.keeper.up
+closed_keeper (start_err.Bad key) old new tables none up = tables.quiet.up up
+closed_keeper start_err.Failed old new tables none up = up_kept old.keeper.faults new.keeper.faults none.keeper none.keeper_count (tables.up up)
+closed_keeper start_err.Memory old new tables none up = up_kept old.keeper.faults new.keeper.faults none.keeper none.keeper_count (tables.up up)
+
+closed_kept : (why : StartErr) (old new : World) (status : ℕ) → LinkUnasked old.link new.link → NotStarted why old.keeper new.keeper
+    → OwnLine (closed_status why) (closed_line why) [] status old.sink new.sink → NoFault old new → AllUp old new
+closed_kept why old new status same tables text none = record {
+  link = same.up;
+  keeper = closed_keeper why old new tables none;
+  sink = own_kept (closed_status why) (closed_line why) [] status old new none text;
+}
 
 pub serves : (budget : ℕ) (link link' : LinkSeen) (k l m : KeeperSeen) (a b c : SinkSeen) (reason : Stop) (first last : Desk) (status : ℕ)
     → Rests k → Reads (Fits first) k l → first.held ≡ held_at_start
@@ -153,9 +193,10 @@ serves budget link link' k l m a b c reason first last status rests opened fresh
       ran = served.ran;
       office = office;
       stays_good = good_again opened served.office;
+      leases = λ t told. leases_hold_through (start t) served.turns (opened.tables t told).1.good;
       ends = ends;
       writes = ended_writes reason status b c ended ∙ ap (own_writes reason) served.writes;
-      up = λ none up. up_kept k m none.keeper none.keeper_count (office.keeper.up up);
+      up = all_kept reason budget served.turns last.held (world_of link k a) (world_of link' m c) status served.ran office ends;
       complete = complete_of reason budget served.turns last.held (world_of link k a) (world_of link' m c) status served.ran office ends;
     })
 
@@ -165,6 +206,10 @@ closed_complete why old new status tables (inr w) none other = absurd (cut_count
 closed_complete (start_err.Bad key) old new status tables (inl w) none other = w.0
 closed_complete start_err.Failed old new status tables (inl w) none other = absurd (omega (arith, none.keeper, none.keeper_count, tables.faults.grew))
 closed_complete start_err.Memory old new status tables (inl w) none other = absurd (other w.0)
+
+-- the link isn't asked
+pub link_unasked : (link : LinkSeen) → LinkUnasked link link
+link_unasked link = record { left = stays_self; sent = stays_self; up = λ up. up; missed = refl; faults = refl; unsent = refl }
 
 pub stays_closed : (budget : ℕ) (link : LinkSeen) (k l : KeeperSeen) (a b : SinkSeen) (why : StartErr) (status : ℕ)
     → LinkUnasked link link → NotStarted why k l → OwnWritten (closed_status why) (closed_line why) status a b → ServesAsOffice budget (world_of link k a) (world_of link l b) status
@@ -176,6 +221,7 @@ stays_closed budget link k l a b why status same tables wrote =
       link = same;
       writes = own_one (closed_status why) (closed_line why) status a b wrote;
       text = text;
+      up = closed_kept why (world_of link k a) (world_of link l b) status same tables text;
       complete = closed_complete why (world_of link k a) (world_of link l b) status tables text;
     })
 

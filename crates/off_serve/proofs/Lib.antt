@@ -1,5 +1,6 @@
 mod WordLemmas
 mod SecretLemmas
+pub mod UpLemmas
 pub mod SendLemmas
 pub mod TakeLemmas
 pub mod TurnLemmas

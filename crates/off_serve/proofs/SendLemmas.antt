@@ -1,5 +1,5 @@
 -- The items of an event, one after another.
-use Rattle.std.proofs.Common.{◌≡◌, ℕ, ◌+◌, Bool, true, false, not, ◌&&◌, cond, List, [], ◌∷◌, ◌++◌, length, take, slice_get, Some, ◌<◌, refl, sym, ap, ◌∙◌, subst, arith, append_assoc, append-nil, length-append}
+use Rattle.std.proofs.Common.{◌≡◌, ℕ, ◌+◌, Bool, true, false, not, ◌&&◌, cond, List, [], ◌∷◌, ◌++◌, length, take, slice_get, Some, ◌<◌, refl, sym, ap, ◌∙◌, subst, arith, append_assoc, append-nil, length-append, inl}
 use Rattle.std.proofs.lemmas.List.{take_more}
 use Rattle.std.proofs.lemmas.List.Sums.{sum_by-append}
 use Rattle.std.proofs.lemmas.Option.{get_or_from_slice_get}
@@ -11,6 +11,7 @@ use Rattle.off_defs.proofs.CountLemmas.{tallied_none, tallied_one, tallied_then,
 use Rattle.off_book.proofs.RunLemmas.{marked_push, all_went_push, lost_push}
 use Rattle.off_outside.specs.LinkSeen.{LinkSeen}
 use Rattle.off_serve.specs.Serving.{SentOne, SentAll}
+use Rattle.off_serve.proofs.UpLemmas.{up_chain}
 
 tallied_same : {a b : ℕ} → b ≡ a → Tallied 0 a b
 tallied_same {a} {b} same = tallied_stays (tallied_none a) same
@@ -22,6 +23,7 @@ sent_none s = record {
   all_is = refl;
   left = stays_self;
   sent = told_self (λ x. sym (append-nil x));
+  up = λ up. inl up;
   missed = refl;
   faults = refl;
   unsent = tallied_none s.unsent;
@@ -46,6 +48,7 @@ sent_more items item all true {a} {b} {c} p q = record {
   left = then_stays p.left q.left;
   sent = told_then p.sent q.sent (λ x y z before after.
       after ∙ (ap (λ v. v ++ item ∷ []) before ∙ (append_assoc x (marked items p.marks) (item ∷ []) ∙ ap (λ v. x ++ v) (sym (marked_push items p.marks item true p.each)))));
+  up = up_chain p.unsent.grew.later (omega (arith, q.unsent)) p.up (λ up. inl (q.up up));
   missed = q.missed ∙ p.missed;
   faults = q.faults ∙ p.faults;
   unsent = subst (λ n. Tallied n a.unsent c.unsent) (sym (lost_push p.marks true)) (tallied_then p.unsent (tallied_same q.unsent));
@@ -57,6 +60,7 @@ sent_more items item all false {a} {b} {c} p q = record {
   left = then_stays p.left q.left;
   sent = told_then p.sent q.sent (λ x y z before same.
       same ∙ (before ∙ (ap (λ v. x ++ v) (sym (append-nil (marked items p.marks)) ∙ sym (marked_push items p.marks item false p.each)))));
+  up = up_chain p.unsent.grew.later q.unsent.later p.up q.up;
   missed = q.missed ∙ p.missed;
   faults = q.faults ∙ p.faults;
   unsent = subst (λ n. Tallied n a.unsent c.unsent) (sym (lost_push p.marks false)) (tallied_then p.unsent (tallied_one q.unsent));
@@ -92,6 +96,7 @@ sent_then items more all other {a} {b} {c} p q = record {
   left = then_stays p.left q.left;
   sent = told_then p.sent q.sent (λ x y z before after.
       after ∙ (ap (λ v. v ++ marked more q.marks) before ∙ (append_assoc x (marked items p.marks) (marked more q.marks) ∙ ap (λ v. x ++ v) (sym (marked_then items more p.marks q.marks p.each)))));
+  up = up_chain p.unsent.grew.later q.unsent.grew.later p.up q.up;
   missed = q.missed ∙ p.missed;
   faults = q.faults ∙ p.faults;
   unsent = subst (λ n. Tallied n a.unsent c.unsent) (sym (sum_by-append (λ m. cond (not m) 1 0) p.marks q.marks)) (tallied_then p.unsent q.unsent);

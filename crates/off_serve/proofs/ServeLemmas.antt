@@ -9,9 +9,9 @@ use Rattle.off_defs.specs.declared.results.Outcome.TheVariants.{Did, Memory, Kee
 use Rattle.off_defs.specs.Counts.{Grew, Tallied, commits_after, calls_after}
 use Rattle.off_defs.specs.State.{Tables, state_of}
 use Rattle.off_defs.specs.Events.{end_event}
-use Rattle.off_book.specs.Run.{Turn, Run, TellsItsOutcome, keeper_failures, failures_by, trouble, troubles_by, writes_by, sent_in, sent_by, lost_by, line_of, lines_from, events_of, first_events, is_end, IsNoEnd, EndsLast}
+use Rattle.off_book.specs.Run.{Turn, TellsItsOutcome, keeper_failures, failures_by, trouble, troubles_by, writes_by, sent_in, sent_by, line_of, lines_from, events_of, first_events, is_end, IsNoEnd, EndsLast}
 use Rattle.off_defs.proofs.ToldLemmas.{told_then, told_self, then_stays}
-use Rattle.off_defs.proofs.CountLemmas.{grew_self, grew_then, grew_later, later_grew, tallied_none, tallied_then, tallied_stays}
+use Rattle.off_defs.proofs.CountLemmas.{grew_self, grew_then, later_grew, tallied_none, tallied_then, tallied_stays}
 use Rattle.off_book.specs.Crashes.{Begins}
 use Rattle.off_book.proofs.CrashLemmas.{OneTurn, OnlyReads, lasts_push, lasts_stay, doubts_by}
 use Rattle.off_book.proofs.RunLemmas.{failures_by_push, troubles_by_push, commits_by_push, writes_by_push, sent_by_push, lost_by_push, lines_from_push}
@@ -20,13 +20,14 @@ use Rattle.off_outside.specs.KeeperSeen.{KeeperSeen, Rests}
 use Rattle.off_office.specs.Desk.{Desk}
 use Rattle.off_outside.specs.LinkCalls.{first_event}
 use Rattle.off_outside.specs.Streams.{SinkSeen, SinkUnasked, Wrote, NotWritten}
-use Rattle.off_outside.specs.KeeperCalls.{StaysUp, Unasked, Still}
+use Rattle.off_outside.specs.KeeperCalls.{Unasked, Still}
 use Rattle.off_outside.proofs.KeeperLemmas.{unasked_stays}
-use Rattle.off_office.specs.Conditions.{Counted}
+use Rattle.off_office.specs.Conditions.{Mirrors}
 use Rattle.off_office.specs.Acting.{CountsFaults, EventBegins}
 use Rattle.off_serve.specs.declared.serving.Stop.TheVariants as stop
 use Rattle.off_serve.specs.Serving.{World, OfficeTurn, TurnMade, LineWritten, TurnWritten, TurnCut, NoTurn, LacksMemory, Missed, most_missed}
-use Rattle.off_serve.specs.Headline.{WroteText, CutText, LastsIn, RanTurns, KeeperRan, RanFrom, SoFar, Served}
+use Rattle.off_serve.specs.Headline.{WroteText, CutText, LastsIn, RanTurns, CountsMissed, KeeperRan, RanFrom, SoFar, Served}
+use Rattle.off_serve.proofs.UpLemmas.{up_behind, up_chain, by_first, both_chain}
 
 -- `n` turns so far
 pub record Going (n : ℕ) (first last : Desk) (old new : World) : Type 0 where
@@ -51,9 +52,40 @@ next_events (first ∷ turns) turn (event ∷ events) no_end so_far next =
     let rest = next_events turns turn events (All-tail IsNoEnd first turns no_end) tails next in
     (ap (λ v. v ∷ events_of (turns ++ turn ∷ [])) heads ∙ ap (λ v. event ∷ v) rest.0, rest.1)
 
-ran_push : {turns : List Turn} {turn : Turn} {before after : Desk} {a : LinkSeen} {b c : World} → RanTurns turns a b.link → All IsNoEnd turns
+-- no call of `next` has failed yet
+none_missed : (s : LinkSeen) → CountsMissed [] 0 s s
+none_missed s = record { failures = 0; few = omega arith; faults = tallied_none s.faults }
+
+-- the failures before one turn more
+missed_push : {turns : List Turn} {turn : Turn} {before after : Desk} {a : LinkSeen} {b c : World} → CountsMissed turns 0 a b.link → TurnMade turn before after b c
+    → CountsMissed (turns ++ turn ∷ []) 0 a c.link
+missed_push {turns} {turn} {before} {after} {a} {b} {c} so_far made =
+    let sum : so_far.failures + 0 + made.failures ≡ so_far.failures + made.failures + 0 = omega arith in
+    record {
+      failures = so_far.failures + made.failures;
+      few = omega (arith, so_far.few, made.few, length-append turns (turn ∷ []));
+      faults = subst (λ n. Tallied n a.faults c.link.faults) sum (tallied_then so_far.faults made.faults);
+    }
+
+-- failures behind the last turn
+missed_behind : {turns : List Turn} {n : ℕ} {a b c : LinkSeen} → CountsMissed turns 0 a b → Tallied n b.faults c.faults → CountsMissed turns n a c
+missed_behind {turns} {n} {a} {b} {c} so_far more =
+    let sum : so_far.failures + 0 + n ≡ so_far.failures + n = omega arith in
+    record {
+      failures = so_far.failures;
+      few = so_far.few;
+      faults = subst (λ k. Tallied k a.faults c.faults) sum (tallied_then so_far.faults more);
+    }
+
+-- failures behind the last turn, and then want of memory
+missed_lacks : {turns : List Turn} {a b c : LinkSeen} → (so_far : CountsMissed turns 0 a b) → LacksMemory b c → Grew (so_far.failures + c.missed) a.faults c.faults
+missed_lacks {turns} {a} {b} {c} so_far lacks =
+    let sum : so_far.failures + 0 + lacks.failures ≡ so_far.failures + c.missed = omega (arith, lacks.missed) in
+    subst (λ n. Grew n a.faults c.faults) sum (grew_then so_far.faults.grew lacks.faults)
+
+ran_push : {turns : List Turn} {turn : Turn} {before after : Desk} {a : LinkSeen} {b c : World} → RanTurns turns a b.link → CountsMissed turns 0 a b.link → All IsNoEnd turns
     → TurnMade turn before after b c → RanTurns (turns ++ turn ∷ []) a c.link
-ran_push {turns} {turn} {before} {after} {a} {b} {c} ran no_end made = record {
+ran_push {turns} {turn} {before} {after} {a} {b} {c} ran missed no_end made = record {
   left = told_then ran.left made.left (λ x y z before now.
       let next = next_events turns turn x no_end before.0 (now.0 ∙ ap first_event before.1) in
       (next.0, now.1 ∙ (ap (λ v. drop 1 v) before.1 ∙ next.1)));
@@ -61,6 +93,7 @@ ran_push {turns} {turn} {before} {after} {a} {b} {c} ran no_end made = record {
   sent = told_then ran.sent made.sent (λ x y z before now.
       now ∙ (ap (λ k. k ++ sent_in turn) before ∙ (append_assoc x (sent_by turns) (sent_in turn) ∙ ap (λ k. x ++ k) (sym (sent_by_push turns turn)))));
   unsent = subst (λ n. Tallied n a.unsent c.link.unsent) (sym (lost_by_push turns turn)) (tallied_then ran.unsent made.unsent);
+  up = both_chain missed.faults.grew.later made.faults.grew.later ran.unsent.grew.later made.unsent.grew.later ran.up made.up;
 }
 
 -- the counts of a turn by its outcome
@@ -74,18 +107,6 @@ turn_stands Did a b same none = same
 turn_stands Memory a b grew none = absurd (omega (arith, none))
 turn_stands Keeper a b grew none = absurd (omega (arith, none))
 
--- a keeper that is up, or has counted a fault, over calls in a row
-up_behind : (a b c : KeeperSeen) → a.faults ≤ b.faults → c.up ⊎ Grew 1 b.faults c.faults → c.up ⊎ Grew 1 a.faults c.faults
-up_behind a b c later (inl up) = inl up
-up_behind a b c later (inr grew) = inr (later_grew later grew)
-
-up_then : (a b c : KeeperSeen) → a.faults ≤ b.faults → b.faults ≤ c.faults → StaysUp b c → b.up ⊎ Grew 1 a.faults b.faults → c.up ⊎ Grew 1 a.faults c.faults
-up_then a b c first second q (inl up) = up_behind a b c first (q up)
-up_then a b c first second q (inr grew) = inr (grew_later grew second)
-
-pub up_chain : (a b c : KeeperSeen) → a.faults ≤ b.faults → b.faults ≤ c.faults → StaysUp a b → StaysUp b c → StaysUp a c
-up_chain a b c first second p q = λ up. up_then a b c first second q (p up)
-
 keeper_push : (turns : List Turn) (turn : Turn) (before after : Desk) (a b c : KeeperSeen) → KeeperRan turns a b → OfficeTurn turn before after b c
     → KeeperRan (turns ++ turn ∷ []) a c
 keeper_push turns turn before after a b c ran made =
@@ -96,7 +117,7 @@ keeper_push turns turn before after a b c ran made =
           let all : troubles_by turns + trouble turn.outcome ≡ 0 = sym (troubles_by_push turns turn) ∙ none in
           turn_stands turn.outcome b.faults c.faults made.faults (omega (arith, all)) ∙ ran.stands (omega (arith, all));
       commits = made.commits ∙ (ap (commits_after turn.commit) ran.commits ∙ sym (commits_by_push turns turn a.commits));
-      up = up_chain a b c ran.faults.later grew.later ran.up made.up;
+      up = up_chain ran.faults.later grew.later ran.up made.up;
     }
 
 -- calls that ask nothing of the keeper
@@ -105,7 +126,7 @@ keeper_same turns a b c ran same = record {
   faults = subst (λ v. Grew (failures_by turns) a.faults v) (sym same.quiet.faults) ran.faults;
   stands = λ none. same.quiet.faults ∙ ran.stands none;
   commits = same.quiet.commits ∙ ran.commits;
-  up = up_chain a b c ran.faults.later (omega (arith, same.quiet.faults)) ran.up (λ up. inl (same.quiet.up up));
+  up = up_chain ran.faults.later (omega (arith, same.quiet.faults)) ran.up (λ up. inl (same.quiet.up up));
 }
 
 -- calls that only read
@@ -113,14 +134,14 @@ only_reads : (b c : KeeperSeen) → Still b c → OnlyReads b.opened c.opened b.
 only_reads b c still = record { later = still.later; past = still.past; within = still.within; doubts = still.doubts }
 
 -- what a turn may have begun
-begun_so : (event : Event) (before : Desk) (y : Tables) (doubt : Type 0) (u : Tables) → Counted before y → (u ≡ y) ⊎ (doubt ⊎ EventBegins event before y u)
+begun_so : (event : Event) (before : Desk) (y : Tables) (doubt : Type 0) (u : Tables) → Mirrors before y → (u ≡ y) ⊎ (doubt ⊎ EventBegins event before y u)
     → (u ≡ y) ⊎ (doubt ⊎ Begins (state_of y before.held) event u)
 begun_so event before y doubt u agree (inl same) = inl same
 begun_so event before y doubt u agree (inr (inl is)) = inr (inl is)
 begun_so event before y doubt u agree (inr (inr begun)) = inr (inr (begun agree))
 
 -- what is told of a crash within a turn
-one_turn : (turn : Turn) (before after : Desk) (b c : KeeperSeen) → Rests c → OfficeTurn turn before after b c → (y z : Tables) → b.tables y → c.tables z → Counted before y
+one_turn : (turn : Turn) (before after : Desk) (b c : KeeperSeen) → Rests c → OfficeTurn turn before after b c → (y z : Tables) → b.tables y → c.tables z → Mirrors before y
     → OneTurn b.opened c.opened b.doubt c.doubt b.moment c.moment (state_of y before.held) (state_of z after.held) turn
 one_turn turn before after b c rests made y z told now agree = record {
   later = made.crash.later;
@@ -189,14 +210,15 @@ from_same {turns} {first} {before} {after} {a} {b} {c} ran same keeper =
 pub wrote_more : {x y : List ℕ} {a b c : SinkSeen} → WroteText x a b → Wrote y b c → WroteText (x ++ y) a c
 wrote_more {x} {y} p q = record {
   written = told_then p.written q.written (λ u v w before now. now ∙ (ap (λ k. k ++ y) before ∙ append_assoc u x y));
+  up = λ up. q.up (p.up up);
   faults = q.faults ∙ p.faults;
 }
 
 pub wrote_none : (a : SinkSeen) → WroteText [] a a
-wrote_none a = record { written = told_self (λ x. sym (append-nil x)); faults = refl }
+wrote_none a = record { written = told_self (λ x. sym (append-nil x)); up = λ up. up; faults = refl }
 
 pub wrote_same : {x : List ℕ} {a b c : SinkSeen} → WroteText x a b → SinkUnasked b c → WroteText x a c
-wrote_same p q = record { written = then_stays p.written q.written; faults = q.faults ∙ p.faults }
+wrote_same p q = record { written = then_stays p.written q.written; up = λ up. q.up (p.up up); faults = q.faults ∙ p.faults }
 
 begins_so : (first : Desk) (k : KeeperSeen) → Rests k → (x : Tables) → k.tables x → LastsIn k k (state_of x first.held) [] (state_of x first.held)
 begins_so first k rests x told = (
@@ -220,6 +242,7 @@ going_none first w rests none = record {
       marks = All-nil _;
       sent = told_self (λ x. sym (append-nil x));
       unsent = tallied_none w.link.unsent;
+      up = λ up. inl up;
     };
     office = record {
       run = record { each = λ x told. record { value = x; told = told; fits = record { holds = λ agree. (begins_so first w.keeper rests x told, agree) } } };
@@ -231,8 +254,8 @@ going_none first w rests none = record {
     };
     no_end = All-nil _;
     missed = none;
-    faults = omega arith;
-    text = record { written = told_self (λ x. sym (append-nil x)); faults = refl };
+    faults = none_missed w.link;
+    text = wrote_none w.sink;
     writes = refl;
   };
 }
@@ -244,6 +267,7 @@ line_number n turns turn count = let e : n + 1 ≡ 1 + length turns = omega arit
 line_more : {words x y : List ℕ} {a b c : SinkSeen} → WroteText x a b → LineWritten words y b c → WroteText (x ++ y) a c
 line_more {words} {x} {y} p q = record {
   written = told_then p.written q.written (λ u v w before now. now ∙ (ap (λ k. k ++ y) before ∙ append_assoc u x y));
+  up = λ up. q.up (p.up up);
   faults = q.faults ∙ p.faults;
 }
 
@@ -261,11 +285,11 @@ going_more {n} {first} {before} {after} {a} {b} {c} rests going went = record {
   turns = going.turns ++ went.turn ∷ [];
   count = omega (arith, length-append going.turns (went.turn ∷ []), going.count);
   so_far = record {
-    ran = ran_push going.so_far.ran going.so_far.no_end went.made;
+    ran = ran_push going.so_far.ran going.so_far.faults going.so_far.no_end went.made;
     office = from_push rests going.so_far.office went.made.office;
     no_end = All-push IsNoEnd going.turns went.turn going.so_far.no_end went.last;
     missed = went.made.missed;
-    faults = omega (arith, going.so_far.faults, went.made.faults);
+    faults = missed_push going.so_far.faults went.made;
     text = text_more _ _ _ going.count going.so_far.text went.wrote;
     writes = writes_more going.turns went.turn a.sink.calls b.sink.calls c.sink.calls going.so_far.writes went.wrote.calls;
   };
@@ -287,19 +311,26 @@ last_is turns turn is =
 pub cut_more : {x y : List ℕ} {a b c : SinkSeen} → WroteText x a b → NotWritten y b c → CutText x y a c
 cut_more {x} {y} p q = record {
   written = told_then p.written q.written (λ u v w before front. record { count = front.count; front = front.front ∙ ap (λ k. k ++ take front.count y) before });
+  up = λ up. up_behind (omega (arith, p.faults)) (q.up (p.up up));
   faults = later_grew (omega (arith, p.faults)) q.faults;
 }
 
 pub cut_same : {x y : List ℕ} {a b c : SinkSeen} → CutText x y a b → SinkUnasked b c → CutText x y a c
-cut_same {x} {y} {a} {b} {c} p q = record { written = then_stays p.written q.written; faults = subst (λ v. Grew 1 a.faults v) (sym q.faults) p.faults }
+cut_same {x} {y} {a} {b} {c} p q = record {
+  written = then_stays p.written q.written;
+  up = up_chain p.faults.later (omega (arith, q.faults)) p.up (λ up. inl (q.up up));
+  faults = subst (λ v. Grew 1 a.faults v) (sym q.faults) p.faults;
+}
 
 -- nothing was taken or sent
-ran_stays : {turns : List Turn} {a b c : LinkSeen} → RanTurns turns a b → Stays b.left c.left → Stays b.sent c.sent → c.unsent ≡ b.unsent → RanTurns turns a c
-ran_stays {turns} {a} {b} {c} ran left sent unsent = record {
+ran_stays : {turns : List Turn} {a b c : LinkSeen} → RanTurns turns a b → CountsMissed turns 0 a b → Stays b.left c.left → Stays b.sent c.sent
+    → (b.up → c.up ⊎ Grew 1 b.faults c.faults) → b.faults ≤ c.faults → c.unsent ≡ b.unsent → RanTurns turns a c
+ran_stays {turns} {a} {b} {c} ran missed left sent up later unsent = record {
   left = then_stays ran.left left;
   marks = ran.marks;
   sent = then_stays ran.sent sent;
   unsent = tallied_stays ran.unsent unsent;
+  up = both_chain missed.faults.grew.later later ran.unsent.grew.later (omega (arith, unsent)) ran.up (λ is. by_first (up is));
 }
 
 no_end_ends : (turns : List Turn) → All IsNoEnd turns → EndsLast turns
@@ -310,12 +341,12 @@ served_end {n} {budget} {first} {before} {after} {a} {b} {c} rests going more en
   turns = going.turns ++ ended.turn ∷ [];
   within = omega (arith, length-append going.turns (ended.turn ∷ []), going.count);
   ends_last = ends_last going.turns ended.turn going.so_far.no_end;
-  ran = ran_push going.so_far.ran going.so_far.no_end ended.made;
+  ran = ran_push going.so_far.ran going.so_far.faults going.so_far.no_end ended.made;
   office = from_push rests going.so_far.office ended.made.office;
   stops = record {
     cause = inr (omega (arith, length-append going.turns (ended.turn ∷ [])), last_is going.turns ended.turn ended.last);
     missed = ended.made.missed;
-    faults = omega (arith, going.so_far.faults, ended.made.faults);
+    faults = missed_push going.so_far.faults ended.made;
     text = text_more _ _ _ going.count going.so_far.text ended.wrote;
   };
   writes = writes_more going.turns ended.turn a.sink.calls b.sink.calls c.sink.calls going.so_far.writes ended.wrote.calls;
@@ -326,14 +357,14 @@ served_cut {n} {budget} {first} {before} {after} {a} {b} {c} rests going more cu
   turns = going.turns ++ cut.turn ∷ [];
   within = omega (arith, length-append going.turns (cut.turn ∷ []), going.count);
   ends_last = ends_last going.turns cut.turn going.so_far.no_end;
-  ran = ran_push going.so_far.ran going.so_far.no_end cut.made;
+  ran = ran_push going.so_far.ran going.so_far.faults going.so_far.no_end cut.made;
   office = from_push rests going.so_far.office cut.made.office;
   stops = record {
     front = going.turns;
     last = cut.turn;
     parts = refl;
     missed = cut.made.missed;
-    faults = omega (arith, going.so_far.faults, cut.made.faults);
+    faults = missed_push going.so_far.faults cut.made;
     text = let e : n + 1 ≡ length going.turns + 1 = omega (arith, going.count) in cut_more going.so_far.text (subst (λ k. NotWritten (line_of k cut.turn) b.sink c.sink) e cut.cut.cut);
   };
   writes = writes_more going.turns cut.turn a.sink.calls b.sink.calls c.sink.calls going.so_far.writes cut.cut.calls;
@@ -344,14 +375,16 @@ served_memory {n} {budget} {first} {before} {after} {a} {b} {c} going more lacks
   turns = going.turns;
   within = omega (arith, going.count);
   ends_last = no_end_ends going.turns going.so_far.no_end;
-  ran = ran_stays going.so_far.ran lacks.link.left lacks.link.sent lacks.link.unsent;
+  ran = ran_stays going.so_far.ran going.so_far.faults lacks.link.left lacks.link.sent lacks.link.up lacks.link.faults.later lacks.link.unsent;
   office = from_same going.so_far.office lacks.same lacks.keeper;
   stops = (
     record {
       more = omega (arith, going.count);
       no_end = going.so_far.no_end;
       missed = omega (arith, lacks.link.missed, lacks.link.few);
-      faults = omega (arith, going.so_far.faults, lacks.link.faults.later);
+      failures = going.so_far.faults.failures;
+      few = going.so_far.faults.few;
+      faults = missed_lacks going.so_far.faults lacks.link;
     },
     wrote_same going.so_far.text lacks.sink,
   );
@@ -363,14 +396,14 @@ served_missed {n} {budget} {first} {before} {after} {a} {b} {c} going more misse
   turns = going.turns;
   within = omega (arith, going.count);
   ends_last = no_end_ends going.turns going.so_far.no_end;
-  ran = ran_stays going.so_far.ran missed.link.left missed.link.sent missed.link.unsent;
+  ran = ran_stays going.so_far.ran going.so_far.faults missed.link.left missed.link.sent missed.link.up missed.link.faults.grew.later missed.link.unsent;
   office = from_same going.so_far.office missed.same missed.keeper;
   stops = (
     record {
       more = omega (arith, going.count);
       no_end = going.so_far.no_end;
       missed = missed.link.missed;
-      faults = later_grew going.so_far.faults missed.link.faults.grew;
+      faults = missed_behind going.so_far.faults missed.link.faults;
     },
     wrote_same going.so_far.text missed.sink,
   );

@@ -1,5 +1,5 @@
 -- The tries to take an event.
-use Rattle.std.proofs.Common.{◌≡◌, ℕ, ◌+◌, ◌<◌, refl, ap, ◌∙◌, arith}
+use Rattle.std.proofs.Common.{◌≡◌, ℕ, ◌+◌, ◌<◌, refl, ap, ◌∙◌, inl, arith}
 use Rattle.off_defs.specs.declared.events.Event.{Event}
 use Rattle.off_defs.specs.Counts.{one_more}
 use Rattle.off_defs.proofs.ToldLemmas.{stays_self, stays_then, then_stays}
@@ -7,15 +7,24 @@ use Rattle.off_defs.proofs.CountLemmas.{tallied_none, tallied_one, tallied_then,
 use Rattle.off_outside.specs.declared.link.LinkErr.TheVariants as link_err
 use Rattle.off_outside.specs.LinkSeen.{LinkSeen}
 use Rattle.off_outside.specs.LinkCalls.{Took, NotTook}
+use Rattle.off_serve.proofs.UpLemmas.{up_chain}
 use Rattle.off_serve.specs.Serving.{Missed, TookBehind, LacksMemory, most_missed}
 
 pub missed_none : {s : LinkSeen} → s.missed ≡ 0 → Missed 0 s s
-missed_none {s} none = record { left = stays_self; sent = stays_self; missed = none; faults = tallied_none s.faults; unsent = refl }
+missed_none {s} none = record {
+  left = stays_self;
+  sent = stays_self;
+  up = λ up. inl up;
+  missed = none;
+  faults = tallied_none s.faults;
+  unsent = refl;
+}
 
 pub missed_more : {n : ℕ} {a b c : LinkSeen} → Missed n a b → NotTook link_err.Failed b c → n < most_missed → Missed (n + 1) a c
 missed_more {n} {a} {b} {c} p q few = record {
   left = then_stays p.left q.left;
   sent = then_stays p.sent q.sent;
+  up = up_chain p.faults.grew.later q.faults.later p.up q.up;
   missed = q.missed ∙ (ap one_more p.missed ∙ omega arith);
   faults = tallied_then p.faults (tallied_one q.faults);
   unsent = q.unsent ∙ p.unsent;
@@ -27,6 +36,7 @@ missed_took {n} p q few = record {
   few = few;
   left = stays_then p.left q.left;
   sent = then_stays p.sent q.sent;
+  up = up_chain p.faults.grew.later (omega (arith, q.faults)) p.up (λ up. inl (q.up up));
   missed = q.missed;
   faults = tallied_stays p.faults q.faults;
   unsent = q.unsent ∙ p.unsent;
@@ -38,6 +48,7 @@ missed_memory {n} p q few = record {
   few = few;
   left = then_stays p.left q.left;
   sent = then_stays p.sent q.sent;
+  up = up_chain p.faults.grew.later q.faults.later p.up q.up;
   missed = q.missed ∙ p.missed;
   faults = grew_later p.faults.grew q.faults.later;
   unsent = q.unsent ∙ p.unsent;

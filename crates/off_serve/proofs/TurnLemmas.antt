@@ -8,6 +8,7 @@ use Rattle.off_defs.specs.State.{Said}
 use Rattle.off_book.specs.Step.{added_items, completed}
 use Rattle.off_book.specs.Run.{Turn, line_text, is_end, lost_in}
 use Rattle.off_defs.proofs.ToldLemmas.{stays_then, then_stays, told_weaker}
+use Rattle.off_defs.proofs.CountLemmas.{tallied_stays}
 use Rattle.off_outside.specs.declared.link.Failed.{Failed}
 use Rattle.off_outside.specs.LinkSeen.{LinkSeen}
 use Rattle.off_outside.specs.KeeperSeen.{KeeperSeen}
@@ -16,6 +17,7 @@ use Rattle.off_office.specs.Desk.{Desk}
 use Rattle.off_office.specs.Acting.{Acts}
 use Rattle.off_serve.specs.Serving.{World, world_of, TookBehind, SentAll, LineWritten, LineCut, Acted, ActWritten, ActCut, TurnMade, TurnWritten, TurnCut}
 use Rattle.off_serve.proofs.SendLemmas.{sent_then}
+use Rattle.off_serve.proofs.UpLemmas.{by_first, by_second, both_chain}
 
 -- the turn that an event becomes
 abbrev turn_of : Event → Outcome → Said → List Write → List Bool → Turn
@@ -27,10 +29,11 @@ acted : (event : Event) (outcome : Outcome) (said : Said) (all : Bool) (before a
     → Acted event (turn_of event outcome said acts.commit sending.marks) before after (world_of a k s) (world_of b l t)
 acted event outcome said all before after a b k l s t acts sending = record {
   taken = refl;
-  office = record { tables = acts.tables; fits = acts.fits; up = acts.up; faults = acts.faults; commits = acts.commits; crash = acts.crash; doubts = acts.doubts; tells = acts.tells };
+  office = record { tables = acts.tables; fits = acts.fits; up = acts.up; faults = acts.faults; commits = acts.commits; asks = acts.asks; crash = acts.crash; doubts = acts.doubts; tells = acts.tells };
   marks = sending.each;
   left = sending.left;
   sent = sending.sent;
+  up = sending.up;
   missed = sending.missed;
   faults = sending.faults;
   unsent = sending.unsent;
@@ -65,8 +68,11 @@ turn_made {turn = turn} {c = c} took act = record {
   office = act.office;
   marks = act.marks;
   sent = stays_then took.sent act.sent;
+  up = both_chain took.faults.grew.later (omega (arith, act.faults)) (omega (arith, took.unsent)) act.unsent.grew.later (λ up. by_first (took.up up)) (λ up. by_second (act.up up));
   missed = act.missed ∙ took.missed;
-  faults = omega (arith, took.faults.grew.later, act.faults);
+  failures = took.failures;
+  few = took.few;
+  faults = tallied_stays took.faults act.faults;
   unsent = subst (λ v. Tallied (lost_in turn) v c.link.unsent) took.unsent act.unsent;
 }
 

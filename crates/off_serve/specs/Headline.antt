@@ -1,6 +1,6 @@
 -- The promise of `run`: whatever events come, lost, repeated or interleaved, `serve` sends and writes what a run of the
 -- abstract office does, and only want of memory or a counted fault departs from it.
-use Rattle.std.specs.Prelude.{◌≡◌, ℕ, ◌+◌, ◌-◌, ◌<◌, ◌≤◌, true, List, [], ◌∷◌, ◌++◌, length, drop, All, codes, ◌⊎◌, ◌≢◌}
+use Rattle.std.specs.Prelude.{◌≡◌, ℕ, ◌+◌, ◌-◌, ◌*◌, ◌<◌, ◌≤◌, true, List, [], ◌∷◌, ◌++◌, length, drop, All, codes, ◌⊎◌, ◌≢◌}
 use Rattle.off_defs.specs.Told.{Told}
 use Rattle.off_defs.specs.declared.keys.Key.{Key}
 use Rattle.off_defs.specs.Counts.{Grew, Tallied, one_more, most_count}
@@ -8,18 +8,19 @@ use Rattle.off_defs.specs.State.{Tables, State, Held, state_of, start}
 use Rattle.off_defs.specs.declared.results.Outcome.TheVariants as outcome
 use Rattle.off_book.specs.Run.{Turn, Run, SaysMemory, TellsItsOutcome, failures_by, troubles_by, commits_by, writes_by, sent_by, lost_by, lines_from, line_of, events_of, first_events, is_end, IsNoEnd, EndsLast}
 use Rattle.off_book.specs.Crashes.{Lasts}
+use Rattle.off_laws.specs.Leases.{LeasesHoldThrough}
 use Rattle.off_rows.specs.KeyText.{key_text_of}
 use Rattle.off_rules.specs.Good.{Good}
 use Rattle.off_outside.specs.LinkSeen.{LinkSeen}
 use Rattle.off_outside.specs.KeeperSeen.{KeeperSeen}
 use Rattle.off_office.specs.Desk.{Desk}
 use Rattle.off_outside.specs.KeeperCalls.{StaysUp, Unasked}
-use Rattle.off_outside.specs.LinkCalls.{LinkUnasked}
+use Rattle.off_outside.specs.LinkCalls.{LinkUnasked, LinkStaysUp}
 use Rattle.off_office.specs.Conditions.{Under, StaysFit}
 use Rattle.off_office.specs.Acting.{NotStarted}
 use Rattle.off_office.specs.declared.office.StartErr.{StartErr}
 use Rattle.off_office.specs.declared.office.StartErr.TheVariants as start_err
-use Rattle.off_outside.specs.Streams.{SourceSeen, SourceUnasked, SinkSeen, SinkUnasked, HasFront, Wrote, NotWritten}
+use Rattle.off_outside.specs.Streams.{SourceSeen, SourceUnasked, SinkSeen, SinkUnasked, SinkStaysUp, HasFront, Wrote, NotWritten}
 use Rattle.off_book.specs.Words.{Job, to_serve, to_seal, to_check}
 use Rattle.off_jobs.specs.Jobs.{SealsInput, ChecksInput}
 use Rattle.off_serve.specs.Serving.{World, world_of, most_missed}
@@ -29,11 +30,13 @@ use Rattle.off_serve.specs.declared.serving.Stop.TheVariants as stop
 -- the whole text was written
 pub record WroteText (text : List ℕ) (old new : SinkSeen) : Type 0 where
   pub written : Told old.written new.written (λ before after. after ≡ before ++ text)
+  pub up : old.up → new.up
   pub faults : new.faults ≡ old.faults
 
 -- the text up to its last line was written, and a front of that line; the sink counted a fault
 pub record CutText (text last : List ℕ) (old new : SinkSeen) : Type 0 where
   pub written : Told old.written new.written (λ before after. HasFront last (before ++ text) after)
+  pub up : SinkStaysUp old new
   pub faults : Grew 1 old.faults new.faults
 
 -- what the turns did to the link
@@ -44,6 +47,13 @@ pub record RanTurns (turns : List Turn) (old new : LinkSeen) : Type 0 where
   pub marks : All (λ turn. length turn.said.items ≡ length turn.went) turns
   pub sent : Told old.sent new.sent (λ before after. after ≡ before ++ sent_by turns)
   pub unsent : Tallied (lost_by turns) old.unsent new.unsent
+  pub up : LinkStaysUp old new
+
+-- each failed call of `next` is counted: fewer than sixteen before each of the turns, and so many more behind them
+pub record CountsMissed (turns : List Turn) (more : ℕ) (old new : LinkSeen) : Type 0 where
+  pub failures : ℕ
+  pub few : failures ≤ 15 * length turns
+  pub faults : Tallied (failures + more) old.faults new.faults
 
 -- the run lasts through crashes, by what the keeper tells of them
 abbrev pub LastsIn : KeeperSeen → KeeperSeen → State → List Turn → State → Type 0
@@ -80,7 +90,7 @@ pub record SoFar (turns : List Turn) (first last : Desk) (old new : World) : Typ
   pub office : RanFrom turns first last old.keeper new.keeper
   pub no_end : All IsNoEnd turns
   pub missed : new.link.missed ≡ 0
-  pub faults : old.link.faults ≤ new.link.faults
+  pub faults : CountsMissed turns 0 old.link new.link
   pub text : WroteText (lines_from 1 turns) old.sink new.sink
   pub writes : new.sink.calls ≡ writes_by turns old.sink.calls
 
@@ -96,22 +106,24 @@ LastIsEnd turns = (0 < length turns) × All (λ turn. is_end turn.event.what ≡
 pub record Finished (budget : ℕ) (turns : List Turn) (old new : World) : Type 0 where
   pub cause : AllTaken budget turns ⊎ LastIsEnd turns
   pub missed : new.link.missed ≡ 0
-  pub faults : old.link.faults ≤ new.link.faults
+  pub faults : CountsMissed turns 0 old.link new.link
   pub text : WroteText (lines_from 1 turns) old.sink new.sink
 
--- memory was wanted for the next event
+-- memory was wanted for the next event, behind fewer than sixteen failures, each counted
 pub record LackedMemory (budget : ℕ) (turns : List Turn) (old new : LinkSeen) : Type 0 where
   pub more : length turns < budget
   pub no_end : All IsNoEnd turns
   pub missed : new.missed < most_missed
-  pub faults : old.faults ≤ new.faults
+  pub failures : ℕ
+  pub few : failures ≤ 15 * length turns
+  pub faults : Grew (failures + new.missed) old.faults new.faults
 
--- the link failed sixteen times in a row, and counted it
+-- the link failed sixteen times in a row, and counted each
 pub record LostLink (budget : ℕ) (turns : List Turn) (old new : LinkSeen) : Type 0 where
   pub more : length turns < budget
   pub no_end : All IsNoEnd turns
   pub missed : new.missed ≡ most_missed
-  pub faults : Grew most_missed old.faults new.faults
+  pub faults : CountsMissed turns most_missed old new
 
 -- the sink failed at the line of the last turn
 pub record SinkRefused (turns : List Turn) (old new : World) : Type 0 where
@@ -119,7 +131,7 @@ pub record SinkRefused (turns : List Turn) (old new : World) : Type 0 where
   pub last : Turn
   pub parts : turns ≡ front ++ last ∷ []
   pub missed : new.link.missed ≡ 0
-  pub faults : old.link.faults ≤ new.link.faults
+  pub faults : CountsMissed turns 0 old.link new.link
   pub text : CutText (lines_from 1 front) (line_of (length front + 1) last) old.sink new.sink
 
 -- why the loop over the events stopped
@@ -192,6 +204,12 @@ pub record NoFault (old new : World) : Type 0 where
   pub sink : new.sink.faults ≡ old.sink.faults
   pub sink_count : old.sink.faults < most_count
 
+-- what was up is up
+pub record AllUp (old new : World) : Type 0 where
+  pub link : old.link.up → new.link.up
+  pub keeper : old.keeper.up → new.keeper.up
+  pub sink : old.sink.up → new.sink.up
+
 -- every event had its outcome, every item went out, and the status is 0
 pub record Completed (turns : List Turn) (status : ℕ) : Type 0 where
   pub did : All (λ turn. turn.outcome ≡ outcome.Did) turns
@@ -217,6 +235,7 @@ pub record StaysClosed (old new : World) (status : ℕ) : Type 0 where
   pub link : LinkUnasked old.link new.link
   pub writes : new.sink.calls ≡ one_more old.sink.calls
   pub text : OwnLine (closed_status why) (closed_line why) [] status old.sink new.sink
+  pub up : NoFault old new → AllUp old new
   -- where no count rose and memory wasn't wanted, the tables aren't good
   pub complete : NoFault old new → status ≢ 6 → status ≡ 2
 
@@ -243,11 +262,14 @@ pub record RunsAsOffice (budget : ℕ) (old new : World) (status : ℕ) : Type 0
   pub office : RanOffice turns held old.keeper new.keeper
   -- the tables that it leaves are good again
   pub stays_good : Told old.keeper.tables new.keeper.tables (λ t u. Good u)
+  -- over the run, from its start over the tables that were told: no address is live for two clients, no client has two leases, and what is
+  -- acknowledged is the client's until its end
+  pub leases : (t : Tables) → old.keeper.tables t → LeasesHoldThrough (start t) turns
   -- what was written, and the status
   pub ends : Ends reason budget turns old new status
   pub writes : new.sink.calls ≡ own_writes reason (writes_by turns old.sink.calls)
-  -- where no count rose, the tables that are told are one value
-  pub up : NoFault old new → old.keeper.up → new.keeper.up
+  -- where no count rose, what is told of the link, the tables and the sink is one value each
+  pub up : NoFault old new → AllUp old new
   -- where no count rose and no line says `memory`, nothing departs from the run
   pub complete : NoFault old new → All (λ turn. ¬ (SaysMemory turn)) turns → status ≢ 6 → Completed turns status
 

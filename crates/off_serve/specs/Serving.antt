@@ -1,5 +1,5 @@
 -- What the parts of `serve` do to what is seen of the link and of the sink.
-use Rattle.std.specs.Prelude.{◌≡◌, ℕ, ◌<◌, ◌≤◌, Bool, true, false, not, List, ◌++◌, length, drop, count_by}
+use Rattle.std.specs.Prelude.{◌≡◌, ℕ, ◌<◌, Bool, true, false, not, List, ◌++◌, length, drop, count_by, ◌⊎◌}
 use Rattle.off_defs.specs.declared.events.Event.{Event}
 use Rattle.off_defs.specs.declared.results.Sent.{Sent}
 use Rattle.off_defs.specs.Told.{Told, Stays}
@@ -12,8 +12,9 @@ use Rattle.off_outside.specs.KeeperSeen.{KeeperSeen}
 use Rattle.off_outside.specs.KeeperCalls.{StaysUp, Unasked, Crash}
 use Rattle.off_office.specs.Desk.{Desk}
 use Rattle.off_office.specs.Conditions.{Under, StaysFit}
+use Rattle.off_office.specs.Asking.{Asks}
 use Rattle.off_office.specs.Acting.{CountsFaults, EventBegins, LeavesDoubt}
-use Rattle.off_outside.specs.LinkCalls.{WasSent, NotSent, first_event}
+use Rattle.off_outside.specs.LinkCalls.{WasSent, NotSent, LinkStaysUp, first_event}
 use Rattle.off_outside.specs.Streams.{SinkSeen, SinkUnasked, NotWritten}
 use Rattle.off_serve.specs.declared.taking.Taken.{Taken}
 use Rattle.off_serve.specs.declared.taking.Taken.TheVariants as taken
@@ -36,6 +37,7 @@ pub record SentAll (items : List Sent) (all : Bool) (old new : LinkSeen) : Type 
   pub all_is : all ≡ all_went marks
   pub left : Stays old.left new.left
   pub sent : Told old.sent new.sent (λ before after. after ≡ before ++ marked items marks)
+  pub up : old.up → new.up ⊎ Grew 1 old.unsent new.unsent
   pub missed : new.missed ≡ old.missed
   pub faults : new.faults ≡ old.faults
   pub unsent : Tallied (count_by not marks) old.unsent new.unsent
@@ -44,6 +46,7 @@ pub record SentAll (items : List Sent) (all : Bool) (old new : LinkSeen) : Type 
 pub record Missed (n : ℕ) (old new : LinkSeen) : Type 0 where
   pub left : Stays old.left new.left
   pub sent : Stays old.sent new.sent
+  pub up : old.up → new.up ⊎ Grew 1 old.faults new.faults
   pub missed : new.missed ≡ n
   pub faults : Tallied n old.faults new.faults
   pub unsent : new.unsent ≡ old.unsent
@@ -54,6 +57,7 @@ pub record LacksMemory (old new : LinkSeen) : Type 0 where
   pub few : failures < most_missed
   pub left : Stays old.left new.left
   pub sent : Stays old.sent new.sent
+  pub up : old.up → new.up ⊎ Grew 1 old.faults new.faults
   pub missed : new.missed ≡ failures
   pub faults : Grew failures old.faults new.faults
   pub unsent : new.unsent ≡ old.unsent
@@ -64,6 +68,7 @@ pub record TookBehind (event : Event) (old new : LinkSeen) : Type 0 where
   pub few : failures < most_missed
   pub left : Told old.left new.left (λ before after. (event ≡ first_event before) × (after ≡ drop 1 before))
   pub sent : Stays old.sent new.sent
+  pub up : old.up → new.up ⊎ Grew 1 old.faults new.faults
   pub missed : new.missed ≡ 0
   pub faults : Tallied failures old.faults new.faults
   pub unsent : new.unsent ≡ old.unsent
@@ -95,6 +100,7 @@ pub record OfficeTurn (turn : Turn) (before after : Desk) (old new : KeeperSeen)
   pub up : StaysUp old new
   pub faults : CountsFaults turn.outcome old.faults new.faults
   pub commits : new.commits ≡ commits_after turn.commit old.commits
+  pub asks : Asks turn.event.what before.held old new
   pub crash : Crash (EventBegins turn.event before) old new
   pub doubts : LeavesDoubt turn.outcome turn.commit (EventBegins turn.event before) old new
   pub tells : TellsItsOutcome turn
@@ -102,6 +108,7 @@ pub record OfficeTurn (turn : Turn) (before after : Desk) (old new : KeeperSeen)
 -- the line of a turn was written, where it has one, and else nothing was
 pub record LineWritten (words text : List ℕ) (old new : SinkSeen) : Type 0 where
   pub written : Told old.written new.written (λ before after. after ≡ before ++ text)
+  pub up : old.up → new.up
   pub faults : new.faults ≡ old.faults
   pub calls : new.calls ≡ calls_after words old.calls
 
@@ -117,18 +124,22 @@ pub record Acted (event : Event) (turn : Turn) (before after : Desk) (old new : 
   pub marks : length turn.said.items ≡ length turn.went
   pub left : Stays old.link.left new.link.left
   pub sent : Told old.link.sent new.link.sent (λ before now. now ≡ before ++ sent_in turn)
+  pub up : old.link.up → new.link.up ⊎ Grew 1 old.link.unsent new.link.unsent
   pub missed : new.link.missed ≡ old.link.missed
   pub faults : new.link.faults ≡ old.link.faults
   pub unsent : Tallied (lost_in turn) old.link.unsent new.link.unsent
 
--- one turn, as far as the link and the office go
+-- one turn, as far as the link and the office go: fewer than sixteen calls of `next` failed before it, and each is counted
 pub record TurnMade (turn : Turn) (before after : Desk) (old new : World) : Type 0 where
   pub left : Told old.link.left new.link.left (λ before rest. (turn.event ≡ first_event before) × (rest ≡ drop 1 before))
   pub office : OfficeTurn turn before after old.keeper new.keeper
   pub marks : length turn.said.items ≡ length turn.went
   pub sent : Told old.link.sent new.link.sent (λ before now. now ≡ before ++ sent_in turn)
+  pub up : LinkStaysUp old.link new.link
   pub missed : new.link.missed ≡ 0
-  pub faults : old.link.faults ≤ new.link.faults
+  pub failures : ℕ
+  pub few : failures < most_missed
+  pub faults : Tallied failures old.link.faults new.link.faults
   pub unsent : Tallied (lost_in turn) old.link.unsent new.link.unsent
 
 -- an event was acted on, and its line written

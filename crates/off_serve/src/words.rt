@@ -1,7 +1,8 @@
-ghost use Rattle.std.specs.Prelude.{◌≡◌, ◌==◌, ◌≤◌, length, map, string_bytes, option_map};
+ghost use Rattle.std.specs.Prelude.{◌≡◌, ◌==◌, ◌≤◌, [], ◌∷◌, length, map, string_bytes};
+ghost use Rattle.std.specs.Prelude.{option_map, MatchOption};
 ghost use Rattle.std.specs.List.{position_or_len};
-ghost use Rattle.off_book.specs.Words.{serve_of, ports_of, port_of, is_store, before_comma};
-ghost use Rattle.off_book.specs.Words.{behind_comma};
+ghost use Rattle.off_book.specs.Words.{serve_of, between_commas, four_ports, ports_of, port_of};
+ghost use Rattle.off_book.specs.Words.{is_store};
 ghost use Rattle.off_serve.specs.Reading.{form_of, places_of, places_in, flags_stand};
 
 use off_base::read_number;
@@ -88,25 +89,29 @@ fn is_store(text: &[u8]) -> bool
 }
 
 // Four ports with commas between them.
+#[tactic(auto, using(off_book::proofs::WordLemmas::ports_between_commas))]
 fn read_ports(text: &[u8]) -> Option<[u16; 4]>
     ensures { result ≡ ports_of text.now }
 {
-    let (first, behind_first) = cut_at_comma(text);
-    let (second, behind_second) = cut_at_comma(behind_first);
-    let (third, fourth) = cut_at_comma(behind_second);
-    let Some(dhcp) = read_port(first) else {
+    let (first, behind_first) = cut_at_comma(text)?;
+    let (second, behind_second) = cut_at_comma(behind_first)?;
+    let (third, fourth) = cut_at_comma(behind_second)?;
+    if let Some((_fourth, _fifth)) = cut_at_comma(fourth) {
         return None;
-    };
-    let Some(time) = read_port(second) else {
-        return None;
-    };
-    let Some(tftp) = read_port(third) else {
-        return None;
-    };
-    let Some(http) = read_port(fourth) else {
-        return None;
-    };
-    Some([dhcp, time, tftp, http])
+    }
+    four_ports(first, second, third, fourth)
+}
+
+// The ports that four texts spell, if each spells one.
+fn four_ports(dhcp: &[u8], time: &[u8], tftp: &[u8], http: &[u8]) -> Option<[u16; 4]>
+    ensures { result ≡ four_ports (map port_of (dhcp.now ∷ time.now ∷ tftp.now ∷ http.now ∷ [])) }
+{
+    Some([
+        read_port(dhcp)?,
+        read_port(time)?,
+        read_port(tftp)?,
+        read_port(http)?,
+    ])
 }
 
 // A port from 1 to 65535.
@@ -122,16 +127,18 @@ fn read_port(text: &[u8]) -> Option<u16>
     Some(number as u16)
 }
 
-// The texts before and behind the first comma.
-fn cut_at_comma(text: &[u8]) -> (&[u8], &[u8])
-    ensures before { result.0.now ≡ before_comma text.now }
-    ensures behind { result.1.now ≡ behind_comma text.now }
+// The texts before and behind the first comma, or `None` where there is none.
+#[tactic(auto, using(off_book::proofs::WordLemmas::ports_between_commas))]
+fn cut_at_comma(text: &[u8]) -> Option<(&[u8], &[u8])>
+    ensures { MatchOption result
+        (between_commas text.now ≡ text.now ∷ [])
+        (λ cut. between_commas text.now ≡ cut.0.now ∷ between_commas cut.1.now) }
 {
     let at = comma_in(text);
     if at < text.len() {
-        (&text[..at], &text[at + 1..])
+        Some((&text[..at], &text[at + 1..]))
     } else {
-        (text, &[])
+        None
     }
 }
 

@@ -1,0 +1,209 @@
+-- Worked examples, evaluated: the definitions say what was meant. A modem asks for its file in
+-- blocks of 44 bytes, and acknowledges each; meanwhile its row changes, or nothing comes for a while.
+use Rattle.std.proofs.Common.{◌≡◌, ℕ, ◌+◌, List, [], ◌∷◌, ◌++◌, true, false, pos, Option, Some, None, Ok, Err, refl, codes, option_and_then}
+use Rattle.std.specs.Fmt.{digits}
+use Rattle.md5.specs.Md5.{block_words, rounds, compress, hash_after, digest_bytes, md5}
+use Rattle.hex.proofs.OnLiterals.{hex_on_literals}
+use Rattle.off_base.specs.Number.{number_read}
+use Rattle.off_base.specs.declared.addresses.Ip4.{Ip4}
+use Rattle.off_base.specs.declared.macs.Mac.{Mac}
+use Rattle.off_defs.specs.declared.tables.Site.{Site}
+use Rattle.off_defs.specs.declared.tables.Modem.{Modem}
+use Rattle.off_defs.specs.declared.tables.Lease.{Lease}
+use Rattle.off_defs.specs.declared.tables.Hold.TheVariants.{Bound}
+use Rattle.off_defs.specs.State.{Transfer}
+use Rattle.off_mic.specs.Hmac.{hmac}
+use Rattle.off_file_rules.specs.Name.{name_of}
+use Rattle.off_transfer_rules.specs.Packets.{Reads, Writes, Acknowledges, GivesUp, IsOther, packet_of}
+use Rattle.off_transfer_rules.specs.Replies.{oack_packet, error_packet}
+use Rattle.off_transfer_rules.specs.View.{View}
+use Rattle.off_transfer_rules.specs.Transfers.{size_for, begun, gone_on, sent_again}
+use Rattle.off_transfer_rules.specs.Steps.{Denies, Repeats, Accepts, Ignores, Finishes, BreaksOff, GoesOn, no_lease, file_not_found, too_many_transfers, unknown_transfer, way_of}
+use Rattle.off_transfer_rules.specs.Ticks.{tick_of, is_resent}
+use Rattle.off_transfer_rules.specs.Words.{tftp_line, tick_line}
+use Rattle.off_transfer_rules.specs.declared.faults.PacketFault.TheVariants as fault
+use Rattle.off_transfer_rules.specs.declared.words.TftpWord.TheVariants as word
+
+-- ---- packets: a request of 52 bytes
+
+abbrev file_name : List ℕ
+file_name = codes "02aabbccddee-82d91cd0f5ff2dc7.cm"
+
+abbrev plain : List ℕ
+plain = 0 ∷ 1 ∷ (file_name ++ 0 ∷ (codes "octet" ++ 0 ∷ []))
+
+abbrev asking : List ℕ → List ℕ
+asking size = plain ++ codes "blksize" ++ 0 ∷ (size ++ 0 ∷ [])
+
+request : packet_of (asking (codes "44")) ≡ Ok (Reads file_name (Some 44))
+unfolding packet_of number_read
+request = refl
+
+-- cut within its option it has none, and cut within its mode it is no request
+without_option : packet_of plain ≡ Ok (Reads file_name None)
+unfolding packet_of number_read
+without_option = refl
+
+cut_value : packet_of (plain ++ codes "blksize" ++ 0 ∷ codes "44") ≡ Ok (Reads file_name None)
+unfolding packet_of number_read
+cut_value = refl
+
+cut_mode : packet_of (0 ∷ 1 ∷ (file_name ++ 0 ∷ codes "octet")) ≡ Err fault.Form
+unfolding packet_of
+cut_mode = refl
+
+other_mode : packet_of (0 ∷ 1 ∷ (file_name ++ 0 ∷ (codes "netascii" ++ 0 ∷ []))) ≡ Err fault.Mode
+unfolding packet_of
+other_mode = refl
+
+-- sizes below 8 are as if none were asked for, and also hide a later option of the same name; large
+-- ones are cut to what a datagram holds
+too_small : packet_of (asking (codes "7") ++ codes "BLKSIZE" ++ 0 ∷ (codes "44" ++ 0 ∷ [])) ≡ Ok (Reads file_name None)
+unfolding packet_of number_read
+too_small = refl
+
+largest : packet_of (asking (codes "65464")) ≡ Ok (Reads file_name (Some 65464))
+unfolding packet_of number_read
+largest = refl
+
+largest_served : size_for (Some 65464) ≡ 1428
+largest_served = refl
+
+acknowledged : packet_of (0 ∷ 4 ∷ 1 ∷ 2 ∷ []) ≡ Ok (Acknowledges 258)
+unfolding packet_of
+acknowledged = refl
+
+half_acknowledged : packet_of (0 ∷ 4 ∷ 1 ∷ []) ≡ Err fault.Form
+unfolding packet_of
+half_acknowledged = refl
+
+written : packet_of (0 ∷ 2 ∷ []) ≡ Ok Writes
+unfolding packet_of
+written = refl
+
+given_up : packet_of (0 ∷ 5 ∷ []) ≡ Ok GivesUp
+unfolding packet_of
+given_up = refl
+
+other : packet_of (1 ∷ 1 ∷ []) ≡ Ok IsOther
+unfolding packet_of
+other = refl
+
+one_byte : packet_of (0 ∷ []) ≡ Err fault.Form
+unfolding packet_of
+one_byte = refl
+
+oack : oack_packet 44 ≡ 0 ∷ 6 ∷ 98 ∷ 108 ∷ 107 ∷ 115 ∷ 105 ∷ 122 ∷ 101 ∷ 0 ∷ 52 ∷ 52 ∷ 0 ∷ []
+unfolding digits
+oack = refl
+
+error : error_packet 2 (codes "no longer agreed") ≡ 0 ∷ 5 ∷ 0 ∷ 2 ∷ (codes "no longer agreed" ++ 0 ∷ [])
+error = refl
+
+-- ---- ways: modem 02aabbccddee of subscriber 7 is bound to 10.64.0.10 for a day
+
+abbrev address : Ip4
+address = record { 0 = 0x0a40000a }
+
+abbrev mac : Mac
+mac = record { 0 = 2 ∷ 0xaa ∷ 0xbb ∷ 0xcc ∷ 0xdd ∷ 0xee ∷ [] }
+
+abbrev site : Site
+site = record { server = record { 0 = 0x0a000002 }; secret = codes "secret"; offset = pos 3600; lease = 86400; log = record { 0 = 0 } }
+
+abbrev modem_of : ℕ → Modem
+modem_of subscriber = record { subscriber = subscriber; class = 1; serial = codes "SN01" }
+
+abbrev lease : Lease
+lease = record { hold = Bound mac; expiry = record { 0 = 1700086400 } }
+
+abbrev seen : Modem → View
+seen modem = record { site = Some site; lease = Some lease; modem = Some modem; profile = Some [] }
+
+abbrev at_start : Transfer
+at_start = begun 1700000000 (asking (codes "44")) mac 7 file_name (Some 44) (1 ∷ 2 ∷ 3 ∷ [])
+
+accepted : way_of (seen (modem_of 7)) 1700000000 address false (asking (codes "44")) None (Ok (Reads file_name (Some 44))) ≡ Accepts mac 7 file_name (Some 44)
+unfolding block_words rounds compress hash_after digest_bytes md5 hmac name_of hex_on_literals
+accepted = refl
+
+wrong_name : way_of (seen (modem_of 7)) 1700000000 address false plain None (Ok (Reads (codes "modem.cm") None)) ≡ Denies file_not_found
+unfolding block_words rounds compress hash_after digest_bytes md5 hmac name_of hex_on_literals
+wrong_name = refl
+
+ended_lease : way_of (seen (modem_of 7)) 1700086400 address false plain None (Ok (Reads file_name None)) ≡ Denies no_lease
+ended_lease = refl
+
+-- with 256 transfers another peer's request is refused, and one of a peer that has a transfer isn't
+no_room : way_of (seen (modem_of 7)) 1700000000 address true plain None (Ok (Reads file_name None)) ≡ Denies too_many_transfers
+unfolding block_words rounds compress hash_after digest_bytes md5 hmac name_of hex_on_literals
+no_room = refl
+
+replaced : way_of (seen (modem_of 7)) 1700000000 address true plain (Some at_start) (Ok (Reads file_name None)) ≡ Accepts mac 7 file_name None
+unfolding block_words rounds compress hash_after digest_bytes md5 hmac name_of hex_on_literals
+replaced = refl
+
+-- the same request again before the first acknowledgement, also when the lease has ended; and after it
+again : way_of (seen (modem_of 7)) 1700086400 address false (asking (codes "44")) (Some at_start) (Ok (Reads file_name (Some 44))) ≡ Repeats at_start
+again = refl
+
+anew : way_of (seen (modem_of 7)) 1700000000 address false (asking (codes "44")) (Some (gone_on 1700000000 at_start)) (Ok (Reads file_name (Some 44))) ≡ Accepts mac 7 file_name (Some 44)
+unfolding block_words rounds compress hash_after digest_bytes md5 hmac name_of hex_on_literals
+anew = refl
+
+first_acknowledged : way_of (seen (modem_of 7)) 1700000000 address false (0 ∷ 4 ∷ 0 ∷ 0 ∷ []) (Some at_start) (Ok (Acknowledges 0)) ≡ GoesOn at_start
+unfolding block_words rounds compress hash_after digest_bytes md5 hmac name_of hex_on_literals
+first_acknowledged = refl
+
+-- once block 1 is sent, the OACK's acknowledgement is stale, and that of block 1 ends a file of three bytes
+stale : way_of (seen (modem_of 7)) 1700000000 address false (0 ∷ 4 ∷ 0 ∷ 0 ∷ []) (Some (gone_on 1700000000 at_start)) (Ok (Acknowledges 0)) ≡ Ignores
+stale = refl
+
+finished : way_of (seen (modem_of 7)) 1700000000 address false (0 ∷ 4 ∷ 0 ∷ 1 ∷ []) (Some (gone_on 1700000000 at_start)) (Ok (Acknowledges 1)) ≡ Finishes
+finished = refl
+
+-- the modem was put under another subscriber meanwhile
+disagreed : way_of (seen (modem_of 8)) 1700000000 address false (0 ∷ 4 ∷ 0 ∷ 0 ∷ []) (Some at_start) (Ok (Acknowledges 0)) ≡ BreaksOff
+unfolding block_words rounds compress hash_after digest_bytes md5 hmac name_of hex_on_literals
+disagreed = refl
+
+unknown : way_of (seen (modem_of 7)) 1700000000 address false (0 ∷ 4 ∷ 0 ∷ 0 ∷ []) None (Ok (Acknowledges 0)) ≡ Denies unknown_transfer
+unknown = refl
+
+-- ---- Ticks: at 1, 2, 4, 6, 8, 10 and 12 seconds behind the last send
+
+abbrev behind : ℕ → ℕ
+behind seconds = 1700000000 + seconds
+
+abbrev after_ticks : List ℕ → Option Transfer
+after_ticks [] = Some at_start
+after_ticks (seconds ∷ earlier) = option_and_then (tick_of (behind seconds)) (after_ticks earlier)
+
+too_early : after_ticks (1 ∷ []) ≡ Some at_start
+too_early = refl
+
+resent : after_ticks (2 ∷ 1 ∷ []) ≡ Some (sent_again (behind 2) at_start)
+resent = refl
+
+five_times : after_ticks (10 ∷ 8 ∷ 6 ∷ 4 ∷ 2 ∷ 1 ∷ []) ≡ Some (record at_start { last_send = behind 10; resends = 5 })
+five_times = refl
+
+closed : after_ticks (12 ∷ 10 ∷ 8 ∷ 6 ∷ 4 ∷ 2 ∷ 1 ∷ []) ≡ None
+closed = refl
+
+-- at the last moment there is no later one, and all is due
+at_the_end : is_resent 0xffffffffffffffff (record at_start { last_send = 0xffffffffffffffff }) ≡ true
+at_the_end = refl
+
+-- ---- lines
+
+line : tftp_line (word.Block 12) ≡ codes "tftp block 12"
+unfolding digits
+line = refl
+
+tick : tick_line (record { again = 1; closed = 0 }) ≡ codes "tick again 1 closed 0"
+unfolding digits
+tick = refl
+
+silent : tick_line (record { again = 0; closed = 0 }) ≡ []
+silent = refl

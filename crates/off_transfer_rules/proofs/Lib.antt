@@ -1,0 +1,5 @@
+pub mod PeerLemmas
+pub mod KeptLemmas
+pub mod TickLemmas
+mod Examples
+mod FileExamples

@@ -1,0 +1,7 @@
+pub mod Packets
+pub mod Replies
+pub mod View
+pub mod Transfers
+pub mod Steps
+pub mod Ticks
+pub mod Words

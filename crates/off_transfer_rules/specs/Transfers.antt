@@ -1,0 +1,87 @@
+-- A transfer: how it begins, goes on, and is sent again (RFC 1350 sections 2 and 6; RFC 2347
+-- section 3).
+use Rattle.std.specs.Prelude.{ℕ, zero, suc, Bool, true, false, List, length, min, nat_le, nat_lt, Option, Some, None}
+use Rattle.std.specs.FinMap as map
+use Rattle.off_base.specs.declared.addresses.Peer.{Peer}
+use Rattle.off_base.specs.declared.macs.Mac.{Mac}
+use Rattle.off_defs.specs.declared.events.Service.TheVariants as service
+use Rattle.off_defs.specs.declared.results.Sent.{Sent}
+use Rattle.off_defs.specs.declared.results.Sent.TheVariants as sent
+use Rattle.off_defs.specs.State.{Transfer, peer_cmp}
+use Rattle.off_file_rules.specs.Block.{block}
+use Rattle.off_transfer_rules.specs.Replies.{data_packet, oack_packet}
+use Rattle.off_transfer_rules.specs.declared.words.TftpWord.{TftpWord}
+use Rattle.off_transfer_rules.specs.declared.words.TftpWord.TheVariants as word
+
+-- the live transfers, by peer
+abbrev pub Transfers : Type 0
+Transfers = map.FinMap peer_cmp Transfer
+
+-- so many may be live
+abbrev pub most_transfers : ℕ
+most_transfers = 256
+
+abbrev pub has_no_room : Transfers → Bool
+has_no_room transfers = nat_le most_transfers (map.len transfers)
+
+-- Blocks have the size that is asked for (RFC 2348), but no more than a datagram carries whole, or
+-- 512 bytes (RFC 1350 section 2) where none is
+abbrev pub size_for : Option ℕ → ℕ
+size_for (Some asked) = min asked 1428
+size_for None = 512
+
+-- the first packet that is sent: the OACK, which has number 0, where there is an option to be told
+abbrev pub first_number : Option ℕ → ℕ
+first_number (Some asked) = 0
+first_number None = 1
+
+abbrev pub first_word : Option ℕ → TftpWord
+first_word (Some asked) = word.Oack
+first_word None = word.Block 1
+
+-- a transfer as its read request makes it
+abbrev pub begun : ℕ → List ℕ → Mac → ℕ → List ℕ → Option ℕ → List ℕ → Transfer
+begun now request mac subscriber name asked file = record {
+  name = name;
+  modem = mac;
+  subscriber = subscriber;
+  file = file;
+  size = size_for asked;
+  request = request;
+  sent = first_number asked;
+  is_acknowledged = false;
+  last_send = now;
+  resends = 0;
+}
+
+-- the packet that was sent last
+abbrev pub packet_of_number : List ℕ → ℕ → ℕ → List ℕ
+packet_of_number file size zero = oack_packet size
+packet_of_number file size (suc before) = data_packet (suc before) (block file size (suc before))
+
+abbrev pub last_packet : Transfer → List ℕ
+last_packet x = packet_of_number x.file x.size x.sent
+
+-- a block is the last one where it is shorter than the size (RFC 1350 section 6)
+abbrev pub is_last_number : List ℕ → ℕ → ℕ → Bool
+is_last_number file size zero = false
+is_last_number file size (suc before) = nat_lt (length (block file size (suc before))) size
+
+abbrev pub is_at_last : Transfer → Bool
+is_at_last x = is_last_number x.file x.size x.sent
+
+-- the next block was sent
+abbrev pub gone_on : ℕ → Transfer → Transfer
+gone_on now x = record x { sent = suc x.sent; is_acknowledged = true; last_send = now; resends = 0 }
+
+-- its first packet was sent again, since its read request came again
+abbrev pub asked_again : ℕ → Transfer → Transfer
+asked_again now x = record x { last_send = now }
+
+-- its last packet was sent again, since nothing came
+abbrev pub sent_again : ℕ → Transfer → Transfer
+sent_again now x = record x { last_send = now; resends = suc x.resends }
+
+-- all goes to the peer, from the port of requests
+abbrev pub packet_to : Peer → List ℕ → Sent
+packet_to peer bytes = sent.Datagram service.Tftp peer bytes

@@ -1,0 +1,13 @@
+//! How files go to modems by TFTP (RFC 1350), and what becomes of them as time passes, in
+//! definitions alone (`specs/`).
+#![tactic(auto)]
+
+mod faults;
+mod packets;
+mod ticks;
+mod words;
+
+pub use faults::PacketFault;
+pub use packets::Packet;
+pub use ticks::Ticked;
+pub use words::TftpWord;

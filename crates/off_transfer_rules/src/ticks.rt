@@ -1,0 +1,6 @@
+/// What a Tick did: how many transfers had their last packet sent again, and how many it closed.
+#[derive(Clone, Copy, Debug, PartialEq, Eq)]
+pub struct Ticked {
+    pub again: u32,
+    pub closed: u32,
+}
