@@ -17,6 +17,8 @@ ask = script.pair
 MODEM = "02aabbccddee"
 GOLD = "24{ 1=0001 6=07 } 25{ 1=0002 6=07 }"
 BOOST = "24{ 1=0005 6=07 } 22{ 1=03 3=0005 }"
+POOL = "pool 1 10.64.0.10 10.64.0.99 24 10.64.0.1 10.64.0.1"
+OFFICE = f'site 10.0.0.2 736563726574 3600 86400 0.0.0.0; class 1 "gold" {GOLD}; subscriber 7 active 2 "Ann"; modem {MODEM} 7 1 "SN01"; {POOL}'
 
 
 class Wrong(Exception):
@@ -342,10 +344,13 @@ def sessions():
     ask("reply 200 60001* 'x'", escaped(reply(200, "x" * 60001)))
 
 
+def counted(counts):
+    names = ("subscribers", "add-ons", "modems", "classes", "pools", "batches")
+    return " ".join(f"{name} {count}" for name, count in zip(names, counts))
+
+
 def tables():
     section("possible rows are counted by kind", "An impossible row is none.")
-    office = ('site 10.0.0.2 736563726574 3600 86400 0.0.0.0; class 1 "gold" ' + GOLD + f'; subscriber 7 active 2 "Ann"; modem {MODEM} 7 1 "SN01"; '
-              "pool 1 10.64.0.10 10.64.0.99 24 10.64.0.1 10.64.0.1")
     batch = "modems 2 " + "00" * 16
     for more, counts in (("", (1, 0, 1, 1, 1, 0)), ('subscriber 8 active 1 "Ann"; subscriber 9 active 0 "Ann"', (2, 0, 1, 1, 1, 0)),
                          (f"add-on 8 1 {BOOST}; add-on 7 8 {BOOST}", (1, 1, 1, 1, 1, 0)), ('modem 02aabbccdd01 8 8 "SN01"', (1, 0, 2, 1, 1, 0)),
@@ -353,8 +358,7 @@ def tables():
                          ("pool 2 0.0.0.1 0.0.0.1 24 0.0.0.9 0.0.0.2; pool 3 0.0.0.1 0.0.0.1 7 0.0.0.9 0.0.0.2", (1, 0, 1, 1, 2, 0)),
                          (f"batch 1 {batch}; batch 2 {batch}; stray batch 3", (1, 0, 1, 1, 1, 2)),
                          ("lease 10.64.0.10 declined t; held 02aabbccdd01 10.64.0.10", (1, 0, 1, 1, 1, 0))):
-        names = ("subscribers", "add-ons", "modems", "classes", "pools", "batches")
-        ask(f"count {office}" + (f"; {more}" if more else ""), " ".join(f"{name} {count}" for name, count in zip(names, counts)))
+        ask(f"count {OFFICE}" + (f"; {more}" if more else ""), counted(counts))
     ask("count", "subscribers 0 add-ons 0 modems 0 classes 0 pools 0 batches 0")
     section("of two writes to a key the later one stands, and a walk rises", "The calls are one commit and one for each entry, with the one that finds no more.")
     held = f"held {MODEM}"
@@ -365,6 +369,58 @@ def tables():
     ask(f"writes {'; '.join(rows)}", "; ".join([rows[2], rows[0], rows[4], rows[3], rows[1], "calls 7"]))
 
 
+def done(asked, writes, counts, more="", reply="done"):
+    ask(f"decide t {asked}; {OFFICE}" + (f"; {more}" if more else ""), "; ".join([*writes, reply, counted(counts)]))
+
+
+def refused(asked, fault, more=""):
+    ask(f"decide t {asked}; {OFFICE}" + (f"; {more}" if more else ""), fault)
+
+
+def decisions():
+    section("a row is put", "What each command does, and its rules in order: docs/CLERK_API.md, the table of faults. A count rises where the row is new.")
+    for row, counts in (('subscriber 8 active 1 "Bob"', (2, 0, 1, 1, 1, 0)), ('subscriber 7 suspended 2 "Ann"', (1, 0, 1, 1, 1, 0)),
+                        (f"add-on 7 0 {BOOST}", (1, 1, 1, 1, 1, 0)), ('modem 02aabbccdd01 7 1 ""', (1, 0, 2, 1, 1, 0)), (f'class 2 "gold" {GOLD}', (1, 0, 1, 2, 1, 0)),
+                        ("pool 2 10.64.1.10 10.64.1.20 24 10.64.1.1 10.64.1.1", (1, 0, 1, 1, 2, 0)), ("site 10.0.0.3 00 -3600 60 10.0.0.4", (1, 0, 1, 1, 1, 0))):
+        done(f"put {row}", [f"put {row}"], counts)
+    section("a put is refused", "")
+    for row, fault in (("site 0.0.0.0 - 86401 59 0.0.0.0", told(422, "site", 1)), ("site 10.0.0.2 - 86401 59 0.0.0.0", told(422, "site", 2)),
+                       ("site 10.0.0.2 00 86401 59 0.0.0.0", told(422, "site", 3)), ("site 10.0.0.2 00 86401 60 0.0.0.0", told(422, "site", 4)),
+                       ("add-on 9 0 99=01", told(422, "no-subscriber")), ("add-on 7 0 99=01", told(422, "tree", 1)), ('class 2 "gold" 99=01', told(422, "tree", 1)),
+                       ('modem 02aabbccdd01 9 9 ""', told(422, "no-subscriber")), ('modem 02aabbccdd01 7 9 ""', told(422, "no-class")),
+                       ("pool 2 10.64.0.99 10.64.0.10 24 10.64.0.1 10.64.0.1", told(422, "pool-size")), ("pool 2 10.64.0.99 10.64.0.99 24 10.64.0.1 10.64.0.1", told(409, "pool-overlap", 1)),
+                       ("pool 2 10.64.0.100 10.64.0.100 24 10.64.0.1 10.64.0.1", told(409, "relay-taken", 1))):
+        refused(f"put {row}", fault)
+    pools = "; ".join(f"pool {n} 10.0.{n}.1 10.0.{n}.2 24 10.0.{n}.1 10.0.{n}.1" for n in range(2, 65))
+    last = "10.0.65.1 10.0.65.2 24 10.0.65.1 10.0.65.1"
+    refused(f"put pool 65 {last}", told(422, "limit", 64), pools)
+    done(f"put pool 64 {last}", [f"put pool 64 {last}"], (1, 0, 1, 1, 64, 0), pools)
+    section("leases that a pool gives up go with it", "A lease whose end is later than the moment holds the pool.")
+    smaller = "pool 1 10.64.0.11 10.64.0.98 24 10.64.0.1 10.64.0.1"
+    held = f"lease 10.64.0.10 bound {MODEM} t; held {MODEM} 10.64.0.10; lease 10.64.0.99 declined t"
+    drops = ["drop lease 10.64.0.10", f"drop held {MODEM}", "drop lease 10.64.0.99"]
+    done(f"put {smaller}", [f"put {smaller}", *drops], (1, 0, 1, 1, 1, 0), held)
+    done("remove pool 1", ["drop pool 1", *drops], (1, 0, 1, 1, 0, 0), held)
+    done(f"put {smaller}", [f"put {smaller}"], (1, 0, 1, 1, 1, 0), "lease 10.64.0.11 declined t+1; lease 10.64.0.98 declined t+1")
+    for command in (f"put {smaller}", "remove pool 1"):
+        refused(command, told(409, "pool-has-leases", "10.64.0.99"), "lease 10.64.0.10 declined t; lease 10.64.0.99 declined t+1")
+        refused(command, told(409, "pool-has-leases", "10.64.0.10"), "lease 10.64.0.10 declined t+1; lease 10.64.0.99 declined t+1")
+    section("a row is removed", "A subscriber's add-ons, of whatever number, go with it; a modem's lease stays.")
+    add_ons = f'subscriber 8 active 1 "Bob"; add-on 8 1 {BOOST}; add-on 8 7 {BOOST}; add-on 7 1 {BOOST}'
+    done("remove subscriber 8", ["drop subscriber 8", *(f"drop add-on 8 {k}" for k in range(8))], (1, 1, 1, 1, 1, 0), add_ons)
+    done("remove add-on 8 7", ["drop add-on 8 7"], (2, 2, 1, 1, 1, 0), add_ons)
+    done(f"remove modem {MODEM}", [f"drop modem {MODEM}"], (1, 0, 0, 1, 1, 0), f"lease 10.64.0.10 bound {MODEM} t+1; held {MODEM} 10.64.0.10")
+    done("remove class 2", ["drop class 2"], (1, 0, 1, 1, 1, 0), f'class 2 "gold" {GOLD}')
+    refused("remove subscriber 7", told(409, "has-modems"))
+    refused("remove class 1", told(409, "class-in-use"))
+    for key in ("subscriber 9", "add-on 7 0", "modem 02aabbccdd01", "class 9", "pool 9"):
+        refused(f"remove {key}", told(404, "no-row"))
+    section("a row is shown", "Nothing is written.")
+    done("show subscriber 7", [], (1, 0, 1, 1, 1, 0), reply='shown subscriber 7 active 2 "Ann"')
+    done("show lease 10.64.0.10", [], (1, 0, 1, 1, 1, 0), "lease 10.64.0.10 declined t+1", "shown lease 10.64.0.10 declined 1700000001")
+    refused("show lease 10.64.0.11", told(404, "no-row"), "lease 10.64.0.10 declined t+1")
+
+
 def main():
     sessions()
     paths()
@@ -372,6 +428,7 @@ def main():
     trees()
     answers()
     tables()
+    decisions()
     return script.write("clerk_script")
 
 

@@ -11,11 +11,11 @@ import re
 import sys
 
 from examples import GROUPS, Fault, Script, covered, escaped, hexed, ip, read_file, sealed, spelled, verdict
+from messages import MODEM, RELAYED, RELAYED_DISCOVER as DISCOVER, fault_of, option, options_in, reply_to
 
 script = Script("formats.py", "By hand, from the formats' rules in docs/CONTRACTS.md.")
 section = script.section
 ask = script.pair
-MODEM = "02aabbccddee"
 SECRET = b"secret"
 
 
@@ -285,46 +285,6 @@ def tables():
     ask('sound import subscribers 2 subscriber 7 active 0 "Ann"', "no")
 
 
-def options_in(data, at=0):
-    """The options of RFC 2132, section 2: where the first that passes the end stands, or None, and the values of each code."""
-    values = {}
-    while at < len(data) and data[at] != 255:
-        if data[at] == 0:
-            at += 1
-            continue
-        if at + 1 >= len(data) or at + 2 + data[at + 1] > len(data):
-            return at, values
-        values.setdefault(data[at], []).append(data[at + 2:at + 2 + data[at + 1]])
-        at += 2 + data[at + 1]
-    return None, values
-
-
-# A DISCOVER of a cable modem that came through a relay: the worked example of RFC 2131 messages with options of CANN-DHCP-Reg and RFC 3046.
-RELAYED = bytes.fromhex("520e" + "010480000001" + "0206" + MODEM)
-DISCOVER = (bytes.fromhex("0101060011223344") + bytes(16) + bytes.fromhex("0a400001" + MODEM) + bytes(202) + bytes.fromhex("63825363" + "350101" + "3c0a") + b"docsis3.1:"
-            + bytes.fromhex("2b050203") + b"ECM" + b"\0" + bytes.fromhex("2b060404") + b"SN01" + RELAYED + b"\xff")
-
-
-def fault_of(data):
-    """A datagram's first fault, in the order of the standard's parts."""
-    if len(data) < 240:
-        return "short"
-    if len(data) > 1500:
-        return "long"
-    if data[0] != 1:
-        return "not-request"
-    if data[1:3] != b"\x01\x06":
-        return "hardware"
-    if data[236:240] != b"\x63\x82\x53\x63":
-        return "cookie"
-    cut, values = options_in(data[240:])
-    if cut is not None:
-        return f"option-cut {cut + 240}"
-    if len(b"".join(values.get(53, []))) != 1:
-        return "no-type"
-    return "overload" if 52 in values else None
-
-
 def message_of(data):
     fault = fault_of(data)
     if fault:
@@ -337,35 +297,6 @@ def message_of(data):
 def joined_of(code, options):
     values = options_in(options)[1].get(code)
     return "absent" if values is None else f"{len(b''.join(values))} {hexed(b''.join(values))}" if len(b"".join(values)) <= 2000 else ""
-
-
-def option(code, data):
-    return bytes([code, len(data)]) + data
-
-
-def reply_to(data, kind, server, offer=None):
-    """The reply (RFC 2131, table 3) to a message, its options in the office's order."""
-    request = options_in(data[240:])[1]
-    flags = data[10:12]
-    behind = option(53, bytes([kind])) + option(54, server)
-    if offer is None:
-        if data[24:28] != bytes(4):
-            flags = bytes([flags[0] | 0x80, flags[1]])
-        fixed = bytes(12) + data[24:28]
-        name = bytes(128)
-    else:
-        lease = offer["lease"]
-        behind += option(51, lease.to_bytes(4, "big")) + option(58, (lease // 2).to_bytes(4, "big")) + option(59, (lease * 7 // 8).to_bytes(4, "big"))
-        behind += option(1, (2**32 - 2**(32 - offer["prefix"])).to_bytes(4, "big")) + option(3, offer["router"])
-        behind += option(2, offer["offset"].to_bytes(4, "big", signed=True)) + option(4, server)
-        behind += option(7, offer["log"]) if offer["log"] != bytes(4) else b""
-        fixed = (data[12:16] if kind == 5 else bytes(4)) + offer["yiaddr"] + server + data[24:28]
-        name = offer["name"] + bytes(96)
-    if 82 in request:
-        value = b"".join(request[82])
-        behind += b"".join(option(82, value[at:at + 255]) for at in range(0, len(value), 255)) or option(82, b"")
-    made = b"\x02\x01\x06\0" + data[4:8] + bytes(2) + flags + fixed + data[28:44] + bytes(64) + name + b"\x63\x82\x53\x63" + behind + b"\xff"
-    return made + bytes(max(0, 300 - len(made)))
 
 
 def offer_line(kind, offer, server, data):

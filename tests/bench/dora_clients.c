@@ -1,0 +1,401 @@
+/* Relays' modems that ask for leases over loopback, each again as soon as it has its answer; and what is measured beside them.
+ *
+ *     dora_clients boot FIRST COUNT RELAYS OUTSTANDING           each modem once: DISCOVER, OFFER, REQUEST, ACK
+ *     dora_clients release FIRST COUNT RELAYS OUTSTANDING        each modem once: DISCOVER, OFFER, RELEASE
+ *     dora_clients renew FIRST COUNT RELAYS OUTSTANDING MS       boots that go on, in a mixed order, for so many milliseconds
+ *     dora_clients echoed FIRST COUNT RELAYS OUTSTANDING MS      the same datagrams to the echo, as often
+ *         prints: exchanges, seconds, datagrams sent again, wrong answers, bytes of an answer
+ *     dora_clients flood FIRST COUNT RELAYS RATE MS              DISCOVERs and REQUESTs of modems with leases, so many a second
+ *     dora_clients padded FIRST COUNT RELAYS RATE MS             the same with 1,100 pads before the options
+ *     dora_clients full FIRST COUNT RELAYS RATE MS               DISCOVERs of modems for which there may be no address
+ *         prints: an empty line when it begins; datagrams sent, seconds, answers
+ *     dora_clients times MS                                      one question for the time behind the other
+ *         prints: answers, lost, and the median, the 99th percentile and the greatest delay in milliseconds
+ *     dora_clients echo LENGTH                                   a server that sends each datagram back, in so many bytes
+ *
+ * Modem N stands behind relay N mod RELAYS. The modems are shared out among three processes at most, so that the server is the slowest part. */
+#define _GNU_SOURCE
+#include <arpa/inet.h>
+#include <stdio.h>
+#include <stdlib.h>
+#include <string.h>
+#include <sys/epoll.h>
+#include <sys/socket.h>
+#include <sys/wait.h>
+#include <time.h>
+#include <unistd.h>
+
+enum { DISCOVER = 1, OFFER = 2, REQUEST = 3, ACK = 5, RELEASE = 7 };
+enum { DHCP_PORT = 67, TIME_PORT = 37, ECHO_PORT = 7, MOST_RELAYS = 64, MOST_SLOTS = 256, PADS = 1100 };
+static const unsigned SERVER = 0x0a000002, RELAYS_AT = 0x0a400001, RELAYS_APART = 8192;
+static const double PATIENCE = 1;
+
+struct plan {
+    const char *mode;
+    int first, count, relays, outstanding, port;
+    double seconds;
+};
+
+/* What a process did. */
+struct told {
+    long done, again, wrong, length;
+    double end;
+};
+
+/* A modem that waits for an answer. */
+struct slot {
+    int modem, kind, length;
+    unsigned number;
+    double sent;
+    unsigned char text[1500];
+};
+
+struct share {
+    const struct plan *plan;
+    int part, parts, modems, set, sockets[MOST_RELAYS], begun, step, start;
+    unsigned number;
+    struct slot slots[MOST_SLOTS];
+    struct told told;
+};
+
+static double seconds(void) {
+    struct timespec now;
+    clock_gettime(CLOCK_MONOTONIC, &now);
+    return now.tv_sec + now.tv_nsec / 1e9;
+}
+
+static struct sockaddr_in at(unsigned address, int port) {
+    return (struct sockaddr_in){.sin_family = AF_INET, .sin_port = htons(port), .sin_addr.s_addr = htonl(address)};
+}
+
+static int is(const struct plan *plan, const char *mode) {
+    return strcmp(plan->mode, mode) == 0;
+}
+
+static void put4(unsigned char *text, unsigned number) {
+    number = htonl(number);
+    memcpy(text, &number, 4);
+}
+
+static unsigned char *option(unsigned char *end, int code, int length, const void *value) {
+    *end++ = code;
+    *end++ = length;
+    memcpy(end, value, length);
+    return end + length;
+}
+
+static unsigned relay_of(int modem, int relays) {
+    return RELAYS_AT + RELAYS_APART * (modem % relays);
+}
+
+/* What a relay says of the way to a modem: a circuit, and the modem's address (RFC 3046). What a modem says of itself: its type and its serial number. */
+static unsigned char *ways(unsigned char *end, int modem, const unsigned char *mac) {
+    unsigned char cable[64] = {2, 3, 'E', 'C', 'M', 4, 8}, way[14] = {1, 4, 0x80, 0, 0, 1, 2, 6};
+    snprintf((char *)cable + 7, sizeof cable - 7, "SN%06d", modem);
+    memcpy(way + 8, mac, 6);
+    return option(option(option(end, 60, 10, "docsis3.1:"), 43, 15, cable), 82, 14, way);
+}
+
+/* A modem's message (RFC 2131 with the options of RFC 2132), and its length. A REQUEST asks for an address, and a RELEASE gives it back. */
+static int message(unsigned char *text, int kind, int modem, int relays, unsigned number, const unsigned char *address) {
+    unsigned char mac[6] = {2, 0}, server[4], one = kind, *end = text + 240;
+    put4(mac + 2, modem);
+    put4(server, SERVER);
+    memset(text, 0, 240);
+    memcpy(text, "\1\1\6", 3);
+    put4(text + 4, number);
+    if (kind == RELEASE) memcpy(text + 12, address, 4);
+    put4(text + 24, relay_of(modem, relays));
+    memcpy(text + 28, mac, 6);
+    memcpy(text + 236, "\x63\x82\x53\x63", 4);
+    end = option(end, 53, 1, &one);
+    if (kind == REQUEST) end = option(end, 50, 4, address);
+    if (kind != DISCOVER) end = option(end, 54, 4, server);
+    if (kind != RELEASE) end = ways(end, modem, mac);
+    *end++ = 255;
+    return end - text;
+}
+
+static int relay_socket(unsigned address, int port) {
+    int each = socket(AF_INET, SOCK_DGRAM, 0), room = 1 << 22;
+    struct sockaddr_in own = at(address, DHCP_PORT), server = at(SERVER, port);
+    setsockopt(each, SOL_SOCKET, SO_RCVBUF, &room, sizeof room);
+    if (bind(each, (struct sockaddr *)&own, sizeof own) != 0 || connect(each, (struct sockaddr *)&server, sizeof server) != 0) {
+        perror("a relay's socket");
+        exit(2);
+    }
+    return each;
+}
+
+/* The sockets of the relays of a part; an answer to an earlier run has another number. */
+static void open_relays(struct share *s) {
+    s->set = epoll_create1(0);
+    s->number = (unsigned)(long)(seconds() * 1e6);
+    for (int relay = s->part; relay < s->plan->relays; relay += s->parts) {
+        struct epoll_event wanted = {.events = EPOLLIN, .data.fd = s->sockets[relay] = relay_socket(relay_of(relay, s->plan->relays), s->plan->port)};
+        epoll_ctl(s->set, EPOLL_CTL_ADD, s->sockets[relay], &wanted);
+    }
+}
+
+/* Puts pads before a message's options. */
+static void pad(struct slot *slot) {
+    memmove(slot->text + 240 + PADS, slot->text + 240, slot->length - 240);
+    memset(slot->text + 240, 0, PADS);
+    slot->length += PADS;
+}
+
+static void say(struct share *s, int place) {
+    struct slot *slot = &s->slots[place];
+    slot->sent = seconds();
+    send(s->sockets[slot->modem % s->plan->relays], slot->text, slot->length, 0);
+}
+
+/* The next message of a slot; its number tells the slot. */
+static void ask(struct share *s, int place, int kind, const unsigned char *address) {
+    struct slot *slot = &s->slots[place];
+    slot->kind = kind;
+    slot->number = (unsigned)s->part << 30 | (s->number++ & 0x3fffff) << 8 | (unsigned)place;
+    slot->length = message(slot->text, kind, slot->modem, s->plan->relays, slot->number, address);
+    if (is(s->plan, "padded")) pad(slot);
+    say(s, place);
+}
+
+/* Begins with the next modem, in a mixed order; where all had their turn, the slot rests. */
+static void begin(struct share *s, int place) {
+    if (s->plan->seconds == 0 && s->begun >= s->modems) {
+        s->slots[place].kind = 0;
+        return;
+    }
+    int turn = (int)(((long)s->begun * s->step + s->start) % s->modems);
+    s->begun++;
+    s->slots[place].modem = s->plan->first + s->part + s->parts * turn;
+    ask(s, place, DISCOVER, NULL);
+}
+
+/* Whether an answer has a question's number. */
+static int tells(const unsigned char *answer, unsigned number) {
+    unsigned char text[4];
+    put4(text, number);
+    return memcmp(answer + 4, text, 4) == 0;
+}
+
+/* What follows from an answer. */
+static void hear(struct share *s, const unsigned char *answer, long length) {
+    int place = answer[7];
+    struct slot *slot = &s->slots[place];
+    if (length < 244 || slot->kind == 0 || !tells(answer, slot->number)) return;
+    int kind = is(s->plan, "echoed") ? slot->kind == DISCOVER ? OFFER : ACK : answer[242];
+    if (answer[0] != 2 || kind != (slot->kind == DISCOVER ? OFFER : ACK)) {
+        s->told.wrong++;
+        begin(s, place);
+        return;
+    }
+    s->told.length = length;
+    if (slot->kind == REQUEST) {
+        s->told.done++;
+        begin(s, place);
+    } else if (is(s->plan, "release")) {
+        ask(s, place, RELEASE, answer + 16);
+        s->told.done++;
+        begin(s, place);
+    } else {
+        ask(s, place, REQUEST, answer + 16);
+    }
+}
+
+static void ask_again(struct share *s, int slots) {
+    double before = seconds() - PATIENCE;
+    for (int place = 0; place < slots; place++)
+        if (s->slots[place].kind != 0 && s->slots[place].sent < before) {
+            s->told.again++;
+            say(s, place);
+        }
+}
+
+static int rest(const struct share *s, int slots) {
+    for (int place = 0; place < slots; place++)
+        if (s->slots[place].kind != 0) return 0;
+    return 1;
+}
+
+/* One modem at a time: no need to ask which socket has something. */
+static void converse_alone(struct share *s, double until) {
+    unsigned char answer[2048];
+    struct timeval patience = {PATIENCE, 0};
+    for (int relay = 0; relay < s->plan->relays; relay++) setsockopt(s->sockets[relay], SOL_SOCKET, SO_RCVTIMEO, &patience, sizeof patience);
+    begin(s, 0);
+    while (s->slots[0].kind != 0 && (until == 0 || s->told.done % 16 != 0 || seconds() < until)) {
+        long length = recv(s->sockets[s->slots[0].modem % s->plan->relays], answer, sizeof answer, 0);
+        if (length < 0) {
+            ask_again(s, 1);
+            if (until != 0 && seconds() > until) return;
+        } else {
+            hear(s, answer, length);
+        }
+    }
+}
+
+static void converse(struct share *s, int slots, double until) {
+    unsigned char answer[2048];
+    struct epoll_event ready[MOST_RELAYS];
+    double looked = seconds();
+    for (int place = 0; place < slots; place++) begin(s, place);
+    for (;;) {
+        int count = epoll_wait(s->set, ready, MOST_RELAYS, 50);
+        for (int i = 0; i < count; i++)
+            for (int taken = 0; taken < 16; taken++) {
+                long length = recv(ready[i].data.fd, answer, sizeof answer, MSG_DONTWAIT);
+                if (length < 0) break;
+                hear(s, answer, length);
+                if (s->plan->relays / s->parts > 1) break;
+            }
+        double now = seconds();
+        if (until == 0 ? rest(s, slots) : now > until) return;
+        if (now > looked + PATIENCE / 4) {
+            looked = now;
+            ask_again(s, slots);
+        }
+    }
+}
+
+static int common_divisor(int a, int b) {
+    return b == 0 ? a : common_divisor(b, a % b);
+}
+
+static void prepare(struct share *s) {
+    const struct plan *plan = s->plan;
+    s->modems = plan->count / s->parts + (s->part < plan->count % s->parts);
+    for (s->step = 7919; common_divisor(s->step, s->modems) != 1;) s->step++;
+    s->start = plan->seconds == 0 ? 0 : (int)((long)(seconds() * 1e6) % s->modems);
+    open_relays(s);
+}
+
+static void run_part(const struct plan *plan, int part, int parts, int started, int told) {
+    static struct share s;
+    int slots = plan->outstanding / parts + (part < plan->outstanding % parts);
+    char byte = 0;
+    s = (struct share){.plan = plan, .part = part, .parts = parts};
+    prepare(&s);
+    if (write(told, &s.told, sizeof s.told) < 0 || read(started, &byte, 1) < 0) exit(2);
+    double until = plan->seconds == 0 ? 0 : seconds() + plan->seconds;
+    if (slots == 1 && parts == 1) converse_alone(&s, until);
+    else converse(&s, slots < s.modems ? slots : s.modems, until);
+    s.told.end = seconds();
+    if (write(told, &s.told, sizeof s.told) < 0) exit(2);
+    exit(0);
+}
+
+/* Has the parts begin together, and adds up what they did. */
+static int exchange(const struct plan *plan) {
+    int started[2], told[2], parts = plan->outstanding < 3 || plan->count < 3 ? 1 : 3;
+    struct told sum = {0}, each;
+    if (pipe(started) != 0 || pipe(told) != 0) return 2;
+    for (int part = 0; part < parts; part++)
+        if (fork() == 0) run_part(plan, part, parts, started[0], told[1]);
+    close(told[1]);
+    for (int part = 0; part < parts; part++)
+        if (read(told[0], &each, sizeof each) != sizeof each) return 2;
+    double start = seconds();
+    if (write(started[1], "...", parts) != parts) return 2;
+    while (read(told[0], &each, sizeof each) == sizeof each) {
+        sum.done += each.done, sum.again += each.again, sum.wrong += each.wrong;
+        if (each.end > sum.end) sum.end = each.end;
+        if (each.length > sum.length) sum.length = each.length;
+    }
+    while (wait(NULL) > 0) {
+    }
+    printf("%ld %.6f %ld %ld %ld\n", sum.done, sum.end - start, sum.again, sum.wrong, sum.length);
+    return 0;
+}
+
+/* Boots a modem as far as its OFFER, and keeps the address. */
+static void learn(struct share *s, int modem, unsigned char *address) {
+    unsigned char answer[2048] = {0};
+    struct timeval patience = {2, 0};
+    int each = s->sockets[modem % s->plan->relays];
+    setsockopt(each, SOL_SOCKET, SO_RCVTIMEO, &patience, sizeof patience);
+    s->slots[0].modem = modem;
+    ask(s, 0, DISCOVER, NULL);
+    do
+        if (recv(each, answer, sizeof answer, 0) < 244) exit(2);
+    while (!tells(answer, s->slots[0].number) || answer[242] != OFFER);
+    memcpy(address, answer + 16, 4);
+}
+
+/* Sends so many datagrams a second, whether they are answered or not. An empty line tells that it begins. */
+static int flood(const struct plan *plan) {
+    static struct share s;
+    static unsigned char addresses[4096][4];
+    unsigned char answer[2048];
+    long sent = 0, answers = 0;
+    int modems = plan->count < 4096 ? plan->count : 4096, is_full = is(plan, "full");
+    s = (struct share){.plan = plan, .parts = 1};
+    open_relays(&s);
+    for (int modem = 0; modem < modems && !is_full; modem++) learn(&s, plan->first + modem, addresses[modem]);
+    printf("\n");
+    fflush(stdout);
+    double began = seconds();
+    while (seconds() < began + plan->seconds) {
+        for (long due = (seconds() - began) * plan->outstanding; sent < due; sent++) {
+            int modem = sent / (is_full ? 1 : 2) % modems;
+            s.slots[0].modem = plan->first + modem;
+            ask(&s, 0, is_full || sent % 2 == 0 ? DISCOVER : REQUEST, addresses[modem]);
+        }
+        for (int relay = 0; relay < plan->relays; relay++)
+            while (recv(s.sockets[relay], answer, sizeof answer, MSG_DONTWAIT) >= 0) answers++;
+        usleep(200);
+    }
+    printf("%ld %.6f %ld\n", sent, seconds() - began, answers);
+    return 0;
+}
+
+static int by_size(const void *a, const void *b) {
+    double left = *(const double *)a, right = *(const double *)b;
+    return (left > right) - (left < right);
+}
+
+static int ask_times(double for_seconds) {
+    static double delays[1 << 20];
+    struct sockaddr_in server = at(SERVER, TIME_PORT);
+    struct timeval patience = {1, 0};
+    int each = socket(AF_INET, SOCK_DGRAM, 0), count = 0, lost = 0;
+    char answer[64];
+    connect(each, (struct sockaddr *)&server, sizeof server);
+    setsockopt(each, SOL_SOCKET, SO_RCVTIMEO, &patience, sizeof patience);
+    for (double began = seconds(); seconds() < began + for_seconds && count < 1 << 20; usleep(500)) {
+        double asked = seconds();
+        send(each, "", 0, 0);
+        if (recv(each, answer, sizeof answer, 0) == 4) delays[count++] = (seconds() - asked) * 1e3;
+        else lost++;
+    }
+    qsort(delays, count, sizeof *delays, by_size);
+    if (count == 0) return 2;
+    printf("%d %d %.3f %.3f %.3f\n", count, lost, delays[count / 2], delays[(long)count * 99 / 100], delays[count - 1]);
+    return 0;
+}
+
+static int echo(int length) {
+    unsigned char text[2048] = {0};
+    struct sockaddr_in own = at(SERVER, ECHO_PORT), from;
+    int each = socket(AF_INET, SOCK_DGRAM, 0), room = 1 << 22;
+    setsockopt(each, SOL_SOCKET, SO_RCVBUF, &room, sizeof room);
+    if (length > 2048 || bind(each, (struct sockaddr *)&own, sizeof own) != 0) return 2;
+    for (;;) {
+        socklen_t size = sizeof from;
+        if (recvfrom(each, text, sizeof text, 0, (struct sockaddr *)&from, &size) < 0) return 2;
+        text[0] = 2;
+        sendto(each, text, length, 0, (struct sockaddr *)&from, size);
+    }
+}
+
+int main(int argc, char **argv) {
+    if (argc == 3 && strcmp(argv[1], "echo") == 0) return echo(atoi(argv[2]));
+    if (argc == 3 && strcmp(argv[1], "times") == 0) return ask_times(atoi(argv[2]) / 1e3);
+    if (argc != 6 && argc != 7) return 2;
+    struct plan plan = {argv[1], atoi(argv[2]), atoi(argv[3]), atoi(argv[4]), atoi(argv[5]), DHCP_PORT, argc == 7 ? atoi(argv[6]) / 1e3 : 0};
+    if (plan.relays < 1 || plan.relays > MOST_RELAYS || plan.relays % 3 != 0 || plan.count < 1) return 2;
+    if (is(&plan, "flood") || is(&plan, "padded") || is(&plan, "full")) return flood(&plan);
+    if (is(&plan, "echoed")) plan.port = ECHO_PORT;
+    if (plan.outstanding < 1 || plan.outstanding > MOST_SLOTS) return 2;
+    return exchange(&plan);
+}
