@@ -1,0 +1,160 @@
+-- A Tick over transfers as they are held, from the last one on.
+use Rattle.std.proofs.Common.{◌≡◌, ℕ, zero, suc, ◌+◌, ◌-◌, ◌<◌, ◌≤◌, Bool, true, false, cond, not, ◌&&◌, List, [], ◌∷◌, ◌++◌, length, length-append, take, drop, Option, Some, None, count_by, slice_get, slice_index_or, slice_set, refl, sym, ap, ◌∙◌, subst, arith}
+use Rattle.std.specs.List.{flat_map}
+use Rattle.std.specs.FinMap as map
+use Rattle.std.proofs.lemmas.List.Sums.{sum_by-cons}
+use Rattle.off_base.specs.declared.addresses.Peer.{Peer}
+use Rattle.off_defs.specs.State.{Transfer, Said, peer_cmp}
+use Rattle.off_defs.specs.declared.results.Sent.{Sent}
+use Rattle.off_transfer_rules.specs.Transfers.{Transfers, sent_again}
+use Rattle.off_transfer_rules.specs.Ticks.{is_due, has_resend, is_resent, is_closed, tick_of, tick_items}
+use Rattle.off_transfer_rules.proofs.KeptLemmas.{left_of, sorted_kept, left_at as their_left}
+use Rattle.off_transfer_rules.proofs.TickLemmas.{tick_entry, items_counted, closed_counted, ticked_entries}
+use Rattle.off_tftp.specs.Kept.{Entries, AreKept, left_at, tick_left, ticked_list}
+use Rattle.off_tftp.specs.Saying.{says_more, Ticks}
+use Rattle.off_tftp.proofs.EntryLemmas.{true_T, T_true, entries_kept, opened, set_opened}
+
+-- ---- one more of a list
+
+pub take_more : {X : Type 0} (n : ℕ) (xs : List X) (x : X) → slice_get xs n ≡ Some x → take (suc n) xs ≡ take n xs ++ x ∷ []
+take_more zero [] x is = cc
+take_more (suc n) [] x is = cc
+take_more zero (y ∷ xs) x is =
+    let same : y ≡ x = cc in
+    ap (λ z. z ∷ []) same
+take_more (suc n) (y ∷ xs) x is = ap (λ zs. y ∷ zs) (take_more n xs x is)
+
+pub copied_more : (n : ℕ) (items : List Sent) (copy new : Said) (item same : Sent) → copy ≡ record { items = take n items; line = [] } → slice_get items n ≡ Some item → same ≡ item
+    → new ≡ record copy { items = copy.items ++ same ∷ [] } → new ≡ record { items = take (n + 1) items; line = [] }
+copied_more n items copy new item same so_far is copied pushed =
+    let next : suc n ≡ n + 1 = omega arith in
+    pushed ∙ ap (λ (c : Said). record c { items = c.items ++ same ∷ [] }) so_far
+    ∙ ap (λ (s : Sent). record { items = take n items ++ s ∷ []; line = [] }) copied
+    ∙ ap (λ (l : List Sent). record { items = l; line = [] }) (sym (take_more n items item is) ∙ ap (λ m. take m items) next)
+
+-- ---- one entry
+
+same_at : (es : Entries) (n : ℕ) (a b : Peer × Transfer) → n < length es → a ≡ slice_index_or es n a → b ≡ slice_index_or es n b → a ≡ b
+same_at [] n a b within p q = absurd (omega (arith, within))
+same_at (x ∷ es) zero a b within p q = p ∙ sym q
+same_at (x ∷ es) (suc n) a b within p q = same_at es n a b (omega (arith, within)) p q
+
+sent_entry : (now : ℕ) (e : Peer × Transfer) → is_due now e.1 ≡ true → has_resend e.1 ≡ true → tick_left now e ≡ (e.0, sent_again now e.1) ∷ []
+sent_entry now e due more =
+    ap (λ b. left_at e.0 (cond (b && has_resend e.1) (Some (sent_again now e.1)) (cond (b && not (has_resend e.1)) None (Some e.1)))) due
+    ∙ ap (λ b. left_at e.0 (cond b (Some (sent_again now e.1)) (cond (not b) None (Some e.1)))) more
+
+pub resent_at : (now : ℕ) (es : Entries) (n : ℕ) (a b m entry : Peer × Transfer) (due more : Bool) (v : Transfer) → n < length es
+    → a ≡ slice_index_or es n a → b ≡ slice_index_or es n b → m ≡ slice_index_or es n m → entry ≡ slice_index_or es n entry
+    → due ≡ is_due now a.1 → due ≡ true → more ≡ has_resend b.1 → more ≡ true → v ≡ sent_again now m.1
+    → slice_set es n (m.0, v) ≡ take n es ++ (tick_left now entry ++ drop (suc n) es)
+resent_at now es n a b m entry due more v within ia ib im ie d dt r rt made =
+    let ea = same_at es n a entry within ia ie in
+    let eb = same_at es n b entry within ib ie in
+    let em = same_at es n m entry within im ie in
+    let is = sent_entry now entry (ap (λ (x : Peer × Transfer). is_due now x.1) (sym ea) ∙ sym d ∙ dt) (ap (λ (x : Peer × Transfer). has_resend x.1) (sym eb) ∙ sym r ∙ rt) in
+    set_opened es n (m.0, v) within
+    ∙ ap (λ (x : Transfer). take n es ++ (m.0, x) ∷ drop (suc n) es) made
+    ∙ ap (λ (x : Peer × Transfer). take n es ++ (x.0, sent_again now x.1) ∷ drop (suc n) es) em
+    ∙ ap (λ (l : Entries). take n es ++ (l ++ drop (suc n) es)) (sym is)
+
+-- ---- one more from behind
+
+nth : (es : Entries) (n : ℕ) → n < length es → (e : Peer × Transfer) × (e ≡ slice_index_or es n e)
+nth [] n within = absurd (omega (arith, within))
+nth (x ∷ es) zero within = (x, refl)
+nth (x ∷ es) (suc n) within = nth es n (omega (arith, within))
+
+seam : (old rest : Entries) (n : ℕ) (e : Peer × Transfer) → n < length old → e ≡ slice_index_or old n e
+    → (e ≡ slice_index_or (take (suc n) old ++ rest) n e) × (take n (take (suc n) old ++ rest) ≡ take n old) × (drop (suc n) (take (suc n) old ++ rest) ≡ rest)
+seam [] rest n e within is = absurd (omega (arith, within))
+seam (x ∷ old) rest zero e within is = (is, refl, refl)
+seam (x ∷ old) rest (suc n) e within is =
+    let one = seam old rest n e (omega (arith, within)) is in
+    (one.0, ap (λ (l : Entries). x ∷ l) one.1, one.2)
+
+abbrev TicksOne : ℕ → Entries → Entries → ℕ → Type 0
+TicksOne now items new n = (e : Peer × Transfer) → e ≡ slice_index_or items n e → new ≡ take n items ++ (tick_left now e ++ drop (suc n) items)
+
+back_by : (now : ℕ) (old new : Entries) (n : ℕ) → n < length old → TicksOne now (take (suc n) old ++ ticked_list now (drop (suc n) old)) new n
+    → new ≡ take n old ++ ticked_list now (drop n old)
+back_by now old new n within step =
+    let it = nth old n within in
+    let cut = seam old (ticked_list now (drop (suc n) old)) n it.0 within it.1 in
+    step it.0 cut.0
+    ∙ ap (λ (l : Entries). l ++ (tick_left now it.0 ++ drop (suc n) (take (suc n) old ++ ticked_list now (drop (suc n) old)))) cut.1
+    ∙ ap (λ (l : Entries). take n old ++ (tick_left now it.0 ++ l)) cut.2
+    ∙ ap (λ (l : Entries). take n old ++ ticked_list now l) (sym (opened old n it.0 within it.1))
+
+pub back_once : (now : ℕ) (old items new : Entries) (left : ℕ) → 0 < left → left ≤ length old → items ≡ take left old ++ ticked_list now (drop left old) → TicksOne now items new (left - 1)
+    → new ≡ take (left - 1) old ++ ticked_list now (drop (left - 1) old)
+back_once now old items new left some within is step =
+    let more : left ≡ suc (left - 1) = omega arith in
+    back_by now old new (left - 1) (omega arith)
+    (subst (λ (l : Entries). TicksOne now l new (left - 1)) (is ∙ ap (λ n. take n old ++ ticked_list now (drop n old)) more) step)
+
+-- ---- the whole
+
+both_left : (peer : Peer) (x : Option Transfer) → left_at peer x ≡ their_left peer x
+both_left peer None = refl
+both_left peer (Some x) = refl
+
+ticked_same : (now : ℕ) (es : Entries) → ticked_list now es ≡ flat_map (tick_entry now) es
+ticked_same now [] = refl
+ticked_same now (e ∷ es) =
+    ap (λ (l : Entries). l ++ ticked_list now es) (both_left e.0 (tick_of now e.1)) ∙ ap (λ (l : Entries). tick_entry now e ++ l) (ticked_same now es)
+
+pub sorted_ticked : (now : ℕ) (es fs : Entries) → AreKept es → fs ≡ ticked_list now es → AreKept fs
+sorted_ticked now es fs sorted is =
+    subst AreKept (sym (is ∙ ticked_same now es)) (T_true (map.is_sorted peer_cmp (flat_map (left_of (tick_of now)) es)) (sorted_kept peer_cmp (tick_of now) es (true_T (map.is_sorted peer_cmp es) sorted)))
+
+abbrev resent : ℕ → Entries → ℕ
+resent now es = count_by (λ (live : Peer × Transfer). is_resent now live.1) es
+
+one_at_most : (b : Bool) → cond b 1 0 ≤ 1
+one_at_most true = omega arith
+one_at_most false = omega arith
+
+resent_few : (now : ℕ) (es : Entries) → resent now es ≤ length es
+resent_few now [] = omega arith
+resent_few now (e ∷ es) =
+    omega (arith, resent_few now es, one_at_most (is_resent now e.1), sum_by-cons (λ (l : Peer × Transfer). cond (is_resent now l.1) 1 0) e es)
+
+said_more : (now : ℕ) (es : Entries) (said out new : Said) (a b : ℕ) → said ≡ out → new ≡ says_more said (flat_map (tick_items now) es) → a ≡ length new.items → b ≡ length out.items
+    → a ≡ b + resent now es
+said_more now es said out new a b copied pushed after before =
+    after ∙ ap (λ (s : Said). length s.items) (pushed ∙ ap (λ (s : Said). says_more s (flat_map (tick_items now) es)) copied)
+    ∙ length-append out.items (flat_map (tick_items now) es)
+    ∙ ap (λ n. length out.items + n) (items_counted now es) ∙ ap (λ n. n + resent now es) (sym before)
+
+pub again_few : (now : ℕ) (es : Entries) (said out new : Said) (a b : ℕ) → said ≡ out → new ≡ says_more said (flat_map (tick_items now) es) → a ≡ length new.items → b ≡ length out.items
+    → length es ≤ 256 → (b ≤ a) × (a - b ≤ 256)
+again_few now es said out new a b copied pushed after before few =
+    let more = said_more now es said out new a b copied pushed after before in
+    (omega (arith, more), omega (arith, more, few, resent_few now es))
+
+again_is : (a b n : ℕ) → a ≡ b + n → a - b ≡ n
+again_is a b n is = omega arith
+
+closed_is : (before after gone : ℕ) → after + gone ≡ before → before - after ≡ gone
+closed_is before after gone is = omega arith
+
+pub ticks_are : (now : ℕ) (xs : Transfers) (es fs : Entries) (said out new : Said) (a b before after : ℕ) → AreKept es → map.from_sorted es ≡ xs → fs ≡ ticked_list now es
+    → said ≡ out → new ≡ says_more said (flat_map (tick_items now) es) → a ≡ length new.items → b ≡ length out.items → before ≡ length es → after ≡ length fs
+    → Ticks now xs (map.from_sorted fs) out new (record { again = a - b; closed = before - after })
+ticks_are now xs es fs said out new a b before after sorted is made copied pushed ea eb eold enew =
+    let entries : map.entries xs ≡ es = ap map.entries (sym is) ∙ entries_kept es sorted in
+    let theirs : fs ≡ flat_map (tick_entry now) es = made ∙ ticked_same now es in
+    record {
+      items = flat_map (tick_items now) (map.entries xs);
+      step = record {
+        each = ticked_entries now xs (map.from_sorted fs)
+            (entries_kept fs (sorted_ticked now es fs sorted made) ∙ theirs ∙ ap (λ (l : Entries). flat_map (tick_entry now) l) (sym entries));
+        sends = refl;
+        again = again_is a b (resent now es) (said_more now es said out new a b copied pushed ea eb) ∙ ap (resent now) (sym entries);
+        closed = closed_is before after (count_by (λ (live : Peer × Transfer). is_closed now live.1) es)
+            (ap (λ n. n + count_by (λ (live : Peer × Transfer). is_closed now live.1) es) (enew ∙ ap length theirs) ∙ closed_counted now es ∙ sym eold)
+            ∙ ap (λ (l : Entries). count_by (λ (live : Peer × Transfer). is_closed now live.1) l) (sym entries);
+      };
+      says = pushed ∙ ap (λ (s : Said). says_more s (flat_map (tick_items now) es)) copied ∙ ap (λ (l : Entries). says_more out (flat_map (tick_items now) l)) (sym entries);
+    }

@@ -1,0 +1,22 @@
+use Rattle.std.proofs.Common.{arith}
+use Rattle.off_tftp.proofs.TickedLemmas.{again_few, sorted_ticked, ticks_are}
+use Rattle.off_tftp.proofs.transfers.Transfers.on_tick.Goals as goal
+
+pub overflow_cast-result : goal.overflow_cast-result
+overflow_cast-result c =
+    let few = again_few c.args.now.0 c.self.inside.live.items c.in_ok-said.said c.args.out.now c.push_due.new.out c.len.result c.len-2.result c.in_ok-said.ensures c.in_ok-push_due.ensures c.len.ensures c.len-2.ensures
+    (omega (arith, c.self.invariant.1, c.self.inside.live.ok.0)) in
+    omega (arith, few.1)
+
+pub invariant_of-self : goal.invariant_of-self
+invariant_of-self c = (
+  sorted_ticked c.args.now.0 c.self.inside.live.items c.tick_all.new.entries.items c.self.invariant.0 c.tick_all.ensures.items,
+  omega (arith, c.tick_all.ensures.few, c.self.invariant.1),
+  omega (arith, c.tick_all.ensures.capacity, c.self.invariant.2),
+)
+
+pub returns-clause-ticks : goal.returns-clause-ticks
+returns-clause-ticks c =
+    ticks_are c.args.now.0 c.args.self.now c.self.inside.live.items c.tick_all.new.entries.items c.in_ok-said.said c.args.out.now c.push_due.new.out c.len.result c.len-2.result c.len-before.result c.len-3.result
+    c.self.invariant.0 c.self.view_is c.tick_all.ensures.items c.in_ok-said.ensures c.in_ok-push_due.ensures c.len.ensures c.len-2.ensures
+    (omega (arith, c.len-before.ensures, c.self.inside.live.ok.0)) (omega (arith, c.len-3.ensures, c.tick_all.new.entries.ok.0))

@@ -1,0 +1,9 @@
+pub mod Pieces
+pub mod Built
+pub mod Kept
+pub mod Saying
+pub mod Seen
+pub mod Calls
+pub mod Listed
+pub mod Opened
+pub mod Stages

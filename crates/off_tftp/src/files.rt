@@ -1,0 +1,88 @@
+ghost use Rattle.std.specs.Prelude.{◌≡◌, ◌+◌, ◌++◌, ◌≤◌, ◌<◌, length, IfOk, IfSome, MatchOption};
+ghost use Rattle.off_file_rules.specs.Block.{block};
+ghost use Rattle.off_file_rules.specs.File.{IsBuilt};
+ghost use Rattle.off_build.specs.Written.{StandsInFront};
+ghost use Rattle.off_tftp.specs.Built.{CanBuild};
+
+use off_base::{Ip4, Moment, NoMemory, Settings};
+use off_build::{Body, FileTail, block, tail};
+use off_tlv::spelled_len;
+use std::alloc::Global;
+use std::marker::Model;
+
+// A file has at most so many bytes.
+const MOST: usize = 6_200;
+
+/// A modem's file, signed: its body and its tail. Contracts see its bytes.
+#[derive(Drop)]
+pub(crate) struct File {
+    body: Body,
+    tail: FileTail,
+}
+
+impl Model for File {
+    ghost use Rattle.std.specs.Prelude.{List, ℕ, ◌+◌, ◌++◌, ◌≤◌, length};
+
+    ghost Value = { List ℕ };
+
+    ghost view = { λ f. f.body ++ f.tail };
+
+    ghost invariant = { λ f. length f.body + length f.tail ≤ 6200 };
+}
+
+impl File {
+    /// The file of a profile for an address at a moment, under the site's secret.
+    ///
+    /// `None` comes only for a profile that no tables have.
+    pub(crate) fn build(
+        alloc: Global,
+        profile: &Settings,
+        now: Moment,
+        ip: Ip4,
+        secret: &[u8],
+    ) -> Result<Option<File>, NoMemory>
+        ensures built { CanBuild secret.now profile.now now.0 ip → IfOk result
+            (λ made. MatchOption made ⊥ (λ file. IsBuilt secret.now profile.now now.0 ip file)) }
+        ensures few { IfOk result (λ made. IfSome made (λ file. length file ≤ 6200)) }
+    {
+        if spelled_len(profile).is_none() {
+            return Ok(None);
+        }
+        let body = Body::spell(alloc, profile)?;
+        let tail = tail(&body, now, ip, secret);
+        Ok(short_file(body, tail))
+    }
+
+    /// How many bytes the file has.
+    pub(crate) fn len(&self) -> usize
+        ensures len { result ≡ length self.now }
+        ensures few { result ≤ 6200 }
+    {
+        self.body.len() + self.tail.len()
+    }
+
+    /// Writes block `n` to the front of `out`, and answers its length.
+    pub(crate) fn block(&self, size: u16, n: u16, out: &mut [u8]) -> usize
+        requires room { size ≤ length out.old }
+        requires counted { 1 ≤ n }
+        ensures written { StandsInFront (block self.now size n) out.old out.new }
+        ensures len { result ≡ length (block self.now size n) }
+        ensures few { result ≤ size }
+    {
+        block(&self.body, &self.tail, size, u32::from(n), out)
+    }
+}
+
+// The file of a body and a tail, where it isn't too long.
+fn short_file(body: Body, tail: FileTail) -> Option<File>
+    ensures { MatchOption result (6200 < length (body ++ tail))
+        (λ file. (file ≡ body ++ tail) × (length file ≤ 6200)) }
+{
+    if body.len() > MOST {
+        return None;
+    }
+    if body.len() + tail.len() > MOST {
+        return None;
+    }
+    Some(File { body, tail })
+}

@@ -1,0 +1,178 @@
+//! What is read of the tables for a peer.
+
+ghost use Rattle.std.specs.Prelude.{◌≡◌, ◌++◌, ◌∷◌, [], None, Ok, option_and_then, MatchResult};
+ghost use Rattle.off_rules.specs.Rows.{modem_in};
+ghost use Rattle.off_file_rules.specs.Profile.{profile_at, add_ons_in};
+ghost use Rattle.off_transfer_rules.specs.View.{view, owner_by};
+ghost use Rattle.off_tftp.specs.Seen.{view_of, without_profile, profile_from, profile_for};
+ghost use Rattle.off_tftp.specs.Listed.{with_add_on};
+ghost use Rattle.off_outside.specs.declared.keeper.KeepErr.TheVariants.{Memory};
+ghost use Rattle.off_outside.specs.KeeperCalls.{Looks, Spent};
+
+use off_base::{Ip4, Mac, NoMemory, Settings};
+use off_defs::{Class, Lease, Modem, Site, Subscriber};
+use off_outside::{KeepErr, Keeper};
+use off_profile::{AddOns, profile_of};
+use off_readers::{
+    owner_of, read_add_on, read_class, read_lease, read_modem, read_site, read_subscriber,
+};
+use std::alloc::Global;
+
+// How many add-ons a subscriber may have.
+const ADD_ONS: u8 = 8;
+
+/// The site, the lease of the peer's address, and of the modem that owns it the row and the
+/// profile.
+#[derive(Drop)]
+pub(crate) struct Seen {
+    pub(crate) site: Option<Site>,
+    pub(crate) lease: Option<Lease>,
+    pub(crate) modem: Option<Modem>,
+    pub(crate) profile: Option<Settings>,
+}
+
+/// All of it but the profile. It's three calls.
+#[tactic(auto, using(crate::proofs::ReadLemmas::readings))]
+pub(crate) fn look<K: Keeper>(alloc: Global, keeper: &mut K, ip: Ip4) -> Result<Seen, KeepErr>
+    ensures told { Looks result (K.seen keeper.old) (K.seen keeper.new)
+        (λ seen t. view_of seen ≡ without_profile (view t ip)) }
+    ensures spent { Spent 3 (K.seen keeper.old) (K.seen keeper.new) }
+{
+    let site = read_site(alloc, keeper)?;
+    let lease = read_lease(alloc, keeper, ip)?;
+    let modem = read_owner(alloc, keeper, owner_by(lease))?;
+    Ok(Seen {
+        site,
+        lease,
+        modem,
+        profile: None,
+    })
+}
+
+/// All of it. It's thirteen calls.
+#[tactic(auto, using(crate::proofs::ReadLemmas::readings))]
+pub(crate) fn look_at_all<K: Keeper>(
+    alloc: Global,
+    keeper: &mut K,
+    ip: Ip4,
+) -> Result<Seen, KeepErr>
+    ensures told { Looks result (K.seen keeper.old) (K.seen keeper.new)
+        (λ seen t. view_of seen ≡ view t ip) }
+    ensures spent { Spent 13 (K.seen keeper.old) (K.seen keeper.new) }
+{
+    let mut seen = look(alloc, keeper, ip)?;
+    let profile = read_profile(alloc, keeper, &seen.modem)?;
+    seen.profile = profile;
+    Ok(seen)
+}
+
+fn owner_by(lease: Option<Lease>) -> Option<Mac>
+    ensures { result ≡ owner_by lease }
+{
+    match lease {
+        Some(lease) => owner_of(lease.hold),
+        None => None,
+    }
+}
+
+#[tactic(auto, using(crate::proofs::ReadLemmas::readings))]
+fn read_owner<K: Keeper>(
+    alloc: Global,
+    keeper: &mut K,
+    owner: Option<Mac>,
+) -> Result<Option<Modem>, KeepErr>
+    ensures told { Looks result (K.seen keeper.old) (K.seen keeper.new)
+        (λ modem t. modem ≡ option_and_then (modem_in t) owner) }
+    ensures spent { Spent 1 (K.seen keeper.old) (K.seen keeper.new) }
+{
+    match owner {
+        Some(mac) => read_modem(alloc, keeper, mac),
+        None => Ok(None),
+    }
+}
+
+// The profile of a modem, where its subscriber and its class are there. It's ten calls.
+#[tactic(auto, using(crate::proofs::ReadLemmas::readings))]
+fn read_profile<K: Keeper>(
+    alloc: Global,
+    keeper: &mut K,
+    modem: &Option<Modem>,
+) -> Result<Option<Settings>, KeepErr>
+    ensures told { Looks result (K.seen keeper.old) (K.seen keeper.new)
+        (λ profile t. profile ≡ profile_for t modem.now) }
+    ensures spent { Spent 10 (K.seen keeper.old) (K.seen keeper.new) }
+{
+    match modem {
+        Some(modem) => read_profile_at(alloc, keeper, modem.subscriber, modem.class),
+        None => Ok(None),
+    }
+}
+
+#[tactic(auto, using(crate::proofs::ReadLemmas::readings))]
+fn read_profile_at<K: Keeper>(
+    alloc: Global,
+    keeper: &mut K,
+    subscriber: u32,
+    class: u32,
+) -> Result<Option<Settings>, KeepErr>
+    ensures told { Looks result (K.seen keeper.old) (K.seen keeper.new)
+        (λ profile t. profile ≡ profile_at t subscriber class) }
+    ensures spent { Spent 10 (K.seen keeper.old) (K.seen keeper.new) }
+{
+    let who = read_subscriber(alloc, keeper, subscriber)?;
+    let class = read_class(alloc, keeper, class)?;
+    let add_ons = read_add_ons(alloc, keeper, subscriber)?;
+    profile_from(alloc, &who, &class, &add_ons)
+}
+
+fn profile_from(
+    alloc: Global,
+    who: &Option<Subscriber>,
+    class: &Option<Class>,
+    add_ons: &AddOns,
+) -> Result<Option<Settings>, KeepErr>
+    ensures { MatchResult result (λ profile. profile ≡ profile_from who.now class.now add_ons.now)
+        (λ err. err ≡ Memory) }
+{
+    let Some(who) = who else { return Ok(None) };
+    let Some(class) = class else {
+        return Ok(None);
+    };
+    match profile_of(alloc, who, &class.settings, add_ons) {
+        Ok(profile) => Ok(Some(profile)),
+        Err(NoMemory) => Err(KeepErr::Memory),
+    }
+}
+
+// A subscriber's add-ons, in ascending number. It's eight calls.
+#[tactic(auto, using(crate::proofs::ReadLemmas::readings))]
+fn read_add_ons<K: Keeper>(
+    alloc: Global,
+    keeper: &mut K,
+    subscriber: u32,
+) -> Result<AddOns, KeepErr>
+    ensures told { Looks result (K.seen keeper.old) (K.seen keeper.new)
+        (λ add_ons t. add_ons ≡ add_ons_in t subscriber) }
+    ensures spent { Spent 8 (K.seen keeper.old) (K.seen keeper.new) }
+{
+    let mut add_ons = AddOns::new(alloc);
+    for number in 0..ADD_ONS {
+        let settings = read_add_on(alloc, keeper, subscriber, number)?;
+        push_some(number, settings, &mut add_ons)?;
+    }
+    Ok(add_ons)
+}
+
+// Appends an add-on, if it's there.
+fn push_some(number: u8, settings: Option<Settings>, out: &mut AddOns) -> Result<(), KeepErr>
+    ensures { MatchResult result (λ _. out.new ≡ with_add_on out.old number settings)
+        (λ err. err ≡ Memory) }
+{
+    let Some(settings) = settings else {
+        return Ok(());
+    };
+    match out.push(number, settings) {
+        Ok(()) => Ok(()),
+        Err(NoMemory) => Err(KeepErr::Memory),
+    }
+}

@@ -1,0 +1,91 @@
+//! A peer's requests against what was read for it.
+
+ghost use Rattle.std.specs.Prelude.{◌≡◌};
+ghost use Rattle.off_rules.specs.Rows.{passes};
+ghost use Rattle.off_rules.specs.Good.{is_mac};
+ghost use Rattle.off_lease_rules.specs.Free.{has_ended};
+ghost use Rattle.off_transfer_rules.specs.View.{bound_to, is_own_name, is_of_subscriber, agrees};
+ghost use Rattle.off_transfer_rules.specs.Steps.{has_file};
+ghost use Rattle.off_tftp.specs.Seen.{view_of, held_by};
+
+use crate::gathering::Seen;
+use crate::live::Live;
+use off_base::{Ip4, Mac, Moment};
+use off_defs::{Hold, Lease, Modem, Site};
+use off_profile::file_name;
+use std::cmp::Ordering;
+
+/// Whether the tables agree with a transfer.
+pub(crate) fn agrees(seen: &Seen, now: Moment, ip: Ip4, live: &Live) -> bool
+    ensures { result ≡ agrees (view_of seen.now) now.0 ip live.now.name live.now.modem
+        live.now.subscriber }
+{
+    is_held_by(now, seen.lease, live.modem())
+        && is_of_subscriber(&seen.modem, live.subscriber())
+        && is_own_name(&seen.site, live.name(), live.modem(), ip)
+}
+
+/// Whether the modem has a file of this name at the address.
+pub(crate) fn has_file(seen: &Seen, ip: Ip4, name: &[u8], mac: Mac) -> bool
+    ensures { result ≡ has_file (view_of seen.now) ip name.now mac }
+{
+    is_own_name(&seen.site, name, mac, ip) && seen.profile.is_some()
+}
+
+/// The modem to which a lease binds.
+pub(crate) fn holder(now: Moment, lease: Option<Lease>) -> Option<Mac>
+    ensures { result ≡ held_by now.0 lease }
+{
+    if has_ended(now, lease) {
+        return None;
+    }
+    match lease {
+        Some(lease) => bound_to(lease.hold),
+        None => None,
+    }
+}
+
+fn has_ended(now: Moment, lease: Option<Lease>) -> bool
+    ensures { result ≡ has_ended now.0 lease }
+{
+    match lease {
+        Some(lease) => lease.expiry.0 <= now.0,
+        None => true,
+    }
+}
+
+fn bound_to(hold: Hold) -> Option<Mac>
+    ensures { result ≡ bound_to hold }
+{
+    match hold {
+        Hold::Bound(mac) => Some(mac),
+        Hold::Offered(_) | Hold::Declined => None,
+    }
+}
+
+fn is_held_by(now: Moment, lease: Option<Lease>, mac: Mac) -> bool
+    ensures { result ≡ passes (is_mac mac) (held_by now.0 lease) }
+{
+    match holder(now, lease) {
+        Some(other) => mac.cmp(&other) == Ordering::Equal,
+        None => false,
+    }
+}
+
+fn is_of_subscriber(modem: &Option<Modem>, subscriber: u32) -> bool
+    ensures { result ≡ passes (is_of_subscriber subscriber) modem.now }
+{
+    match modem {
+        Some(modem) => modem.subscriber == subscriber,
+        None => false,
+    }
+}
+
+fn is_own_name(site: &Option<Site>, name: &[u8], mac: Mac, ip: Ip4) -> bool
+    ensures { result ≡ passes (is_own_name name.now mac ip) site.now }
+{
+    match site {
+        Some(site) => name == file_name(site.secret.as_slice(), mac, ip).as_slice(),
+        None => false,
+    }
+}

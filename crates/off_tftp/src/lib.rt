@@ -1,0 +1,24 @@
+//! Files to modems (RFC 1350): what a modem's datagram does to transfers, and what becomes of them
+//! as time passes.
+//!
+//! `Transfers` has what is live, each with its own file (`transfers`, `live`, `files`). A datagram
+//! is read (`packets`), by the peer's transfer it's told what is to be read of the tables
+//! (`acknowledging`, `gathering`), and what was read judges it (`judging`, `opening`). All that may
+//! fail comes before the first change.
+#![tactic(auto)]
+
+mod acknowledging;
+mod datagrams;
+mod files;
+mod gathering;
+mod judging;
+mod live;
+mod opening;
+mod packets;
+mod replies;
+mod saying;
+mod ticking;
+mod transfers;
+
+pub use packets::read_packet;
+pub use transfers::Transfers;

@@ -1,0 +1,245 @@
+ghost use Rattle.std.specs.Prelude.{◌≡◌, ◌≤◌, suc, true, false, length, IfOk, IfSome};
+ghost use Rattle.off_transfer_rules.specs.Replies.{data_packet, oack_packet};
+ghost use Rattle.off_transfer_rules.specs.Steps.{is_repeated};
+ghost use Rattle.off_transfer_rules.specs.Transfers.{packet_of_number, last_packet, is_at_last};
+ghost use Rattle.off_transfer_rules.specs.Transfers.{begun, gone_on, asked_again, sent_again};
+ghost use Rattle.off_transfer_rules.specs.Transfers.{first_number, size_for};
+ghost use Rattle.off_transfer_rules.specs.Ticks.{is_due, has_resend};
+
+use crate::files::File;
+use crate::replies::{data_packet, oack_packet};
+use off_base::{Bytes, Mac, Moment, NoMemory};
+use std::alloc::Global;
+use std::marker::Model;
+
+// The sizes of blocks: none is over what a datagram carries whole, and without one that is asked
+// for it's 512 (RFC 1350, section 2).
+const MOST_SIZE: u16 = 1_428;
+
+const USUAL_SIZE: u16 = 512;
+
+// A packet that wasn't answered is sent again behind so many seconds, and so often.
+const PATIENCE: u64 = 2;
+
+const MOST_RESENDS: u8 = 5;
+
+/// A live transfer, which owns its file.
+#[derive(Drop)]
+pub struct Live {
+    name: Bytes,
+    modem: Mac,
+    subscriber: u32,
+    file: File,
+    size: u16,
+    request: Bytes,
+    sent: u16,
+    is_acknowledged: bool,
+    last_send: Moment,
+    resends: u8,
+}
+
+impl Model for Live {
+    ghost use Rattle.std.specs.Prelude.{◌≤◌, length};
+    ghost use Rattle.off_defs.specs.State.{Transfer};
+    ghost use Rattle.off_defs.specs.Codes.{transfer_code};
+
+    ghost Value = { Transfer };
+
+    ghost coded = { transfer_code };
+
+    ghost view = { λ l. record {
+      name = l.name;
+      modem = l.modem;
+      subscriber = l.subscriber;
+      file = l.file;
+      size = l.size;
+      request = l.request;
+      sent = l.sent;
+      is_acknowledged = l.is_acknowledged;
+      last_send = l.last_send.0;
+      resends = l.resends;
+    } };
+
+    ghost invariant = { λ l. (8 ≤ l.size) × (l.size ≤ 1428)
+        × (length l.file ≤ 6200) };
+}
+
+impl Live {
+    /// A transfer as its read request makes it.
+    pub(crate) fn begin(
+        alloc: Global,
+        now: Moment,
+        request: &[u8],
+        modem: Mac,
+        subscriber: u32,
+        name: &[u8],
+        size: Option<u16>,
+        file: File,
+    ) -> Result<Live, NoMemory>
+        requires least { IfSome size (λ size. 8 ≤ size) }
+        requires few { length file ≤ 6200 }
+        ensures { IfOk result (λ live. live
+            ≡ begun now.0 request.now modem subscriber name.now size file) }
+    {
+        let mut named = Bytes::new(alloc);
+        named.push_all(name)?;
+        let mut asked = Bytes::new(alloc);
+        asked.push_all(request)?;
+        Ok(Live {
+            name: named,
+            modem,
+            subscriber,
+            file,
+            size: size_for(size),
+            request: asked,
+            sent: first_number(size),
+            is_acknowledged: false,
+            last_send: now,
+            resends: 0,
+        })
+    }
+
+    /// Whether the request is the one with which the transfer began, and nothing was acknowledged
+    /// since.
+    pub(crate) fn is_repeated(&self, request: &[u8]) -> bool
+        ensures { result ≡ is_repeated request.now self.now }
+    {
+        !self.is_acknowledged && self.request.as_slice() == request
+    }
+
+    /// The number of the packet that was sent last.
+    pub(crate) fn sent(&self) -> u16
+        ensures { result ≡ self.now.sent }
+    {
+        self.sent
+    }
+
+    /// For whom the transfer began.
+    pub(crate) fn modem(&self) -> Mac
+        ensures { result ≡ self.now.modem }
+    {
+        self.modem
+    }
+
+    pub(crate) fn subscriber(&self) -> u32
+        ensures { result ≡ self.now.subscriber }
+    {
+        self.subscriber
+    }
+
+    /// The name of its file.
+    pub(crate) fn name(&self) -> &[u8]
+        ensures { result.now ≡ self.now.name }
+    {
+        self.name.as_slice()
+    }
+
+    /// Whether the last block was sent.
+    pub(crate) fn is_at_last(&self) -> bool
+        ensures { result ≡ is_at_last self.now }
+    {
+        if self.sent == 0 {
+            return false;
+        }
+        self.file.len() < usize::from(self.sent) * usize::from(self.size)
+    }
+
+    /// The packet that was sent last.
+    pub(crate) fn last_packet(&self, alloc: Global) -> Result<Bytes, NoMemory>
+        ensures { IfOk result (λ packet. packet ≡ last_packet self.now) }
+    {
+        self.packet(alloc, self.sent)
+    }
+
+    /// The packet behind it.
+    pub(crate) fn next_packet(&self, alloc: Global) -> Result<Bytes, NoMemory>
+        requires { is_at_last self.now ≡ false }
+        ensures { IfOk result
+            (λ packet. packet ≡ packet_of_number self.now.file self.now.size (suc self.now.sent)) }
+    {
+        self.packet(alloc, self.next_number())
+    }
+
+    /// Its number.
+    pub(crate) fn next_number(&self) -> u16
+        requires { is_at_last self.now ≡ false }
+        ensures { result ≡ suc self.now.sent }
+    {
+        self.sent + 1
+    }
+
+    fn packet(&self, alloc: Global, number: u16) -> Result<Bytes, NoMemory>
+        ensures { IfOk result
+            (λ packet. packet ≡ packet_of_number self.now.file self.now.size number) }
+    {
+        if number == 0 {
+            oack_packet(alloc, self.size)
+        } else {
+            data_packet(alloc, &self.file, self.size, number)
+        }
+    }
+
+    /// The next block was sent.
+    pub(crate) fn go_on(&mut self, now: Moment)
+        requires { is_at_last self.old ≡ false }
+        ensures { self.new ≡ gone_on now.0 self.old }
+    {
+        self.sent += 1;
+        self.is_acknowledged = true;
+        self.last_send = now;
+        self.resends = 0;
+    }
+
+    /// Its first packet was sent again, since its read request came again.
+    pub(crate) fn ask_again(&mut self, again: Moment)
+        ensures { self.new ≡ asked_again again.0 self.old }
+    {
+        self.last_send = again;
+    }
+
+    /// Its last packet was sent again, since nothing came.
+    pub(crate) fn send_again(&mut self, now: Moment)
+        requires { has_resend self.old ≡ true }
+        ensures { self.new ≡ sent_again now.0 self.old }
+    {
+        self.last_send = now;
+        self.resends += 1;
+    }
+
+    /// Whether nothing came for long enough.
+    pub(crate) fn is_due(&self, now: Moment) -> bool
+        ensures { result ≡ is_due now.0 self.now }
+    {
+        self.last_send.0.saturating_add(PATIENCE) <= now.0
+    }
+
+    /// Whether it may be sent again.
+    pub(crate) fn has_resend(&self) -> bool
+        ensures { result ≡ has_resend self.now }
+    {
+        self.resends < MOST_RESENDS
+    }
+}
+
+// The size of blocks for the one that is asked for.
+fn size_for(asked: Option<u16>) -> u16
+    requires { IfSome asked (λ size. 8 ≤ size) }
+    ensures size { result ≡ size_for asked }
+    ensures least { 8 ≤ result }
+    ensures most { result ≤ 1428 }
+{
+    match asked {
+        Some(size) => size.min(MOST_SIZE),
+        None => USUAL_SIZE,
+    }
+}
+
+// The number of the first packet: 0 for the one that tells the size.
+fn first_number(asked: Option<u16>) -> u16
+    ensures { result ≡ first_number asked }
+{
+    match asked {
+        Some(_) => 0,
+        None => 1,
+    }
+}

@@ -1,0 +1,58 @@
+//! Packets that the office sends (RFC 1350, section 5; RFC 2347, section 2).
+
+ghost use Rattle.std.specs.Prelude.{◌≡◌, ◌≤◌, IfOk};
+ghost use Rattle.off_file_rules.specs.Block.{block};
+ghost use Rattle.off_transfer_rules.specs.Replies.{data_packet, oack_packet, error_packet};
+
+use crate::files::File;
+use itoa::Buffer;
+use off_base::{Bytes, NoMemory};
+use std::alloc::Global;
+
+// The most bytes of a block.
+const MOST: usize = 1_428;
+
+/// A block of a file, which it counts from 1.
+pub(crate) fn data_packet(
+    alloc: Global,
+    file: &File,
+    size: u16,
+    number: u16,
+) -> Result<Bytes, NoMemory>
+    requires room { size ≤ 1428 }
+    requires counted { 1 ≤ number }
+    ensures { IfOk result (λ packet. packet ≡ data_packet number (block file.now size number)) }
+{
+    let mut held = [0; MOST];
+    let length = file.block(size, number, &mut held);
+    let mut packet = Bytes::new(alloc);
+    packet.push_all(&[0, 3])?;
+    packet.push_all(&number.to_be_bytes())?;
+    packet.push_all(&held[..length])?;
+    Ok(packet)
+}
+
+/// The size of blocks that was taken.
+pub(crate) fn oack_packet(alloc: Global, size: u16) -> Result<Bytes, NoMemory>
+    ensures { IfOk result (λ packet. packet ≡ oack_packet size) }
+{
+    let mut packet = Bytes::new(alloc);
+    packet.push_all(&[0, 6])?;
+    packet.push_all(b"blksize")?;
+    packet.push_all(&[0])?;
+    packet.push_all(Buffer::new().format(size).as_bytes())?;
+    packet.push_all(&[0])?;
+    Ok(packet)
+}
+
+/// A refusal: a code, and a text for people.
+pub(crate) fn error_packet(alloc: Global, code: u16, text: &[u8]) -> Result<Bytes, NoMemory>
+    ensures { IfOk result (λ packet. packet ≡ error_packet code text.now) }
+{
+    let mut packet = Bytes::new(alloc);
+    packet.push_all(&[0, 5])?;
+    packet.push_all(&code.to_be_bytes())?;
+    packet.push_all(text)?;
+    packet.push_all(&[0])?;
+    Ok(packet)
+}
