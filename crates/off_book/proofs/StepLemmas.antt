@@ -14,10 +14,10 @@ use Rattle.off_book.specs.Run.{Turn, SaysMemory, TellsItsOutcome, keeper_failure
 does_memory : (s : State) (what : What) (effect : Effect) → Does s what Memory effect → effect.said.line ≡ service_word what ++ codes " memory"
 does_memory s (Datagram Dhcp from bytes) effect does = ap (λ (e : Effect). e.said.line) does
 does_memory s (Datagram Time from bytes) effect does = ap (λ (e : Effect). e.said.line) does
-does_memory s (Datagram Tftp from bytes) effect does = absurd does
+does_memory s (Datagram Tftp from bytes) effect does = ap (λ (e : Effect). e.said.line) does
 does_memory s (Piece conn bytes) effect does = ap (λ (e : Effect). e.said.line) does
 does_memory s (Closed conn) effect does = absurd does
-does_memory s Tick effect does = absurd does
+does_memory s Tick effect does = ap (λ (e : Effect). e.said.line) does
 does_memory s End effect does = absurd does
 
 -- want of memory is said
@@ -28,7 +28,7 @@ memory_says s event effect step = does_memory _ event.what effect step
 does_keeper : (s : State) (what : What) (effect : Effect) → Does s what Keeper effect → effect.said.line ≡ service_word what ++ codes " keeper"
 does_keeper s (Datagram Dhcp from bytes) effect does = ap (λ (e : Effect). e.said.line) does
 does_keeper s (Datagram Time from bytes) effect does = absurd does
-does_keeper s (Datagram Tftp from bytes) effect does = absurd does
+does_keeper s (Datagram Tftp from bytes) effect does = ap (λ (e : Effect). e.said.line) does
 does_keeper s (Piece conn bytes) effect does = ap (λ (e : Effect). e.said.line) does
 does_keeper s (Closed conn) effect does = absurd does
 does_keeper s Tick effect does = absurd does

@@ -1,4 +1,5 @@
--- A datagram to the DHCP port: what its message does to the leases, its reply, and the word of its line (RFC 2131).
+-- A datagram to the DHCP port: what its message does to the leases, its reply, and the word of its
+-- line (RFC 2131).
 use Rattle.std.specs.Prelude.{◌≡◌, List, [], ◌∷◌, ◌++◌, ℕ, Option, Some, None, codes}
 use Rattle.off_defs.specs.declared.results.Sent.{Sent}
 use Rattle.off_defs.specs.State.{State, Said, Effect, state_of}

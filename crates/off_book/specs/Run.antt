@@ -1,5 +1,6 @@
--- A run of the office: a list of turns, each an event with its outcome, what was said and which of the things to send went
--- out. The states between the turns aren't in the list; Run says that there are some.
+-- A run of the office: a list of turns, each an event with its outcome, what was said and which of
+-- the things to send went out. The states between the turns aren't in the list; Run says that there
+-- are some.
 use Rattle.std.specs.Prelude.{◌≡◌, ℕ, ◌+◌, ◌-◌, Bool, true, false, cond, not, List, [], ◌∷◌, ◌++◌, length, take, All, ◌==◌, decimal, codes, count_by, max}
 use Rattle.off_defs.specs.declared.events.Event.{Event}
 use Rattle.off_defs.specs.declared.events.What.{What}
@@ -14,7 +15,8 @@ use Rattle.off_defs.specs.Tables.{write_all}
 use Rattle.off_defs.specs.Counts.{commits_after, calls_after}
 use Rattle.off_book.specs.Step.{Step, TellsOutcome, service_word}
 
--- One turn. `commit` is what was written to the tables, in one commit, and `went` tells of each item whether it was sent.
+-- One turn. `commit` is what was written to the tables, in one commit, and `went` tells of each
+-- item whether it was sent.
 pub record Turn : Type 0 where
   pub event : Event
   pub outcome : Outcome
@@ -32,7 +34,8 @@ Run s [] last = last ≡ s
 Run s (turn ∷ turns) last =
     (after : State) × (Step s turn.event turn.outcome (effect_of turn after) × Run after turns last)
 
--- The tables at a place of a run are those of its beginning, with what each turn so far has committed; the moment there is the greatest so far.
+-- The tables at a place of a run are those of its beginning, with what each turn so far has
+-- committed; the moment there is the greatest so far.
 abbrev pub tables_after : Tables → List Turn → Tables
 tables_after tables [] = tables
 tables_after tables (turn ∷ turns) = tables_after (write_all tables turn.commit) turns
@@ -100,11 +103,13 @@ abbrev pub all_went : List Bool → Bool
 all_went [] = true
 all_went (mark ∷ marks) = cond mark (all_went marks) false
 
--- The line of the log for event number n, which says `words`: the number, a space, the service and its words, a line feed.
--- `link` stands in place of any other word where an item was lost. What says nothing has no line.
+-- The line of the log for event number n, which says `words`: the number, a space, the service and
+-- its words, a line feed. `link` stands in place of any other word where an item was lost. What
+-- says nothing has no line.
 abbrev pub line_text : ℕ → What → List ℕ → Bool → List ℕ
 line_text n what words all =
-    cond (length words == 0) [] (decimal n ++ (32 ∷ cond all words (service_word what ++ codes " link") ++ 10 ∷ []))
+    cond (length words == 0) []
+    (decimal n ++ (32 ∷ cond all words (service_word what ++ codes " link") ++ 10 ∷ []))
 
 abbrev pub line_of : ℕ → Turn → List ℕ
 line_of n turn = line_text n turn.event.what turn.said.line (all_went turn.went)

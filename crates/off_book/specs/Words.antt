@@ -2,8 +2,8 @@
 --     serve --store STORE --ports DHCP,TIME,TFTP,HTTP --turns N
 --     seal HEX
 --     check HEX
--- STORE is `memory` or a path that isn't empty and doesn't begin with `-`. Ports are numbers from 1 to 65535. N is 0 to 10^15.
--- HEX is a secret of 1 to 64 bytes in hexadecimal pairs of either case.
+-- STORE is `memory` or a path that isn't empty and doesn't begin with `-`. Ports are numbers from 1
+-- to 65535. N is 0 to 10^15. HEX is a secret of 1 to 64 bytes in hexadecimal pairs of either case.
 use Rattle.std.specs.Prelude.{ℕ, ◌==◌, Bool, not, ◌&&◌, nat_lt, List, [], ◌∷◌, length, map, codes, slice_index, Option, Some, None, option_and_then, option_map, nat_le, if◌then◌else◌}
 use Rattle.std.specs.Option.{option_or}
 use Rattle.std.specs.List.{slice_split}
@@ -32,7 +32,8 @@ between_commas text = slice_split (λ c. c == 44) text
 
 -- the ports, where there are four of them
 abbrev pub four_ports : List (Option ℕ) → Option (List ℕ)
-four_ports (Some dhcp ∷ Some time ∷ Some tftp ∷ Some http ∷ []) = Some (dhcp ∷ time ∷ tftp ∷ http ∷ [])
+four_ports (Some dhcp ∷ Some time ∷ Some tftp ∷ Some http ∷ []) =
+    Some (dhcp ∷ time ∷ tftp ∷ http ∷ [])
 four_ports _ = None
 
 -- four ports with commas between them
@@ -53,13 +54,16 @@ serve_by store (Some ports) (Some turns) =
 unfoldable pub serve_of : List (List ℕ) → Option Serve
 serve_of (command ∷ store_flag ∷ store ∷ ports_flag ∷ ports ∷ turns_flag ∷ turns ∷ []) =
     if (bytes_eq command (codes "serve")
-    && (bytes_eq store_flag (codes "--store") && (bytes_eq ports_flag (codes "--ports") && bytes_eq turns_flag (codes "--turns"))))
+    && (bytes_eq store_flag (codes "--store")
+    && (bytes_eq ports_flag (codes "--ports") && bytes_eq turns_flag (codes "--turns"))))
     then serve_by store (ports_of ports) (number_read most_turns turns) else None
 serve_of words = None
 
 -- a secret of 1 to 64 bytes, in hexadecimal pairs
 unfoldable pub secret_of : List ℕ → Option (List ℕ)
-secret_of text = if (nat_lt 0 (length text) && nat_le (length text) 128) then result_ok (decode_of text) else None
+secret_of text =
+    if (nat_lt 0 (length text) && nat_le (length text) 128) then result_ok (decode_of text) else
+    None
 
 -- what the words ask for
 pub data Job : Type 0 where
@@ -69,10 +73,12 @@ pub data Job : Type 0 where
 
 -- the words of a job with a secret: the command, and the secret
 abbrev pub keyed_of : List ℕ → (List ℕ → Job) → List (List ℕ) → Option Job
-keyed_of command job (word ∷ hex ∷ []) = if bytes_eq word command then option_map job (secret_of hex) else None
+keyed_of command job (word ∷ hex ∷ []) =
+    if bytes_eq word command then option_map job (secret_of hex) else None
 keyed_of command job words = None
 
 -- the one form that the words have, or None where they have none
 abbrev pub job_of : List (List ℕ) → Option Job
 job_of words =
-    option_or (option_map to_serve (serve_of words)) (option_or (keyed_of (codes "seal") to_seal words) (keyed_of (codes "check") to_check words))
+    option_or (option_map to_serve (serve_of words))
+    (option_or (keyed_of (codes "seal") to_seal words) (keyed_of (codes "check") to_check words))

@@ -37,7 +37,7 @@ use Rattle.off_laws.specs.Leases.{DoesNotServe, BindingsOutlast}
 use Rattle.off_laws.proofs.Requests.{MayBe, request_may}
 use Rattle.off_laws.proofs.Answers.{step_tables}
 use Rattle.off_laws.proofs.LiveLeases.{commands_keep_live}
-use Rattle.off_laws.proofs.Ways.{Way, stays, forgets, hears, answers, messages, way}
+use Rattle.off_laws.proofs.Ways.{Way, stays, serves, forgets, hears, answers, messages, way}
 use Rattle.off_laws.proofs.StepLaws.{moment_is_greatest, step_good}
 use Rattle.off_laws.proofs.RunLaws.{moment_never_falls}
 
@@ -92,6 +92,7 @@ module _ (mac : Mac) (address : Ip4) (expiry : ℕ) where
   way_keeps : (s : State) (what : What) (outcome : Outcome) (effect : Effect) → Way s what outcome effect → Good s.tables → Bound s.tables → s.held.now < expiry
       → Passes s what effect → Bound effect.after.tables
   way_keeps s what outcome effect (stays is none) good there live passes = ap (λ (u : State). lease_in u.tables address) is ∙ there
+  way_keeps s what outcome effect (serves transfers is none) good there live passes = ap (λ (u : State). lease_in u.tables address) is ∙ there
   way_keeps s what outcome effect (forgets conn is none) good there live passes = ap (λ (u : State). lease_in u.tables address) is ∙ there
   way_keeps s what outcome effect (hears conn bytes room is none) good there live passes = ap (λ (u : State). lease_in u.tables address) is ∙ there
   way_keeps s what outcome effect (answers conn piece method target body came acted is) good there live passes =

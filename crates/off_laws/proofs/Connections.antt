@@ -16,7 +16,7 @@ use Rattle.off_http.specs.Request.{Meaning, Waits, Refused, Asked}
 use Rattle.off_book.specs.Http.{most_connections, by_meaning, is_full, TakesPiece}
 use Rattle.off_book.specs.Step.{Step, Does}
 use Rattle.off_laws.specs.Laws.{is_answer, ends_connection, AnsweredOnce}
-use Rattle.off_laws.proofs.Ways.{Way, stays, forgets, hears, answers, messages, way}
+use Rattle.off_laws.proofs.Ways.{Way, stays, serves, forgets, hears, answers, messages, way}
 
 -- few connections stay few
 abbrev Connections : Type 0
@@ -41,6 +41,7 @@ AreFew s = map.len s.held.connections ≤ most_connections
 
 way_few : (s : State) (what : What) (outcome : Outcome) (effect : Effect) → Way s what outcome effect → AreFew s → AreFew effect.after
 way_few s what outcome effect (stays is none) few = subst (λ (u : State). AreFew u) (sym is) few
+way_few s what outcome effect (serves transfers is none) few = subst (λ (u : State). AreFew u) (sym is) few
 way_few s what outcome effect (forgets conn is none) few = subst (λ (u : State). AreFew u) (sym is) (removed_few s.held.connections conn few)
 way_few s what outcome effect (hears conn bytes room is none) few = subst (λ (u : State). AreFew u) (sym is) (inserted_few s.held.connections conn bytes room few)
 way_few s what outcome effect (messages from bytes came acted is) few = subst (λ (e : Effect). AreFew e.after) (sym is) few

@@ -8,6 +8,9 @@ use Rattle.off_defs.specs.State.{State, Effect, at_moment}
 use Rattle.off_http.specs.Request.{Meaning, RequestIs}
 use Rattle.off_book.specs.Http.{heard_of, by_meaning, closed_as_busy, is_full, TakesPiece}
 use Rattle.off_book.specs.Step.{Step, Does}
+use Rattle.off_book.specs.Tftp.{transfers_effect, tftp_said, tick_said}
+use Rattle.off_transfer_laws.proofs.StepLaws.{step_is_there}
+use Rattle.off_transfer_laws.proofs.TickLaws.{tick_is_there}
 use Rattle.off_laws.specs.Laws.{Brings, SomeResult}
 
 abbrev Says : List ℕ → Type 0
@@ -23,10 +26,18 @@ piece_some false s conn piece heard same says = (
 does_some : (s : State) (what : What) (heard : List ℕ) → Brings s what heard → Says heard → (effect : Effect) × Does s what Did effect
 does_some s (Datagram Dhcp from bytes) heard brings says = (_, refl)
 does_some s (Datagram Time from bytes) heard brings says = (_, refl)
-does_some s (Datagram Tftp from bytes) heard brings says = (_, refl)
+does_some s (Datagram Tftp from bytes) heard brings says =
+    let there = step_is_there s.tables s.held.now s.held.transfers from bytes in (
+      transfers_effect s there.0.transfers (tftp_said there.0),
+      record { given = there.0; step = there.1; does = refl },
+    )
 does_some s (Piece conn piece) heard brings says = piece_some (is_full s.held.connections conn) s conn piece heard brings says
 does_some s (Closed conn) heard brings says = (_, refl)
-does_some s Tick heard brings says = (_, refl)
+does_some s Tick heard brings says =
+    let there = tick_is_there s.held.now s.held.transfers in (
+      transfers_effect s there.after (tick_said there.items there.ticked),
+      record { transfers = there.after; items = there.items; ticked = there.ticked; step = there.step; does = refl },
+    )
 does_some s End heard brings says = (_, refl)
 
 brings_then : (s : State) (at : ℕ) (what : What) (heard : List ℕ) → Brings s what heard → Brings (at_moment s at) what heard

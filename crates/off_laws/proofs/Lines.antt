@@ -1,5 +1,5 @@
 -- What the line of an event says of its outcome.
-use Rattle.std.proofs.Common.{◌≡◌, ℕ, ◌<◌, Bool, true, false, List, [], ◌++◌, codes, nat_eq, refl, sym, ap, ◌∙◌, subst, arith}
+use Rattle.std.proofs.Common.{◌≡◌, ℕ, ◌<◌, ◌==◌, ◌&&◌, Bool, true, false, if◌then◌else◌, decimal, List, [], ◌++◌, codes, nat_eq, refl, sym, ap, ◌∙◌, subst, arith}
 use Rattle.std.proofs.lemmas.Bool.Decides.{nat_tests}
 use Rattle.std.specs.Prelude.{slice_index}
 use Rattle.std.specs.Char.{digit_value}
@@ -15,6 +15,11 @@ use Rattle.off_clerk_rules.specs.declared.faults.Fault.TheVariants as fault
 use Rattle.off_lease_rules.specs.declared.words.DhcpWord.{DhcpWord}
 use Rattle.off_lease_rules.specs.declared.words.DhcpWord.TheVariants as word
 use Rattle.off_lease_rules.specs.Words.{word_text}
+use Rattle.off_base.specs.declared.addresses.Peer.{Peer}
+use Rattle.off_transfer_rules.specs.declared.words.TftpWord.{TftpWord}
+use Rattle.off_transfer_rules.specs.declared.words.TftpWord.TheVariants as packet
+use Rattle.off_transfer_rules.specs.declared.ticks.Ticked.{Ticked}
+use Rattle.off_transfer_rules.specs.Words.{tftp_line}
 use Rattle.off_lease_rules.specs.Steps.{dhcp_step}
 use Rattle.off_book.specs.Http.{by_meaning, is_full, TakesPiece}
 use Rattle.off_book.specs.Step.{Step, Does, TellsOutcome, service_word}
@@ -25,6 +30,12 @@ use Rattle.off_laws.proofs.Answers.{BeginsWithDigit, fault_digit, request_digit}
 -- The line of an event that was acted on is no other line: their sixth bytes differ.
 abbrev NoFailure : List ℕ → What → Type 0
 NoFailure line what = (line ≡ service_word what ++ codes " memory" → ⊥) × (line ≡ service_word what ++ codes " keeper" → ⊥)
+
+-- two texts differ where they differ at some place
+apart_at : (place : ℕ) (xs ys : List ℕ) → nat_eq (slice_index xs place) (slice_index ys place) ≡ false → xs ≡ ys → ⊥
+apart_at place xs ys apart same =
+    let e : slice_index xs place ≡ slice_index ys place = ap (λ (zs : List ℕ). slice_index zs place) same in
+    grind (arith, nat_tests)
 
 pub other_byte : (xs ys : List ℕ) → nat_eq (slice_index xs 5) (slice_index ys 5) ≡ false → xs ≡ ys → ⊥
 other_byte xs ys apart same = let e : slice_index xs 5 ≡ slice_index ys 5 = ap (λ (zs : List ℕ). slice_index zs 5) same in grind (arith, nat_tests)
@@ -84,15 +95,42 @@ word_says word.PoolFull = (refl, refl)
 word_says word.NoRecord = (refl, refl)
 word_says word.NotYourAddress = (refl, refl)
 
+-- nor is the line of a TFTP datagram either of them: it differs from them in its sixth byte or in the seventh
+tftp_apart : (w : TftpWord) → (tftp_line w ≡ codes "tftp memory" → ⊥) × (tftp_line w ≡ codes "tftp keeper" → ⊥)
+tftp_apart packet.Form = (apart_at 5 (codes "tftp form") (codes "tftp memory") refl, apart_at 5 (codes "tftp form") (codes "tftp keeper") refl)
+tftp_apart packet.Write = (apart_at 5 (codes "tftp write") (codes "tftp memory") refl, apart_at 5 (codes "tftp write") (codes "tftp keeper") refl)
+tftp_apart packet.Mode = (apart_at 6 (codes "tftp mode") (codes "tftp memory") refl, apart_at 5 (codes "tftp mode") (codes "tftp keeper") refl)
+tftp_apart packet.Again = (apart_at 5 (codes "tftp again") (codes "tftp memory") refl, apart_at 5 (codes "tftp again") (codes "tftp keeper") refl)
+tftp_apart packet.NoLease = (apart_at 5 (codes "tftp no-lease") (codes "tftp memory") refl, apart_at 5 (codes "tftp no-lease") (codes "tftp keeper") refl)
+tftp_apart packet.Agreement = (apart_at 5 (codes "tftp agreement") (codes "tftp memory") refl, apart_at 5 (codes "tftp agreement") (codes "tftp keeper") refl)
+tftp_apart packet.Name = (apart_at 5 (codes "tftp name") (codes "tftp memory") refl, apart_at 5 (codes "tftp name") (codes "tftp keeper") refl)
+tftp_apart packet.Full = (apart_at 5 (codes "tftp full") (codes "tftp memory") refl, apart_at 5 (codes "tftp full") (codes "tftp keeper") refl)
+tftp_apart packet.Oack = (apart_at 5 (codes "tftp oack") (codes "tftp memory") refl, apart_at 5 (codes "tftp oack") (codes "tftp keeper") refl)
+tftp_apart (packet.Block number) = (apart_at 5 (tftp_line (packet.Block number)) (codes "tftp memory") refl, apart_at 5 (tftp_line (packet.Block number)) (codes "tftp keeper") refl)
+tftp_apart packet.Unknown = (apart_at 5 (codes "tftp unknown") (codes "tftp memory") refl, apart_at 5 (codes "tftp unknown") (codes "tftp keeper") refl)
+tftp_apart packet.StaleAck = (apart_at 5 (codes "tftp stale-ack") (codes "tftp memory") refl, apart_at 5 (codes "tftp stale-ack") (codes "tftp keeper") refl)
+tftp_apart packet.Done = (apart_at 5 (codes "tftp done") (codes "tftp memory") refl, apart_at 5 (codes "tftp done") (codes "tftp keeper") refl)
+tftp_apart packet.PeerError = (apart_at 5 (codes "tftp peer-error") (codes "tftp memory") refl, apart_at 5 (codes "tftp peer-error") (codes "tftp keeper") refl)
+
+packet_says : (from : Peer) (bytes : List ℕ) (effect : Effect) (w : TftpWord) → effect.said.line ≡ tftp_line w → NoFailure effect.said.line (Datagram Tftp from bytes)
+packet_says from bytes effect w is = (λ same. (tftp_apart w).0 (sym is ∙ same), λ same. (tftp_apart w).1 (sym is ∙ same))
+
+abbrev tick_text : Bool → Ticked → List ℕ
+tick_text silent ticked = if silent then [] else codes "tick again " ++ decimal ticked.again ++ codes " closed " ++ decimal ticked.closed
+
+tick_says : (effect : Effect) (ticked : Ticked) (silent : Bool) → effect.said.line ≡ tick_text silent ticked → NoFailure effect.said.line Tick
+tick_says effect ticked true is = says Tick effect [] refl refl is
+tick_says effect ticked false is = says Tick effect (tick_text false ticked) refl refl is
+
 does_line : (s : State) (what : What) (effect : Effect) → Does s what Did effect → NoFailure effect.said.line what
 does_line s (Datagram Dhcp from bytes) effect p =
     let said = (dhcp_step s.tables s.held.now bytes).word in
     says (Datagram Dhcp from bytes) effect (codes "dhcp " ++ word_text said) (word_says said).0 (word_says said).1 (line_is effect _ p)
 does_line s (Datagram Time from bytes) effect p = says (Datagram Time from bytes) effect (codes "time sent") refl refl (line_is effect _ p)
-does_line s (Datagram Tftp from bytes) effect p = says (Datagram Tftp from bytes) effect (codes "tftp not-built") refl refl (line_is effect _ p)
+does_line s (Datagram Tftp from bytes) effect p = packet_says from bytes effect p.given.word (line_is effect _ p.does)
 does_line s (Piece conn piece) effect p = piece_line (is_full s.held.connections conn) s conn piece effect p
 does_line s (Closed conn) effect p = says (Closed conn) effect (codes "http closed") refl refl (line_is effect _ p)
-does_line s Tick effect p = says Tick effect [] refl refl (line_is effect _ p)
+does_line s Tick effect p = tick_says effect p.ticked (p.ticked.again == 0 && p.ticked.closed == 0) (line_is effect _ p.does)
 does_line s End effect p = says End effect [] refl refl (line_is effect _ p)
 
 -- the lines of the two failures differ too

@@ -17,15 +17,23 @@ use Rattle.off_http.proofs.Meanings.{one_meaning}
 use Rattle.off_http.specs.Request.{Meaning, Waits, Refused, Asked}
 use Rattle.off_book.specs.Http.{Answered, heard_of, close_connection, answer_request, by_meaning, is_full, TakesPiece}
 use Rattle.off_book.specs.Step.{Step, Does}
-use Rattle.off_laws.specs.Parts.{Changes, untouched, a_connection, by_request, by_message, part_of}
+use Rattle.off_laws.specs.Parts.{Changes, untouched, a_connection, by_request, by_message, by_packet, by_tick, part_of}
 use Rattle.off_lease_rules.specs.Words.{acts}
 use Rattle.off_lease_rules.specs.Steps.{dhcp_step}
 use Rattle.off_laws.proofs.Messages.{datagram_refused, datagram_good}
+use Rattle.off_base.specs.declared.addresses.Peer.{Peer}
+use Rattle.off_defs.specs.declared.results.Sent.{Sent}
+use Rattle.off_transfer_rules.specs.Transfers.{Transfers}
+use Rattle.off_transfer_rules.specs.Steps.{Given}
+use Rattle.off_transfer_rules.specs.declared.ticks.Ticked.{Ticked}
+use Rattle.off_transfer_laws.proofs.StepLaws.{step_is_one, others_stay}
+use Rattle.off_transfer_laws.proofs.TickLaws.{tick_is_one}
+use Rattle.off_book.specs.Tftp.{TftpDid, TickDid, transfers_effect, tftp_said, tick_said}
 use Rattle.off_book.specs.Dhcp.{DhcpDid}
 use Rattle.off_defs.specs.declared.orders.Write.{Write}
 use Rattle.off_laws.specs.Laws.{OneResult, MomentIsGreatest, TablesByCommit, ChangesItsPart}
 use Rattle.off_laws.proofs.Answers.{WritesNothingOrDone, request_writes, request_good}
-use Rattle.off_laws.proofs.Ways.{Way, stays, forgets, hears, answers, messages, way}
+use Rattle.off_laws.proofs.Ways.{Way, stays, serves, forgets, hears, answers, messages, way}
 
 -- an event with an outcome gives one thing
 takes_one : (full : Bool) (s : State) (conn : ℕ) (piece : List ℕ) (one other : Effect) → TakesPiece full s conn piece one → TakesPiece full s conn piece other → one ≡ other
@@ -34,6 +42,19 @@ takes_one false s conn piece one other p q =
     let same : p.meaning ≡ q.meaning = one_meaning (heard_of s.held conn ++ piece) p.meaning q.meaning p.says q.says in
     p.does ∙ (ap (by_meaning s conn (heard_of s.held conn ++ piece)) same ∙ sym q.does)
 
+packet_one : (s : State) (from : Peer) (bytes : List ℕ) (one other : Effect) → TftpDid s from bytes one → TftpDid s from bytes other → one ≡ other
+packet_one s from bytes one other p q =
+    let same : p.given ≡ q.given = step_is_one s.tables s.held.now s.held.transfers from bytes p.given q.given p.step q.step in
+    p.does ∙ (ap (λ (given : Given). transfers_effect s given.transfers (tftp_said given)) same ∙ sym q.does)
+
+tick_one : (s : State) (one other : Effect) → TickDid s one → TickDid s other → one ≡ other
+tick_one s one other p q =
+    let same = tick_is_one s.held.now s.held.transfers p.transfers q.transfers p.items q.items p.ticked q.ticked p.step q.step in
+    p.does
+    ∙ (ap (λ (x : Transfers). transfers_effect s x (tick_said p.items p.ticked)) same.transfers
+    ∙ (ap (λ (x : List Sent). transfers_effect s q.transfers (tick_said x p.ticked)) same.items_sent
+    ∙ (ap (λ (x : Ticked). transfers_effect s q.transfers (tick_said q.items x)) same.counts ∙ sym q.does)))
+
 does_one : (s : State) (what : What) (outcome : Outcome) (one other : Effect) → Does s what outcome one → Does s what outcome other → one ≡ other
 does_one s (Datagram Dhcp from bytes) Did one other p q = p ∙ sym q
 does_one s (Datagram Dhcp from bytes) Memory one other p q = p ∙ sym q
@@ -41,17 +62,17 @@ does_one s (Datagram Dhcp from bytes) Keeper one other p q = p ∙ sym q
 does_one s (Datagram Time from bytes) Did one other p q = p ∙ sym q
 does_one s (Datagram Time from bytes) Memory one other p q = p ∙ sym q
 does_one s (Datagram Time from bytes) Keeper one other p q = absurd p
-does_one s (Datagram Tftp from bytes) Did one other p q = p ∙ sym q
-does_one s (Datagram Tftp from bytes) Memory one other p q = absurd p
-does_one s (Datagram Tftp from bytes) Keeper one other p q = absurd p
+does_one s (Datagram Tftp from bytes) Did one other p q = packet_one s from bytes one other p q
+does_one s (Datagram Tftp from bytes) Memory one other p q = p ∙ sym q
+does_one s (Datagram Tftp from bytes) Keeper one other p q = p ∙ sym q
 does_one s (Piece conn piece) Did one other p q = takes_one (is_full s.held.connections conn) s conn piece one other p q
 does_one s (Piece conn piece) Memory one other p q = p ∙ sym q
 does_one s (Piece conn piece) Keeper one other p q = p ∙ sym q
 does_one s (Closed conn) Did one other p q = p ∙ sym q
 does_one s (Closed conn) Memory one other p q = absurd p
 does_one s (Closed conn) Keeper one other p q = absurd p
-does_one s Tick Did one other p q = p ∙ sym q
-does_one s Tick Memory one other p q = absurd p
+does_one s Tick Did one other p q = tick_one s one other p q
+does_one s Tick Memory one other p q = p ∙ sym q
 does_one s Tick Keeper one other p q = absurd p
 does_one s End Did one other p q = p ∙ sym q
 does_one s End Memory one other p q = absurd p
@@ -64,6 +85,7 @@ one_result s event outcome one other p q = does_one _ event.what outcome one oth
 -- the moment stays at what the event has set
 way_now : (s : State) (what : What) (outcome : Outcome) (effect : Effect) → Way s what outcome effect → effect.after.held.now ≡ s.held.now
 way_now s what outcome effect (stays is none) = ap (λ (u : State). u.held.now) is
+way_now s what outcome effect (serves transfers is none) = ap (λ (u : State). u.held.now) is
 way_now s what outcome effect (forgets conn is none) = ap (λ (u : State). u.held.now) is
 way_now s what outcome effect (hears conn bytes room is none) = ap (λ (u : State). u.held.now) is
 way_now s what outcome effect (messages from bytes came acted is) = ap (λ (e : Effect). e.after.held.now) is
@@ -76,6 +98,7 @@ moment_is_greatest s event outcome effect p = way_now (at_moment s event.at.0) e
 -- the tables are those with what was committed
 way_by_commit : (s : State) (what : What) (outcome : Outcome) (effect : Effect) → Way s what outcome effect → effect.after.tables ≡ write_all s.tables effect.commit
 way_by_commit s what outcome effect (stays is none) = ap (λ (u : State). u.tables) is ∙ sym (ap (λ ws. write_all s.tables ws) none)
+way_by_commit s what outcome effect (serves transfers is none) = ap (λ (u : State). u.tables) is ∙ sym (ap (λ ws. write_all s.tables ws) none)
 way_by_commit s what outcome effect (forgets conn is none) = ap (λ (u : State). u.tables) is ∙ sym (ap (λ ws. write_all s.tables ws) none)
 way_by_commit s what outcome effect (hears conn bytes room is none) = ap (λ (u : State). u.tables) is ∙ sym (ap (λ ws. write_all s.tables ws) none)
 way_by_commit s what outcome effect (messages from bytes came acted is) =
@@ -155,6 +178,22 @@ after_of one other is = ap (λ (e : Effect). e.after) is
 commit_of : (one other : Effect) → one ≡ other → one.commit ≡ other.commit
 commit_of one other is = ap (λ (e : Effect). e.commit) is
 
+-- of the transfers a packet changes its peer's, and a Tick each by itself
+packet_part : (s : State) (from : Peer) (bytes : List ℕ) (effect : Effect) → TftpDid s from bytes effect → Changes (by_packet from) s effect
+packet_part s from bytes effect did = record {
+  commit = commit_of effect _ did.does;
+  connections = ap (λ (e : Effect). e.after.held.connections) did.does;
+  others = λ peer apart.
+      ap (λ (e : Effect). map.get e.after.held.transfers peer) did.does ∙ others_stay s.tables s.held.now s.held.transfers from bytes did.given did.step peer apart;
+}
+
+tick_part : (s : State) (effect : Effect) → TickDid s effect → Changes by_tick s effect
+tick_part s effect did = record {
+  commit = commit_of effect _ did.does;
+  connections = ap (λ (e : Effect). e.after.held.connections) did.does;
+  each = λ peer. ap (λ (e : Effect). map.get e.after.held.transfers peer) did.does ∙ did.step.each peer;
+}
+
 does_part : (s : State) (what : What) (outcome : Outcome) (effect : Effect) → Does s what outcome effect → Changes (part_of what outcome) s effect
 does_part s (Datagram Dhcp from bytes) Did effect p = message_part s bytes effect p
 does_part s (Datagram Dhcp from bytes) Memory effect p = quiet_part s effect (after_of effect _ p) (commit_of effect _ p)
@@ -162,17 +201,17 @@ does_part s (Datagram Dhcp from bytes) Keeper effect p = quiet_part s effect (af
 does_part s (Datagram Time from bytes) Did effect p = quiet_part s effect (after_of effect _ p) (commit_of effect _ p)
 does_part s (Datagram Time from bytes) Memory effect p = quiet_part s effect (after_of effect _ p) (commit_of effect _ p)
 does_part s (Datagram Time from bytes) Keeper effect p = absurd p
-does_part s (Datagram Tftp from bytes) Did effect p = quiet_part s effect (after_of effect _ p) (commit_of effect _ p)
-does_part s (Datagram Tftp from bytes) Memory effect p = absurd p
-does_part s (Datagram Tftp from bytes) Keeper effect p = absurd p
+does_part s (Datagram Tftp from bytes) Did effect p = packet_part s from bytes effect p
+does_part s (Datagram Tftp from bytes) Memory effect p = quiet_part s effect (after_of effect _ p) (commit_of effect _ p)
+does_part s (Datagram Tftp from bytes) Keeper effect p = quiet_part s effect (after_of effect _ p) (commit_of effect _ p)
 does_part s (Piece conn piece) Did effect p = takes_part (is_full s.held.connections conn) s conn piece effect p
 does_part s (Piece conn piece) Memory effect p = heard_part s conn effect (after_of effect _ p) (commit_of effect _ p)
 does_part s (Piece conn piece) Keeper effect p = heard_part s conn effect (after_of effect _ p) (commit_of effect _ p)
 does_part s (Closed conn) Did effect p = heard_part s conn effect (after_of effect _ p) (commit_of effect _ p)
 does_part s (Closed conn) Memory effect p = absurd p
 does_part s (Closed conn) Keeper effect p = absurd p
-does_part s Tick Did effect p = quiet_part s effect (after_of effect _ p) (commit_of effect _ p)
-does_part s Tick Memory effect p = absurd p
+does_part s Tick Did effect p = tick_part s effect p
+does_part s Tick Memory effect p = quiet_part s effect (after_of effect _ p) (commit_of effect _ p)
 does_part s Tick Keeper effect p = absurd p
 does_part s End Did effect p = quiet_part s effect (after_of effect _ p) (commit_of effect _ p)
 does_part s End Memory effect p = absurd p
@@ -185,6 +224,7 @@ changes_its_part s event outcome effect p = does_part (at_moment s event.at.0) e
 -- good tables stay good
 way_good : (s : State) (what : What) (outcome : Outcome) (effect : Effect) → Way s what outcome effect → Good s.tables → Good effect.after.tables
 way_good s what outcome effect (stays is none) good = subst (λ (u : State). Good u.tables) (sym is) good
+way_good s what outcome effect (serves transfers is none) good = subst (λ (u : State). Good u.tables) (sym is) good
 way_good s what outcome effect (forgets conn is none) good = subst (λ (u : State). Good u.tables) (sym is) good
 way_good s what outcome effect (hears conn bytes room is none) good = subst (λ (u : State). Good u.tables) (sym is) good
 way_good s what outcome effect (messages from bytes came acted is) good =

@@ -1,5 +1,5 @@
--- What an event makes of the state, in five ways: it stays, it forgets a connection, it hears more of one, it does what a clerk asked, or
--- what a client's message asks. What a law says of the states alone goes by these five. A service that is built changes lines of `way`, and of the two laws that go
+-- What an event makes of the state, in six ways: it stays, its transfers change, it forgets a connection, it hears more of one, it does what a
+-- clerk asked, or what a client's message asks. What a law says of the states alone goes by these six. A service that is built changes lines of `way`, and of the two laws that go
 -- through the cases of a step themselves: that an event gives one thing, and what its line says.
 use Rattle.std.proofs.Common.{◌≡◌, ℕ, Bool, true, false, List, [], ◌++◌, refl, ap}
 use Rattle.off_defs.specs.declared.events.Service.TheVariants.{Dhcp, Time, Tftp}
@@ -12,6 +12,8 @@ use Rattle.off_defs.specs.State.{State, Effect}
 use Rattle.off_http.specs.Request.{Meaning, Waits, Refused, Asked}
 use Rattle.off_book.specs.Http.{heard_of, with_connection, close_connection, answer_request, answered, by_meaning, is_full, TakesPiece}
 use Rattle.off_book.specs.Dhcp.{DhcpDid}
+use Rattle.off_transfer_rules.specs.Transfers.{Transfers}
+use Rattle.off_book.specs.Tftp.{with_transfers}
 use Rattle.off_book.specs.Step.{Does}
 
 abbrev pub hear : State → ℕ → List ℕ → State
@@ -19,6 +21,7 @@ hear s conn bytes = record s { held = with_connection s.held conn bytes }
 
 pub data Way (s : State) (what : What) (outcome : Outcome) (effect : Effect) : Type 0 where
   stays : effect.after ≡ s → effect.commit ≡ [] → Way s what outcome effect
+  serves : (transfers : Transfers) → effect.after ≡ with_transfers s transfers → effect.commit ≡ [] → Way s what outcome effect
   forgets : (conn : ℕ) → effect.after ≡ close_connection s conn → effect.commit ≡ [] → Way s what outcome effect
   hears : (conn : ℕ) (bytes : List ℕ) → is_full s.held.connections conn ≡ false → effect.after ≡ hear s conn bytes → effect.commit ≡ [] → Way s what outcome effect
   answers : (conn : ℕ) (piece method target body : List ℕ) → what ≡ Piece conn piece → outcome ≡ Did
@@ -49,17 +52,17 @@ way s (Datagram Dhcp from bytes) Keeper effect p = stays (after_is effect _ p) (
 way s (Datagram Time from bytes) Did effect p = stays (after_is effect _ p) (commit_is effect _ p)
 way s (Datagram Time from bytes) Memory effect p = stays (after_is effect _ p) (commit_is effect _ p)
 way s (Datagram Time from bytes) Keeper effect p = absurd p
-way s (Datagram Tftp from bytes) Did effect p = stays (after_is effect _ p) (commit_is effect _ p)
-way s (Datagram Tftp from bytes) Memory effect p = absurd p
-way s (Datagram Tftp from bytes) Keeper effect p = absurd p
+way s (Datagram Tftp from bytes) Did effect p = serves p.given.transfers (after_is effect _ p.does) (commit_is effect _ p.does)
+way s (Datagram Tftp from bytes) Memory effect p = stays (after_is effect _ p) (commit_is effect _ p)
+way s (Datagram Tftp from bytes) Keeper effect p = stays (after_is effect _ p) (commit_is effect _ p)
 way s (Piece conn piece) Did effect p = piece_way s conn piece effect _ refl p
 way s (Piece conn piece) Memory effect p = forgets conn (after_is effect _ p) (commit_is effect _ p)
 way s (Piece conn piece) Keeper effect p = forgets conn (after_is effect _ p) (commit_is effect _ p)
 way s (Closed conn) Did effect p = forgets conn (after_is effect _ p) (commit_is effect _ p)
 way s (Closed conn) Memory effect p = absurd p
 way s (Closed conn) Keeper effect p = absurd p
-way s Tick Did effect p = stays (after_is effect _ p) (commit_is effect _ p)
-way s Tick Memory effect p = absurd p
+way s Tick Did effect p = serves p.transfers (after_is effect _ p.does) (commit_is effect _ p.does)
+way s Tick Memory effect p = stays (after_is effect _ p) (commit_is effect _ p)
 way s Tick Keeper effect p = absurd p
 way s End Did effect p = stays (after_is effect _ p) (commit_is effect _ p)
 way s End Memory effect p = absurd p

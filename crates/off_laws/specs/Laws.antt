@@ -19,10 +19,13 @@ use Rattle.off_laws.specs.Parts.{part_of, Changes}
 
 -- an event with an outcome gives one thing
 abbrev pub OneResult : Type 0
-OneResult = (s : State) (event : Event) (outcome : Outcome) (one other : Effect) → Step s event outcome one → Step s event outcome other → one ≡ other
+OneResult =
+    (s : State) (event : Event) (outcome : Outcome) (one other : Effect) → Step s event outcome one
+    → Step s event outcome other → one ≡ other
 
--- And it gives something: for each state and each event there is an effect with which the office acts on it. Whether the bytes of a connection
--- are a request's head is known by reading them, so the law is told of the bytes that have come with the event.
+-- And it gives something: for each state and each event there is an effect with which the office
+-- acts on it. Whether the bytes of a connection are a request's head is known by reading them, so
+-- the law is told of the bytes that have come with the event.
 abbrev pub Brings : State → What → List ℕ → Type 0
 Brings s (Came service from bytes) heard = Unit {0}
 Brings s (Piece conn piece) heard = heard ≡ heard_of s.held conn ++ piece
@@ -31,13 +34,17 @@ Brings s Tick heard = Unit {0}
 Brings s End heard = Unit {0}
 
 abbrev pub SomeResult : List ℕ → Type 0
-SomeResult heard = (s : State) (event : Event) → Brings s event.what heard → (effect : Effect) × Step s event Did effect
+SomeResult heard =
+    (s : State) (event : Event) → Brings s event.what heard
+    → (effect : Effect) × Step s event Did effect
 
 -- a run has one end
 abbrev pub OneEnd : Type 0
-OneEnd = (s one other : State) (turns : List Turn) → Run s turns one → Run s turns other → one ≡ other
+OneEnd =
+    (s one other : State) (turns : List Turn) → Run s turns one → Run s turns other → one ≡ other
 
--- the line says `memory` exactly where memory was wanted, and `keeper` exactly where the keeper of the tables failed
+-- the line says `memory` exactly where memory was wanted, and `keeper` exactly where the keeper of
+-- the tables failed
 abbrev pub LineTellsOutcome : Type 0
 LineTellsOutcome =
     (s : State) (event : Event) (outcome : Outcome) (effect : Effect) → Step s event outcome effect
@@ -52,11 +59,13 @@ MomentIsGreatest =
 
 -- the moment never falls over a run
 abbrev pub MomentNeverFalls : Type 0
-MomentNeverFalls = (s last : State) (turns : List Turn) → Run s turns last → s.held.now ≤ last.held.now
+MomentNeverFalls =
+    (s last : State) (turns : List Turn) → Run s turns last → s.held.now ≤ last.held.now
 
 -- a run that begins with good tables ends with good tables
 abbrev pub RunKeepsGood : Type 0
-RunKeepsGood = (s last : State) (turns : List Turn) → Run s turns last → Good s.tables → Good last.tables
+RunKeepsGood =
+    (s last : State) (turns : List Turn) → Run s turns last → Good s.tables → Good last.tables
 
 -- What an event makes of the tables is what it commits, and nothing else.
 abbrev pub TablesByCommit : Type 0
@@ -70,15 +79,17 @@ RunTells =
     (s last : State) (turns : List Turn) → Run s turns last
     → (last.tables ≡ tables_after s.tables turns) × (last.held.now ≡ moment_after s.held.now turns)
 
--- A turn makes one commit at most: the commits of a run are no more than its turns, and none where no turn has anything to write.
+-- A turn makes one commit at most: the commits of a run are no more than its turns, and none where
+-- no turn has anything to write.
 abbrev pub OneCommit : Type 0
 OneCommit =
     (turns : List Turn) (commits : ℕ)
     → (commits_by turns commits ≤ commits + length turns)
     × (All (λ turn. turn.commit ≡ []) turns → commits_by turns commits ≡ commits)
 
--- An event changes no more than its part of the state. So ticks and the ends of connections leave the tables, and so do pieces that are
--- waited behind, refused, or couldn't be acted on, and datagrams but those of clients whose word is one of those that act.
+-- An event changes no more than its part of the state. So ticks and the ends of connections leave
+-- the tables, and so do pieces that are waited behind, refused, or couldn't be acted on, and
+-- datagrams but those of clients whose word is one of those that act.
 abbrev pub ChangesItsPart : Type 0
 ChangesItsPart =
     (s : State) (event : Event) (outcome : Outcome) (effect : Effect) → Step s event outcome effect
@@ -95,14 +106,20 @@ ends_connection (Datagram service to bytes) = false
 ends_connection (Answer conn bytes) = true
 ends_connection (Close conn) = true
 
--- a piece is answered once at most, and once it is answered, or its connection closed, that connection isn't live any more
+-- a piece is answered once at most, and once it is answered, or its connection closed, that
+-- connection isn't live any more
 abbrev pub AnsweredOnce : Type 0
 AnsweredOnce =
-    (s : State) (event : Event) (outcome : Outcome) (effect : Effect) (conn : ℕ) (piece : List ℕ) → Step s event outcome effect
+    (s : State) (event : Event) (outcome : Outcome) (effect : Effect) (conn : ℕ) (piece : List ℕ)
+    → Step s event outcome effect
     → event.what ≡ Piece conn piece
     → (count_by is_answer effect.said.items ≤ 1)
-    × (IsTrue (list_any ends_connection effect.said.items) → map.get effect.after.held.connections conn ≡ None)
+    × (IsTrue (list_any ends_connection effect.said.items)
+    → map.get effect.after.held.connections conn ≡ None)
 
--- Few connections are live at the end of a run from the start, so after each turn: the turns up to it are a run too.
+-- Few connections are live at the end of a run from the start, so after each turn: the turns up to
+-- it are a run too.
 abbrev pub FewAreLive : Type 0
-FewAreLive = (tables : Tables) (last : State) (turns : List Turn) → Run (start tables) turns last → map.len last.held.connections ≤ most_connections
+FewAreLive =
+    (tables : Tables) (last : State) (turns : List Turn) → Run (start tables) turns last
+    → map.len last.held.connections ≤ most_connections

@@ -183,15 +183,16 @@ AcknowledgedIsGiven =
 
 -- ---- a run as a whole
 
--- What holds of leases over a stretch of a run, from one of its states to a later one: leases are right
--- in both; what is bound stays bound; and what is acknowledged at its begin is the client's.
+-- What holds of leases over a stretch of a run, from one of its states to a later one: leases are
+-- right in both; what is bound stays bound; and what is acknowledged at its begin is the client's.
 pub record LeasesHold (from to : State) (stretch : List Turn) : Type 0 where
   pub right : LeasesAreRight from
   pub right_again : LeasesAreRight to
   pub outlast : (mac : Mac) (address : Ip4) (expiry : ℕ) → IsBoundUntil mac address expiry from
       → All (DoesNotServe mac) stretch → to.held.now < expiry → IsBoundUntil mac address expiry to
   pub given : (turn : Turn) (turns : List Turn) (m : Received) → stretch ≡ turn ∷ turns
-      → TakesMessage m turn → turn.said.line ≡ codes "dhcp ack" → All (DoesNotServe (client m)) turns
+      → TakesMessage m turn → turn.said.line ≡ codes "dhcp ack"
+      → All (DoesNotServe (client m)) turns
       → IsGiven from m turn to
 
 -- and so over each stretch of it

@@ -1,6 +1,8 @@
--- Which part of the state an event with an outcome may change, besides the moment. A service that is built changes its line of `part_of`.
-use Rattle.std.specs.Prelude.{◌≡◌, ◌≢◌, ◌⊎◌, ℕ, true, List, [], codes}
+-- Which part of the state an event with an outcome may change, besides the moment. A service that
+-- is built changes its line of `part_of`.
+use Rattle.std.specs.Prelude.{◌≡◌, ◌≢◌, ◌⊎◌, ℕ, true, List, [], codes, option_and_then}
 use Rattle.std.specs.FinMap as map
+use Rattle.off_base.specs.declared.addresses.Peer.{Peer}
 use Rattle.off_defs.specs.declared.events.Service.TheVariants.{Dhcp, Time, Tftp}
 use Rattle.off_defs.specs.declared.events.What.{What}
 use Rattle.off_defs.specs.declared.events.What.TheVariants.{Datagram, Piece, Closed, Tick, End}
@@ -9,25 +11,33 @@ use Rattle.off_defs.specs.declared.results.Outcome.TheVariants.{Did, Memory, Kee
 use Rattle.off_defs.specs.State.{State, Effect}
 use Rattle.off_lease_rules.specs.Words.{acts}
 use Rattle.off_lease_rules.specs.Steps.{dhcp_step}
+use Rattle.off_transfer_rules.specs.Ticks.{tick_of}
 
--- nothing; the bytes of one connection; that and the tables, as a clerk's request asks; the tables, as a client's message asks
+-- nothing; the bytes of one connection; that and the tables, as a clerk's request asks; the tables,
+-- as a client's message asks; the transfer of one peer; the transfers, as time passes
 pub data Part : Type 0 where
   untouched : Part
   a_connection : (conn : ℕ) → Part
   by_request : (conn : ℕ) → Part
   by_message : (bytes : List ℕ) → Part
+  by_packet : (from : Peer) → Part
+  by_tick : Part
 
 abbrev pub part_of : What → Outcome → Part
 part_of (Datagram Dhcp from bytes) Did = by_message bytes
 part_of (Datagram Dhcp from bytes) Memory = untouched
 part_of (Datagram Dhcp from bytes) Keeper = untouched
 part_of (Datagram Time from bytes) outcome = untouched
-part_of (Datagram Tftp from bytes) outcome = untouched
+part_of (Datagram Tftp from bytes) Did = by_packet from
+part_of (Datagram Tftp from bytes) Memory = untouched
+part_of (Datagram Tftp from bytes) Keeper = untouched
 part_of (Piece conn bytes) Did = by_request conn
 part_of (Piece conn bytes) Memory = a_connection conn
 part_of (Piece conn bytes) Keeper = a_connection conn
 part_of (Closed conn) outcome = a_connection conn
-part_of Tick outcome = untouched
+part_of Tick Did = by_tick
+part_of Tick Memory = untouched
+part_of Tick Keeper = untouched
 part_of End outcome = untouched
 
 -- nothing is written, and what the office holds stays
@@ -39,7 +49,8 @@ pub record Untouched (s : State) (effect : Effect) : Type 0 where
 -- every other connection is as it was
 abbrev pub KeepsOthers : ℕ → State → Effect → Type 0
 KeepsOthers conn s effect =
-    (other : ℕ) → other ≢ conn → map.get effect.after.held.connections other ≡ map.get s.held.connections other
+    (other : ℕ) → other ≢ conn
+    → map.get effect.after.held.connections other ≡ map.get s.held.connections other
 
 -- nothing is written, and the transfers stay
 pub record Hears (conn : ℕ) (s : State) (effect : Effect) : Type 0 where
@@ -59,8 +70,25 @@ pub record Messaged (bytes : List ℕ) (s : State) (effect : Effect) : Type 0 wh
   pub connections : effect.after.held.connections ≡ s.held.connections
   pub transfers : effect.after.held.transfers ≡ s.held.transfers
 
+-- nothing is written, and every other peer's transfer is as it was
+pub record Packeted (from : Peer) (s : State) (effect : Effect) : Type 0 where
+  pub commit : effect.commit ≡ []
+  pub connections : effect.after.held.connections ≡ s.held.connections
+  pub others : (peer : Peer) → peer ≢ from
+      → map.get effect.after.held.transfers peer ≡ map.get s.held.transfers peer
+
+-- nothing is written, and each transfer waits, is sent again, or is closed, by its own time alone
+pub record Beaten (s : State) (effect : Effect) : Type 0 where
+  pub commit : effect.commit ≡ []
+  pub connections : effect.after.held.connections ≡ s.held.connections
+  pub each : (peer : Peer)
+      → map.get effect.after.held.transfers peer
+      ≡ option_and_then (tick_of s.held.now) (map.get s.held.transfers peer)
+
 abbrev pub Changes : Part → State → Effect → Type 0
 Changes untouched s effect = Untouched s effect
 Changes (a_connection conn) s effect = Hears conn s effect
 Changes (by_request conn) s effect = Requested conn s effect
 Changes (by_message bytes) s effect = Messaged bytes s effect
+Changes (by_packet from) s effect = Packeted from s effect
+Changes by_tick s effect = Beaten s effect

@@ -38,7 +38,7 @@ first_least : (asked : Option ℕ) → first_number asked ≤ 1
 first_least None = lit≤ tt
 first_least (Some size) = lit≤ tt
 
-begun_sound : (now : ℕ) (request : List ℕ) (mac : Mac) (owner : ℕ) (name : List ℕ) (asked : Option ℕ) (file : List ℕ) → length file ≤ 6200 → Fits asked
+pub begun_sound : (now : ℕ) (request : List ℕ) (mac : Mac) (owner : ℕ) (name : List ℕ) (asked : Option ℕ) (file : List ℕ) → length file ≤ 6200 → Fits asked
     → IsSound (begun now request mac owner name asked file)
 begun_sound now request mac owner name asked file short fits = record {
   short = short;
@@ -49,10 +49,10 @@ begun_sound now request mac owner name asked file short fits = record {
   first_only = λ none. first_least asked;
 }
 
-asked_again_sound : (now : ℕ) (x : Transfer) → IsSound x → IsSound (asked_again now x)
+pub asked_again_sound : (now : ℕ) (x : Transfer) → IsSound x → IsSound (asked_again now x)
 asked_again_sound now x s = record { short = s.short; least_size = s.least_size; most_size = s.most_size; within = s.within; few_resends = s.few_resends; first_only = s.first_only }
 
-sent_again_sound : (now : ℕ) (x : Transfer) → x.resends < 5 → IsSound x → IsSound (sent_again now x)
+pub sent_again_sound : (now : ℕ) (x : Transfer) → x.resends < 5 → IsSound x → IsSound (sent_again now x)
 sent_again_sound now x few s = record {
   short = s.short;
   least_size = s.least_size;
@@ -74,7 +74,7 @@ next_within file size (suc before) within last =
     subst (λ n. n ≤ length file) (sym (suc-mul before size))
     (next_begins size (before * size) (length file) (length (take size (drop (before * size) file))) within here (ltb-false (length (take size (drop (before * size) file))) size last))
 
-gone_on_sound : (now : ℕ) (x : Transfer) → is_at_last x ≡ false → IsSound x → IsSound (gone_on now x)
+pub gone_on_sound : (now : ℕ) (x : Transfer) → is_at_last x ≡ false → IsSound x → IsSound (gone_on now x)
 gone_on_sound now x last s = record {
   short = s.short;
   least_size = s.least_size;
@@ -100,7 +100,7 @@ sound_without xs y peer false all e = all peer y e
 sound_removed : (xs : Transfers) (from : Peer) → AllSound xs → AllSound (map.remove xs from)
 sound_removed xs from all peer y e = sound_without xs y peer (eq_by_cmp peer_cmp peer from) all (sym (removed xs from peer) ∙ e)
 
-accepted_short : (t : Tables) (now : ℕ) (ip : Ip4) (mac : Mac) (owner : ℕ) (name file : List ℕ) → Accepting (view t ip) now ip mac owner name → IsBuiltBy (view t ip) now ip file → length file ≤ 6200
+pub accepted_short : (t : Tables) (now : ℕ) (ip : Ip4) (mac : Mac) (owner : ℕ) (name file : List ℕ) → Accepting (view t ip) now ip mac owner name → IsBuiltBy (view t ip) now ip file → length file ≤ 6200
 accepted_short t now ip mac owner name file a built =
     files_are_short t mac now ip file (file_of_built t now ip mac file (owner_held now (lease_in t ip) mac (live_in t now ip mac (held_of (view t ip) now mac a.held))) built)
 
