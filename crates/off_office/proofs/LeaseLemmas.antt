@@ -33,7 +33,7 @@ use Rattle.off_office.specs.Asking.{Asks, SpentWithin, commit_calls, message_ask
 use Rattle.off_office.specs.Answering.{failed_said}
 use Rattle.off_office.specs.Leasing.{DidMessage, MessageBegins, ServesMessage, DidStep, FailsMessage}
 use Rattle.off_office.proofs.CommandLemmas.{done_spent, decided_spent, at_most_one}
-use Rattle.off_office.proofs.StepLemmas.{only_doubt, stay_written}
+use Rattle.off_office.proofs.StepLemmas.{memory_leaves, keeper_leaves}
 
 -- ---- a message that is decided, and its commit
 
@@ -139,56 +139,14 @@ message_begins from bytes desk t u is mirrors =
 memory_told : (from : Peer) (bytes : List ℕ) (said : Said) (desk : Desk) (a b : KeeperSeen)
     → NotCommitted (DoingBegins (Datagram Dhcp from bytes) desk) keep.Memory a b → SpentWithin (message_asks (message_of bytes)) a b
     → said ≡ failed_said (codes "dhcp memory") → Handled (Datagram Dhcp from bytes) Memory said desk desk a b
-memory_told from bytes said desk a b not spent is = record {
-  commit = [];
-  tables = record {
-    each = λ t told. record {
-      value = t;
-      told = not.tables t told;
-      fits = record {
-        holds = λ mirrors. (ap (λ (x : Said). effect_of (Datagram Dhcp from bytes) Memory x [] (state_of t desk.held)) is, mirrors);
-      };
-    };
-  };
-  written = stay_written a b not.tables;
-  up = not.up;
-  faults = not.faults;
-  commits = not.commits;
-  asks = spent;
-  crash = not.crash;
-  doubts = λ t told u doubt. only_doubt (not.crash.doubts t told u doubt);
-  tells = ap (λ (x : Said). x.line) is;
-  leaves = ap (λ (x : Said). x.items) is;
-  quiet = λ other. absurd (let e : false ≡ true = other in cc);
-  moment = refl;
-}
+memory_told from bytes said desk a b not spent is =
+    memory_leaves (Datagram Dhcp from bytes) (codes "dhcp memory") said desk a b refl refl (λ t. refl) not spent is
 
 keeper_told : (from : Peer) (bytes : List ℕ) (said : Said) (desk : Desk) (a b : KeeperSeen)
     → NotCommitted (DoingBegins (Datagram Dhcp from bytes) desk) keep.Failed a b → SpentWithin (message_asks (message_of bytes)) a b
     → said ≡ failed_said (codes "dhcp keeper") → Handled (Datagram Dhcp from bytes) Keeper said desk desk a b
-keeper_told from bytes said desk a b not spent is = record {
-  commit = [];
-  tables = record {
-    each = λ t told. record {
-      value = t;
-      told = not.tables t told;
-      fits = record {
-        holds = λ mirrors. (ap (λ (x : Said). effect_of (Datagram Dhcp from bytes) Keeper x [] (state_of t desk.held)) is, mirrors);
-      };
-    };
-  };
-  written = stay_written a b not.tables;
-  up = not.up;
-  faults = not.faults;
-  commits = not.commits;
-  asks = spent;
-  crash = not.crash;
-  doubts = not.crash.doubts;
-  tells = ap (λ (x : Said). x.line) is;
-  leaves = ap (λ (x : Said). x.items) is;
-  quiet = λ other. absurd (let e : false ≡ true = other in cc);
-  moment = refl;
-}
+keeper_told from bytes said desk a b not spent is =
+    keeper_leaves (Datagram Dhcp from bytes) (codes "dhcp keeper") said desk a b refl refl (λ t. refl) not spent is
 
 pub message_failed : (from : Peer) (bytes : List ℕ) (err : KeepErr) (outcome : Outcome) (said : Said) (desk : Desk) (a b : KeeperSeen)
     → NotCommitted (MessageBegins (message_of bytes) desk.held.now) err a b → SpentWithin (message_asks (message_of bytes)) a b

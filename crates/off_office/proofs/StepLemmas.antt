@@ -1,5 +1,5 @@
 -- From what an event comes to, to the step of the book.
-use Rattle.std.proofs.Common.{◌≡◌, ℕ, true, false, ◌⊎◌, List, [], ◌∷◌, codes, refl, sym, ap, ◌∙◌, subst, inl, inr, append-nil}
+use Rattle.std.proofs.Common.{◌≡◌, ℕ, true, false, ◌⊎◌, List, [], ◌∷◌, ◌++◌, codes, refl, sym, ap, ◌∙◌, subst, inl, inr, append-nil}
 use Rattle.off_base.specs.declared.addresses.Peer.{Peer}
 use Rattle.off_defs.specs.declared.events.Event.{Event}
 use Rattle.off_defs.specs.declared.events.What.{What}
@@ -14,14 +14,14 @@ use Rattle.off_defs.specs.Told.{Told}
 use Rattle.off_defs.proofs.ToldLemmas.{told_self, told_weaker}
 use Rattle.off_defs.proofs.CountLemmas.{grew_self}
 use Rattle.off_book.specs.Http.{PieceDid}
-use Rattle.off_book.specs.Step.{Step, Does, TellsOutcome, completed}
+use Rattle.off_book.specs.Step.{Step, Does, TellsOutcome, completed, service_word}
 use Rattle.off_defs.specs.Tables.{write_all, doubt_behind}
 use Rattle.off_book.specs.Crashes.{doubt_in}
 use Rattle.off_laws.proofs.StepLaws.{step_good, tables_by_commit}
 use Rattle.off_outside.specs.declared.keeper.KeepErr.{KeepErr}
 use Rattle.off_outside.specs.declared.keeper.KeepErr.TheVariants as keep
 use Rattle.off_outside.specs.KeeperSeen.{KeeperSeen}
-use Rattle.off_outside.specs.KeeperCalls.{Crash, IsWritten}
+use Rattle.off_outside.specs.KeeperCalls.{Crash, IsWritten, NotCommitted}
 use Rattle.off_outside.proofs.KeeperLemmas.{unasked_self, crash_self, crash_weaker, spent_none}
 use Rattle.off_office.specs.Desk.{Desk}
 use Rattle.off_office.specs.Conditions.{Mirrors, Under, StaysFit}
@@ -144,6 +144,62 @@ failed_handled conn piece keep.Memory outcome said before after a b not asks is 
 failed_handled conn piece keep.Failed outcome said before after a b not asks is =
     subst (λ (o : Outcome). Handled (Piece conn piece) o said before after a b) (sym is.0) (keeper_handled conn piece said before after a b not asks is.1)
 
+loud_only : (what : What) (P : Type 0) → is_quiet what ≡ false → is_quiet what ≡ true → P
+loud_only what P loud quiet = cc
+
+-- an event that couldn't be acted on leaves the office as it was: memory was wanted, or the keeper failed
+pub memory_leaves : (what : What) (line : List ℕ) (said : Said) (desk : Desk) (a b : KeeperSeen)
+    → is_quiet what ≡ false → line ≡ service_word what ++ codes " memory" → ((t : Tables) → DoesOn what Memory (failed_said line) [] desk desk t t)
+    → NotCommitted (DoingBegins what desk) keep.Memory a b → Asks what desk.held a b → said ≡ failed_said line
+    → Handled what Memory said desk desk a b
+memory_leaves what line said desk a b loud named does not asks is = record {
+  commit = [];
+  tables = record {
+    each = λ t told. record {
+      value = t;
+      told = not.tables t told;
+      fits = record { holds = λ mirrors. (subst (λ (x : Said). DoesOn what Memory x [] desk desk t t) (sym is) (does t), mirrors) };
+    };
+  };
+  written = stay_written a b not.tables;
+  up = not.up;
+  faults = not.faults;
+  commits = not.commits;
+  asks = asks;
+  crash = not.crash;
+  doubts = λ t told u doubt. only_doubt (not.crash.doubts t told u doubt);
+  tells = ap (λ (x : Said). x.line) is ∙ named;
+  leaves = ap (λ (x : Said). x.items) is;
+  quiet = λ is_so. loud_only what _ loud is_so;
+  moment = refl;
+}
+
+pub keeper_leaves : (what : What) (line : List ℕ) (said : Said) (desk : Desk) (a b : KeeperSeen)
+    → is_quiet what ≡ false → line ≡ service_word what ++ codes " keeper" → ((t : Tables) → DoesOn what Keeper (failed_said line) [] desk desk t t)
+    → NotCommitted (DoingBegins what desk) keep.Failed a b → Asks what desk.held a b → said ≡ failed_said line
+    → Handled what Keeper said desk desk a b
+keeper_leaves what line said desk a b loud named does not asks is = record {
+  commit = [];
+  tables = record {
+    each = λ t told. record {
+      value = t;
+      told = not.tables t told;
+      fits = record { holds = λ mirrors. (subst (λ (x : Said). DoesOn what Keeper x [] desk desk t t) (sym is) (does t), mirrors) };
+    };
+  };
+  written = stay_written a b not.tables;
+  up = not.up;
+  faults = not.faults;
+  commits = not.commits;
+  asks = asks;
+  crash = not.crash;
+  doubts = not.crash.doubts;
+  tells = ap (λ (x : Said). x.line) is ∙ named;
+  leaves = ap (λ (x : Said). x.items) is;
+  quiet = λ is_so. loud_only what _ loud is_so;
+  moment = refl;
+}
+
 -- a step of the book keeps good tables good, so what fits the tables before it fits those behind it
 pub fits_by : (event : Event) (outcome : Outcome) (said : Said) (commit : List Write) (before after : Desk) (a b : Tables → Type 0)
     → Told a b (Under before after (StepOn event outcome said commit before after)) → Told a b (StaysFit before after)
@@ -235,15 +291,15 @@ kept_doubt Memory d begun doubt = doubt
 kept_doubt Keeper d begun doubt = inl doubt
 
 -- what an event says and counts that asks nothing of the keeper
-record Says (what : What) (outcome : Outcome) (said : Said) : Type 0 where
-  faults : (n : ℕ) → CountsFaults outcome n n
-  tells : TellsOutcome what outcome said.line
-  leaves : LeavesNothing outcome said.items
+pub record Says (what : What) (outcome : Outcome) (said : Said) : Type 0 where
+  pub faults : (n : ℕ) → CountsFaults outcome n n
+  pub tells : TellsOutcome what outcome said.line
+  pub leaves : LeavesNothing outcome said.items
 
-abbrev DoesQuietly : What → Desk → Desk → Outcome → Said → Type 0
+abbrev pub DoesQuietly : What → Desk → Desk → Outcome → Said → Type 0
 DoesQuietly what before after outcome said = (t : Tables) → DoesOn what outcome said [] before after t t
 
-handled_quietly : (what : What) (outcome : Outcome) (said : Said) (before after : Desk) (k : KeeperSeen)
+pub handled_quietly : (what : What) (outcome : Outcome) (said : Said) (before after : Desk) (k : KeeperSeen)
     → after.held.now ≡ before.held.now → after.counts ≡ before.counts
     → DoesQuietly what before after outcome said → Says what outcome said → Asks what before.held k k → Handled what outcome said before after k k
 handled_quietly what outcome said before after k same counts does says asks = record {
@@ -262,7 +318,7 @@ handled_quietly what outcome said before after k same counts does says asks = re
   moment = same;
 }
 
-did_says : (what : What) (said : Said) → Says what Did said
+pub did_says : (what : What) (said : Said) → Says what Did said
 did_says what said = record { faults = λ n. refl; tells = tt; leaves = tt }
 
 -- a datagram to the time port
@@ -291,11 +347,6 @@ said_handled what outcome said other before after k same counts did is does asks
     (subst (λ (x : Said). Handled what Did x before after k k) (sym is)
     (handled_quietly what Did other before after k same counts does (did_says what other) asks))
 
-pub tftp_handled : (from : Peer) (bytes : List ℕ) (outcome : Outcome) (said : Said) (desk : Desk) (k : KeeperSeen)
-    → outcome ≡ Did → said ≡ failed_said (codes "tftp not-built") → Handled (Datagram Tftp from bytes) outcome said desk desk k k
-tftp_handled from bytes outcome said desk k did is =
-    said_handled (Datagram Tftp from bytes) outcome said (failed_said (codes "tftp not-built")) desk desk k refl refl did is (λ t. refl) (spent_none k)
-
 -- the same, by the service that a datagram is for
 pub by_service : (service known : Service) (from : Peer) (bytes : List ℕ) (outcome : Outcome) (said : Said) (before after : Desk) (j k : KeeperSeen)
     → service ≡ known → Handled (Datagram known from bytes) outcome said before after j k → Handled (Datagram service from bytes) outcome said before after j k
@@ -312,9 +363,6 @@ closed_handled conn outcome said before after k left did is =
     said_handled (Closed conn) outcome said (failed_said (codes "http closed")) before after k (ap (λ (x : Desk). x.held.now) left) (ap (λ (x : Desk). x.counts) left) did is
     (λ t. ap (λ (x : Desk). effect_of (Closed conn) Did (failed_said (codes "http closed")) [] (state_of t x.held)) left)
     (spent_none k)
-
-pub tick_handled : (said : Said) (desk : Desk) (k : KeeperSeen) → said ≡ says_nothing → Handled Tick Did said desk desk k k
-tick_handled said desk k is = said_handled Tick Did said says_nothing desk desk k refl refl refl is (λ t. refl) (spent_none k)
 
 pub end_handled : (said : Said) (desk : Desk) (k : KeeperSeen) → said ≡ says_nothing → Handled End Did said desk desk k k
 end_handled said desk k is = said_handled End Did said says_nothing desk desk k refl refl refl is (λ t. refl) (spent_none k)

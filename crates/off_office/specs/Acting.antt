@@ -25,7 +25,8 @@ use Rattle.off_office.specs.Asking.{Asks}
 use Rattle.off_office.specs.declared.office.StartErr.{StartErr}
 use Rattle.off_office.specs.declared.office.StartErr.TheVariants.{Bad, Failed, Memory as NoMemory}
 
--- why an office didn't start: the tables aren't good, and this is their least bad key; or the keeper failed; or memory was wanted
+-- why an office didn't start: the tables aren't good, and this is their least bad key; or the
+-- keeper failed; or memory was wanted
 abbrev pub NotStarted : StartErr → KeeperSeen → KeeperSeen → Type 0
 NotStarted (Bad key) old new = Reads (λ tables. IsLeastBad tables key) old new
 NotStarted Failed old new = NotDone keep.Failed old new
@@ -39,14 +40,17 @@ start_err keep.Memory = NoMemory
 abbrev pub desk_at : Desk → ℕ → Desk
 desk_at desk at = record desk { held = held_at desk.held at }
 
--- the effect of an event on the book's state: where it couldn't be acted on, the caller adds what is answered
+-- the effect of an event on the book's state: where it couldn't be acted on, the caller adds what
+-- is answered
 abbrev pub effect_of : What → Outcome → Said → List Write → State → Effect
-effect_of what outcome said commit after = record { said = completed what outcome said; commit = commit; after = after }
+effect_of what outcome said commit after =
+    record { said = completed what outcome said; commit = commit; after = after }
 
 -- the step of the book, over tables before and after
 abbrev pub StepOn : Event → Outcome → Said → List Write → Desk → Desk → Tables → Tables → Type 0
 StepOn event outcome said commit before after t u =
-    Step (state_of t before.held) event outcome (effect_of event.what outcome said commit (state_of u after.held))
+    Step (state_of t before.held) event outcome
+    (effect_of event.what outcome said commit (state_of u after.held))
 
 -- a keeper's count of faults stands, but for an outcome that says otherwise
 abbrev pub CountsFaults : Outcome → ℕ → ℕ → Type 0
@@ -60,22 +64,27 @@ LeavesNothing Did items = Unit {0}
 LeavesNothing Memory items = items ≡ []
 LeavesNothing Keeper items = items ≡ []
 
--- what the keeper may have begun by an outcome: the writes that were done, or, where it failed, what would have been
-abbrev pub begun_in : Outcome → (Tables → Tables → Type 0) → (Tables → Tables → Type 0) → Tables → Tables → Type 0
+-- what the keeper may have begun by an outcome: the writes that were done, or, where it failed,
+-- what would have been
+abbrev pub begun_in : Outcome → (Tables → Tables → Type 0) → (Tables → Tables → Type 0) → Tables
+    → Tables → Type 0
 begun_in Did done begun t u = done t u
 begun_in Memory done begun t u = ⊥
 begun_in Keeper done begun t u = begun t u
 
 -- and what it leaves in doubt
-abbrev pub LeavesDoubt : Outcome → List Write → (Tables → Tables → Type 0) → KeeperSeen → KeeperSeen → Type 0
+abbrev pub LeavesDoubt : Outcome → List Write → (Tables → Tables → Type 0) → KeeperSeen → KeeperSeen
+    → Type 0
 LeavesDoubt outcome commit begun old new =
-    (t : Tables) → old.tables t → (u : Tables) → new.doubt u → doubt_behind commit (doubt_in outcome (old.doubt u) (begun t u))
+    (t : Tables) → old.tables t → (u : Tables) → new.doubt u
+    → doubt_behind commit (doubt_in outcome (old.doubt u) (begun t u))
 
 -- the tables that an event would leave, over those before it
 abbrev pub EventBegins : Event → Desk → Tables → Tables → Type 0
 EventBegins event before t u = Mirrors before t → Begins (state_of t before.held) event u
 
--- Events that touch no tables, whatever these are: datagrams to the time port, ends of connections, ticks, the end
+-- Events that touch no tables, whatever these are: datagrams to the time port, ends of connections,
+-- ticks, the end
 abbrev pub is_quiet : What → Bool
 is_quiet (Datagram Time from bytes) = true
 is_quiet (Datagram Dhcp from bytes) = false
@@ -88,23 +97,30 @@ is_quiet End = true
 -- what an event does by the book at the office's moment, over tables before and after
 abbrev pub DoesOn : What → Outcome → Said → List Write → Desk → Desk → Tables → Tables → Type 0
 DoesOn what outcome said commit before after t u =
-    Does (state_of t before.held) what outcome (effect_of what outcome said commit (state_of u after.held))
+    Does (state_of t before.held) what outcome
+    (effect_of what outcome said commit (state_of u after.held))
 
 -- the tables that it would leave
 abbrev pub DoingBegins : What → Desk → Tables → Tables → Type 0
-DoingBegins what before t u = Mirrors before t → (effect : Effect) × (Does (state_of t before.held) what Did effect × (u ≡ effect.after.tables))
+DoingBegins what before t u =
+    Mirrors before t
+    → (effect : Effect)
+    × (Does (state_of t before.held) what Did effect × (u ≡ effect.after.tables))
 
 -- it does so whatever the tables, also where none are told, and the keeper isn't asked
-pub record HandledQuietly (what : What) (outcome : Outcome) (said : Said) (before after : Desk) (old new : KeeperSeen) : Type 0 where
+pub record HandledQuietly (what : What) (outcome : Outcome) (said : Said) (before after : Desk)
+    (old new : KeeperSeen) : Type 0 where
   pub does : (t : Tables) → DoesOn what outcome said [] before after t t
   pub counts : after.counts ≡ before.counts
   pub keeper : Unasked old new
 
--- What an office makes of an event whose moment is its own already, whatever service it is for. `commit` is what it wrote to the tables, in one
--- commit, which the keeper has counted.
-pub record Handled (what : What) (outcome : Outcome) (said : Said) (before after : Desk) (old new : KeeperSeen) : Type 0 where
+-- What an office makes of an event whose moment is its own already, whatever service it is for.
+-- `commit` is what it wrote to the tables, in one commit, which the keeper has counted.
+pub record Handled (what : What) (outcome : Outcome) (said : Said) (before after : Desk)
+    (old new : KeeperSeen) : Type 0 where
   pub commit : List Write
-  pub tables : Told old.tables new.tables (Under before after (DoesOn what outcome said commit before after))
+  pub tables :
+      Told old.tables new.tables (Under before after (DoesOn what outcome said commit before after))
   pub written : Told old.tables new.tables (IsWritten commit)
   pub up : StaysUp old new
   pub faults : CountsFaults outcome old.faults new.faults
@@ -117,18 +133,23 @@ pub record Handled (what : What) (outcome : Outcome) (said : Said) (before after
   pub quiet : is_quiet what ≡ true → HandledQuietly what outcome said before after old new
   pub moment : after.held.now ≡ before.held.now
 
--- Quiet events are steps of the book whatever the tables, also where none are told, and the keeper isn't asked.
-pub record ActsQuietly (event : Event) (outcome : Outcome) (said : Said) (before after : Desk) (old new : KeeperSeen) : Type 0 where
+-- Quiet events are steps of the book whatever the tables, also where none are told, and the keeper
+-- isn't asked.
+pub record ActsQuietly (event : Event) (outcome : Outcome) (said : Said) (before after : Desk)
+    (old new : KeeperSeen) : Type 0 where
   pub step : (t : Tables) → StepOn event outcome said [] before after t t
   pub counts : after.counts ≡ before.counts
   pub keeper : Unasked old new
 
--- One event. `commit` is what it wrote to the tables, in one commit, which the keeper has counted. Where the office mirrored the tables, it's the
--- step of the book, and the office mirrors them again; good tables stay good. A crash meanwhile leaves the tables before it, the commit in doubt,
+-- One event. `commit` is what it wrote to the tables, in one commit, which the keeper has counted.
+-- Where the office mirrored the tables, it's the step of the book, and the office mirrors them
+-- again; good tables stay good. A crash meanwhile leaves the tables before it, the commit in doubt,
 -- or what the event would leave.
-pub record Acts (event : Event) (outcome : Outcome) (said : Said) (before after : Desk) (old new : KeeperSeen) : Type 0 where
+pub record Acts (event : Event) (outcome : Outcome) (said : Said) (before after : Desk)
+    (old new : KeeperSeen) : Type 0 where
   pub commit : List Write
-  pub tables : Told old.tables new.tables (Under before after (StepOn event outcome said commit before after))
+  pub tables : Told old.tables new.tables
+      (Under before after (StepOn event outcome said commit before after))
   pub written : Told old.tables new.tables (IsWritten commit)
   pub fits : Told old.tables new.tables (StaysFit before after)
   pub up : StaysUp old new

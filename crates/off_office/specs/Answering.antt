@@ -33,7 +33,8 @@ use Rattle.off_office.specs.Acting.{DoingBegins}
 
 -- an answer on a connection, its end, and the line of the log
 abbrev pub said_as : ℕ → ℕ → List ℕ → List ℕ → Said
-said_as conn status body line = record { items = answer_and_close conn (reply status body); line = line }
+said_as conn status body line =
+    record { items = answer_and_close conn (reply status body); line = line }
 
 abbrev pub said_to : ℕ → Answered → Said
 said_to conn answer = said_as conn answer.status answer.body (codes "http " ++ answer.words)
@@ -54,37 +55,50 @@ busy_said conn = record { items = Close conn ∷ []; line = codes "http busy" }
 abbrev pub desk_behind : Desk → Planned → Desk
 desk_behind desk planned = record desk { counts = planned.counts }
 
--- What a command was planned to do: where the office mirrors the tables, it's the step of the book, and the office that has done it mirrors those
--- behind its writes.
-pub record IsPlanned (desk : Desk) (command : Command) (planned : Planned) (t : Tables) : Type 0 where
-  pub holds : Mirrors desk t
-      → (clerk_step t desk.held.now command ≡ step_done t planned.writes planned.reply) × Mirrors (desk_behind desk planned) (write_all t planned.writes)
+-- What a command was planned to do: where the office mirrors the tables, it's the step of the book,
+-- and the office that has done it mirrors those behind its writes.
+pub record IsPlanned (desk : Desk) (command : Command) (planned : Planned) (t : Tables) : Type 0
+  where
+    pub holds : Mirrors desk t
+        → (clerk_step t desk.held.now command ≡ step_done t planned.writes planned.reply)
+        × Mirrors (desk_behind desk planned) (write_all t planned.writes)
 
 -- it isn't to be done: a rule of the book's refuses it, or the keeper failed, or memory was wanted
 abbrev pub NotPlanned : Desk → Command → AccountErr → KeeperSeen → KeeperSeen → Type 0
-NotPlanned desk command (Refused row rule) old new = Reads (λ t. Mirrors desk t → clerk_step t desk.held.now command ≡ step_refused t row rule) old new
+NotPlanned desk command (Refused row rule) old new =
+    Reads (λ t. Mirrors desk t → clerk_step t desk.held.now command ≡ step_refused t row rule) old
+    new
 NotPlanned desk command Failed old new = NotDone keep.Failed old new
 NotPlanned desk command Memory old new = NotDone keep.Memory old new
 
 -- the tables that a command would leave at a moment
 abbrev pub CommandBegins : Command → ℕ → Desk → Tables → Tables → Type 0
-CommandBegins command now before t u = Mirrors before t → u ≡ write_all t (clerk_step t now command).writes
+CommandBegins command now before t u =
+    Mirrors before t → u ≡ write_all t (clerk_step t now command).writes
 
--- A command was done at a moment: its writes are committed, and where the counts were those of the tables, it's the step of the book.
-pub record Commanded (command : Command) (done : Reply) (now : ℕ) (before after : Desk) (old new : KeeperSeen) : Type 0 where
+-- A command was done at a moment: its writes are committed, and where the counts were those of the
+-- tables, it's the step of the book.
+pub record Commanded (command : Command) (done : Reply) (now : ℕ) (before after : Desk)
+    (old new : KeeperSeen) : Type 0 where
   pub writes : List Write
-  pub tables : Told old.tables new.tables (Under before after (λ t u. (clerk_step t now command ≡ step_done t writes done) × IsWritten writes t u))
+  pub tables : Told old.tables new.tables
+      (Under before after (λ t u. (clerk_step t now command ≡ step_done t writes done)
+      × IsWritten writes t u))
   pub settled : Settled writes old new
 
 -- it wasn't, and the tables are as before
 abbrev pub NotCommanded : Command → AccountErr → ℕ → Desk → KeeperSeen → KeeperSeen → Type 0
 NotCommanded command (Refused row rule) now before old new =
     Reads (λ t. Mirrors before t → clerk_step t now command ≡ step_refused t row rule) old new
-NotCommanded command Failed now before old new = NotCommitted (CommandBegins command now before) keep.Failed old new
-NotCommanded command Memory now before old new = NotCommitted (CommandBegins command now before) keep.Memory old new
+NotCommanded command Failed now before old new =
+    NotCommitted (CommandBegins command now before) keep.Failed old new
+NotCommanded command Memory now before old new =
+    NotCommitted (CommandBegins command now before) keep.Memory old new
 
--- A request was answered: where the counts were those of the tables, it's the answer of the book, as is what is written.
-pub record AnsweredBy (answer : Tables → Answered) (conn : ℕ) (said : Said) (before after : Desk) (old new : KeeperSeen) : Type 0 where
+-- A request was answered: where the counts were those of the tables, it's the answer of the book,
+-- as is what is written.
+pub record AnsweredBy (answer : Tables → Answered) (conn : ℕ) (said : Said)
+    (before after : Desk) (old new : KeeperSeen) : Type 0 where
   pub writes : List Write
   pub tables : Told old.tables new.tables (Under before after (λ t u.
       (said ≡ said_to conn (answer t)) × (writes ≡ (answer t).writes) × IsWritten writes t u))
@@ -96,31 +110,37 @@ abbrev pub AnswerBegins : (Tables → Answered) → Desk → Tables → Tables �
 AnswerBegins answer before t u = Mirrors before t → u ≡ write_all t (answer t).writes
 
 -- it wasn't, and all is as before
-pub record NotAnswered (answer : Tables → Answered) (err : KeepErr) (before after : Desk) (old new : KeeperSeen) : Type 0 where
+pub record NotAnswered (answer : Tables → Answered) (err : KeepErr) (before after : Desk)
+    (old new : KeeperSeen) : Type 0 where
   pub same : after ≡ before
   pub keeper : NotCommitted (AnswerBegins answer before) err old new
 
 -- the answer to a request that was read from a connection
 abbrev pub answer_asked : ℕ → Meaning → Tables → Answered
-answer_asked now asked tables = answer_request tables now (asked_method asked) (asked_target asked) (asked_body asked)
+answer_asked now asked tables =
+    answer_request tables now (asked_method asked) (asked_target asked) (asked_body asked)
 
 -- the answer to a command at a moment
 abbrev pub answer_to : ℕ → Command → Tables → Answered
 answer_to now command tables = answer_step (clerk_step tables now command)
 
 -- what comes of a request
-abbrev pub IsAnswered : Result (Unit {0}) KeepErr → (Tables → Answered) → ℕ → Said → Desk → Desk → KeeperSeen → KeeperSeen → Type 0
+abbrev pub IsAnswered : Result (Unit {0}) KeepErr → (Tables → Answered) → ℕ → Said → Desk → Desk
+    → KeeperSeen → KeeperSeen → Type 0
 IsAnswered result answer conn said before after old new =
-    MatchResult result (λ _. AnsweredBy answer conn said before after old new) (λ err. NotAnswered answer err before after old new)
+    MatchResult result (λ _. AnsweredBy answer conn said before after old new)
+    (λ err. NotAnswered answer err before after old new)
 
 -- what was planned was answered and done
-pub record CarriedOut (planned : Planned) (conn : ℕ) (said : Said) (before after : Desk) (old new : KeeperSeen) : Type 0 where
+pub record CarriedOut (planned : Planned) (conn : ℕ) (said : Said) (before after : Desk)
+    (old new : KeeperSeen) : Type 0 where
   pub answer : said ≡ reply_said conn planned.reply
   pub counts : after ≡ desk_behind before planned
   pub done : Settled planned.writes old new
 
 -- it wasn't
-pub record NotCarriedOut (planned : Planned) (err : KeepErr) (before after : Desk) (old new : KeeperSeen) : Type 0 where
+pub record NotCarriedOut (planned : Planned) (err : KeepErr) (before after : Desk)
+    (old new : KeeperSeen) : Type 0 where
   pub same : after ≡ before
   pub keeper : NotCommitted (IsWritten planned.writes) err old new
 
@@ -131,17 +151,21 @@ forgets desk conn = record desk { held = without_connection desk.held conn }
 -- what a piece does by the book, over tables before and after
 abbrev pub PieceOn : ℕ → List ℕ → Said → List Write → Desk → Desk → Tables → Tables → Type 0
 PieceOn conn piece said commit before after t u =
-    PieceDid (state_of t before.held) conn piece (record { said = said; commit = commit; after = state_of u after.held })
+    PieceDid (state_of t before.held) conn piece
+    (record { said = said; commit = commit; after = state_of u after.held })
 
 -- a piece was heard, and what it asks is done
-pub record HeardPiece (conn : ℕ) (piece : List ℕ) (said : Said) (before after : Desk) (old new : KeeperSeen) : Type 0 where
+pub record HeardPiece (conn : ℕ) (piece : List ℕ) (said : Said) (before after : Desk)
+    (old new : KeeperSeen) : Type 0 where
   pub commit : List Write
-  pub tables : Told old.tables new.tables (Under before after (PieceOn conn piece said commit before after))
+  pub tables :
+      Told old.tables new.tables (Under before after (PieceOn conn piece said commit before after))
   pub settled : Settled commit old new
   pub moment : after.held.now ≡ before.held.now
 
 -- it couldn't be acted on: its connection is forgotten, and all else is as before
-pub record NotHeard (err : KeepErr) (conn : ℕ) (piece : List ℕ) (before after : Desk) (old new : KeeperSeen) : Type 0 where
+pub record NotHeard (err : KeepErr) (conn : ℕ) (piece : List ℕ) (before after : Desk)
+    (old new : KeeperSeen) : Type 0 where
   pub forgotten : after ≡ forgets before conn
   pub keeper : NotCommitted (DoingBegins (Piece conn piece) before) err old new
 
@@ -157,11 +181,16 @@ had_memory (Err refused) = Err keep.Memory
 -- a connection of which more must come was kept, or memory was wanted and nothing changed
 abbrev pub WaitsFor : ℕ → List ℕ → Result (Unit {0}) NoMemory → Said → Desk → Desk → Type 0
 WaitsFor conn bytes result said before after =
-    MatchResult result (λ _. (said ≡ failed_said (codes "http wait")) × (after ≡ record before { held = with_connection before.held conn bytes })) (λ _. after ≡ before)
+    MatchResult result
+    (λ _. (said ≡ failed_said (codes "http wait"))
+    × (after ≡ record before { held = with_connection before.held conn bytes }))
+    (λ _. after ≡ before)
 
 -- why a command wasn't done is answered, or handed on
 abbrev pub Refuses : ℕ → AccountErr → Result (Unit {0}) KeepErr → Said → Type 0
-Refuses conn (Refused row rule) result said = MatchResult result (λ _. said ≡ fault_said conn (fault.Rule row rule)) (λ err. err ≡ keep.Memory)
+Refuses conn (Refused row rule) result said =
+    MatchResult result (λ _. said ≡ fault_said conn (fault.Rule row rule))
+    (λ err. err ≡ keep.Memory)
 Refuses conn Failed result said = result ≡ Err keep.Failed
 Refuses conn Memory result said = result ≡ Err keep.Memory
 

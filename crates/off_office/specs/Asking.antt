@@ -11,6 +11,7 @@ use Rattle.off_defs.specs.State.{Held}
 use Rattle.off_dhcp.specs.Datagram.{Received, message_of}
 use Rattle.off_dhcp.specs.declared.faults.DhcpFault.{DhcpFault}
 use Rattle.off_lease.specs.Calls.{message_calls}
+use Rattle.off_tftp.specs.Calls.{datagram_calls}
 use Rattle.off_clerk_rules.specs.declared.faults.ClerkErr.{ClerkErr}
 use Rattle.off_clerk_rules.specs.Commands.{command_read}
 use Rattle.off_book.specs.Http.{is_full, heard_of}
@@ -57,9 +58,11 @@ meaning_calls (Asked method target body) = request_calls (command_read method ta
 -- a piece asks nothing where its connection is one too many, and else what the bytes so far say
 abbrev pub PieceAsks : Bool → List ℕ → KeeperSeen → KeeperSeen → Type 0
 PieceAsks true bytes old new = Spent 0 old new
-PieceAsks false bytes old new = (meaning : Meaning) → RequestIs bytes meaning → SpentWithin (meaning_calls meaning) old new
+PieceAsks false bytes old new =
+    (meaning : Meaning) → RequestIs bytes meaning → SpentWithin (meaning_calls meaning) old new
 
--- a message asks what deciding it does, and one call for the commit; what is no message asks nothing
+-- a message asks what deciding it does, and one call for the commit; what is no message asks
+-- nothing
 abbrev pub message_asks : Result Received DhcpFault → Option ℕ
 message_asks (Ok m) = option_map (λ n. n + 1) (message_calls m)
 message_asks (Err fault) = Some 0
@@ -67,8 +70,10 @@ message_asks (Err fault) = Some 0
 abbrev pub Asks : What → Held → KeeperSeen → KeeperSeen → Type 0
 Asks (Datagram Dhcp from bytes) held old new = SpentWithin (message_asks (message_of bytes)) old new
 Asks (Datagram Time from bytes) held old new = Spent 0 old new
-Asks (Datagram Tftp from bytes) held old new = Spent 0 old new
-Asks (Piece conn piece) held old new = PieceAsks (is_full held.connections conn) (heard_of held conn ++ piece) old new
+Asks (Datagram Tftp from bytes) held old new =
+    Spent (datagram_calls held.transfers from bytes) old new
+Asks (Piece conn piece) held old new =
+    PieceAsks (is_full held.connections conn) (heard_of held conn ++ piece) old new
 Asks (Closed conn) held old new = Spent 0 old new
 Asks Tick held old new = Spent 0 old new
 Asks End held old new = Spent 0 old new

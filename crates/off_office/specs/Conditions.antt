@@ -1,5 +1,5 @@
--- What holds between two calls of what an office keeps and the tables. Whatever else an office comes to keep of the tables is one more field of
--- `Mirrors`.
+-- What holds between two calls of what an office keeps and the tables. Whatever else an office
+-- comes to keep of the tables is one more field of `Mirrors`.
 use Rattle.std.specs.Prelude.{◌≡◌}
 use Rattle.off_defs.specs.State.{Tables}
 use Rattle.off_rules.specs.Good.{Good}
@@ -15,7 +15,8 @@ pub record Fits (desk : Desk) (tables : Tables) : Type 0 where
   pub good : Good tables
   pub mirrors : Mirrors desk tables
 
--- Where the office mirrored the tables, good or not, P holds of the tables before and after, and it mirrors them again.
+-- Where the office mirrored the tables, good or not, P holds of the tables before and after, and it
+-- mirrors them again.
 pub record Under (before after : Desk) (P : Tables → Tables → Type 0) (t u : Tables) : Type 0 where
   pub holds : Mirrors before t → P t u × Mirrors after u
 

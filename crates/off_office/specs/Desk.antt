@@ -1,4 +1,5 @@
--- What an office keeps between two events: what the book says that it holds, and how many rows of each kind the tables have.
+-- What an office keeps between two events: what the book says that it holds, and how many rows of
+-- each kind the tables have.
 use Rattle.std.specs.Prelude.{ℕ, refl}
 use Rattle.std.specs.Coded.{Coded, code_by, coded×, coded_ℕ}
 use Rattle.off_defs.specs.State.{Held}
@@ -14,8 +15,17 @@ counts_code =
     code_by ((ℕ × (ℕ × ℕ)) × (ℕ × (ℕ × ℕ)))
     (coded× (coded× coded_ℕ (coded× coded_ℕ coded_ℕ)) (coded× coded_ℕ (coded× coded_ℕ coded_ℕ)))
     (λ c. ((c.subscribers, (c.addons, c.modems)), (c.classes, (c.pools, c.batches))))
-    (λ p. record { subscribers = p.0.0; addons = p.0.1.0; modems = p.0.1.1; classes = p.1.0; pools = p.1.1.0; batches = p.1.1.1 })
+    (λ p. record {
+      subscribers = p.0.0;
+      addons = p.0.1.0;
+      modems = p.0.1.1;
+      classes = p.1.0;
+      pools = p.1.1.0;
+      batches = p.1.1.1;
+    })
     (λ _. refl)
 
 abbrev pub desk_code : Coded Desk
-desk_code = code_by (Held × Counts) (coded× held_code counts_code) (λ k. (k.held, k.counts)) (λ p. record { held = p.0; counts = p.1 }) (λ _. refl)
+desk_code =
+    code_by (Held × Counts) (coded× held_code counts_code) (λ k. (k.held, k.counts))
+    (λ p. record { held = p.0; counts = p.1 }) (λ _. refl)

@@ -18,10 +18,12 @@ use Rattle.off_outside.specs.KeeperCalls.{IsWritten, Settled, NotCommitted}
 use Rattle.off_office.specs.Answering.{failed_said}
 
 -- what was read of it is done and said at a moment, as the book has it, whatever the tables
-pub record DidMessage (read : Result Received DhcpFault) (now : ℕ) (said : Said) (old new : KeeperSeen) : Type 0 where
+pub record DidMessage (read : Result Received DhcpFault) (now : ℕ) (said : Said)
+    (old new : KeeperSeen) : Type 0 where
   pub commit : List Write
   pub tables : Told old.tables new.tables (λ t u.
-      (said ≡ dhcp_said (step_of t now read)) × (commit ≡ (step_of t now read).writes) × IsWritten commit t u)
+      (said ≡ dhcp_said (step_of t now read)) × (commit ≡ (step_of t now read).writes)
+      × IsWritten commit t u)
   pub settled : Settled commit old new
 
 -- the tables that it would leave
@@ -29,9 +31,11 @@ abbrev pub MessageBegins : Result Received DhcpFault → ℕ → Tables → Tabl
 MessageBegins read now t u = u ≡ write_all t (step_of t now read).writes
 
 -- it isn't, and the tables are as before
-abbrev pub ServesMessage : Result (Unit {0}) KeepErr → Result Received DhcpFault → ℕ → Said → KeeperSeen → KeeperSeen → Type 0
+abbrev pub ServesMessage : Result (Unit {0}) KeepErr → Result Received DhcpFault → ℕ → Said
+    → KeeperSeen → KeeperSeen → Type 0
 ServesMessage result read now said old new =
-    MatchResult result (λ _. DidMessage read now said old new) (λ err. NotCommitted (MessageBegins read now) err old new)
+    MatchResult result (λ _. DidMessage read now said old new)
+    (λ err. NotCommitted (MessageBegins read now) err old new)
 
 -- what a step says is in hand, and what it writes is committed
 pub record DidStep (step : LeaseStep) (said : Said) (old new : KeeperSeen) : Type 0 where
@@ -40,5 +44,7 @@ pub record DidStep (step : LeaseStep) (said : Said) (old new : KeeperSeen) : Typ
 
 -- why a message couldn't be acted on is said
 abbrev pub FailsMessage : KeepErr → Outcome → Said → Type 0
-FailsMessage keep.Memory outcome said = (outcome ≡ end.Memory) × (said ≡ failed_said (codes "dhcp memory"))
-FailsMessage keep.Failed outcome said = (outcome ≡ end.Keeper) × (said ≡ failed_said (codes "dhcp keeper"))
+FailsMessage keep.Memory outcome said =
+    (outcome ≡ end.Memory) × (said ≡ failed_said (codes "dhcp memory"))
+FailsMessage keep.Failed outcome said =
+    (outcome ≡ end.Keeper) × (said ≡ failed_said (codes "dhcp keeper"))

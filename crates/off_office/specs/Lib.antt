@@ -5,4 +5,5 @@ pub mod Connections
 pub mod Asking
 pub mod Saying
 pub mod Leasing
+pub mod Transferring
 pub mod Acting

@@ -7,6 +7,7 @@ use Rattle.off_defs.specs.State.{Said}
 use Rattle.off_book.specs.Time.{time_answer}
 
 abbrev pub SaysTime : ℕ → Peer → Outcome → Said → Type 0
-SaysTime now from Did said = said ≡ record { items = time_answer now from ∷ []; line = codes "time sent" }
+SaysTime now from Did said =
+    said ≡ record { items = time_answer now from ∷ []; line = codes "time sent" }
 SaysTime now from Memory said = said ≡ record { items = []; line = codes "time memory" }
 SaysTime now from Keeper said = ⊥

@@ -8,5 +8,6 @@ mod connections;
 mod messages;
 mod office;
 mod pieces;
+mod transfers;
 
 pub use office::{Office, StartErr};

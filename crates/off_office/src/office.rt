@@ -1,5 +1,5 @@
 ghost use Rattle.std.specs.Prelude.{◌≡◌, ◌≤◌, ◌∷◌, ◌++◌, [], length, max, OnOk, OnErr, IfOk};
-ghost use Rattle.std.specs.Prelude.{MatchResult};
+ghost use Rattle.std.specs.Prelude.{MatchResult, IfErr};
 ghost use Rattle.off_defs.specs.State.{held_at_start, says_nothing};
 ghost use Rattle.off_book.specs.Time.{time_answer};
 ghost use Rattle.off_outside.specs.KeeperCalls.{Reads};
@@ -7,6 +7,7 @@ ghost use Rattle.off_office.specs.Acting.{Acts, Handled, NotStarted, start_err, 
 ghost use Rattle.off_office.specs.Answering.{forgets};
 ghost use Rattle.off_office.specs.Conditions.{Mirrors, Fits};
 ghost use Rattle.off_office.specs.Saying.{SaysTime};
+ghost use Rattle.off_office.specs.declared.office.StartErr.TheVariants as start;
 
 use crate::connections::Connections;
 use off_accounts::{count_rows, first_bad};
@@ -14,6 +15,7 @@ use off_base::{Bytes, Moment, NoMemory, Peer};
 use off_defs::{Key, time_of_day};
 use off_outside::{Event, KeepErr, Keeper, Outcome, Replies, Sent, Service, What};
 use off_rules::Counts;
+use off_tftp::Transfers;
 use std::alloc::Global;
 use std::marker::Model;
 
@@ -29,17 +31,17 @@ pub enum StartErr {
 }
 
 /// The office between two events: the moment of its latest event, how many rows the tables have,
-/// and the clerks' connections.
+/// the files on their way to modems, and the clerks' connections.
 #[derive(Drop)]
 pub struct Office {
     pub(crate) alloc: Global,
     pub(crate) now: Moment,
     pub(crate) counts: Counts,
+    pub(crate) transfers: Transfers,
     pub(crate) connections: Connections,
 }
 
 impl Model for Office {
-    ghost use Rattle.std.specs.FinMap as map;
     ghost use Rattle.off_office.specs.Desk.{Desk, desk_code};
 
     ghost Value = { Desk };
@@ -47,7 +49,7 @@ impl Model for Office {
     ghost coded = { desk_code };
 
     ghost view = { λ o. record {
-      held = record { now = o.now.0; transfers = map.empty; connections = o.connections };
+      held = record { now = o.now.0; transfers = o.transfers; connections = o.connections };
       counts = o.counts;
     } };
 }
@@ -78,13 +80,26 @@ impl Office {
         ensures held { IfOk result (λ office. office.held ≡ held_at_start) }
     {
         match count_rows(alloc, keeper) {
-            Ok(counts) => Ok(Office {
+            Ok(counts) => Office::empty(alloc, counts),
+            Err(err) => Err(not_started(err)),
+        }
+    }
+
+    // An office with these counts, in which nothing has begun.
+    fn empty(alloc: Global, counts: Counts) -> Result<Office, StartErr>
+        ensures ok { IfOk result
+            (λ office. office ≡ record { held = held_at_start; counts = counts }) }
+        ensures err { IfErr result (λ err. err ≡ start.Memory) }
+    {
+        match Transfers::new(alloc) {
+            Ok(transfers) => Ok(Office {
                 alloc,
                 now: Moment(0),
                 counts,
+                transfers,
                 connections: Connections::new(alloc),
             }),
-            Err(err) => Err(not_started(err)),
+            Err(NoMemory) => Err(StartErr::Memory),
         }
     }
 
@@ -111,7 +126,7 @@ impl Office {
                 self.forget(*conn);
                 only_line(out, b"http closed")
             }
-            What::Tick => Outcome::Did,
+            What::Tick => self.take_tick(out),
             What::End => Outcome::Did,
         }
     }
@@ -146,7 +161,7 @@ impl Office {
         match service {
             Service::Dhcp => self.take_message(keeper, from, bytes, out),
             Service::Time => tell_time(self.alloc, self.now, from, out),
-            Service::Tftp => only_line(out, b"tftp not-built"),
+            Service::Tftp => self.take_packet(keeper, from, bytes, out),
         }
     }
 }

@@ -1,6 +1,6 @@
--- How many calls of the keeper a datagram may need. A read request needs the lease of its address, the
--- modem, the site, the subscriber, the class, and eight add-ons; the acknowledgement of a block that
--- isn't the last needs the first three; all others none.
+-- How many calls of the keeper a datagram may need. A read request needs the lease of its address,
+-- the modem, the site, the subscriber, the class, and eight add-ons; the acknowledgement of a block
+-- that isn't the last needs the first three; all others none.
 use Rattle.std.specs.Prelude.{ℕ, ◌==◌, List, Option, Some, None, Result, Ok, Err, if◌then◌else◌}
 use Rattle.std.specs.FinMap as map
 use Rattle.off_base.specs.declared.addresses.Peer.{Peer}
@@ -10,9 +10,9 @@ use Rattle.off_transfer_rules.specs.Steps.{is_repeated}
 use Rattle.off_transfer_rules.specs.Transfers.{Transfers, is_at_last}
 use Rattle.off_transfer_rules.specs.declared.faults.PacketFault.{PacketFault}
 
-abbrev pub request_calls : List ℕ → Option Transfer → ℕ
-request_calls bytes None = 13
-request_calls bytes (Some x) = if is_repeated bytes x then 0 else 13
+abbrev pub reading_calls : List ℕ → Option Transfer → ℕ
+reading_calls bytes None = 13
+reading_calls bytes (Some x) = if is_repeated bytes x then 0 else 13
 
 abbrev pub acknowledgement_calls : ℕ → Option Transfer → ℕ
 acknowledgement_calls number None = 0
@@ -20,7 +20,7 @@ acknowledgement_calls number (Some x) =
     if number == x.sent then (if is_at_last x then 0 else 3) else 0
 
 abbrev pub calls_by : List ℕ → Option Transfer → Result Meant PacketFault → ℕ
-calls_by bytes live (Ok (Reads name asked)) = request_calls bytes live
+calls_by bytes live (Ok (Reads name asked)) = reading_calls bytes live
 calls_by bytes live (Ok (Acknowledges number)) = acknowledgement_calls number live
 calls_by bytes live (Ok Writes) = 0
 calls_by bytes live (Ok GivesUp) = 0

@@ -14,18 +14,21 @@ use Rattle.off_transfer_rules.specs.declared.words.TftpWord.{TftpWord}
 abbrev pub says_more : Said → List Sent → Said
 says_more said items = record said { items = said.items ++ items }
 
-pub record Ticks (now : ℕ) (old new : Transfers) (said after : Said) (ticked : Ticked) : Type 0 where
-  pub items : List Sent
-  pub step : TickStep now old new items ticked
-  pub says : after ≡ says_more said items
+pub record Ticks (now : ℕ) (old new : Transfers) (said after : Said) (ticked : Ticked) : Type 0
+  where
+    pub items : List Sent
+    pub step : TickStep now old new items ticked
+    pub says : after ≡ says_more said items
 
-pub record Answers (tables : Tables) (now : ℕ) (old new : Transfers) (from : Peer) (bytes : List ℕ) (said after : Said) (word : TftpWord) : Type 0 where
+pub record Answers (tables : Tables) (now : ℕ) (old new : Transfers) (from : Peer)
+    (bytes : List ℕ) (said after : Said) (word : TftpWord) : Type 0 where
   pub items : List Sent
   pub step : TftpStep tables now old from bytes (gives new items word)
   pub says : after ≡ says_more said items
 
 -- what is done in one way, by what is read for the peer
-pub record Does (v : View) (now : ℕ) (old new : Transfers) (from : Peer) (bytes : List ℕ) (way : Way) (said after : Said) (word : TftpWord) : Type 0 where
+pub record Does (v : View) (now : ℕ) (old new : Transfers) (from : Peer) (bytes : List ℕ)
+    (way : Way) (said after : Said) (word : TftpWord) : Type 0 where
   pub items : List Sent
   pub gave : GivesBy v now old from bytes way (gives new items word)
   pub says : after ≡ says_more said items

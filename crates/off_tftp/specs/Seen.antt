@@ -16,7 +16,8 @@ use Rattle.off_tftp.specs.Built.{CanBuild}
 use Rattle.off_tftp.specs.declared.gathering.Seen.{Seen}
 
 abbrev pub view_of : Seen → View
-view_of seen = record { site = seen.site; lease = seen.lease; modem = seen.modem; profile = seen.profile }
+view_of seen =
+    record { site = seen.site; lease = seen.lease; modem = seen.modem; profile = seen.profile }
 
 -- all of it but the profile, which an acknowledgement doesn't need
 abbrev pub without_profile : View → View
@@ -24,17 +25,23 @@ without_profile v = record v { profile = None }
 
 -- the modem to which a lease binds at a moment
 abbrev pub held_by : ℕ → Option Lease → Option Mac
-held_by now lease = if has_ended now lease then None else option_and_then (λ lease. bound_to lease.hold) lease
+held_by now lease =
+    if has_ended now lease then None else option_and_then (λ lease. bound_to lease.hold) lease
 
 -- the profile of these rows, where there are a subscriber and a class
-abbrev pub profile_from : Option Subscriber → Option Class → List (ℕ × List Tree) → Option (List Tree)
+abbrev pub profile_from : Option Subscriber → Option Class → List (ℕ × List Tree)
+    → Option (List Tree)
 profile_from who class add_ons =
-    option_and_then (λ who. option_map (λ row. profile_of who.active who.cpes row.settings add_ons) class) who
+    option_and_then
+    (λ who. option_map (λ row. profile_of who.active who.cpes row.settings add_ons) class) who
 
 -- the profile of a modem's row
 abbrev pub profile_for : Tables → Option Modem → Option (List Tree)
-profile_for tables modem = option_and_then (λ modem. profile_at tables modem.subscriber modem.class) modem
+profile_for tables modem =
+    option_and_then (λ modem. profile_at tables modem.subscriber modem.class) modem
 
 -- what is seen has a file that can be built; what is read of tables has
 abbrev pub CanServe : View → ℕ → Ip4 → Type 0
-CanServe v now ip = (site : Site) (profile : List Tree) → v.site ≡ Some site → v.profile ≡ Some profile → CanBuild site.secret profile now ip
+CanServe v now ip =
+    (site : Site) (profile : List Tree) → v.site ≡ Some site → v.profile ≡ Some profile
+    → CanBuild site.secret profile now ip

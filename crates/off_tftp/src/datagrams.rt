@@ -4,12 +4,13 @@ ghost use Rattle.std.specs.Prelude.{◌≡◌, ◌≤◌, List, ℕ, Ok, false, 
 ghost use Rattle.std.specs.Prelude.{MatchResult};
 ghost use Rattle.std.specs.FinMap as map;
 ghost use Rattle.off_transfer_rules.specs.Steps.{way_of_request, way_of_last};
-ghost use Rattle.off_transfer_rules.specs.Steps.{way_of_acknowledgement, error_to, illegal_operation};
+ghost use Rattle.off_transfer_rules.specs.Steps.{way_of_acknowledgement, error_to};
+ghost use Rattle.off_transfer_rules.specs.Steps.{illegal_operation};
 ghost use Rattle.off_transfer_rules.specs.Transfers.{has_no_room, is_at_last};
 ghost use Rattle.off_transfer_rules.specs.View.{view};
 ghost use Rattle.off_outside.specs.declared.keeper.KeepErr.TheVariants.{Memory};
 ghost use Rattle.off_outside.specs.KeeperCalls.{Looks, Spent};
-ghost use Rattle.off_tftp.specs.Calls.{datagram_calls, request_calls, acknowledgement_calls};
+ghost use Rattle.off_tftp.specs.Calls.{datagram_calls, reading_calls, acknowledgement_calls};
 ghost use Rattle.off_tftp.specs.Saying.{says_more, Answers, Does};
 
 use crate::acknowledging::Stage;
@@ -86,7 +87,7 @@ impl Transfers {
             (λ word t. Does (view t from.ip) now.0 self.old self.new from bytes.now
             (way_of_request (view t from.ip) now.0 from.ip (has_no_room self.old) bytes.now
             name.now size (map.get self.old from)) out.old out.new word) }
-        ensures spent { Spent (request_calls bytes.now (map.get self.old from))
+        ensures spent { Spent (reading_calls bytes.now (map.get self.old from))
             (K.seen keeper.old) (K.seen keeper.new) }
         ensures kept { OnErr result (self.new ≡ self.old) }
         ensures unsaid { OnErr result (out.new ≡ out.old) }

@@ -86,7 +86,8 @@ fn read_acknowledgement(bytes: &[u8]) -> Result<Packet<'_>, PacketFault>
 
 // The number in the first two bytes, and what stands behind it.
 fn cut_number(bytes: &[u8]) -> Option<(u16, &[u8])>
-    ensures { MatchOption result (length bytes.now < 2) (λ cut. IsNumbered bytes.now cut.0 cut.1.now) }
+    ensures { MatchOption result (length bytes.now < 2)
+        (λ cut. IsNumbered bytes.now cut.0 cut.1.now) }
 {
     if bytes.len() < 2 {
         return None;

@@ -1,7 +1,8 @@
 use Rattle.std.proofs.Common.{refl, sym, ap, ◌∙◌, List, ℕ, codes}
 use Rattle.off_defs.specs.declared.events.What.TheVariants.{Datagram, Piece, Closed, Tick, End}
 use Rattle.off_defs.specs.State.{Said}
-use Rattle.off_office.proofs.StepLemmas.{acts_by, closed_handled, tick_handled, end_handled}
+use Rattle.off_office.proofs.StepLemmas.{acts_by, closed_handled, end_handled}
+use Rattle.off_office.proofs.TransferLemmas.{tick_handled}
 use Rattle.off_office.proofs.office.Office.step.Goals as goal
 
 pub returns-in-Piece : goal.returns-in-Piece
@@ -23,7 +24,9 @@ returns-in-Closed g c =
     (c.only_line.ensures.said ∙ ap (λ (s : Said). record s { line = codes "http closed" }) c.clear.ensures))
 
 pub returns-in-Tick : goal.returns-in-Tick
-returns-in-Tick g c = acts_by c.args.event.now Tick _ c.clear.new.self c.args.self.now c.reach.new.self _ _ _ c.in-Tick.is c.reach.ensures (tick_handled _ _ _ c.clear.ensures)
+returns-in-Tick g c =
+    acts_by c.args.event.now Tick c.take_tick.result c.take_tick.new.out c.args.self.now c.reach.new.self c.take_tick.new.self _ _ c.in-Tick.is c.reach.ensures
+    (tick_handled _ _ _ _ _ c.take_tick.ensures)
 
 pub returns-in-End : goal.returns-in-End
 returns-in-End g c = acts_by c.args.event.now End _ c.clear.new.self c.args.self.now c.reach.new.self _ _ _ c.in-End.is c.reach.ensures (end_handled _ _ _ c.clear.ensures)

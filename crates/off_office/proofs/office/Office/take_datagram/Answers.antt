@@ -1,7 +1,7 @@
 use Rattle.std.proofs.Common.{ap, subst, ℕ}
 use Rattle.off_office.specs.Desk.{Desk}
 use Rattle.off_office.specs.Saying.{SaysTime}
-use Rattle.off_office.proofs.StepLemmas.{time_handled, tftp_handled, by_service, line_said}
+use Rattle.off_office.proofs.StepLemmas.{time_handled, by_service}
 use Rattle.off_office.proofs.office.Office.take_datagram.Goals as goal
 
 pub returns-in-Dhcp : goal.returns-in-Dhcp
@@ -15,5 +15,4 @@ returns-in-Time g c =
 
 pub returns-in-Tftp : goal.returns-in-Tftp
 returns-in-Tftp g c =
-    by_service _ _ _ _ _ _ _ _ _ _ c.in-Tftp.is
-    (tftp_handled _ _ _ _ _ _ c.only_line.ensures.did (line_said _ _ _ c.only_line.ensures.said c.requires))
+    by_service _ _ _ _ _ _ _ _ _ _ c.in-Tftp.is c.take_packet.ensures

@@ -1,0 +1,206 @@
+-- A datagram to the TFTP port, and a Tick, to the step of the book.
+use Rattle.std.proofs.Common.{◌≡◌, ℕ, ◌++◌, inl, true, false, List, [], codes, Result, Ok, Err, IfOk, IfErr, MatchResult, refl, sym, ap, ◌∙◌, subst, append-nil}
+use Rattle.off_base.specs.declared.addresses.Peer.{Peer}
+use Rattle.off_base.specs.declared.octets.NoMemory.{NoMemory}
+use Rattle.off_defs.specs.declared.events.Service.TheVariants.{Tftp}
+use Rattle.off_defs.specs.declared.events.What.TheVariants.{Datagram, Tick}
+use Rattle.off_defs.specs.declared.results.Outcome.{Outcome}
+use Rattle.off_defs.specs.declared.results.Outcome.TheVariants.{Did, Memory, Keeper}
+use Rattle.off_defs.specs.State.{Tables, Said, state_of, says_nothing, held_at_start}
+use Rattle.off_defs.proofs.CountLemmas.{grew_self}
+use Rattle.off_rules.specs.declared.counts.Counts.{Counts}
+use Rattle.off_rules.specs.Rows.{counts_of}
+use Rattle.off_transfer_rules.specs.Transfers.{Transfers}
+use Rattle.off_transfer_rules.specs.Steps.{Given, gives}
+use Rattle.off_transfer_rules.specs.Words.{tftp_line, tick_line}
+use Rattle.off_transfer_rules.specs.declared.words.TftpWord.{TftpWord}
+use Rattle.off_transfer_rules.specs.declared.ticks.Ticked.{Ticked}
+use Rattle.off_book.specs.Step.{Does, completed}
+use Rattle.off_book.specs.Tftp.{TftpDid, TickDid, tftp_said, tick_said, transfers_effect}
+use Rattle.off_outside.specs.declared.keeper.KeepErr.{KeepErr}
+use Rattle.off_outside.specs.declared.keeper.KeepErr.TheVariants as keep
+use Rattle.off_outside.specs.KeeperSeen.{KeeperSeen, Rests}
+use Rattle.off_outside.specs.KeeperCalls.{Reads, NotDone, Looks, Spent}
+use Rattle.off_outside.proofs.KeeperLemmas.{reads_as, reads_told, reads_forgotten, not_begun, still_crash, spent_none}
+use Rattle.off_tftp.specs.Calls.{datagram_calls}
+use Rattle.off_tftp.specs.Saying.{Answers, Ticks, says_more}
+use Rattle.off_office.specs.Desk.{Desk}
+use Rattle.off_office.specs.Conditions.{Mirrors}
+use Rattle.off_office.specs.Acting.{Handled, DoesOn, NotStarted, effect_of}
+use Rattle.off_office.specs.Answering.{failed_said}
+use Rattle.off_office.specs.Transferring.{moved, MovesTransfers, DidPacket, FailsPacket, DidTick, MissedTick, TakesTick}
+use Rattle.off_office.specs.declared.office.StartErr.{StartErr}
+use Rattle.off_office.specs.declared.office.StartErr.TheVariants as start
+use Rattle.off_office.proofs.StepLemmas.{DoesQuietly, Says, did_says, handled_quietly, memory_leaves, keeper_leaves}
+
+-- ---- an office that begins
+
+pub started : (q : Result Desk StartErr) (counts : Counts) (a b : KeeperSeen)
+    → IfOk q (λ (office : Desk). office ≡ record { held = held_at_start; counts = counts }) → IfErr q (λ (err : StartErr). err ≡ start.Memory)
+    → Reads (λ t. counts ≡ counts_of t) a b
+    → MatchResult q (λ (office : Desk). Reads (Mirrors office) a b) (λ (err : StartErr). NotStarted err a b)
+started (Ok office) counts a b is none reads = reads_as reads (λ t same. record { counts = ap (λ (d : Desk). d.counts) is ∙ same })
+started (Err err) counts a b none is reads = subst (λ (e : StartErr). NotStarted e a b) (sym is) (reads_forgotten reads)
+
+pub started_empty : (q : Result Desk StartErr) (counts : Counts)
+    → IfOk q (λ (office : Desk). office ≡ record { held = held_at_start; counts = counts }) → IfOk q (λ (office : Desk). office.held ≡ held_at_start)
+started_empty (Ok office) counts is = ap (λ (d : Desk). d.held) is
+started_empty (Err err) counts is = tt
+
+-- ---- a datagram
+
+-- what is said where nothing was said before, with its line
+said_whole : (clear said whole : Said) (items : List _) (line : List ℕ) → clear ≡ says_nothing → said ≡ says_more clear items
+    → whole ≡ record said { line = line } → whole ≡ record { items = items; line = line }
+said_whole clear said whole items line none more is =
+    is
+    ∙ (ap (λ (s : Said). record s { line = line }) more
+    ∙ ap (λ (s : Said). record (says_more s items) { line = line }) none)
+
+pub packet_did : (from : Peer) (bytes : List ℕ) (before after : Desk) (new : Transfers) (clear said whole : Said) (word : TftpWord) (a b : KeeperSeen)
+    → Reads (λ t. Answers t before.held.now before.held.transfers new from bytes clear said word) a b
+    → clear ≡ says_nothing → whole ≡ record said { line = tftp_line word } → after ≡ moved before new
+    → Reads (λ t. DidPacket from bytes before after whole t) a b
+packet_did from bytes before after new clear said whole word a b reads none is moves =
+    reads_as reads (λ t answers. record {
+      given = gives new answers.items word;
+      step = answers.step;
+      moves = moves;
+      says = said_whole clear said whole answers.items (tftp_line word) none answers.says is;
+    })
+
+pub packet_told : (q : Result (Unit {0}) KeepErr) (r : Result TftpWord KeepErr) (word : TftpWord) (from : Peer) (bytes : List ℕ) (inside before : Desk) (new : Transfers)
+    (clear said whole : Said) (a b : KeeperSeen)
+    → q ≡ Ok tt → r ≡ Ok word → Looks r a b (λ w t. Answers t inside.held.now inside.held.transfers new from bytes clear said w)
+    → inside ≡ before → clear ≡ says_nothing → whole ≡ record said { line = tftp_line word }
+    → Looks q a b (λ _ t. DidPacket from bytes before (moved inside new) whole t)
+packet_told q r word from bytes inside before new clear said whole a b done read told seen none is =
+    subst (λ (d : Desk). Looks q a b (λ _ t. DidPacket from bytes d (moved inside new) whole t)) seen
+    (subst (λ (x : Result (Unit {0}) KeepErr). Looks x a b (λ _ t. DidPacket from bytes inside (moved inside new) whole t)) (sym done)
+    (packet_did from bytes inside (moved inside new) new clear said whole word a b
+    (subst (λ (x : Result TftpWord KeepErr). Looks x a b (λ w t. Answers t inside.held.now inside.held.transfers new from bytes clear said w)) read told)
+    none is refl))
+
+pub packet_not_told : (q : Result (Unit {0}) KeepErr) (r : Result TftpWord KeepErr) (err : KeepErr) (P : TftpWord → Tables → Type 0) (Q : Unit {0} → Tables → Type 0)
+    (a b : KeeperSeen) → q ≡ Err err → r ≡ Err err → Looks r a b P → Looks q a b Q
+packet_not_told q r err P Q a b failed read told =
+    subst (λ (x : Result (Unit {0}) KeepErr). Looks x a b Q) (sym failed)
+    (subst (λ (x : Result TftpWord KeepErr). Looks x a b P) read told)
+
+-- what a datagram did, as one effect
+packet_does : (from : Peer) (bytes : List ℕ) (before after : Desk) (said : Said) (t : Tables) → DidPacket from bytes before after said t
+    → DoesOn (Datagram Tftp from bytes) Did said [] before after t t
+packet_does from bytes before after said t did = record {
+  given = did.given;
+  step = did.step;
+  does =
+      ap (λ items. effect_of (Datagram Tftp from bytes) Did (record said { items = items }) [] (state_of t after.held)) refl
+      ∙ (ap (λ items. record { said = record { items = items; line = said.line }; commit = []; after = state_of t after.held }) (append-nil said.items)
+      ∙ (ap (λ (s : Said). record { said = s; commit = []; after = state_of t after.held }) did.says
+      ∙ ap (λ (d : Desk). record { said = tftp_said did.given; commit = []; after = state_of t d.held }) did.moves));
+}
+
+pub packet_handled : (from : Peer) (bytes : List ℕ) (said : Said) (before after : Desk) (a b : KeeperSeen) → Rests a
+    → Reads (λ t. DidPacket from bytes before after said t) a b → MovesTransfers before after
+    → Spent (datagram_calls before.held.transfers from bytes) a b
+    → Handled (Datagram Tftp from bytes) Did said before after a b
+packet_handled from bytes said before after a b rests reads moves spent = record {
+  commit = [];
+  tables = reads_told reads (λ t did. record {
+    holds = λ mirrors. (packet_does from bytes before after said t did, record { counts = ap (λ (d : Desk). d.counts) moves ∙ mirrors.counts });
+  });
+  written = reads_told reads (λ t did. refl);
+  up = λ up. inl (reads.quiet.up up);
+  faults = reads.quiet.faults;
+  commits = reads.quiet.commits;
+  asks = spent;
+  crash = still_crash rests reads.quiet.still;
+  doubts = λ t told u doubt. reads.quiet.still.doubts u doubt;
+  tells = tt;
+  leaves = tt;
+  quiet = λ other. absurd (let e : false ≡ true = other in cc);
+  moment = ap (λ (d : Desk). d.held.now) moves;
+}
+
+packet_undone : (from : Peer) (bytes : List ℕ) (err : KeepErr) (outcome : Outcome) (said : Said) (desk : Desk) (a b : KeeperSeen) → Rests a
+    → NotDone err a b → Spent (datagram_calls desk.held.transfers from bytes) a b → FailsPacket err outcome said
+    → Handled (Datagram Tftp from bytes) outcome said desk desk a b
+packet_undone from bytes keep.Memory outcome said desk a b rests not spent is =
+    subst (λ (o : Outcome). Handled (Datagram Tftp from bytes) o said desk desk a b) (sym is.0)
+    (memory_leaves (Datagram Tftp from bytes) (codes "tftp memory") said desk a b refl refl (λ t. refl) (not_begun rests not) spent is.1)
+packet_undone from bytes keep.Failed outcome said desk a b rests not spent is =
+    subst (λ (o : Outcome). Handled (Datagram Tftp from bytes) o said desk desk a b) (sym is.0)
+    (keeper_leaves (Datagram Tftp from bytes) (codes "tftp keeper") said desk a b refl refl (λ t. refl) (not_begun rests not) spent is.1)
+
+pub packet_failed : (from : Peer) (bytes : List ℕ) (err : KeepErr) (outcome : Outcome) (said : Said) (before after : Desk) (a b : KeeperSeen) → Rests a
+    → NotDone err a b → Spent (datagram_calls before.held.transfers from bytes) a b → after ≡ before → FailsPacket err outcome said
+    → Handled (Datagram Tftp from bytes) outcome said before after a b
+packet_failed from bytes err outcome said before after a b rests not spent same is =
+    subst (λ (d : Desk). Handled (Datagram Tftp from bytes) outcome said before d a b) (sym same)
+    (packet_undone from bytes err outcome said before a b rests not spent is)
+
+-- ---- a Tick
+
+pub tick_did : (before after : Desk) (new : Transfers) (clear said whole : Said) (ticked : Ticked)
+    → Ticks before.held.now before.held.transfers new clear said ticked → clear ≡ says_nothing → whole ≡ record said { line = tick_line ticked }
+    → after ≡ moved before new → DidTick before after whole
+tick_did before after new clear said whole ticked ticks none is moves = record {
+  transfers = new;
+  items = ticks.items;
+  ticked = ticked;
+  step = ticks.step;
+  moves = moves;
+  says = said_whole clear said whole ticks.items (tick_line ticked) none ticks.says is;
+}
+
+-- nothing was said before the line is set
+pub tick_clear : (before : Desk) (new : Transfers) (clear said : Said) (ticked : Ticked)
+    → Ticks before.held.now before.held.transfers new clear said ticked → clear ≡ says_nothing → said.line ≡ []
+tick_clear before new clear said ticked ticks none = ap (λ (s : Said). s.line) ticks.says ∙ ap (λ (s : Said). s.line) none
+
+tick_does : (before after : Desk) (said : Said) → DidTick before after said → DoesQuietly Tick before after Did said
+tick_does before after said did t = record {
+  transfers = did.transfers;
+  items = did.items;
+  ticked = did.ticked;
+  step = did.step;
+  does =
+      ap (λ items. record { said = record { items = items; line = said.line }; commit = []; after = state_of t after.held }) (append-nil said.items)
+      ∙ (ap (λ (s : Said). record { said = s; commit = []; after = state_of t after.held }) did.says
+      ∙ ap (λ (d : Desk). record { said = tick_said did.items did.ticked; commit = []; after = state_of t d.held }) did.moves);
+}
+
+missed_does : (before after : Desk) (said : Said) → MissedTick before after said → DoesQuietly Tick before after Memory said
+missed_does before after said missed t =
+    ap (λ (s : Said). effect_of Tick Memory s [] (state_of t after.held)) missed.says
+    ∙ ap (λ (d : Desk). effect_of Tick Memory (failed_said (codes "tick memory")) [] (state_of t d.held)) missed.stays
+
+pub tick_done : (outcome : Outcome) (r : Result Ticked NoMemory) (ticked : Ticked) (inside before : Desk) (new : Transfers) (clear said whole : Said)
+    → outcome ≡ Did → r ≡ Ok ticked → IfOk r (Ticks inside.held.now inside.held.transfers new clear said) → inside ≡ before → clear ≡ says_nothing
+    → whole ≡ record said { line = tick_line ticked } → TakesTick outcome before (moved inside new) whole
+tick_done outcome r ticked inside before new clear said whole is read told seen none line =
+    subst (λ (o : Outcome). TakesTick o before (moved inside new) whole) (sym is)
+    (subst (λ (d : Desk). DidTick d (moved inside new) whole) seen
+    (tick_did inside (moved inside new) new clear said whole ticked
+    (subst (λ (x : Result Ticked NoMemory). IfOk x (Ticks inside.held.now inside.held.transfers new clear said)) read told) none line refl))
+
+pub tick_missed : (outcome : Outcome) (inside before : Desk) (new : Transfers) (clear said whole : Said) → outcome ≡ Memory → inside ≡ before
+    → new ≡ inside.held.transfers → said ≡ clear → clear ≡ says_nothing → whole ≡ record said { line = codes "tick memory" }
+    → TakesTick outcome before (moved inside new) whole
+tick_missed outcome inside before new clear said whole is seen kept same none line =
+    subst (λ (o : Outcome). TakesTick o before (moved inside new) whole) (sym is) (record {
+      stays = ap (moved inside) kept ∙ seen;
+      says = line ∙ ap (λ (s : Said). record s { line = codes "tick memory" }) (same ∙ none);
+    })
+
+pub tick_handled : (outcome : Outcome) (said : Said) (before after : Desk) (k : KeeperSeen) → TakesTick outcome before after said
+    → Handled Tick outcome said before after k k
+tick_handled Did said before after k did =
+    handled_quietly Tick Did said before after k (ap (λ (d : Desk). d.held.now) did.moves) (ap (λ (d : Desk). d.counts) did.moves)
+    (tick_does before after said did) (did_says Tick said) (spent_none k)
+tick_handled Memory said before after k missed =
+    handled_quietly Tick Memory said before after k (ap (λ (d : Desk). d.held.now) missed.stays) (ap (λ (d : Desk). d.counts) missed.stays)
+    (missed_does before after said missed)
+    (record { faults = grew_self; tells = ap (λ (s : Said). s.line) missed.says; leaves = ap (λ (s : Said). s.items) missed.says })
+    (spent_none k)
+tick_handled Keeper said before after k none = absurd none

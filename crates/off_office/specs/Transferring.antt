@@ -1,0 +1,57 @@
+-- What comes of a datagram to the TFTP port, and of a Tick.
+use Rattle.std.specs.Prelude.{◌≡◌, List, ℕ, codes}
+use Rattle.off_base.specs.declared.addresses.Peer.{Peer}
+use Rattle.off_defs.specs.State.{Tables, Said}
+use Rattle.off_defs.specs.declared.results.Outcome.{Outcome}
+use Rattle.off_defs.specs.declared.results.Outcome.TheVariants as end
+use Rattle.off_defs.specs.declared.results.Sent.{Sent}
+use Rattle.off_transfer_rules.specs.Transfers.{Transfers}
+use Rattle.off_transfer_rules.specs.Steps.{Given, TftpStep}
+use Rattle.off_transfer_rules.specs.Ticks.{TickStep}
+use Rattle.off_transfer_rules.specs.declared.ticks.Ticked.{Ticked}
+use Rattle.off_book.specs.Tftp.{tftp_said, tick_said}
+use Rattle.off_outside.specs.declared.keeper.KeepErr.{KeepErr}
+use Rattle.off_outside.specs.declared.keeper.KeepErr.TheVariants as keep
+use Rattle.off_office.specs.Desk.{Desk}
+use Rattle.off_office.specs.Answering.{failed_said}
+
+-- of what the office keeps nothing but the transfers has changed
+abbrev pub moved : Desk → Transfers → Desk
+moved desk transfers = record desk { held = record desk.held { transfers = transfers } }
+
+abbrev pub MovesTransfers : Desk → Desk → Type 0
+MovesTransfers before after = after ≡ moved before after.held.transfers
+
+-- a datagram is acted on and said, as the book has it, whatever the tables
+pub record DidPacket (from : Peer) (bytes : List ℕ) (before after : Desk) (said : Said)
+    (tables : Tables) : Type 0 where
+  pub given : Given
+  pub step : TftpStep tables before.held.now before.held.transfers from bytes given
+  pub moves : after ≡ moved before given.transfers
+  pub says : said ≡ tftp_said given
+
+-- why it couldn't be acted on is said
+abbrev pub FailsPacket : KeepErr → Outcome → Said → Type 0
+FailsPacket keep.Memory outcome said =
+    (outcome ≡ end.Memory) × (said ≡ failed_said (codes "tftp memory"))
+FailsPacket keep.Failed outcome said =
+    (outcome ≡ end.Keeper) × (said ≡ failed_said (codes "tftp keeper"))
+
+-- a Tick is acted on and said
+pub record DidTick (before after : Desk) (said : Said) : Type 0 where
+  pub transfers : Transfers
+  pub items : List Sent
+  pub ticked : Ticked
+  pub step : TickStep before.held.now before.held.transfers transfers items ticked
+  pub moves : after ≡ moved before transfers
+  pub says : said ≡ tick_said items ticked
+
+-- or memory was wanted, and all is as before
+pub record MissedTick (before after : Desk) (said : Said) : Type 0 where
+  pub stays : after ≡ before
+  pub says : said ≡ failed_said (codes "tick memory")
+
+abbrev pub TakesTick : Outcome → Desk → Desk → Said → Type 0
+TakesTick end.Did before after said = DidTick before after said
+TakesTick end.Memory before after said = MissedTick before after said
+TakesTick end.Keeper before after said = ⊥
