@@ -15,6 +15,8 @@ use Rattle.off_defs.specs.Counts.{Grew, one_more, most_count}
 use Rattle.off_outside.specs.KeeperCalls.{Reads, Quiet}
 use Rattle.off_outside.specs.LinkCalls.{LinkUnasked}
 use Rattle.off_laws.proofs.Stretches.{leases_hold_through}
+use Rattle.off_file_runs.proofs.Runs.{files_of_runs}
+use Rattle.off_isolation.proofs.RunLemmas as isolation
 use Rattle.off_office.specs.Conditions.{Fits}
 use Rattle.off_outside.specs.Streams.{SinkSeen}
 use Rattle.off_office.specs.Desk.{Desk}
@@ -194,6 +196,8 @@ serves budget link link' k l m a b c reason first last status rests opened fresh
       office = office;
       stays_good = good_again opened served.office;
       leases = λ t told. leases_hold_through (start t) served.turns (opened.tables t told).1.good;
+      files = λ t told. files_of_runs (start t) _ served.turns (office.run.each t told).fits;
+      isolated = λ t told. isolation.isolated (start t) _ served.turns (office.run.each t told).fits refl;
       ends = ends;
       writes = ended_writes reason status b c ended ∙ ap (own_writes reason) served.writes;
       up = all_kept reason budget served.turns last.held (world_of link k a) (world_of link' m c) status served.ran office ends;

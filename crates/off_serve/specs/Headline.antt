@@ -1,5 +1,6 @@
--- The promise of `run`: whatever events come, lost, repeated or interleaved, `serve` sends and writes what a run of the
--- abstract office does, and only want of memory or a counted fault departs from it.
+-- The promise of `run`: whatever events come, lost, repeated or interleaved, `serve` sends and
+-- writes what a run of the abstract office does, and only want of memory or a counted fault departs
+-- from it.
 use Rattle.std.specs.Prelude.{◌≡◌, ℕ, ◌+◌, ◌-◌, ◌*◌, ◌<◌, ◌≤◌, true, List, [], ◌∷◌, ◌++◌, length, drop, All, codes, ◌⊎◌, ◌≢◌}
 use Rattle.off_defs.specs.Told.{Told}
 use Rattle.off_defs.specs.declared.keys.Key.{Key}
@@ -9,6 +10,8 @@ use Rattle.off_defs.specs.declared.results.Outcome.TheVariants as outcome
 use Rattle.off_book.specs.Run.{Turn, Run, SaysMemory, TellsItsOutcome, failures_by, troubles_by, commits_by, writes_by, sent_by, lost_by, lines_from, line_of, events_of, first_events, is_end, IsNoEnd, EndsLast}
 use Rattle.off_book.specs.Crashes.{Lasts}
 use Rattle.off_laws.specs.Leases.{LeasesHoldThrough}
+use Rattle.off_file_runs.specs.Served.{FilesAreServedThrough}
+use Rattle.off_isolation.specs.Alone.{IsolatedThrough}
 use Rattle.off_rows.specs.KeyText.{key_text_of}
 use Rattle.off_rules.specs.Good.{Good}
 use Rattle.off_outside.specs.LinkSeen.{LinkSeen}
@@ -42,14 +45,17 @@ pub record CutText (text last : List ℕ) (old new : SinkSeen) : Type 0 where
 -- what the turns did to the link
 pub record RanTurns (turns : List Turn) (old new : LinkSeen) : Type 0 where
   -- the events are the first of those to come, with one End behind the last
-  pub left : Told old.left new.left (λ before after. (events_of turns ≡ first_events (length turns) before) × (after ≡ drop (length turns) before))
+  pub left : Told old.left new.left
+      (λ before after. (events_of turns ≡ first_events (length turns) before)
+      × (after ≡ drop (length turns) before))
   -- each item of a turn was sent or is counted
   pub marks : All (λ turn. length turn.said.items ≡ length turn.went) turns
   pub sent : Told old.sent new.sent (λ before after. after ≡ before ++ sent_by turns)
   pub unsent : Tallied (lost_by turns) old.unsent new.unsent
   pub up : LinkStaysUp old new
 
--- each failed call of `next` is counted: fewer than sixteen before each of the turns, and so many more behind them
+-- each failed call of `next` is counted: fewer than sixteen before each of the turns, and so many
+-- more behind them
 pub record CountsMissed (turns : List Turn) (more : ℕ) (old new : LinkSeen) : Type 0 where
   pub failures : ℕ
   pub few : failures ≤ 15 * length turns
@@ -57,27 +63,34 @@ pub record CountsMissed (turns : List Turn) (more : ℕ) (old new : LinkSeen) : 
 
 -- the run lasts through crashes, by what the keeper tells of them
 abbrev pub LastsIn : KeeperSeen → KeeperSeen → State → List Turn → State → Type 0
-LastsIn old new s turns last = Lasts new.opened new.doubt old.doubt old.moment s turns new.moment last
+LastsIn old new s turns last =
+    Lasts new.opened new.doubt old.doubt old.moment s turns new.moment last
 
--- What the turns did to the keeper: each in which it failed is counted, and where each event was acted on the count stands; each that wrote
--- anything made one commit; and it stays up, or has counted a fault.
+-- What the turns did to the keeper: each in which it failed is counted, and where each event was
+-- acted on the count stands; each that wrote anything made one commit; and it stays up, or has
+-- counted a fault.
 pub record KeeperRan (turns : List Turn) (old new : KeeperSeen) : Type 0 where
   pub faults : Grew (failures_by turns) old.faults new.faults
   pub stands : troubles_by turns ≡ 0 → new.faults ≡ old.faults
   pub commits : new.commits ≡ commits_by turns old.commits
   pub up : StaysUp old new
 
--- The turns are a run of the office, from its start over the tables that were told to what it held at the end over those that are told then.
+-- The turns are a run of the office, from its start over the tables that were told to what it held
+-- at the end over those that are told then.
 pub record RanOffice (turns : List Turn) (held : Held) (old new : KeeperSeen) : Type 0 where
   pub run : Told old.tables new.tables (λ t u. Run (start t) turns (state_of u held))
-  -- and at every moment an opening after a crash gives the tables behind the turns that were answered by then, or one commit more
+  -- and at every moment an opening after a crash gives the tables behind the turns that were
+  -- answered by then, or one commit more
   pub crash : Told old.tables new.tables (λ t u. LastsIn old new (start t) turns (state_of u held))
   pub keeper : KeeperRan turns old new
   pub tell : All TellsItsOutcome turns
 
--- the same from any state on, as far as the office's counts are those of its tables; and what fitted the tables fits them still
+-- the same from any state on, as far as the office's counts are those of its tables; and what
+-- fitted the tables fits them still
 pub record RanFrom (turns : List Turn) (first last : Desk) (old new : KeeperSeen) : Type 0 where
-  pub run : Told old.tables new.tables (Under first last (λ t u. LastsIn old new (state_of t first.held) turns (state_of u last.held)))
+  pub run : Told old.tables new.tables
+      (Under first last (λ t u. LastsIn old new (state_of t first.held) turns
+      (state_of u last.held)))
   pub past : (m : ℕ) (u : Tables) → m ≤ old.moment → new.opened m u → old.opened m u
   pub later : old.moment ≤ new.moment
   pub fits : Told old.tables new.tables (StaysFit first last)
@@ -100,7 +113,8 @@ AllTaken budget turns = (length turns ≡ budget) × All IsNoEnd turns
 
 -- there is a last turn, and it's an End
 abbrev pub LastIsEnd : List Turn → Type 0
-LastIsEnd turns = (0 < length turns) × All (λ turn. is_end turn.event.what ≡ true) (drop (length turns - 1) turns)
+LastIsEnd turns =
+    (0 < length turns) × All (λ turn. is_end turn.event.what ≡ true) (drop (length turns - 1) turns)
 
 -- `serve` came to its end: all turns taken, or the last an End
 pub record Finished (budget : ℕ) (turns : List Turn) (old new : World) : Type 0 where
@@ -137,8 +151,10 @@ pub record SinkRefused (turns : List Turn) (old new : World) : Type 0 where
 -- why the loop over the events stopped
 abbrev pub Stops : Stop → ℕ → List Turn → World → World → Type 0
 Stops stop.Finished budget turns old new = Finished budget turns old new
-Stops stop.Memory budget turns old new = LackedMemory budget turns old.link new.link × WroteText (lines_from 1 turns) old.sink new.sink
-Stops stop.Link budget turns old new = LostLink budget turns old.link new.link × WroteText (lines_from 1 turns) old.sink new.sink
+Stops stop.Memory budget turns old new =
+    LackedMemory budget turns old.link new.link × WroteText (lines_from 1 turns) old.sink new.sink
+Stops stop.Link budget turns old new =
+    LostLink budget turns old.link new.link × WroteText (lines_from 1 turns) old.sink new.sink
 Stops stop.Sink budget turns old new = SinkRefused turns old new
 
 -- the loop over the events
@@ -152,14 +168,16 @@ pub record Served (reason : Stop) (budget : ℕ) (first last : Desk) (old new : 
   -- nothing was written but the lines of the turns
   pub writes : new.sink.calls ≡ writes_by turns old.sink.calls
 
--- the run's own line was written behind the text, and the status is the line's; or it was cut off, and the status is 4
+-- the run's own line was written behind the text, and the status is the line's; or it was cut off,
+-- and the status is 4
 abbrev pub OwnLine : ℕ → List ℕ → List ℕ → ℕ → SinkSeen → SinkSeen → Type 0
 OwnLine of own text status old new =
     ((status ≡ of) × WroteText (text ++ own) old new) ⊎ ((status ≡ 4) × CutText text own old new)
 
 -- the run's own line, by itself
 abbrev pub OwnWritten : ℕ → List ℕ → ℕ → SinkSeen → SinkSeen → Type 0
-OwnWritten of own status old new = ((status ≡ of) × Wrote own old new) ⊎ ((status ≡ 4) × NotWritten own old new)
+OwnWritten of own status old new =
+    ((status ≡ of) × Wrote own old new) ⊎ ((status ≡ 4) × NotWritten own old new)
 
 abbrev pub words_refused : List ℕ
 words_refused = codes "words refused" ++ 10 ∷ []
@@ -183,14 +201,17 @@ Ended stop.Memory status old new = OwnWritten 6 memory_refused status old new
 Ended stop.Link status old new = OwnWritten 5 link_refused status old new
 Ended stop.Sink status old new = (status ≡ 4) × SinkUnasked old new
 
--- what was written at the end, and the status. 0: all turns were taken, or an End; 4: the sink failed in the run's last
--- write; 5: the link failed sixteen times in a row; 6: memory was wanted for the next event
+-- what was written at the end, and the status. 0: all turns were taken, or an End; 4: the sink
+-- failed in the run's last write; 5: the link failed sixteen times in a row; 6: memory was wanted
+-- for the next event
 abbrev pub Ends : Stop → ℕ → List Turn → World → World → ℕ → Type 0
 Ends stop.Finished budget turns old new status = (status ≡ 0) × Finished budget turns old new
 Ends stop.Memory budget turns old new status =
-    LackedMemory budget turns old.link new.link × OwnLine 6 memory_refused (lines_from 1 turns) status old.sink new.sink
+    LackedMemory budget turns old.link new.link
+    × OwnLine 6 memory_refused (lines_from 1 turns) status old.sink new.sink
 Ends stop.Link budget turns old new status =
-    LostLink budget turns old.link new.link × OwnLine 5 link_refused (lines_from 1 turns) status old.sink new.sink
+    LostLink budget turns old.link new.link
+    × OwnLine 5 link_refused (lines_from 1 turns) status old.sink new.sink
 Ends stop.Sink budget turns old new status = (status ≡ 4) × SinkRefused turns old new
 
 -- no count rose, and none stood at the greatest number
@@ -227,8 +248,8 @@ closed_line (start_err.Bad key) = tables_refused key
 closed_line start_err.Failed = keeper_refused
 closed_line start_err.Memory = memory_refused
 
--- The office didn't open: 2, the tables aren't good, and the line names their least bad key; 3, the keeper failed; 6, memory was wanted.
--- No event is taken, nothing is sent, and the tables stay.
+-- The office didn't open: 2, the tables aren't good, and the line names their least bad key; 3, the
+-- keeper failed; 6, memory was wanted. No event is taken, nothing is sent, and the tables stay.
 pub record StaysClosed (old new : World) (status : ℕ) : Type 0 where
   pub why : StartErr
   pub tables : NotStarted why old.keeper new.keeper
@@ -246,7 +267,8 @@ own_writes stop.Memory calls = one_more calls
 own_writes stop.Link calls = one_more calls
 own_writes stop.Sink calls = calls
 
--- The headline. The tables are good, and `turns` are the events that were taken, with what the office said of each.
+-- The headline. The tables are good, and `turns` are the events that were taken, with what the
+-- office said of each.
 pub record RunsAsOffice (budget : ℕ) (old new : World) (status : ℕ) : Type 0 where
   pub reason : Stop
   pub turns : List Turn
@@ -262,19 +284,27 @@ pub record RunsAsOffice (budget : ℕ) (old new : World) (status : ℕ) : Type 0
   pub office : RanOffice turns held old.keeper new.keeper
   -- the tables that it leaves are good again
   pub stays_good : Told old.keeper.tables new.keeper.tables (λ t u. Good u)
-  -- over the run, from its start over the tables that were told: no address is live for two clients, no client has two leases, and what is
-  -- acknowledged is the client's until its end
+  -- over the run, from its start over the tables that were told: no address is live for two
+  -- clients, no client has two leases, and what is acknowledged is the client's until its end
   pub leases : (t : Tables) → old.keeper.tables t → LeasesHoldThrough (start t) turns
+  -- what a modem has acknowledged joins to a prefix of its own one file, the one that it had when
+  -- its read request was accepted
+  pub files : (t : Tables) → old.keeper.tables t → FilesAreServedThrough (start t) turns
+  -- what an address gets by its TFTP datagrams and by Ticks is what it gets alone, over its own
+  -- transfers
+  pub isolated : (t : Tables) → old.keeper.tables t → IsolatedThrough (start t) turns
   -- what was written, and the status
   pub ends : Ends reason budget turns old new status
   pub writes : new.sink.calls ≡ own_writes reason (writes_by turns old.sink.calls)
   -- where no count rose, what is told of the link, the tables and the sink is one value each
   pub up : NoFault old new → AllUp old new
   -- where no count rose and no line says `memory`, nothing departs from the run
-  pub complete : NoFault old new → All (λ turn. ¬ (SaysMemory turn)) turns → status ≢ 6 → Completed turns status
+  pub complete : NoFault old new → All (λ turn. ¬ (SaysMemory turn)) turns → status ≢ 6
+      → Completed turns status
 
 abbrev pub ServesAsOffice : ℕ → World → World → ℕ → Type 0
-ServesAsOffice budget old new status = StaysClosed old new status ⊎ RunsAsOffice budget old new status
+ServesAsOffice budget old new status =
+    StaysClosed old new status ⊎ RunsAsOffice budget old new status
 
 -- words that fit no form: nothing but the one line
 pub record RefusesWords (old new : World) (status : ℕ) : Type 0 where
@@ -291,7 +321,8 @@ pub record Outside : Type 1 where
   pub sink : SinkSeen
 
 abbrev pub outside_of : LinkSeen → KeeperSeen → SourceSeen → SinkSeen → Outside
-outside_of link keeper source sink = record { link = link; keeper = keeper; source = source; sink = sink }
+outside_of link keeper source sink =
+    record { link = link; keeper = keeper; source = source; sink = sink }
 
 abbrev pub world_in : Outside → World
 world_in all = world_of all.link all.keeper all.sink
@@ -301,12 +332,18 @@ pub record OfficeSame (old new : Outside) : Type 0 where
   pub link : LinkUnasked old.link new.link
   pub keeper : Unasked old.keeper new.keeper
 
--- What a job does. Only `serve` opens the tables, takes events and sends, and only the others take bytes of the source.
+-- What a job does. Only `serve` opens the tables, takes events and sends, and only the others take
+-- bytes of the source.
 abbrev pub DoesJob : Job → Outside → Outside → ℕ → Type 0
-DoesJob (to_serve serve) old new status = ServesAsOffice serve.turns (world_in old) (world_in new) status × SourceUnasked old.source new.source
-DoesJob (to_seal secret) old new status = SealsInput secret status old.source new.source old.sink new.sink × OfficeSame old new
-DoesJob (to_check secret) old new status = ChecksInput secret status old.source new.source old.sink new.sink × OfficeSame old new
+DoesJob (to_serve serve) old new status =
+    ServesAsOffice serve.turns (world_in old) (world_in new) status
+    × SourceUnasked old.source new.source
+DoesJob (to_seal secret) old new status =
+    SealsInput secret status old.source new.source old.sink new.sink × OfficeSame old new
+DoesJob (to_check secret) old new status =
+    ChecksInput secret status old.source new.source old.sink new.sink × OfficeSame old new
 
 -- what words that fit no form do
 abbrev pub RefusesAll : Outside → Outside → ℕ → Type 0
-RefusesAll old new status = RefusesWords (world_in old) (world_in new) status × SourceUnasked old.source new.source
+RefusesAll old new status =
+    RefusesWords (world_in old) (world_in new) status × SourceUnasked old.source new.source

@@ -28,7 +28,8 @@ abbrev pub flags_stand : List (List ℕ) → Bool
 flags_stand words =
     bytes_eq (slice_index_or words 0 []) (codes "serve")
     && (bytes_eq (slice_index_or words 1 []) (codes "--store")
-    && (bytes_eq (slice_index_or words 3 []) (codes "--ports") && bytes_eq (slice_index_or words 5 []) (codes "--turns")))
+    && (bytes_eq (slice_index_or words 3 []) (codes "--ports")
+    && bytes_eq (slice_index_or words 5 []) (codes "--turns")))
 
 -- the job that was read
 abbrev pub asked_for : Asked → Job

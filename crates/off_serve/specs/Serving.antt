@@ -30,7 +30,8 @@ abbrev pub SentOne : Sent → Bool → LinkSeen → LinkSeen → Type 0
 SentOne item true old new = WasSent item old new
 SentOne item false old new = NotSent old new
 
--- the items were handed to the link in order: those that are marked were sent, the others are counted
+-- the items were handed to the link in order: those that are marked were sent, the others are
+-- counted
 pub record SentAll (items : List Sent) (all : Bool) (old new : LinkSeen) : Type 0 where
   pub marks : List Bool
   pub each : length items ≡ length marks
@@ -66,7 +67,8 @@ pub record LacksMemory (old new : LinkSeen) : Type 0 where
 pub record TookBehind (event : Event) (old new : LinkSeen) : Type 0 where
   pub failures : ℕ
   pub few : failures < most_missed
-  pub left : Told old.left new.left (λ before after. (event ≡ first_event before) × (after ≡ drop 1 before))
+  pub left : Told old.left new.left
+      (λ before after. (event ≡ first_event before) × (after ≡ drop 1 before))
   pub sent : Stays old.sent new.sent
   pub up : old.up → new.up ⊎ Grew 1 old.faults new.faults
   pub missed : new.missed ≡ 0
@@ -90,10 +92,12 @@ world_of link keeper sink = record { link = link; keeper = keeper; sink = sink }
 
 -- the step of the book that a turn is, over tables before and after
 abbrev pub TurnOn : Turn → Desk → Desk → Tables → Tables → Type 0
-TurnOn turn before after t u = Step (state_of t before.held) turn.event turn.outcome (effect_of turn (state_of u after.held))
+TurnOn turn before after t u =
+    Step (state_of t before.held) turn.event turn.outcome (effect_of turn (state_of u after.held))
 
--- What a turn makes of the office and its tables: where the office's counts were those of the tables, it's the step of the book, and they are those
--- of the tables again; what fitted the tables fits them still; the keeper has counted what was committed.
+-- What a turn makes of the office and its tables: where the office's counts were those of the
+-- tables, it's the step of the book, and they are those of the tables again; what fitted the tables
+-- fits them still; the keeper has counted what was committed.
 pub record OfficeTurn (turn : Turn) (before after : Desk) (old new : KeeperSeen) : Type 0 where
   pub tables : Told old.tables new.tables (Under before after (TurnOn turn before after))
   pub fits : Told old.tables new.tables (StaysFit before after)
@@ -118,20 +122,23 @@ pub record LineCut (words text : List ℕ) (old new : SinkSeen) : Type 0 where
   pub calls : new.calls ≡ calls_after words old.calls
 
 -- the office acted on an event that was taken, and what it said was sent or is counted
-pub record Acted (event : Event) (turn : Turn) (before after : Desk) (old new : World) : Type 0 where
-  pub taken : turn.event ≡ event
-  pub office : OfficeTurn turn before after old.keeper new.keeper
-  pub marks : length turn.said.items ≡ length turn.went
-  pub left : Stays old.link.left new.link.left
-  pub sent : Told old.link.sent new.link.sent (λ before now. now ≡ before ++ sent_in turn)
-  pub up : old.link.up → new.link.up ⊎ Grew 1 old.link.unsent new.link.unsent
-  pub missed : new.link.missed ≡ old.link.missed
-  pub faults : new.link.faults ≡ old.link.faults
-  pub unsent : Tallied (lost_in turn) old.link.unsent new.link.unsent
+pub record Acted (event : Event) (turn : Turn) (before after : Desk) (old new : World) : Type 0
+  where
+    pub taken : turn.event ≡ event
+    pub office : OfficeTurn turn before after old.keeper new.keeper
+    pub marks : length turn.said.items ≡ length turn.went
+    pub left : Stays old.link.left new.link.left
+    pub sent : Told old.link.sent new.link.sent (λ before now. now ≡ before ++ sent_in turn)
+    pub up : old.link.up → new.link.up ⊎ Grew 1 old.link.unsent new.link.unsent
+    pub missed : new.link.missed ≡ old.link.missed
+    pub faults : new.link.faults ≡ old.link.faults
+    pub unsent : Tallied (lost_in turn) old.link.unsent new.link.unsent
 
--- one turn, as far as the link and the office go: fewer than sixteen calls of `next` failed before it, and each is counted
+-- one turn, as far as the link and the office go: fewer than sixteen calls of `next` failed before
+-- it, and each is counted
 pub record TurnMade (turn : Turn) (before after : Desk) (old new : World) : Type 0 where
-  pub left : Told old.link.left new.link.left (λ before rest. (turn.event ≡ first_event before) × (rest ≡ drop 1 before))
+  pub left : Told old.link.left new.link.left
+      (λ before rest. (turn.event ≡ first_event before) × (rest ≡ drop 1 before))
   pub office : OfficeTurn turn before after old.keeper new.keeper
   pub marks : length turn.said.items ≡ length turn.went
   pub sent : Told old.link.sent new.link.sent (λ before now. now ≡ before ++ sent_in turn)
@@ -155,11 +162,12 @@ pub record ActCut (event : Event) (n : ℕ) (before after : Desk) (old new : Wor
   pub cut : LineCut turn.said.line (line_of n turn) old.sink new.sink
 
 -- a turn was made, and its line written
-pub record TurnWritten (is_last : Bool) (n : ℕ) (before after : Desk) (old new : World) : Type 0 where
-  pub turn : Turn
-  pub made : TurnMade turn before after old new
-  pub last : is_end turn.event.what ≡ is_last
-  pub wrote : LineWritten turn.said.line (line_of n turn) old.sink new.sink
+pub record TurnWritten (is_last : Bool) (n : ℕ) (before after : Desk) (old new : World) : Type 0
+  where
+    pub turn : Turn
+    pub made : TurnMade turn before after old new
+    pub last : is_end turn.event.what ≡ is_last
+    pub wrote : LineWritten turn.said.line (line_of n turn) old.sink new.sink
 
 -- a turn was made, and its line cut off
 pub record TurnCut (n : ℕ) (before after : Desk) (old new : World) : Type 0 where
@@ -168,7 +176,8 @@ pub record TurnCut (n : ℕ) (before after : Desk) (old new : World) : Type 0 wh
   pub cut : LineCut turn.said.line (line_of n turn) old.sink new.sink
 
 -- no event came
-pub record NoTurn (P : LinkSeen → LinkSeen → Type 0) (before after : Desk) (old new : World) : Type 0 where
+pub record NoTurn (P : LinkSeen → LinkSeen → Type 0) (before after : Desk) (old new : World) :
+    Type 0 where
   pub link : P old.link new.link
   pub same : after ≡ before
   pub keeper : Unasked old.keeper new.keeper

@@ -1,0 +1,12 @@
+pub mod Packets
+pub mod Lists
+pub mod Fates
+pub mod Turned
+pub mod Ticked
+pub mod Events
+pub mod Accepted
+pub mod Runs
+pub mod Answering
+pub mod Whole
+pub mod Examples
+pub mod Closed

@@ -1,0 +1,4 @@
+pub mod Own
+pub mod Alone
+pub mod Others
+pub mod Laws
