@@ -12,6 +12,14 @@ use Rattle.off_defs.proofs.KeyLemmas.{key_total}
 use Rattle.off_keepmem.specs.Trees.{Rises, row_in, put_entry, but_key, next_in, compared, key_after}
 use Rattle.off_keepmem.proofs.EntryTrees.{sorted_front, sorted_back, put_before, put_at, put_behind, but_before, but_at, but_behind, find_before, find_here, find_behind, next_behind, found_first}
 
+or_some : {A : Type 0} (x : Option A) (a : A) (w : Option A) → option_or (option_or x (Some a)) w ≡ option_or x (Some a)
+or_some None a w = refl
+or_some (Some x) a w = refl
+
+or_none : {A : Type 0} (x : Option A) → option_or x None ≡ x
+or_none None = refl
+or_none (Some x) = refl
+
 module _ (l : List (Key × Row)) (b : Key) (v : Row) (r : List (Key × Row)) where
   pub left_rises : Rises (l ++ (b, v) ∷ r) → Rises l
   unfolding Rises
@@ -62,28 +70,33 @@ module _ (l : List (Key × Row)) (b : Key) (v : Row) (r : List (Key × Row)) whe
   first_behind None h = refl
   first_behind (Some k) h = h
 
-  pub next_right : (p : Option Key) → Rises (l ++ (b, v) ∷ r) → key_after p b ≡ false → next_in p (l ++ (b, v) ∷ r) ≡ next_in p r
+  past_here : (p : Option Key) → Rises (l ++ (b, v) ∷ r) → key_after p b ≡ false → next_in p (l ++ (b, v) ∷ r) ≡ next_in p r
   unfolding Rises next_in key_after
-  next_right None h is = cc
-  next_right (Some k) h is = next_behind key_cmp key_total (Some k) l (b, v) r h is
+  past_here None h is = cc
+  past_here (Some k) h is = next_behind key_cmp key_total (Some k) l (b, v) r h is
 
   next_first : (p : Option Key) → key_after p b ≡ true → next_in p (l ++ (b, v) ∷ r) ≡ option_or (next_in p l) (Some (b, v))
   unfolding next_in
   next_first p is = found_first key_cmp (is_after p) l (b, v) r (first_behind p is)
 
-  pub next_left : (p : Option Key) (e : Key × Row) → key_after p b ≡ true → next_in p l ≡ Some e → next_in p (l ++ (b, v) ∷ r) ≡ Some e
-  next_left p e is found = next_first p is ∙ ap (λ (w : Option (Key × Row)). option_or w (Some (b, v))) found
+  -- where the box lies behind the place, the next entry is on its left or its own, and whatever was kept before lies further on
+  pub next_left : (p : Option Key) (w : Option (Key × Row)) → key_after p b ≡ true → option_or (next_in p (l ++ (b, v) ∷ r)) w ≡ option_or (next_in p l) (Some (b, v))
+  next_left p w is = ap (λ (x : Option (Key × Row)). option_or x w) (next_first p is) ∙ or_some (next_in p l) (b, v) w
 
-  pub next_here : (p : Option Key) → key_after p b ≡ true → next_in p l ≡ None → next_in p (l ++ (b, v) ∷ r) ≡ Some (b, v)
-  next_here p is found = next_first p is ∙ ap (λ (w : Option (Key × Row)). option_or w (Some (b, v))) found
+  pub next_right : (p : Option Key) (w : Option (Key × Row)) → Rises (l ++ (b, v) ∷ r) → key_after p b ≡ false
+      → option_or (next_in p (l ++ (b, v) ∷ r)) w ≡ option_or (next_in p r) w
+  next_right p w h is = ap (λ (x : Option (Key × Row)). option_or x w) (past_here p h is)
 
 pub row_none : (k : Key) → row_in k [] ≡ None
 unfolding row_in
 row_none k = refl
 
-pub next_none : (p : Option Key) → next_in p [] ≡ None
+pub next_none : (p : Option Key) (w : Option (Key × Row)) → option_or (next_in p []) w ≡ w
 unfolding next_in
-next_none p = refl
+next_none p w = refl
+
+pub next_begun : (p : Option Key) (es : List (Key × Row)) → option_or (next_in p es) None ≡ next_in p es
+next_begun p es = or_none (next_in p es)
 
 pub put_none : (k : Key) (w : Row) → put_entry k w [] ≡ (k, w) ∷ []
 unfolding put_entry
@@ -112,4 +125,4 @@ pub ruleset cut_rules = (left_rises, right_rises, drop_left, drop_here, drop_rig
 
 pub ruleset row_rules = (left_rises, right_rises, row_left, row_here, row_right, row_none)
 
-pub ruleset next_rules = (left_rises, right_rises, next_left, next_here, next_right, next_none)
+pub ruleset next_rules = (left_rises, right_rises, next_left, next_right, next_none, next_begun)

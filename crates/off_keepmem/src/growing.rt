@@ -14,11 +14,11 @@ use std::mem;
 /// moved at each step down. It takes a spare box where the key had none. Says whether the height is
 /// another one, since the nodes above need no look where it isn't.
 #[tactic(auto, using(crate::proofs::TreeLemmas::put_rules, crate::proofs::HeightLemmas::node_fits))]
-pub(crate) fn put(tree: &mut Tree, key: Key, row: &mut Row, spare: &mut Spare) -> bool
+pub(crate) fn put(tree: &mut Tree, key: &Key, row: &mut Row, spare: &mut Spare) -> bool
     requires room { 0 < spare.old }
     requires rises { Rises tree.old.entries }
     requires few { length tree.old.entries < 2 ^ 66 }
-    ensures entries { tree.new.entries ≡ put_entry key row.old tree.old.entries }
+    ensures entries { tree.new.entries ≡ put_entry key.now row.old tree.old.entries }
     ensures spent { spare.old ≤ spare.new + 1 }
     ensures boxes { length tree.new.entries + spare.new ≤ length tree.old.entries + spare.old }
     ensures depth { HigherBy result tree.old.depth tree.new.depth }
@@ -26,13 +26,13 @@ pub(crate) fn put(tree: &mut Tree, key: Key, row: &mut Row, spare: &mut Spare) -
 {
     let mut is_higher = false;
     if let Node::Fork(_, branch) = &mut tree.node {
-        match compared(key, branch.key) {
+        match compared(key, &branch.key) {
             Ordering::Less => is_higher = put(&mut branch.left, key, row, spare),
             Ordering::Equal => mem::swap(&mut branch.row, row),
             Ordering::Greater => is_higher = put(&mut branch.right, key, row, spare),
         }
     } else {
-        *tree = single(key, row, spare);
+        *tree = single(*key, row, spare);
         return true;
     }
     is_higher && settle(&mut tree.node)
@@ -61,17 +61,17 @@ fn single(key: Key, row: &mut Row, spare: &mut Spare) -> Tree
 /// Takes the key's row away, in place. The box is given back to memory. Says whether the height may
 /// be another one.
 #[tactic(auto, using(crate::proofs::TreeLemmas::cut_rules, crate::proofs::HeightLemmas::node_fits))]
-pub(crate) fn remove(tree: &mut Tree, key: Key) -> bool
+pub(crate) fn remove(tree: &mut Tree, key: &Key) -> bool
     requires rises { Rises tree.old.entries }
     requires few { length tree.old.entries < 2 ^ 66 }
-    ensures entries { tree.new.entries ≡ but_key key tree.old.entries }
+    ensures entries { tree.new.entries ≡ but_key key.now tree.old.entries }
     ensures boxes { length tree.new.entries ≤ length tree.old.entries }
     ensures depth { LowerBy result tree.old.depth tree.new.depth }
     ensures fits { FitsDepth tree.new }
 {
     let mut is_lower = false;
     if let Node::Fork(_, branch) = &mut tree.node {
-        match compared(key, branch.key) {
+        match compared(key, &branch.key) {
             Ordering::Less => is_lower = remove(&mut branch.left, key),
             Ordering::Equal => {
                 *tree = glue_sides(branch);
@@ -98,10 +98,10 @@ fn do_write(tree: &mut Tree, write: Write, spare: &mut Spare)
     match write {
         Write::Put(key, row) => {
             let mut held = row;
-            put(tree, key, &mut held, spare);
+            put(tree, &key, &mut held, spare);
         }
         Write::Drop(key) => {
-            remove(tree, key);
+            remove(tree, &key);
         }
     }
 }

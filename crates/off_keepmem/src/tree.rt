@@ -119,34 +119,46 @@ impl Tree {
         requires { Rises self.now.entries }
         ensures { option_map (λ row. row.now) result ≡ row_in key self.now.entries }
     {
-        let Node::Fork(_, branch) = &self.node else {
-            return None;
-        };
-        match compared(key, branch.key) {
-            Ordering::Less => branch.left.find(key),
-            Ordering::Equal => Some(&branch.row),
-            Ordering::Greater => branch.right.find(key),
+        let mut tree = self;
+        'down: while let Node::Fork(_, branch) = &tree.node {
+            match compared(&key, &branch.key) {
+                Ordering::Less => tree = &branch.left,
+                Ordering::Equal => return Some(&branch.row),
+                Ordering::Greater => tree = &branch.right,
+            }
         }
+        None
     }
 
-    /// The first entry behind a place of a walk.
+    /// The first entry behind a place of a walk. The way down keeps the last box that lies behind
+    /// the place: those further down on its left lie before it, and may lie behind the place too.
     #[tactic(auto, using(crate::proofs::TreeLemmas::next_rules))]
     pub(crate) fn next(&self, place: Option<Key>) -> Option<EntryRef<'_>>
         requires { Rises self.now.entries }
         ensures { option_map lent_entry result ≡ next_in place self.now.entries }
     {
-        let Node::Fork(_, branch) = &self.node else {
-            return None;
-        };
-        if !lies_after(place, branch.key) {
-            return branch.right.next(place);
+        let mut tree = self;
+        let mut found = None;
+        'down: while let Node::Fork(_, branch) = &tree.node {
+            if lies_after(&place, &branch.key) {
+                found = Some(branch.lent());
+                tree = &branch.left;
+            } else {
+                tree = &branch.right;
+            }
         }
-        match branch.left.next(place) {
-            Some(entry) => Some(entry),
-            None => Some(EntryRef {
-                key: branch.key,
-                row: &branch.row,
-            }),
+        found
+    }
+}
+
+impl Branch {
+    /// The entry of a box.
+    fn lent(&self) -> EntryRef<'_>
+        ensures { lent_entry result ≡ (self.now.key, self.now.row) }
+    {
+        EntryRef {
+            key: self.key,
+            row: &self.row,
         }
     }
 }
@@ -167,21 +179,21 @@ impl Node {
 
 /// Whether a key lies behind a place of a walk.
 #[tactic(auto, unfolding(crate::specs::Trees::key_after))]
-fn lies_after(place: Option<Key>, key: Key) -> bool
-    ensures { result ≡ key_after place key }
+fn lies_after(place: &Option<Key>, key: &Key) -> bool
+    ensures { result ≡ key_after place.now key.now }
 {
     match place {
         None => true,
-        Some(before) => before.cmp(&key) == Ordering::Less,
+        Some(before) => before.cmp(key) == Ordering::Less,
     }
 }
 
 /// How two keys stand to each other.
 #[tactic(auto, unfolding(crate::specs::Trees::compared))]
-pub(crate) fn compared(a: Key, b: Key) -> Ordering
-    ensures { result ≡ compared a b }
+pub(crate) fn compared(a: &Key, b: &Key) -> Ordering
+    ensures { result ≡ compared a.now b.now }
 {
-    a.cmp(&b)
+    a.cmp(b)
 }
 
 /// What a box holds that isn't in use.
