@@ -1,5 +1,5 @@
 use crate::addresses::Addresses;
-use crate::reflecting::{OwnPorts, is_reflection, is_time_answer};
+use crate::reflecting::{OwnPorts, is_acknowledgement, is_reflection, is_time_answer};
 use crate::system::ask_for_room;
 use mio::net::UdpSocket;
 use mio::{Interest, Registry, Token};
@@ -187,7 +187,12 @@ fn takes(service: Service, from: Peer, datagram: &[u8], own: OwnPorts, now: Mome
     if is_reflection(service, from, own) {
         return false;
     }
-    !matches!(service, Service::Time) || !is_time_answer(datagram, now)
+    match service {
+        Service::Dhcp => true,
+        Service::Time => !is_time_answer(datagram, now),
+        // An acknowledgement tells a time of some hours in 2036 alone, and is taken then too.
+        Service::Tftp => is_acknowledgement(datagram) || !is_time_answer(datagram, now),
+    }
 }
 
 fn gave(alloc: Global, service: Service, from: Peer, datagram: &[u8]) -> Asked {

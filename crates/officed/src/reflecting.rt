@@ -45,11 +45,12 @@ fn is_of_a_service(port: u16, own: OwnPorts) -> bool
     [67, 68, 69, own.dhcp, own.time, own.tftp].contains(&port)
 }
 
-// Port 0, which nobody has, and those of echo, daytime, chargen and time.
+// Port 0, which nobody has, and those of echo, active users, daytime, quote of the day, chargen and
+// time.
 fn answers_by_itself(port: u16) -> bool
     ensures { IsTrue result ↔ AnswersByItself port }
 {
-    [0, 7, 13, 19, 37].contains(&port)
+    [0, 7, 11, 13, 17, 19, 37].contains(&port)
 }
 
 // 0.0.0.0/8 ("this network"), 224.0.0.0/4 (multicast) and 255.255.255.255 (RFC 6890, RFC 5771).
@@ -60,8 +61,8 @@ fn is_no_client(address: u32) -> bool
 }
 
 /// Whether a datagram is what a time service answers: four bytes that tell a moment within a day of
-/// this one. No client sends them (RFC 868: it sends an empty datagram); so two offices whose time
-/// ports are no standard ones don't answer each other.
+/// this one. No client sends them (RFC 868: it sends an empty datagram), and they are no TFTP packet
+/// but an acknowledgement; so two offices whose ports are no standard ones don't answer each other.
 pub fn is_time_answer(datagram: &[u8], now: Moment) -> bool {
     let &[first, second, third, fourth] = datagram else {
         return false;
@@ -71,4 +72,9 @@ pub fn is_time_answer(datagram: &[u8], now: Moment) -> bool {
     let behind = told.wrapping_sub(own);
     let ahead = own.wrapping_sub(told);
     behind <= NEAR || ahead <= NEAR
+}
+
+/// Whether a datagram begins as a TFTP acknowledgement (RFC 1350, section 5).
+pub fn is_acknowledgement(datagram: &[u8]) -> bool {
+    datagram.starts_with(&[0, 4])
 }
