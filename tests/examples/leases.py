@@ -41,6 +41,11 @@ def name_of(secret, mac, held):
     return f"{mac.hex()}-{hmac.new(secret, mac + held, hashlib.md5).hexdigest()[:16]}.cm".encode()
 
 
+def key_of(kind, words):
+    """The key of a row: its kind, and the numbers that its line begins with."""
+    return (kind, *words[:0 if kind == "site" else 2 if kind == "add-on" else 1])
+
+
 def is_modem(value):
     """CANN-DHCP-Reg: `docsis`, a digit, a point, a digit and a colon."""
     return value[:6] == b"docsis" and value[6:7].isdigit() and value[7:8] == b"." and value[8:9].isdigit() and value[9:10] == b":"
@@ -75,14 +80,14 @@ class Office:
         elif kind == "held":
             self.held[bytes.fromhex(words[0])] = address(words[1])
         else:
-            self.kept[kind, None if kind == "site" else words[0]] = row
+            self.kept[key_of(kind, words)] = row
         if kind == "modem":
             self.serials[bytes.fromhex(words[0])] = row.split('"')[1].encode()
         elif kind == "pool":
             self.pools[int(words[0])] = Pool(words[1:])
 
     def drop(self, kind, words):
-        self.kept.pop((kind, words[0] if words else None))
+        self.kept.pop(key_of(kind, words))
         if kind == "modem":
             del self.serials[bytes.fromhex(words[0])]
         elif kind == "pool":
@@ -94,7 +99,7 @@ class Office:
         return [*self.kept.values(), *leases, *held]
 
     def site(self):
-        words = self.kept["site", None].split(" ")
+        words = self.kept["site",].split(" ")
         return {"server": address(words[1]), "secret": bytes.fromhex(words[2]), "offset": int(words[3]), "lease": int(words[4]),
                 "log": address(words[5])}
 
@@ -120,7 +125,7 @@ class Office:
 
     def said_wrongly(self, m):
         """The first rule that a message breaks by what it says, or None."""
-        if ("site", None) not in self.kept:
+        if ("site",) not in self.kept:
             return "no-site"
         if m.kind not in (DISCOVER, REQUEST, DECLINE, RELEASE):
             return "not-served"

@@ -3,11 +3,12 @@
 
 The office of the worked examples is a site, class 1, subscriber 7, a modem and a pool. What is expected is said here by hand, from the rules
 in docs/, or computed by Python's hashlib, hmac and json and the readers of examples.py, which are written from the standards. The sections on
-DHCP are those of leases.py. With the word `check` it compares the two files with what it would write.
+DHCP are those of leases.py, and those on TFTP of transfers.py. With the word `check` it compares the two files with what it would write.
 """
 import sys
 
 import leases
+import transfers
 from examples import T, Fault, Script, answer, answered, compact, datagram, fixed, ip, outcome, request, sealed, time_reply, verdict
 
 SECRET = "736563726574"
@@ -162,8 +163,7 @@ def telling():
     run("a moment of 2023", [turns(5), time("t")], outcome(wrote=["1 time sent"], sent=[told(T)]))
     run("the greatest moment", [turns(5), time(2**64 - 1)], outcome(wrote=["1 time sent"], sent=[told(2**64 - 1)]))
     run("bytes of a question say nothing", [turns(5), time(0, "00ff 'x'")], outcome(wrote=["1 time sent"], sent=[told(0)]))
-    run("a service that isn't built, a silent tick, an end", [turns(9), f"0 datagram tftp from {PEER}", "0 tick", time(0), "0 end", time(0)],
-        outcome(wrote=["1 tftp not-built", "3 time sent"], sent=[told(0)]))
+    run("a silent tick, an end", [turns(9), "0 tick", time(0), "0 end", time(0)], outcome(wrote=["2 time sent"], sent=[told(0)]))
     run("no more than the turns", [turns(1), "0 piece 1", time(0)], outcome(wrote=["1 http wait"]))
     run("no turns", [turns(0), time(0)], outcome())
     run("the moment never falls", [turns(5), "t tick", time(5)], outcome(wrote=["2 time sent"], sent=[told(T)]))
@@ -674,6 +674,7 @@ def main():
     moments()
     limits()
     leases.sections(script, OFFICE)
+    transfers.sections(script, OFFICE)
     return script.write("office_script")
 
 
