@@ -97,14 +97,18 @@ def checksum(data):
     return ~total & 0xFFFF
 
 
-def forge(source, target, payload=b""):
-    """Sends a datagram from a port that isn't ours."""
+def forge_from(sender, source, server, target, payload=b""):
+    """Sends a datagram from an address and a port that aren't ours."""
     udp = struct.pack(">HHHH", source, target, 8 + len(payload), 0) + payload
-    here = socket.inet_aton("127.0.0.1")
-    head = struct.pack(">BBHHHBBH4s4s", 0x45, 0, 20 + len(udp), 0, 0, 64, socket.IPPROTO_UDP, 0, here, here)
+    head = struct.pack(">BBHHHBBH4s4s", 0x45, 0, 20 + len(udp), 0, 0, 64, socket.IPPROTO_UDP, 0, socket.inet_aton(sender), socket.inet_aton(server))
     head = head[:10] + struct.pack(">H", checksum(head)) + head[12:]
     with socket.socket(socket.AF_INET, socket.SOCK_RAW, socket.IPPROTO_RAW) as raw:
-        raw.sendto(head + udp, ("127.0.0.1", 0))
+        raw.sendto(head + udp, (server, 0))
+
+
+def forge(source, target, payload=b""):
+    """Sends a datagram from a port that isn't ours."""
+    forge_from("127.0.0.1", source, "127.0.0.1", target, payload)
 
 
 def lines_of(log, word):
@@ -134,18 +138,23 @@ def loops():
             print(f"two offices, one forged datagram: {after[0] - before[0]} and {after[1] - before[1]} lines in 1.5 s")
             check(after[0] - before[0] + after[1] - before[1] <= 2, "two offices answer each other no more than once")
             forge(3737, 3737)
-            for source in (0, 7, 13, 19, 37, 67, 68, 69, 6767, 6969):
+            for source in (0, 7, 11, 13, 17, 19, 37, 67, 68, 69, 6767, 6969):
                 forge(source, 3737)
             time.sleep(0.7)
             check(lines_of(log, b"time") == after[0], "an office answers neither itself nor a well-known port")
             print(f"one office with itself, and with ports that answer: {lines_of(log, b'time') - after[0]} lines")
-            for source in (0, 7, 13, 19, 37, 3737, 6767):
+            for source in (0, 7, 11, 13, 17, 19, 37, 3737, 6767):
                 forge(source, 6969, b"\x00\x01name\x00octet\x00")
             time.sleep(0.7)
             check(lines_of(log, b"tftp") == 0, "TFTP takes nothing from a port that answers")
             forge(50000, 6969, b"\x00\x01name\x00octet\x00")
             time.sleep(0.3)
             check(lines_of(log, b"tftp") == 1, "TFTP takes a client's datagram")
+            forge(3738, 6969, b"\x00\x01name\x00octet\x00")
+            time.sleep(1.5)
+            more = lines_of(log, b"tftp") - 1, lines_of(other_log, b"time") - after[1]
+            print(f"one's TFTP port and the other's time port, one forged datagram: {more[0]} and {more[1]} lines in 1.5 s")
+            check(more[0] <= 2, "the one's TFTP port and the other's time port don't answer each other")
             with socket.socket(socket.AF_INET, socket.SOCK_DGRAM) as client:
                 client.settimeout(1)
                 for payload in (b"", b"time", b"\x00\x00\x00\x00", b"\xff" * 4):

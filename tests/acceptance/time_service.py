@@ -108,9 +108,10 @@ def serve_and_ask():
                 for client in clients:
                     payload = b"" if round_ % 2 == 0 else b"\x2a" * 1400
                     check(ask(client, clock, payload) is not None, "each question has an answer")
-            # A datagram that is no DHCP message, one for a service that isn't built yet, and a clerk.
+            # A datagram that is no DHCP message, a read request of who has no lease, and a clerk.
             clients[0].sendto(b"", ("127.0.0.1", dhcp))
             clients[0].sendto(b"\x00\x01name\x00octet\x00", ("127.0.0.1", tftp))
+            check(clients[0].recv(2048) == b"\x00\x05\x00\x02no lease\x00", "who has no lease is told so")
             with socket.create_connection(("127.0.0.1", http), timeout=5) as clerk:
                 clerk.sendall(b"GET /site HTTP/1.1\r\n\r\n")
                 time.sleep(0.3)
@@ -150,7 +151,7 @@ def serve_and_ask():
 def judge(lines):
     numbers = []
     for line in lines:
-        form = re.fullmatch(r"([0-9]+) (time sent|dhcp dhcp-short|tftp not-built|http wait|http closed|http 404 no-row)", line)
+        form = re.fullmatch(r"([0-9]+) (time sent|dhcp dhcp-short|tftp no-lease|http wait|http closed|http 404 no-row)", line)
         check(form is not None, f"a line has its form: {line!r}")
         if form:
             numbers.append(int(form.group(1)))
@@ -158,7 +159,7 @@ def judge(lines):
     words = [line.split(" ", 1)[1] for line in lines if " " in line]
     check(words.count("time sent") >= 500, "each answer has a line")
     check(words.count("dhcp dhcp-short") == 1, "the DHCP datagram has a line")
-    check(words.count("tftp not-built") == 1, "the TFTP datagram has a line")
+    check(words.count("tftp no-lease") == 1, "the TFTP datagram has a line")
     check(words.count("http 404 no-row") == 1, "the clerk's request has a line")
     print(f"{len(lines)} lines, the last number {numbers[-1] if numbers else 0}")
 
