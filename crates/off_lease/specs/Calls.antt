@@ -8,4 +8,5 @@ use Rattle.off_lease_rules.specs.Rules.{refused_by}
 use Rattle.off_lease.specs.Stages.{own_rules}
 
 abbrev pub message_calls : Received → Option ℕ
-message_calls m = if is_some (refused_by (own_rules m)) then Some 1 else if asks m then None else Some 2
+message_calls m =
+    if is_some (refused_by (own_rules m)) then Some 1 else if asks m then None else Some 2
