@@ -1,0 +1,3 @@
+pub mod Columns
+pub mod Reading
+pub mod Faults
