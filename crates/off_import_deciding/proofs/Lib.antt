@@ -1,0 +1,4 @@
+mod ProgressLemmas
+mod JudgeLemmas
+mod RowsLemmas
+mod ImportLemmas

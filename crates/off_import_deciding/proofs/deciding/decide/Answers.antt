@@ -1,0 +1,10 @@
+use Rattle.off_import_deciding.proofs.ImportLemmas.{sound_rows, import_answers}
+use Rattle.off_import_deciding.proofs.deciding.decide.Goals as goal
+
+pub import-verdict-requires-clause-sound : goal.import-verdict-requires-clause-sound
+import-verdict-requires-clause-sound g c = sound_rows c.args.c.now c.in-Import.kind c.in-Import.batch c.in-Import.digest c.in-Import.rows c.in-Import.is c.requires.sound
+
+pub returns-clause-told : goal.returns-clause-told
+returns-clause-told g c =
+    import_answers c.args.counts.now c.args.now.0 c.args.c.now c.in-Import.batch (record { kind = c.in-Import.kind; digest = c.in-Import.digest; rows = c.len.result }) c.in-Import.rows _ _
+    c.import-verdict.result c.import_answer.result c.in-Import.is c.import_answer.ensures c.import-verdict.ensures.told
