@@ -1,6 +1,8 @@
 ghost use Rattle.std.specs.Prelude.{IsTrue, IfOk};
 ghost use Rattle.off_rows.specs.Sound.{is_sound, is_shown, is_add_on_number};
+ghost use Rattle.off_import_rules.specs.Reading.{import_in};
 ghost use Rattle.off_clerk_rules.specs.Commands.{GivesWanted, command_read, asked_of, put_read};
+ghost use Rattle.off_clerk_rules.specs.Commands.{as_import};
 ghost use Rattle.off_clerk_rules.specs.Paths.{IsNamed};
 ghost use Rattle.off_defs.specs.declared.keys.Key.TheVariants as key;
 
@@ -8,7 +10,9 @@ use crate::bodies::{add_on_of, class_of, modem_of, object_of, pool_of, site_of, 
 use crate::paths::{path_of, place_at};
 use off_base::Mac;
 use off_clerk_rules::{ClerkErr, Place};
-use off_defs::{Command, Key};
+use off_defs::{Command, ImportKind, Key};
+use off_import::read_import;
+use off_import_rules::ImportErr;
 use std::alloc::Global;
 
 /// The command that a request means: its method (RFC 9110, section 9), its target's path up to the
@@ -16,8 +20,9 @@ use std::alloc::Global;
 ///
 /// The path is tested before the method, and both before the body is read. The body of a PUT is
 /// one JSON object (RFC 8259), of which the first field in the order of the row's kind that is
-/// missing or wrong is named; other fields are passed over. Bodies of GET and DELETE aren't read.
-/// `Memory` is want of memory.
+/// missing or wrong is named; other fields are passed over. At the path of an import it is a table
+/// (RFC 4180), whose first fault in the order of reading is told. Bodies of GET and DELETE aren't
+/// read. `Memory` is want of memory.
 pub fn command_of(
     alloc: Global,
     method: &[u8],
@@ -33,22 +38,43 @@ pub fn command_of(
     }
 }
 
-// What a method asks of the row that a path names.
+// What a method asks at the place that a path names.
 fn asked(alloc: Global, place: Place, method: &[u8], body: &[u8]) -> Result<Command, ClerkErr>
     requires { IsNamed place }
     ensures exact { GivesWanted (asked_of place method.now body.now) result }
     ensures sound { IfOk result (λ command. IsTrue (is_sound command)) }
 {
-    if method == b"GET".as_slice() {
-        return Ok(Command::Show(place.key));
+    match place {
+        Place::Row { key, puts, deletes } => {
+            if method == b"GET".as_slice() {
+                return Ok(Command::Show(key));
+            }
+            if method == b"PUT".as_slice() && puts {
+                return put(alloc, key, body);
+            }
+            if method == b"DELETE".as_slice() && deletes {
+                return Ok(Command::Remove(key));
+            }
+            Err(ClerkErr::NoMethod)
+        }
+        Place::Import { kind, batch } => {
+            if method == b"PUT".as_slice() {
+                return import(alloc, kind, batch, body);
+            }
+            Err(ClerkErr::NoMethod)
+        }
     }
-    if method == b"PUT".as_slice() && place.puts {
-        return put(alloc, place.key, body);
+}
+
+fn import(alloc: Global, kind: ImportKind, batch: u64, body: &[u8]) -> Result<Command, ClerkErr>
+    ensures exact { GivesWanted (as_import (import_in kind batch body.now)) result }
+    ensures sound { IfOk result (λ command. IsTrue (is_sound command)) }
+{
+    match read_import(alloc, kind, batch, body) {
+        Ok(command) => Ok(command),
+        Err(ImportErr::Fault(fault)) => Err(ClerkErr::Import(fault)),
+        Err(ImportErr::Memory) => Err(ClerkErr::Memory),
     }
-    if method == b"DELETE".as_slice() && place.deletes {
-        return Ok(Command::Remove(place.key));
-    }
-    Err(ClerkErr::NoMethod)
 }
 
 fn put(alloc: Global, key: Key, body: &[u8]) -> Result<Command, ClerkErr>

@@ -6,11 +6,12 @@ ghost use Rattle.off_defs.specs.Bounds.{last_add_on};
 ghost use Rattle.off_clerk_rules.specs.Paths.{path_of, length_before, read_behind, last_number};
 ghost use Rattle.off_clerk_rules.specs.Paths.{add_on_named, site_at, subscriber_at, add_on_at};
 ghost use Rattle.off_clerk_rules.specs.Paths.{modem_at, class_at, pool_at, lease_at, place_at};
+ghost use Rattle.off_clerk_rules.specs.Paths.{import_named, subscribers_at, modems_at};
 ghost use Rattle.off_clerk_rules.specs.Paths.{only_shown, kept, removable, IsNamed};
 
 use off_base::{read_ip, read_mac, read_number};
 use off_clerk_rules::Place;
-use off_defs::{Key, LAST_ADD_ON};
+use off_defs::{ImportKind, Key, LAST_ADD_ON};
 
 // The greatest number of 32 bits.
 pub(crate) const LAST_NUMBER: u64 = 4_294_967_295;
@@ -34,13 +35,15 @@ pub(crate) fn place_at(path: &[u8]) -> Option<Place>
         .or(class_at(path))
         .or(pool_at(path))
         .or(lease_at(path))
+        .or(subscribers_at(path))
+        .or(modems_at(path))
 }
 
 // A path at which a row is only shown.
 fn only_shown(key: Key) -> Place
     ensures { result ≡ only_shown key }
 {
-    Place {
+    Place::Row {
         key,
         puts: false,
         deletes: false,
@@ -51,7 +54,7 @@ fn only_shown(key: Key) -> Place
 fn kept(key: Key) -> Place
     ensures { result ≡ kept key }
 {
-    Place {
+    Place::Row {
         key,
         puts: true,
         deletes: false,
@@ -62,7 +65,7 @@ fn kept(key: Key) -> Place
 fn removable(key: Key) -> Place
     ensures { result ≡ removable key }
 {
-    Place {
+    Place::Row {
         key,
         puts: true,
         deletes: true,
@@ -214,5 +217,37 @@ fn lease_at(path: &[u8]) -> Option<Place>
     match read_ip(text) {
         Ok(address) => Some(only_shown(Key::Lease(address))),
         Err(_) => None,
+    }
+}
+
+// The imports of subscribers.
+fn subscribers_at(path: &[u8]) -> Option<Place>
+    ensures exact { result ≡ subscribers_at path.now }
+    ensures named { IfSome result IsNamed }
+{
+    match read_behind(b"/imports/subscribers/", path) {
+        Some(text) => import_named(ImportKind::Subscribers, text),
+        None => None,
+    }
+}
+
+// The imports of modems.
+fn modems_at(path: &[u8]) -> Option<Place>
+    ensures exact { result ≡ modems_at path.now }
+    ensures named { IfSome result IsNamed }
+{
+    match read_behind(b"/imports/modems/", path) {
+        Some(text) => import_named(ImportKind::Modems, text),
+        None => None,
+    }
+}
+
+fn import_named(kind: ImportKind, text: &[u8]) -> Option<Place>
+    ensures exact { result ≡ import_named kind text.now }
+    ensures named { IfSome result IsNamed }
+{
+    match read_number(text, u64::MAX) {
+        Some(batch) => Some(Place::Import { kind, batch }),
+        None => None,
     }
 }

@@ -13,14 +13,19 @@ use Rattle.off_defs.specs.declared.tables.Subscriber.{Subscriber}
 use Rattle.off_defs.specs.declared.tables.Modem.{Modem}
 use Rattle.off_defs.specs.declared.tables.Class.{Class}
 use Rattle.off_defs.specs.declared.tables.Pool.{Pool}
+use Rattle.off_defs.specs.declared.tables.ImportKind.{ImportKind}
 use Rattle.off_defs.specs.declared.orders.Command.{Command}
 use Rattle.off_defs.specs.declared.orders.Command.TheVariants.{SetSite, PutSubscriber, PutAddOn, PutModem, PutClass, PutPool, Remove, Show}
+use Rattle.off_import_rules.specs.Reading.{import_in}
+use Rattle.off_import_rules.specs.declared.faults.ImportErr.{ImportErr}
+use Rattle.off_import_rules.specs.declared.faults.ImportErr.TheVariants as imported
 use Rattle.off_clerk_rules.specs.Paths.{path_of, place_at, last_number}
 use Rattle.off_clerk_rules.specs.declared.places.Place.{Place}
+use Rattle.off_clerk_rules.specs.declared.places.Place.TheVariants as at
 use Rattle.off_clerk_rules.specs.Fields.{field_in, number_in, offset_in, text_in, address_in, relay_in, hex_in, settings_in}
 use Rattle.off_clerk_rules.specs.declared.names.Name.TheVariants as field
 use Rattle.off_clerk_rules.specs.declared.faults.ClerkErr.{ClerkErr}
-use Rattle.off_clerk_rules.specs.declared.faults.ClerkErr.TheVariants.{NoPath, NoMethod, NotJson, Memory}
+use Rattle.off_clerk_rules.specs.declared.faults.ClerkErr.TheVariants.{NoPath, NoMethod, NotJson, Import, Memory}
 
 -- the second step, if the first gave a value: `do` reads fields in order, and ends at the first fault
 infixl 10 ◌>>=◌
@@ -111,13 +116,24 @@ put_read (key.Lease address) body = Err NoMethod
 put_read (key.Held mac) body = Err NoMethod
 put_read (key.Batch number) body = Err NoMethod
 
+-- the body of an import isn't JSON
+abbrev pub import_fault : ImportErr → ClerkErr
+import_fault (imported.Fault fault) = Import fault
+import_fault imported.Memory = Memory
+
+abbrev pub as_import : Result Command ImportErr → Result Command ClerkErr
+as_import (Ok command) = Ok command
+as_import (Err err) = Err (import_fault err)
+
 -- GET and DELETE (RFC 9110, sections 9.3.1 and 9.3.5) have no body
 abbrev pub asked_of : Place → List ℕ → List ℕ → Result Command ClerkErr
-asked_of place method body =
-    if bytes_eq method (codes "GET") then Ok (Show place.key)
-    else if bytes_eq method (codes "PUT") && place.puts then put_read place.key body
-    else if bytes_eq method (codes "DELETE") && place.deletes then Ok (Remove place.key)
+asked_of (at.Row row puts deletes) method body =
+    if bytes_eq method (codes "GET") then Ok (Show row)
+    else if bytes_eq method (codes "PUT") && puts then put_read row body
+    else if bytes_eq method (codes "DELETE") && deletes then Ok (Remove row)
     else Err NoMethod
+asked_of (at.Import kind batch) method body =
+    if bytes_eq method (codes "PUT") then as_import (import_in kind batch body) else Err NoMethod
 
 abbrev pub asked_at : Option Place → List ℕ → List ℕ → Result Command ClerkErr
 asked_at None method body = Err NoPath

@@ -11,6 +11,7 @@ use Rattle.off_clerk_rules.specs.declared.faults.ClerkErr.{ClerkErr}
 use Rattle.off_clerk_rules.specs.declared.faults.ClerkErr.TheVariants as clerk
 use Rattle.off_clerk_rules.specs.declared.faults.Fault.{Fault}
 use Rattle.off_clerk_rules.specs.declared.faults.Fault.TheVariants as fault
+use Rattle.off_import_rules.specs.Faults.{fault_word, fault_detail, fault_status}
 use Rattle.off_clerk_rules.specs.Names.{name_text}
 
 -- a clerk isn't told of want of memory
@@ -23,6 +24,7 @@ clerk_word clerk.NoMethod = codes "no-method"
 clerk_word clerk.NotJson = codes "not-json"
 clerk_word (clerk.Field missing) = codes "field"
 clerk_word (clerk.Value wrong) = codes "value"
+clerk_word (clerk.Import f) = fault_word f
 clerk_word clerk.Memory = []
 
 abbrev pub http_word : HttpFault → List ℕ
@@ -56,6 +58,7 @@ clerk_status clerk.NoMethod = 405
 clerk_status clerk.NotJson = 400
 clerk_status (clerk.Field missing) = 400
 clerk_status (clerk.Value wrong) = 400
+clerk_status (clerk.Import f) = fault_status f
 clerk_status clerk.Memory = 0
 
 abbrev pub http_status : HttpFault → ℕ
@@ -95,13 +98,14 @@ tree_number (tree.FlowReference flow) = 6
 tree_number (tree.ClassifierReference classifier) = 7
 tree_number (tree.TooLong length) = 8
 
--- where a request is wrong: a field's name
+-- where a request is wrong: a field's name, or a row of an import and the column in it
 abbrev pub clerk_detail : ClerkErr → Option (List ℕ)
 clerk_detail clerk.NoPath = None
 clerk_detail clerk.NoMethod = None
 clerk_detail clerk.NotJson = None
 clerk_detail (clerk.Field missing) = Some (name_text missing)
 clerk_detail (clerk.Value wrong) = Some (name_text wrong)
+clerk_detail (clerk.Import f) = fault_detail f
 clerk_detail clerk.Memory = None
 
 -- what stands against a command: another pool, a leased address, a batch, a rule of settings, a limit, a field

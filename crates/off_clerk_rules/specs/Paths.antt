@@ -1,4 +1,4 @@
--- Which row a request is about: the path of its target (RFC 9112, section 3.2), and whether the row may be removed there.
+-- What a request is about, a row or an import: the path of its target (RFC 9112, section 3.2), and which methods it has.
 use Rattle.std.specs.Prelude.{ℕ, ◌-◌, ◌^◌, ◌==◌, true, false, List, [], ◌∷◌, length, take, drop, codes, nat_eq, bytes_eq, Option, Some, None, option_map, option_and_then, IsTrue, if◌then◌else◌}
 use Rattle.std.specs.List.{starts_with, position_or_len, fold}
 use Rattle.std.specs.Option.{option_or}
@@ -9,8 +9,11 @@ use Rattle.off_base.specs.declared.macs.Mac.{Mac}
 use Rattle.off_defs.specs.Bounds.{last_add_on}
 use Rattle.off_defs.specs.declared.keys.Key.{Key}
 use Rattle.off_defs.specs.declared.keys.Key.TheVariants as key
+use Rattle.off_defs.specs.declared.tables.ImportKind.{ImportKind}
+use Rattle.off_defs.specs.declared.tables.ImportKind.TheVariants.{Subscribers, Modems}
 use Rattle.off_rows.specs.Sound.{is_shown, is_removable}
 use Rattle.off_clerk_rules.specs.declared.places.Place.{Place}
+use Rattle.off_clerk_rules.specs.declared.places.Place.TheVariants as at
 
 -- the number of bytes before the first mark, or of all
 abbrev pub length_before : ℕ → List ℕ → ℕ
@@ -31,13 +34,13 @@ last_number = 2 ^ 32 - 1
 -- The methods of a path go by the path, not by its key. A row is only shown there (GET, RFC 9110, section 9.3.1), or also put (PUT, section
 -- 9.3.4), or also removed (DELETE, section 9.3.5).
 abbrev pub only_shown : Key → Place
-only_shown row = record { key = row; puts = false; deletes = false }
+only_shown row = at.Row row false false
 
 abbrev pub kept : Key → Place
-kept row = record { key = row; puts = true; deletes = false }
+kept row = at.Row row true false
 
 abbrev pub removable : Key → Place
-removable row = record { key = row; puts = true; deletes = true }
+removable row = at.Row row true true
 
 abbrev pub numbered : (ℕ → Key) → List ℕ → Option Place
 numbered named text = option_map (λ number. removable (named number)) (number_read last_number text)
@@ -76,11 +79,26 @@ pool_at path = read_behind (codes "/pools/") (numbered key.Pool) path
 abbrev pub lease_at : List ℕ → Option Place
 lease_at path = read_behind (codes "/leases/") (λ text. option_map (λ number. only_shown (key.Lease (ip_with number))) (ip_of text)) path
 
+-- the greatest number of an import
+abbrev pub last_batch : ℕ
+last_batch = 2 ^ 64 - 1
+
+abbrev pub import_named : ImportKind → List ℕ → Option Place
+import_named kind text = option_map (λ batch. at.Import kind batch) (number_read last_batch text)
+
+abbrev pub subscribers_at : List ℕ → Option Place
+subscribers_at path = read_behind (codes "/imports/subscribers/") (import_named Subscribers) path
+
+abbrev pub modems_at : List ℕ → Option Place
+modems_at path = read_behind (codes "/imports/modems/") (import_named Modems) path
+
 -- the one that the path is of
 abbrev pub place_at : List ℕ → Option Place
 place_at path =
-    fold option_or (site_at path) (subscriber_at path ∷ add_on_at path ∷ modem_at path ∷ class_at path ∷ pool_at path ∷ lease_at path ∷ [])
+    fold option_or (site_at path)
+    (subscriber_at path ∷ add_on_at path ∷ modem_at path ∷ class_at path ∷ pool_at path ∷ lease_at path ∷ subscribers_at path ∷ modems_at path ∷ [])
 
 -- a clerk may be shown the row, and remove it where its path has DELETE
 abbrev pub IsNamed : Place → Type 0
-IsNamed place = IsTrue (is_shown place.key) × (IsTrue place.deletes → IsTrue (is_removable place.key))
+IsNamed (at.Row row puts deletes) = IsTrue (is_shown row) × (IsTrue deletes → IsTrue (is_removable row))
+IsNamed (at.Import kind batch) = Unit {0}

@@ -1,6 +1,7 @@
 use crate::names::Name;
 use off_defs::Rule;
 use off_http::HttpFault;
+use off_import_rules::ImportFault;
 
 /// Why a request is no command.
 #[derive(Clone, Copy, Debug, PartialEq, Eq)]
@@ -15,6 +16,8 @@ pub enum ClerkErr {
     Field(Name),
     /// The field is of another kind, or out of its range, and every field before it is good.
     Value(Name),
+    /// The body of an import can't be read.
+    Import(ImportFault),
     /// Memory was wanted, and refused. A clerk isn't told so.
     Memory,
 }

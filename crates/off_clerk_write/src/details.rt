@@ -1,6 +1,7 @@
 ghost use Rattle.std.specs.Prelude.{◌≡◌, ◌++◌, codes, option_map, IfOk, OnOk};
 ghost use Rattle.off_clerk_rules.specs.Faults.{fault_text, detail_of, clerk_detail};
 ghost use Rattle.off_clerk_rules.specs.Faults.{rule_detail, tree_number, IsTold};
+ghost use Rattle.off_import_rules.specs.Faults.{fault_detail};
 ghost use Rattle.off_clerk_write.specs.Details.{detail_text};
 
 use crate::texts::{push_address, push_number};
@@ -8,15 +9,18 @@ use crate::words::fault_word;
 use off_base::{Bytes, Ip4, NoMemory};
 use off_clerk_rules::{ClerkErr, Fault, Name};
 use off_defs::Rule;
+use off_import::{FaultText, fault_detail};
+use off_import_rules::ImportFault;
 use off_tree::TreeFault;
 use std::alloc::Global;
 
 // Where the fault is, or what stands against the command.
-#[derive(Clone, Copy)]
+#[derive(Drop)]
 enum Detail {
     Field(Name),
     Number(u64),
     Address(Ip4),
+    Import(FaultText),
 }
 
 /// The fault as a JSON object: its word, and where it is.
@@ -63,6 +67,7 @@ fn push_detail(text: &mut Bytes, detail: Detail) -> Result<(), NoMemory>
         Detail::Field(name) => text.push_all(name.text().as_bytes()),
         Detail::Number(number) => push_number(text, number),
         Detail::Address(address) => push_address(text, address),
+        Detail::Import(place) => text.push_all(place.as_slice()),
     }
 }
 
@@ -88,7 +93,17 @@ fn field_of(err: ClerkErr) -> Option<Detail>
     match err {
         ClerkErr::Field(name) => Some(Detail::Field(name)),
         ClerkErr::Value(name) => Some(Detail::Field(name)),
+        ClerkErr::Import(fault) => place_in_import(fault),
         _ => None,
+    }
+}
+
+fn place_in_import(fault: ImportFault) -> Option<Detail>
+    ensures { option_map detail_text result ≡ fault_detail fault }
+{
+    match fault_detail(fault) {
+        Some(place) => Some(Detail::Import(place)),
+        None => None,
     }
 }
 

@@ -69,6 +69,7 @@ fn clerk_answer(err: ClerkErr) -> Told
         ClerkErr::NotJson => answer(400, b"not-json"),
         ClerkErr::Field(_) => answer(400, b"field"),
         ClerkErr::Value(_) => answer(400, b"value"),
+        ClerkErr::Import(fault) => answer(fault.status(), fault.word()),
         ClerkErr::Memory => unreachable!(),
     }
 }

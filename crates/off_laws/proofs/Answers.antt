@@ -39,6 +39,7 @@ clerk_small clerk.NoMethod = omega arith
 clerk_small clerk.NotJson = omega arith
 clerk_small (clerk.Field missing) = omega arith
 clerk_small (clerk.Value wrong) = omega arith
+clerk_small (clerk.Import f) = omega arith
 clerk_small clerk.Memory = omega arith
 
 http_small : (f : HttpFault) → http_status f < 1000

@@ -1,5 +1,6 @@
 pub mod Paths
 pub mod Bodies
+pub mod Imports
 pub mod Requests
 pub mod Answers
 pub mod Messages

@@ -4,18 +4,23 @@ use Rattle.std.specs.Prelude.{bytes_eq}
 use Rattle.serde_json.specs.Data.{Data}
 use Rattle.off_defs.specs.declared.keys.Key.{Key}
 use Rattle.off_defs.specs.declared.keys.Key.TheVariants as key
+use Rattle.off_defs.specs.declared.tables.ImportKind.{ImportKind}
 use Rattle.off_defs.specs.declared.orders.Command.{Command}
 use Rattle.off_defs.specs.declared.orders.Command.TheVariants.{SetSite, PutSubscriber, PutAddOn, PutModem, PutClass, PutPool, Remove, Show}
-use Rattle.off_rows.specs.Sound.{is_sound, is_shown}
+use Rattle.off_rows.specs.Sound.{is_sound, is_shown, is_removable}
+use Rattle.off_import_rules.specs.Reading.{import_in}
+use Rattle.off_import_rules.specs.declared.faults.ImportErr.{ImportErr}
 use Rattle.off_clerk_rules.specs.declared.faults.ClerkErr.{ClerkErr}
 use Rattle.off_clerk_rules.specs.declared.faults.ClerkErr.TheVariants.{NoMethod}
-use Rattle.off_clerk_rules.specs.Commands.{◌>>=◌, site_in, subscriber_in, add_on_in, modem_in, class_in, pool_in, object_in, put_read, asked_at, command_read}
+use Rattle.off_clerk_rules.specs.Commands.{◌>>=◌, site_in, subscriber_in, add_on_in, modem_in, class_in, pool_in, object_in, put_read, as_import, asked_at, command_read}
 use Rattle.off_clerk_rules.specs.Paths.{path_of, place_at, IsNamed}
 use Rattle.off_clerk_rules.specs.declared.places.Place.{Place}
+use Rattle.off_clerk_rules.specs.declared.places.Place.TheVariants as at
 use Rattle.off_clerk_rules.proofs.PathLemmas.{NamesOne}
 use Rattle.off_table_laws.specs.Laws.{secret_fits}
 use Rattle.off_laws.proofs.Paths.{path_named}
 use Rattle.off_laws.proofs.Bodies.{subscriber_sound, pool_sound, site_fits}
+use Rattle.off_laws.proofs.Imports.{import_sound}
 
 abbrev pub MayBe : Command → Type 0
 MayBe command = (is_sound command ≡ true) × (secret_fits command ≡ true)
@@ -47,21 +52,30 @@ put_may (key.Lease address) body shown = tt
 put_may (key.Held mac) body shown = tt
 put_may (key.Batch n) body shown = tt
 
-delete_may : (place : Place) (b : Bool) → place.deletes ≡ b → (named : Bool) → IsNamed place
-    → IfOk (cond (named && b) (Ok (Remove place.key)) (Err NoMethod)) MayBe
-delete_may place true e true may = (may.1 e, refl)
-delete_may place false e true may = tt
-delete_may place b e false may = tt
+delete_may : (row : Key) (deletes named : Bool) → (deletes ≡ true → is_removable row ≡ true)
+    → IfOk (cond (named && deletes) (Ok (Remove row)) (Err NoMethod)) MayBe
+delete_may row true true may = (may refl, refl)
+delete_may row false true may = tt
+delete_may row deletes false may = tt
 
-by_method : (place : Place) (body : List ℕ) (get put delete : Bool) → IsNamed place
-    → IfOk (cond get (Ok (Show place.key)) (cond put (put_read place.key body) (cond (delete && place.deletes) (Ok (Remove place.key)) (Err NoMethod)))) MayBe
-by_method place body true put delete may = (may.0, refl)
-by_method place body false true delete may = put_may place.key body may.0
-by_method place body false false delete may = delete_may place _ refl delete may
+by_method : (row : Key) (deletes : Bool) (body : List ℕ) (get put delete : Bool) → is_shown row ≡ true → (deletes ≡ true → is_removable row ≡ true)
+    → IfOk (cond get (Ok (Show row)) (cond put (put_read row body) (cond (delete && deletes) (Ok (Remove row)) (Err NoMethod)))) MayBe
+by_method row deletes body true put delete shown removable = (shown, refl)
+by_method row deletes body false true delete shown removable = put_may row body shown
+by_method row deletes body false false delete shown removable = delete_may row deletes delete removable
+
+import_may : (read : Result Command ImportErr) → IfOk read MayBe → IfOk (as_import read) MayBe
+import_may (Ok command) may = may
+import_may (Err e) may = tt
+
+by_put : (kind : ImportKind) (batch : ℕ) (body : List ℕ) (put : Bool) → IfOk (cond put (as_import (import_in kind batch body)) (Err NoMethod)) MayBe
+by_put kind batch body true = import_may (import_in kind batch body) (import_sound kind batch body)
+by_put kind batch body false = tt
 
 at_place : (found : Option Place) (method body : List ℕ) → NamesOne found → IfOk (asked_at found method body) MayBe
-at_place (Some place) method body may =
-    by_method place body (bytes_eq method (codes "GET")) (bytes_eq method (codes "PUT") && place.puts) (bytes_eq method (codes "DELETE")) may
+at_place (Some (at.Row row puts deletes)) method body may =
+    by_method row deletes body (bytes_eq method (codes "GET")) (bytes_eq method (codes "PUT") && puts) (bytes_eq method (codes "DELETE")) may.0 may.1
+at_place (Some (at.Import kind batch)) method body may = by_put kind batch body (bytes_eq method (codes "PUT"))
 at_place None method body may = tt
 
 pub request_may : (method target body : List ℕ) → IfOk (command_read method target body) MayBe

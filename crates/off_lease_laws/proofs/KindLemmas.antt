@@ -31,7 +31,7 @@ use Rattle.off_lease_laws.proofs.CountLemmas.{counts_with_other, counts_without_
 use Rattle.off_lease_laws.proofs.OutcomeLemmas.{outcome}
 use Rattle.off_lease_laws.proofs.WriteLemmas.{offer_writes}
 
-pub is_lease_write : Write → Bool
+unfoldable pub is_lease_write : Write → Bool
 is_lease_write (Put (key.Lease address) (row.Lease lease)) = true
 is_lease_write (Put (key.Held mac) (row.Held address)) = true
 is_lease_write (Drop (key.Lease address)) = true
@@ -128,7 +128,7 @@ module _ (t : Tables) (now : ℕ) (m : Received) where
   outcome_kinds step (declining was) = ap (list_all is_lease_write) was.writes
   outcome_kinds step (releasing was) = ap (list_all is_lease_write) was.writes
 
-  kinds : list_all is_lease_write (lease_step t now m).writes ≡ true
+  pub kinds : list_all is_lease_write (lease_step t now m).writes ≡ true
   kinds = outcome_kinds (lease_step t now m) (outcome t now m)
 
   pub others_stay : (q : Key) → (kind_of q ≡ 7 → ⊥) → (kind_of q ≡ 8 → ⊥) → row_at (write_all t (lease_step t now m).writes) q ≡ row_at t q
