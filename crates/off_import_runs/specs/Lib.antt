@@ -1,0 +1,4 @@
+pub mod Puts
+pub mod Asked
+pub mod Once
+pub mod Laws
