@@ -3,7 +3,8 @@ use Rattle.std.proofs.Common.{◌≡◌, [], ◌∷◌, refl, codes, Some, None}
 use Rattle.off_base.specs.Number.{number_read}
 use Rattle.off_defs.specs.Clock.{time_bytes}
 use Rattle.hex.proofs.OnLiterals.{hex_on_literals}
-use Rattle.off_book.specs.Words.{serve_of, secret_of, job_of, to_seal}
+use Rattle.off_defs.specs.declared.tables.ImportKind.TheVariants.{Modems}
+use Rattle.off_book.specs.Words.{serve_of, import_of, secret_of, job_of, to_import, to_seal}
 
 -- 1 January 1970: 2,208,988,800 seconds
 time_at_zero : time_bytes 0 ≡ 0x83 ∷ 0xaa ∷ 0x7e ∷ 0x80 ∷ []
@@ -29,10 +30,15 @@ no_port_zero : serve_of (codes "serve" ∷ codes "--store" ∷ codes "memory" �
 unfolding serve_of number_read
 no_port_zero = refl
 
+import_words : job_of (codes "import" ∷ codes "--store" ∷ codes "memory" ∷ codes "modems" ∷ codes "7" ∷ [])
+    ≡ Some (to_import (record { store = codes "memory"; kind = Modems; batch = 7 }))
+unfolding serve_of import_of number_read
+import_words = refl
+
 seal_words : job_of (codes "seal" ∷ codes "73aBFf" ∷ []) ≡ Some (to_seal (0x73 ∷ 0xab ∷ 0xff ∷ []))
-unfolding serve_of secret_of hex_on_literals
+unfolding serve_of import_of secret_of hex_on_literals
 seal_words = refl
 
 odd_secret : job_of (codes "check" ∷ codes "73a" ∷ []) ≡ None
-unfolding serve_of secret_of hex_on_literals
+unfolding serve_of import_of secret_of hex_on_literals
 odd_secret = refl

@@ -1,16 +1,20 @@
 -- The words of the command line behind the program's name:
 --     serve --store STORE --ports DHCP,TIME,TFTP,HTTP --turns N
+--     import --store STORE KIND BATCH
 --     seal HEX
 --     check HEX
 -- STORE is `memory` or a path that isn't empty and doesn't begin with `-`. Ports are numbers from 1
--- to 65535. N is 0 to 10^15. HEX is a secret of 1 to 64 bytes in hexadecimal pairs of either case.
+-- to 65535. N is 0 to 10^15. KIND is `subscribers` or `modems`, BATCH a number of 64 bits. HEX is a
+-- secret of 1 to 64 bytes in hexadecimal pairs of either case.
 use Rattle.std.specs.Prelude.{ℕ, ◌==◌, Bool, not, ◌&&◌, nat_lt, List, [], ◌∷◌, length, map, codes, slice_index, Option, Some, None, option_and_then, option_map, nat_le, if◌then◌else◌}
 use Rattle.std.specs.Option.{option_or}
 use Rattle.std.specs.List.{slice_split}
 use Rattle.std.specs.Str.{bytes_eq}
 use Rattle.std.specs.Result.{result_ok}
 use Rattle.hex.specs.Hex.{decode_of}
-use Rattle.off_base.specs.Number.{number_read}
+use Rattle.off_base.specs.Number.{number_read, greatest_u64}
+use Rattle.off_defs.specs.declared.tables.ImportKind.{ImportKind}
+use Rattle.off_defs.specs.declared.tables.ImportKind.TheVariants.{Subscribers, Modems}
 
 -- what the words of `serve` ask for; `ports` in the order DHCP, time, TFTP, HTTP
 pub record Serve : Type 0 where
@@ -59,6 +63,32 @@ serve_of (command ∷ store_flag ∷ store ∷ ports_flag ∷ ports ∷ turns_fl
     then serve_by store (ports_of ports) (number_read most_turns turns) else None
 serve_of words = None
 
+-- what the words of `import` ask for
+pub record Import : Type 0 where
+  pub store : List ℕ
+  pub kind : ImportKind
+  pub batch : ℕ
+
+-- which rows an import has
+abbrev pub kind_of : List ℕ → Option ImportKind
+kind_of word =
+    if bytes_eq word (codes "subscribers") then Some Subscribers
+    else if bytes_eq word (codes "modems") then Some Modems
+    else None
+
+abbrev pub import_by : List ℕ → Option ImportKind → Option ℕ → Option Import
+import_by store None batch = None
+import_by store (Some kind) None = None
+import_by store (Some kind) (Some batch) =
+    if is_store store then Some (record { store = store; kind = kind; batch = batch }) else None
+
+-- the one form of `import`, or None for every other list of words
+unfoldable pub import_of : List (List ℕ) → Option Import
+import_of (command ∷ store_flag ∷ store ∷ kind ∷ batch ∷ []) =
+    if (bytes_eq command (codes "import") && bytes_eq store_flag (codes "--store"))
+    then import_by store (kind_of kind) (number_read greatest_u64 batch) else None
+import_of words = None
+
 -- a secret of 1 to 64 bytes, in hexadecimal pairs
 unfoldable pub secret_of : List ℕ → Option (List ℕ)
 secret_of text =
@@ -68,6 +98,7 @@ secret_of text =
 -- what the words ask for
 pub data Job : Type 0 where
   to_serve : Serve → Job
+  to_import : Import → Job
   to_seal : List ℕ → Job
   to_check : List ℕ → Job
 
@@ -81,4 +112,5 @@ keyed_of command job words = None
 abbrev pub job_of : List (List ℕ) → Option Job
 job_of words =
     option_or (option_map to_serve (serve_of words))
-    (option_or (keyed_of (codes "seal") to_seal words) (keyed_of (codes "check") to_check words))
+    (option_or (option_map to_import (import_of words))
+    (option_or (keyed_of (codes "seal") to_seal words) (keyed_of (codes "check") to_check words)))

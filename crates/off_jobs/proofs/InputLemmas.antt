@@ -7,7 +7,7 @@ use Rattle.off_outside.specs.Streams.{SourceSeen, Gave}
 use Rattle.off_outside.proofs.StreamLemmas.{ends_met, ends_full}
 use Rattle.off_jobs.specs.declared.input.InputErr.{InputErr}
 use Rattle.off_jobs.specs.declared.input.InputErr.TheVariants.{TooLong, Failed, Memory}
-use Rattle.off_jobs.specs.Input.{Took, TookAll, TookTooMany, TookPiece, LostPiece, NoPiece, NoInput, most_bytes}
+use Rattle.off_jobs.specs.Input.{Took, TookAll, TookTooMany, TookPiece, LostPiece, NoPiece, NoInput}
 
 gave_took : {n : ℕ} {out : List ℕ} {old new : SourceSeen} → Gave n out old new → Took (take n out) 1 old new
 gave_took {n} {out} {old} {new} gave = record {
@@ -55,17 +55,17 @@ pub took_within : {xs : List ℕ} {m n : ℕ} {a b : SourceSeen} → m ≤ n →
 took_within le p = record { left = p.left; up = p.up; faults = p.faults; calls = omega (arith, p.calls) }
 
 -- what was taken so far, within the limit and one over it
-pub record SoFar (bytes : List ℕ) (old new : SourceSeen) : Type 0 where
+pub record SoFar (most : ℕ) (bytes : List ℕ) (old new : SourceSeen) : Type 0 where
   pub took : Took bytes (length bytes) old new
-  pub within : length bytes ≤ most_bytes + 1
+  pub within : length bytes ≤ most + 1
   pub ends : new.ends ≡ old.ends
 
-pub so_far_none : (s : SourceSeen) → SoFar [] s s
-so_far_none s = record { took = took_none s; within = omega arith; ends = refl }
+pub so_far_none : (most : ℕ) (s : SourceSeen) → SoFar most [] s s
+so_far_none most s = record { took = took_none s; within = omega arith; ends = refl }
 
-pub so_far_more : {count room : ℕ} {bytes longer : List ℕ} {a b c : SourceSeen} → SoFar bytes a b → TookPiece count room bytes longer b c
-    → room + length bytes ≤ most_bytes + 1 → (count ≡ 0 → ⊥) → SoFar longer a c
-so_far_more {count} {room} {bytes} {longer} {a} {b} {c} p q room_is some = record {
+pub so_far_more : {most count room : ℕ} {bytes longer : List ℕ} {a b c : SourceSeen} → SoFar most bytes a b → TookPiece count room bytes longer b c
+    → room + length bytes ≤ most + 1 → (count ≡ 0 → ⊥) → SoFar most longer a c
+so_far_more {most} {count} {room} {bytes} {longer} {a} {b} {c} p q room_is some = record {
   took = (let more : length bytes + 1 ≤ length longer = omega (arith, ap length q.joined, length-append bytes q.piece, q.long) in
       took_within more (subst (λ v. Took v (length bytes + 1) a c) (sym q.joined) (took_then p.took q.took)));
   within = omega (arith, ap length q.joined, length-append bytes q.piece, q.long, q.fits);
@@ -80,8 +80,8 @@ none_of [] e = refl
 none_of (x ∷ xs) e = absurd (omega arith)
 
 -- the end of the source
-pub at_end : {room : ℕ} {bytes longer : List ℕ} {a b c : SourceSeen} → SoFar bytes a b → TookPiece 0 room bytes longer b c → length bytes ≤ most_bytes → 0 < room → TookAll longer a c
-at_end {room} {bytes} {longer} {a} {b} {c} p q short wanted =
+pub at_end : {most room : ℕ} {bytes longer : List ℕ} {a b c : SourceSeen} → SoFar most bytes a b → TookPiece 0 room bytes longer b c → length bytes ≤ most → 0 < room → TookAll most longer a c
+at_end {most} {room} {bytes} {longer} {a} {b} {c} p q short wanted =
     let none : q.piece ≡ [] = none_of q.piece q.long in
     let same : longer ≡ bytes = q.joined ∙ (ap (λ v. bytes ++ v) none ∙ append-nil bytes) in
     record {
@@ -99,10 +99,10 @@ at_end {room} {bytes} {longer} {a} {b} {c} p q short wanted =
       ends = q.ends ∙ (ends_met 0 room b.ends refl wanted ∙ ap one_more p.ends);
     }
 
-pub no_input : (err : InputErr) (bytes : List ℕ) (room : ℕ) (a b c : SourceSeen) → SoFar bytes a b → length bytes ≤ most_bytes → room + length bytes ≤ most_bytes + 1
-    → NoPiece err room b c → NoInput err a c
-no_input TooLong bytes room a b c p short room_is q = absurd q
-no_input Failed bytes room a b c p short room_is q =
+pub no_input : {most : ℕ} (err : InputErr) (bytes : List ℕ) (room : ℕ) (a b c : SourceSeen) → SoFar most bytes a b → length bytes ≤ most → room + length bytes ≤ most + 1
+    → NoPiece err room b c → NoInput most err a c
+no_input {most} TooLong bytes room a b c p short room_is q = absurd q
+no_input {most} Failed bytes room a b c p short room_is q =
     let grew : Grew 1 a.faults c.faults = later_grew (omega (arith, p.took.faults)) q.faults in
     record {
       bytes = bytes;
@@ -113,7 +113,7 @@ no_input Failed bytes room a b c p short room_is q =
       calls = omega (arith, p.took.calls, q.calls);
       ends = q.ends ∙ p.ends;
     }
-no_input Memory bytes room a b c p short room_is q =
+no_input {most} Memory bytes room a b c p short room_is q =
     let size = length-append bytes q.piece in
     record {
       bytes = bytes ++ q.piece;
@@ -122,5 +122,5 @@ no_input Memory bytes room a b c p short room_is q =
       ends = q.ends ∙ p.ends;
     }
 
-pub too_many : {bytes : List ℕ} {a b : SourceSeen} → SoFar bytes a b → most_bytes < length bytes → TookTooMany a b
-too_many {bytes} p over = record { bytes = bytes; over = omega (arith, p.within); took = p.took; ends = p.ends }
+pub too_many : {most : ℕ} {bytes : List ℕ} {a b : SourceSeen} → SoFar most bytes a b → most < length bytes → TookTooMany most a b
+too_many {most} {bytes} p over = record { bytes = bytes; over = omega (arith, p.within); took = p.took; ends = p.ends }

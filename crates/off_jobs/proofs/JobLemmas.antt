@@ -17,15 +17,15 @@ use Rattle.off_jobs.specs.declared.input.InputErr.{InputErr}
 use Rattle.off_jobs.specs.Jobs.{Tells, Unread, overlong, memoryless, sourceless, UnreadBy, unread_status, Sealing, sealed_as, refused_by, unsealed, not_sealed, SealedBy, sealing_text, sealing_status, Checking, answered, refused_for, not_checked, CheckedBy, checking_text, checking_status, Verifies, NoFault, SealsInput, ChecksInput}
 
 -- where no count rose the text was written whole
-told_whole : {of status : ℕ} {text : List ℕ} {s s' : SourceSeen} {t t' : SinkSeen} → Tells of text status t t' → NoFault s s' t t' → status ≡ of
+pub told_whole : {of status : ℕ} {text : List ℕ} {s s' : SourceSeen} {t t' : SinkSeen} → Tells of text status t t' → NoFault s s' t t' → status ≡ of
 told_whole (inl wrote) none = wrote.0
 told_whole (inr cut) none = absurd (omega (arith, cut.1.faults.grew, none.sink_same, none.sink_count))
 
-source_held : {s s' : SourceSeen} {t t' : SinkSeen} → SourceFailed s s' → NoFault s s' t t' → ⊥
+pub source_held : {most : ℕ} {s s' : SourceSeen} {t t' : SinkSeen} → SourceFailed most s s' → NoFault s s' t t' → ⊥
 source_held failed none = omega (arith, failed.faults.grew, none.source_same, none.source_count)
 
 -- where no count rose, what was up is up
-sink_kept : {of status : ℕ} {text : List ℕ} {s s' : SourceSeen} {t t' : SinkSeen} → Tells of text status t t' → NoFault s s' t t' → t.up → t'.up
+pub sink_kept : {of status : ℕ} {text : List ℕ} {s s' : SourceSeen} {t t' : SinkSeen} → Tells of text status t t' → NoFault s s' t t' → t.up → t'.up
 sink_kept (inl wrote) none up = wrote.1.up up
 sink_kept (inr cut) none up = absurd (omega (arith, cut.1.faults.grew, none.sink_same, none.sink_count))
 
@@ -58,14 +58,14 @@ seal_ended (unsealed file) secret status s s' t t' by none is = inr (inl is)
 seal_ended (not_sealed why) secret status s s' t t' by none is = inr (six_or why 9 status s s' t t' by none is)
 
 -- what was taken to the end is what the source told
-told_file : {file held : List ℕ} {s s' : SourceSeen} → TookAll file s s' → s.left held → held ≡ file
+pub told_file : {most : ℕ} {file held : List ℕ} {s s' : SourceSeen} → TookAll most file s s' → s.left held → held ≡ file
 told_file took told = (took.left.each _ told).fits.0
 
 not_both : (file : List ℕ) (trees : List Tree) (fault : ReadFault) → FileOf file trees → IsFirstFault file fault → ⊥
 not_both file trees fault spells first = let e = one_reading file (Ok trees) (Err fault) spells first in cc
 
-too_many_of : {held : List ℕ} {s s' : SourceSeen} → TookTooMany s s' → s.left held → length held ≤ 65536 → ⊥
-too_many_of {held} took told short =
+pub too_many_of : {most : ℕ} {held : List ℕ} {s s' : SourceSeen} → TookTooMany most s s' → s.left held → length held ≤ most → ⊥
+too_many_of {most} {held} took told short =
     let g = took.took.left.each held told in
     omega (arith, ap length g.fits, length-append took.bytes g.value, took.over)
 
@@ -121,8 +121,8 @@ pub tells_as : (of given : ℕ) (status : ℕ) (text wanted : List ℕ) (t t' : 
 tells_as of given status text wanted t t' is same tells =
     subst (λ v. Tells v wanted status t t') is (subst (λ v. Tells of v status t t') same tells)
 
-pub no_input_is : (err given : InputErr) (s s' : SourceSeen) → err ≡ given → NoInput err s s' → NoInput given s s'
-no_input_is err given s s' is none = subst (λ v. NoInput v s s') is none
+pub no_input_is : (most : ℕ) (err given : InputErr) (s s' : SourceSeen) → err ≡ given → NoInput most err s s' → NoInput most given s s'
+no_input_is most err given s s' is none = subst (λ v. NoInput most v s s') is none
 
 -- what `seal` says of why it gave no file
 pub fault_of : (file held : List ℕ) (err : FileErr) (fault : ReadFault) → held ≡ file → err ≡ Read fault → WhyNotRead held err → IsFirstFault file fault

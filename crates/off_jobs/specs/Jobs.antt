@@ -1,5 +1,5 @@
--- What `seal` and `check` promise. `status 4` comes only where the sink failed in the one write of the job; then a front of
--- the text is there. With every other status exactly the text was written.
+-- What `seal` and `check` promise. `status 4` comes only where the sink failed in the one write of
+-- the job; then a front of the text is there. With every other status exactly the text was written.
 use Rattle.std.specs.Prelude.{◌≡◌, ◌≢◌, ℕ, ◌≤◌, ◌<◌, List, length, ◌⊎◌, Result, Ok, Err}
 use Rattle.off_base.specs.Tree.{Tree}
 use Rattle.off_tlv.specs.declared.faults.ReadFault.{ReadFault}
@@ -14,9 +14,14 @@ use Rattle.off_outside.specs.Streams.{SourceSeen, SinkSeen, Wrote, NotWritten}
 use Rattle.off_jobs.specs.Input.{TookAll, TookTooMany, LackedMemory, SourceFailed}
 use Rattle.off_jobs.specs.Text.{refused, read_fault_words, mic_fault_words, too_long, memory_refused, source_refused, verdict_text, verdict_status}
 
+-- how many bytes `seal` and `check` take at most
+abbrev pub most_bytes : ℕ
+most_bytes = 65536
+
 -- the text was written, and the status is the job's; or it was cut off, and the status is 4
 abbrev pub Tells : ℕ → List ℕ → ℕ → SinkSeen → SinkSeen → Type 0
-Tells of text status old new = ((status ≡ of) × Wrote text old new) ⊎ ((status ≡ 4) × NotWritten text old new)
+Tells of text status old new =
+    ((status ≡ of) × Wrote text old new) ⊎ ((status ≡ 4) × NotWritten text old new)
 
 -- how a job ended before its file was looked at
 pub data Unread : Type 0 where
@@ -26,9 +31,9 @@ pub data Unread : Type 0 where
 
 -- what was taken of the source then
 abbrev pub UnreadBy : Unread → SourceSeen → SourceSeen → Type 0
-UnreadBy overlong old new = TookTooMany old new
-UnreadBy memoryless old new = LackedMemory old new
-UnreadBy sourceless old new = SourceFailed old new
+UnreadBy overlong old new = TookTooMany most_bytes old new
+UnreadBy memoryless old new = LackedMemory most_bytes old new
+UnreadBy sourceless old new = SourceFailed most_bytes old new
 
 -- the line that is told, and the status, which the job chooses for too many bytes
 abbrev pub unread_line : Unread → List ℕ
@@ -41,7 +46,8 @@ unread_status of overlong = of
 unread_status of memoryless = 6
 unread_status of sourceless = 7
 
--- how `seal` ended: the file was sealed, or the grammar refuses it, or memory was wanted to seal it, or it wasn't read
+-- how `seal` ended: the file was sealed, or the grammar refuses it, or memory was wanted to seal
+-- it, or it wasn't read
 pub data Sealing : Type 0 where
   sealed_as : List ℕ → List ℕ → Sealing
   refused_by : List ℕ → ReadFault → Sealing
@@ -49,9 +55,12 @@ pub data Sealing : Type 0 where
   not_sealed : Unread → Sealing
 
 abbrev pub SealedBy : Sealing → List ℕ → SourceSeen → SourceSeen → Type 0
-SealedBy (sealed_as file made) secret old new = TookAll file old new × SealsFile file secret made
-SealedBy (refused_by file fault) secret old new = TookAll file old new × IsFirstFault file fault
-SealedBy (unsealed file) secret old new = TookAll file old new × ((trees : List Tree) × FileOf file trees)
+SealedBy (sealed_as file made) secret old new =
+    TookAll most_bytes file old new × SealsFile file secret made
+SealedBy (refused_by file fault) secret old new =
+    TookAll most_bytes file old new × IsFirstFault file fault
+SealedBy (unsealed file) secret old new =
+    TookAll most_bytes file old new × ((trees : List Tree) × FileOf file trees)
 SealedBy (not_sealed why) secret old new = UnreadBy why old new
 
 -- what it then tells, and its status
@@ -80,8 +89,10 @@ pub record Verifies (file secret : List ℕ) (answer : Result Verdict MicFault) 
   pub verified : Verified secret reading answer
 
 abbrev pub CheckedBy : Checking → List ℕ → SourceSeen → SourceSeen → Type 0
-CheckedBy (answered file verdict) secret old new = TookAll file old new × Verifies file secret (Ok verdict)
-CheckedBy (refused_for file fault) secret old new = TookAll file old new × Verifies file secret (Err fault)
+CheckedBy (answered file verdict) secret old new =
+    TookAll most_bytes file old new × Verifies file secret (Ok verdict)
+CheckedBy (refused_for file fault) secret old new =
+    TookAll most_bytes file old new × Verifies file secret (Err fault)
 CheckedBy (not_checked why) secret old new = UnreadBy why old new
 
 -- what it then tells, and its status
@@ -107,18 +118,22 @@ pub record BothUp (source source' : SourceSeen) (sink sink' : SinkSeen) : Type 0
   pub source_up : source.up → source'.up
   pub sink_up : sink.up → sink'.up
 
--- What `seal` did under a secret. Where no count rose and no memory was wanted, every file by the grammar that is short enough
--- is sealed, and a status other than 0 is 9.
-pub record SealsInput (secret : List ℕ) (status : ℕ) (source source' : SourceSeen) (sink sink' : SinkSeen) : Type 0 where
+-- What `seal` did under a secret. Where no count rose and no memory was wanted, every file by the
+-- grammar that is short enough is sealed, and a status other than 0 is 9.
+pub record SealsInput (secret : List ℕ) (status : ℕ) (source source' : SourceSeen)
+    (sink sink' : SinkSeen) : Type 0 where
   pub way : Sealing
   pub done : SealedBy way secret source source'
   pub told : Tells (sealing_status way) (sealing_text way) status sink sink'
   pub statuses : NoFault source source' sink sink' → (status ≡ 0) ⊎ ((status ≡ 6) ⊎ (status ≡ 9))
   pub up : NoFault source source' sink sink' → BothUp source source' sink sink'
-  pub complete : (file : List ℕ) (trees : List Tree) → source.left file → FileOf file trees → length file ≤ 65536 → NoFault source source' sink sink' → status ≢ 6 → status ≡ 0
+  pub complete : (file : List ℕ) (trees : List Tree) → source.left file → FileOf file trees
+      → length file ≤ 65536 → NoFault source source' sink sink' → status ≢ 6 → status ≡ 0
 
--- What `check` did under a secret. Where no count rose and no memory was wanted, a status other than 0 is 8.
-pub record ChecksInput (secret : List ℕ) (status : ℕ) (source source' : SourceSeen) (sink sink' : SinkSeen) : Type 0 where
+-- What `check` did under a secret. Where no count rose and no memory was wanted, a status other
+-- than 0 is 8.
+pub record ChecksInput (secret : List ℕ) (status : ℕ) (source source' : SourceSeen)
+    (sink sink' : SinkSeen) : Type 0 where
   pub way : Checking
   pub done : CheckedBy way secret source source'
   pub told : Tells (checking_status way) (checking_text way) status sink sink'

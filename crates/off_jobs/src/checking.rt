@@ -3,6 +3,7 @@ ghost use Rattle.off_jobs.specs.Jobs.{ChecksInput};
 ghost use Rattle.off_jobs.specs.Text.{verdict_text, verdict_status};
 
 use crate::input::{InputErr, read_input};
+use crate::limits::MOST_BYTES;
 use crate::telling::{mic_fault_line, tell};
 use off_mic::{Verdict, verify};
 use off_outside::{Sink, Source};
@@ -22,7 +23,7 @@ pub fn check_input<S: Source, W: Sink>(
     ensures { ChecksInput secret.now result (S.seen source.old) (S.seen source.new)
         (W.seen out.old) (W.seen out.new) }
 {
-    match read_input(alloc, source) {
+    match read_input(alloc, MOST_BYTES, source) {
         Ok(file) => match verify(file.as_slice(), secret) {
             Ok(verdict) => tell(out, answer(verdict), status(verdict)),
             Err(fault) => tell(out, mic_fault_line(fault).as_slice(), 8),

@@ -1,12 +1,9 @@
-ghost use Rattle.std.specs.Prelude.{◌≡◌, ◌+◌, ◌<◌, ◌≤◌, length, MatchResult};
+ghost use Rattle.std.specs.Prelude.{◌≡◌, ◌+◌, ◌<◌, ◌≤◌, ◌^◌, length, MatchResult};
 ghost use Rattle.off_jobs.specs.Input.{ReadsInput, TookPiece, NoPiece};
 
 use off_base::{Bytes, NoMemory};
 use off_outside::{Failed, Source};
 use std::alloc::Global;
-
-/// How many bytes a job takes at most.
-pub const MOST_BYTES: usize = 65_536;
 
 // How many bytes are asked for at a time.
 const ROOM: usize = 4096;
@@ -22,14 +19,14 @@ pub enum InputErr {
     Memory,
 }
 
-/// All bytes of the source, to its end. Where there are more than a job takes, one over them is
-/// read.
-pub fn read_input<S: Source>(alloc: Global, source: &mut S) -> Result<Bytes, InputErr>
-    ensures { ReadsInput result (S.seen source.old) (S.seen source.new) }
+/// All bytes of the source, to its end. Where there are more than `most`, one over them is read.
+pub fn read_input<S: Source>(alloc: Global, most: usize, source: &mut S) -> Result<Bytes, InputErr>
+    requires { most < 2 ^ 32 }
+    ensures { ReadsInput most result (S.seen source.old) (S.seen source.new) }
 {
     let mut bytes = Bytes::new(alloc);
-    while bytes.len() <= MOST_BYTES {
-        match read_piece(source, MOST_BYTES + 1 - bytes.len(), &mut bytes) {
+    while bytes.len() <= most {
+        match read_piece(source, most + 1 - bytes.len(), &mut bytes) {
             Ok(0) => return Ok(bytes),
             Ok(_count) => {}
             Err(err) => return Err(err),

@@ -4,8 +4,11 @@
 
 mod checking;
 mod input;
+mod limits;
 mod sealing;
 mod telling;
 
 pub use checking::check_input;
+pub use input::{InputErr, read_input};
 pub use sealing::seal_input;
+pub use telling::tell;

@@ -1,6 +1,7 @@
 ghost use Rattle.off_jobs.specs.Jobs.{SealsInput};
 
 use crate::input::{InputErr, read_input};
+use crate::limits::MOST_BYTES;
 use crate::telling::{read_fault_line, tell};
 use off_mic::seal;
 use off_outside::{Sink, Source};
@@ -21,7 +22,7 @@ pub fn seal_input<S: Source, W: Sink>(
     ensures { SealsInput secret.now result (S.seen source.old) (S.seen source.new)
         (W.seen out.old) (W.seen out.new) }
 {
-    match read_input(alloc, source) {
+    match read_input(alloc, MOST_BYTES, source) {
         Ok(file) => match seal(alloc, file.as_slice(), secret) {
             Ok(sealed) => tell(out, sealed.as_slice(), 0),
             Err(FileErr::Read(fault)) => tell(out, read_fault_line(fault).as_slice(), 9),

@@ -13,7 +13,7 @@ use off_tlv::ReadFault;
 type Line = ArrayVec<u8, 64>;
 
 /// Writes a text, and answers its status, or 4 where the sink fails.
-pub(crate) fn tell<W: Sink>(out: &mut W, text: &[u8], status: u8) -> u8
+pub fn tell<W: Sink>(out: &mut W, text: &[u8], status: u8) -> u8
     ensures { Tells status text.now result (W.seen out.old) (W.seen out.new) }
 {
     match out.write(text) {

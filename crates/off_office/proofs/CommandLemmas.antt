@@ -16,11 +16,12 @@ use Rattle.off_deciding.specs.declared.results.Planned.{Planned}
 use Rattle.off_deciding.specs.declared.results.AccountErr.{AccountErr}
 use Rattle.off_deciding.specs.declared.results.AccountErr.TheVariants.{Refused, Failed, Memory}
 use Rattle.off_deciding.specs.Deciding.{IsDecided, NotDecided, AnswersCommand, not_kept}
+use Rattle.off_import_deciding.specs.Deciding.{AnswersImport}
 use Rattle.off_office.specs.Desk.{Desk}
 use Rattle.off_office.specs.Acting.{desk_at}
 use Rattle.off_office.specs.Conditions.{Mirrors}
 use Rattle.off_office.specs.Asking.{SpentWithin, commit_calls, most_commits}
-use Rattle.off_office.specs.Answering.{IsPlanned, NotPlanned, CommandBegins, Commanded, NotCommanded, desk_behind}
+use Rattle.off_office.specs.Answering.{IsPlanned, NotPlanned, CommandBegins, Commanded, NotCommanded, CountsRows, desk_behind}
 
 -- what is decided is the step
 accepted_step : (t : Tables) (now : ℕ) (command : Command) (a : Accepted) → decided t now command ≡ Ok a → clerk_step t now command ≡ step_done t a.writes a.reply
@@ -140,6 +141,19 @@ commits_within (PutPool number pool) planned is = at_most_one planned.writes
 commits_within (Remove removed) planned is = at_most_one planned.writes
 commits_within (Show shown) planned is = subst (λ (writes : List Write). commit_calls writes ≤ 0) (sym is.1) (omega arith)
 commits_within (Import kind batch digest rows) planned is = at_most_one planned.writes
+
+-- what was planned of an import is answered with its number of rows
+pub counts_rows : (command : Command) (planned : Planned) → AnswersImport command planned
+    → CountsRows command planned.reply
+counts_rows (SetSite site) planned is = tt
+counts_rows (PutSubscriber number subscriber) planned is = tt
+counts_rows (PutAddOn owner number settings) planned is = tt
+counts_rows (PutModem mac modem) planned is = tt
+counts_rows (PutClass number class) planned is = tt
+counts_rows (PutPool number pool) planned is = tt
+counts_rows (Remove removed) planned is = tt
+counts_rows (Show shown) planned is = tt
+counts_rows (Import kind batch digest rows) planned is = is
 
 -- the commit of nothing, and of something
 pub none_spent : (writes : List Write) (a : KeeperSeen) → Spent (commit_calls writes) a a

@@ -1,22 +1,17 @@
 -- A request that was read, and its answer.
-use Rattle.std.proofs.Common.{◌≡◌, ℕ, Bool, true, false, ◌&&◌, cond, List, [], Option, Some, None, Result, Ok, Err, OnOk, refl, sym, ap, ◌∙◌, subst, arith, bytes_eq, codes}
+use Rattle.std.proofs.Common.{◌≡◌, ℕ, List, [], Option, Some, Result, Ok, Err, OnOk, refl, sym, ap, ◌∙◌, subst}
 use Rattle.off_base.specs.declared.octets.NoMemory.{NoMemory}
-use Rattle.off_defs.specs.declared.keys.Key.{Key}
-use Rattle.off_defs.specs.declared.keys.Key.TheVariants as key
 use Rattle.off_defs.specs.declared.orders.Command.{Command}
 use Rattle.off_defs.specs.State.{Tables, Said}
 use Rattle.off_clerk_rules.specs.declared.faults.ClerkErr.{ClerkErr}
 use Rattle.off_clerk_rules.specs.declared.faults.Fault.TheVariants as fault
-use Rattle.off_clerk_rules.specs.Commands.{◌>>=◌, command_read, asked_at, asked_of, put_read, object_in, site_in, subscriber_in, add_on_in, modem_in, class_in, pool_in}
-use Rattle.off_clerk_rules.specs.Paths.{path_of, place_at}
-use Rattle.off_clerk_rules.specs.declared.places.Place.{Place}
+use Rattle.off_clerk_rules.specs.Commands.{command_read}
 use Rattle.off_book.specs.Http.{Answered, answer_command, answer_request}
 use Rattle.off_rules.specs.Clerk.{clerk_step}
 use Rattle.off_outside.specs.declared.keeper.KeepErr.{KeepErr}
 use Rattle.off_outside.specs.declared.keeper.KeepErr.TheVariants as keep
 use Rattle.off_outside.specs.KeeperSeen.{KeeperSeen}
 use Rattle.off_defs.proofs.ToldLemmas.{told_self}
-use Rattle.off_deciding.specs.Deciding.{is_import}
 use Rattle.off_office.specs.Desk.{Desk}
 use Rattle.off_http.specs.Request.{Meaning, Waits, Refused, Asked}
 use Rattle.off_http.specs.Heard.{IsAsked, asked_method, asked_target, asked_body}
@@ -24,42 +19,6 @@ use Rattle.off_office.specs.Asking.{SpentWithin, command_calls, request_calls, m
 use Rattle.off_office.specs.Answering.{fault_said, had_memory, IsAnswered, answer_to}
 use Rattle.off_outside.proofs.KeeperLemmas.{settled_none, nothing_begun}
 use Rattle.off_office.proofs.AnswerLemmas.{not_answered}
-
--- no request asks for an import yet
-abbrev NoImport : Result Command ClerkErr → Type 0
-NoImport (Ok command) = is_import command ≡ false
-NoImport (Err err) = Unit {0}
-
-bound : {A : Type 0} (r : Result A ClerkErr) (f : A → Result Command ClerkErr) → ((x : A) → NoImport (f x)) → NoImport (r >>= f)
-bound (Ok x) f all = all x
-bound (Err e) f all = tt
-
-put_none : (k : Key) (body : List ℕ) → NoImport (put_read k body)
-put_none key.Site body = bound (object_in body) _ (λ fields. bound (site_in fields) _ (λ x. refl))
-put_none (key.Subscriber n) body = bound (object_in body) _ (λ fields. bound (subscriber_in fields) _ (λ x. refl))
-put_none (key.AddOn n m) body = bound (object_in body) _ (λ fields. bound (add_on_in fields) _ (λ x. refl))
-put_none (key.Modem m) body = bound (object_in body) _ (λ fields. bound (modem_in fields) _ (λ x. refl))
-put_none (key.Class n) body = bound (object_in body) _ (λ fields. bound (class_in fields) _ (λ x. refl))
-put_none (key.Pool n) body = bound (object_in body) _ (λ fields. bound (pool_in fields) _ (λ x. refl))
-put_none (key.Lease a) body = tt
-put_none (key.Held m) body = tt
-put_none (key.Batch n) body = tt
-
-either : (b : Bool) (x y : Result Command ClerkErr) → NoImport x → NoImport y → NoImport (cond b x y)
-either true x y p q = p
-either false x y p q = q
-
-asked_none : (k : Place) (method body : List ℕ) → NoImport (asked_of k method body)
-asked_none k method body =
-    either (bytes_eq method (codes "GET")) _ _ refl
-    (either (bytes_eq method (codes "PUT") && k.puts) _ _ (put_none k.key body) (either (bytes_eq method (codes "DELETE") && k.deletes) _ _ refl tt))
-
-at_none : (k : Option Place) (method body : List ℕ) → NoImport (asked_at k method body)
-at_none None method body = tt
-at_none (Some k) method body = asked_none k method body
-
-pub no_import : (method target body : List ℕ) (command : Command) → command_read method target body ≡ Ok command → is_import command ≡ false
-no_import method target body command is = subst NoImport is (at_none (place_at (path_of target)) method body)
 
 -- the parts of a request, as they were read
 pub record Parts (method target body m p b : List ℕ) : Type 0 where

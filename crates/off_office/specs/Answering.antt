@@ -5,8 +5,10 @@ use Rattle.off_http.specs.Reply.{reply}
 use Rattle.off_http.specs.Request.{Meaning}
 use Rattle.off_http.specs.Heard.{asked_method, asked_target, asked_body}
 use Rattle.off_defs.specs.declared.orders.Command.{Command}
+use Rattle.off_defs.specs.declared.orders.Command.TheVariants.{Import}
 use Rattle.off_defs.specs.declared.orders.Write.{Write}
 use Rattle.off_defs.specs.declared.orders.Reply.{Reply}
+use Rattle.off_defs.specs.declared.orders.Reply.TheVariants.{Rows}
 use Rattle.off_defs.specs.declared.results.Sent.TheVariants.{Close}
 use Rattle.off_defs.specs.declared.results.Outcome.{Outcome}
 use Rattle.off_defs.specs.declared.results.Outcome.TheVariants as end
@@ -50,6 +52,11 @@ reply_said conn done = said_as conn 200 (reply_text done) (codes "http 200")
 
 abbrev pub busy_said : ℕ → Said
 busy_said conn = record { items = Close conn ∷ []; line = codes "http busy" }
+
+-- an import that is done is answered with a number of rows
+abbrev pub CountsRows : Command → Reply → Type 0
+CountsRows (Import kind batch digest rows) answer = (n : ℕ) × (answer ≡ Rows n)
+CountsRows command answer = Unit {0}
 
 -- an office that has done what was planned
 abbrev pub desk_behind : Desk → Planned → Desk

@@ -1,12 +1,13 @@
-ghost use Rattle.std.specs.Prelude.{◌≡◌, ◌≤◌, false, IsTrue, MatchResult, IfOk, OnOk, OnErr};
+ghost use Rattle.std.specs.Prelude.{◌≡◌, ◌≤◌, IsTrue, MatchResult, IfOk, OnOk, OnErr};
 ghost use Rattle.off_defs.specs.State.{held_at};
 ghost use Rattle.off_rows.specs.Sound.{is_sound};
 ghost use Rattle.off_clerk_rules.specs.Replies.{IsRightReply};
-ghost use Rattle.off_deciding.specs.Deciding.{is_import, most_calls};
+ghost use Rattle.off_deciding.specs.Deciding.{most_calls};
 ghost use Rattle.off_outside.specs.KeeperCalls.{Reads, Settled, NotCommitted, IsWritten, Spent};
 ghost use Rattle.off_office.specs.Asking.{SpentWithin, command_calls, most_commits};
 ghost use Rattle.off_office.specs.Asking.{commit_calls};
 ghost use Rattle.off_office.specs.Answering.{IsPlanned, NotPlanned, Commanded, NotCommanded};
+ghost use Rattle.off_office.specs.Answering.{CountsRows};
 
 use crate::office::Office;
 use off_accounts::{AccountErr, Planned, decide};
@@ -18,7 +19,8 @@ use std::alloc::Global;
 
 impl Office {
     /// Does one of a clerk's commands, at the later of its moment and the office's, or refuses it
-    /// by the first of its rules that is broken.
+    /// by the first of its rules that is broken. An import is one command: it's done whole or not
+    /// at all, and answered with its number of rows.
     ///
     /// After an error the tables are as before. `Failed` comes only where the keeper counted a
     /// fault in this call. Connections and transfers stay as they are.
@@ -29,7 +31,6 @@ impl Office {
         c: &Command,
     ) -> Result<Reply, AccountErr>
         requires sound { IsTrue (is_sound c.now) }
-        requires not_import { is_import c.now ≡ false }
         ensures told { MatchResult result
             (λ done. Commanded c.now done self.new.held.now self.old self.new
             (K.seen keeper.old) (K.seen keeper.new))
@@ -38,6 +39,7 @@ impl Office {
         ensures held { self.new.held ≡ held_at self.old.held at.0 }
         ensures counts { OnErr result (self.new.counts ≡ self.old.counts) }
         ensures right { IfOk result (λ done. IsRightReply done) }
+        ensures rows { IfOk result (λ done. CountsRows c.now done) }
         ensures spent { SpentWithin (command_calls c.now)
             (K.seen keeper.old) (K.seen keeper.new) }
     {
@@ -51,13 +53,13 @@ impl Office {
     // nothing.
     pub(crate) fn plan<K: Keeper>(&self, keeper: &mut K, c: &Command) -> Result<Planned, AccountErr>
         requires sound { IsTrue (is_sound c.now) }
-        requires not_import { is_import c.now ≡ false }
         ensures told { MatchResult result
             (λ planned. Reads (IsPlanned self.entry.now c.now planned)
             (K.seen keeper.old) (K.seen keeper.new))
             (λ err. NotPlanned self.entry.now c.now err
             (K.seen keeper.old) (K.seen keeper.new)) }
         ensures right { IfOk result (λ planned. IsRightReply planned.reply) }
+        ensures rows { IfOk result (λ planned. CountsRows c.now planned.reply) }
         ensures commits { IfOk result
             (λ planned. commit_calls planned.writes ≤ most_commits c.now) }
         ensures spent { SpentWithin (most_calls c.now) (K.seen keeper.old) (K.seen keeper.new) }

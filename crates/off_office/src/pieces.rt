@@ -1,9 +1,8 @@
-ghost use Rattle.std.specs.Prelude.{◌≡◌, false, IsTrue, MatchResult};
+ghost use Rattle.std.specs.Prelude.{◌≡◌, IsTrue, MatchResult};
 ghost use Rattle.off_defs.specs.State.{says_nothing};
 ghost use Rattle.off_http.specs.Heard.{IsAsked};
 ghost use Rattle.off_http.specs.Request.{Waits};
 ghost use Rattle.off_rows.specs.Sound.{is_sound};
-ghost use Rattle.off_deciding.specs.Deciding.{is_import};
 ghost use Rattle.off_clerk_rules.specs.Replies.{IsRightReply};
 ghost use Rattle.off_book.specs.Http.{is_full, heard_of};
 ghost use Rattle.off_office.specs.Answering.{forgets, answer_asked, answer_to, IsAnswered};
@@ -133,7 +132,6 @@ impl Office {
         out: &mut Replies,
     ) -> Result<(), KeepErr>
         requires sound { IsTrue (is_sound command.now) }
-        requires not_import { is_import command.now ≡ false }
         requires clean { out.old ≡ says_nothing }
         ensures told { IsAnswered result (answer_to self.old.held.now command.now) conn out.new
             self.old self.new (K.seen keeper.old) (K.seen keeper.new) }

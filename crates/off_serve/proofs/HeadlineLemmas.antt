@@ -17,6 +17,7 @@ use Rattle.off_outside.specs.LinkCalls.{LinkUnasked}
 use Rattle.off_laws.proofs.Stretches.{leases_hold_through}
 use Rattle.off_file_runs.proofs.Runs.{files_of_runs}
 use Rattle.off_isolation.proofs.RunLemmas as isolation
+use Rattle.off_import_runs.proofs.Runs.{imports_act_once_through}
 use Rattle.off_office.specs.Conditions.{Fits}
 use Rattle.off_outside.specs.Streams.{SinkSeen}
 use Rattle.off_office.specs.Desk.{Desk}
@@ -26,7 +27,8 @@ use Rattle.off_office.specs.declared.office.StartErr.TheVariants as start_err
 use Rattle.off_serve.specs.declared.serving.Stop.{Stop}
 use Rattle.off_serve.specs.declared.serving.Stop.TheVariants as stop
 use Rattle.off_serve.specs.Serving.{World, world_of}
-use Rattle.off_serve.specs.Headline.{WroteText, CutText, LastsIn, RanTurns, KeeperRan, RanFrom, RanOffice, Stops, Served, OwnLine, OwnWritten, Ended, Ends, NoFault, AllUp, Completed, ServesAsOffice, closed_status, closed_line, own_writes, memory_refused, link_refused}
+use Rattle.off_import_job.specs.Opening.{closed_status, closed_line}
+use Rattle.off_serve.specs.Headline.{WroteText, CutText, LastsIn, RanTurns, KeeperRan, RanFrom, RanOffice, Stops, Served, OwnLine, OwnWritten, Ended, Ends, NoFault, AllUp, Completed, ServesAsOffice, own_writes, memory_refused, link_refused}
 use Rattle.off_serve.proofs.ServeLemmas.{wrote_more, wrote_same, wrote_none, cut_more, cut_same}
 use Rattle.off_serve.proofs.UpLemmas.{up_chain}
 
@@ -198,6 +200,7 @@ serves budget link link' k l m a b c reason first last status rests opened fresh
       leases = λ t told. leases_hold_through (start t) served.turns (opened.tables t told).1.good;
       files = λ t told. files_of_runs (start t) _ served.turns (office.run.each t told).fits;
       isolated = λ t told. isolation.isolated (start t) _ served.turns (office.run.each t told).fits refl;
+      imports = λ t told. imports_act_once_through (start t) _ served.turns (office.run.each t told).fits;
       ends = ends;
       writes = ended_writes reason status b c ended ∙ ap (own_writes reason) served.writes;
       up = all_kept reason budget served.turns last.held (world_of link k a) (world_of link' m c) status served.ran office ends;
@@ -228,11 +231,6 @@ stays_closed budget link k l a b why status same tables wrote =
       up = closed_kept why (world_of link k a) (world_of link l b) status same tables text;
       complete = closed_complete why (world_of link k a) (world_of link l b) status tables text;
     })
-
--- the own line of an office that didn't open, by why it didn't
-pub closed_by : (why other : StartErr) (status : ℕ) (a b : SinkSeen) → why ≡ other → OwnWritten (closed_status other) (closed_line other) status a b
-    → OwnWritten (closed_status why) (closed_line why) status a b
-closed_by why other status a b is wrote = subst (λ w. OwnWritten (closed_status w) (closed_line w) status a b) (sym is) wrote
 
 -- the words that were read are those of the book
 pub by_words : (P : Type 0) (Q : Job → Type 0) (form : Job) (words : Option Job) → Some form ≡ words → Q form → MatchOption words P Q

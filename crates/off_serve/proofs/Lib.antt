@@ -1,4 +1,5 @@
 mod WordLemmas
+mod ImportWordLemmas
 mod SecretLemmas
 pub mod UpLemmas
 pub mod SendLemmas

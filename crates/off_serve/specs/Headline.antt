@@ -3,7 +3,6 @@
 -- from it.
 use Rattle.std.specs.Prelude.{◌≡◌, ℕ, ◌+◌, ◌-◌, ◌*◌, ◌<◌, ◌≤◌, true, List, [], ◌∷◌, ◌++◌, length, drop, All, codes, ◌⊎◌, ◌≢◌}
 use Rattle.off_defs.specs.Told.{Told}
-use Rattle.off_defs.specs.declared.keys.Key.{Key}
 use Rattle.off_defs.specs.Counts.{Grew, Tallied, one_more, most_count}
 use Rattle.off_defs.specs.State.{Tables, State, Held, state_of, start}
 use Rattle.off_defs.specs.declared.results.Outcome.TheVariants as outcome
@@ -12,7 +11,7 @@ use Rattle.off_book.specs.Crashes.{Lasts}
 use Rattle.off_laws.specs.Leases.{LeasesHoldThrough}
 use Rattle.off_file_runs.specs.Served.{FilesAreServedThrough}
 use Rattle.off_isolation.specs.Alone.{IsolatedThrough}
-use Rattle.off_rows.specs.KeyText.{key_text_of}
+use Rattle.off_import_runs.specs.Once.{ImportsActOnceThrough}
 use Rattle.off_rules.specs.Good.{Good}
 use Rattle.off_outside.specs.LinkSeen.{LinkSeen}
 use Rattle.off_outside.specs.KeeperSeen.{KeeperSeen}
@@ -22,9 +21,10 @@ use Rattle.off_outside.specs.LinkCalls.{LinkUnasked, LinkStaysUp}
 use Rattle.off_office.specs.Conditions.{Under, StaysFit}
 use Rattle.off_office.specs.Acting.{NotStarted}
 use Rattle.off_office.specs.declared.office.StartErr.{StartErr}
-use Rattle.off_office.specs.declared.office.StartErr.TheVariants as start_err
 use Rattle.off_outside.specs.Streams.{SourceSeen, SourceUnasked, SinkSeen, SinkUnasked, SinkStaysUp, HasFront, Wrote, NotWritten}
-use Rattle.off_book.specs.Words.{Job, to_serve, to_seal, to_check}
+use Rattle.off_book.specs.Words.{Job, to_serve, to_import, to_seal, to_check}
+use Rattle.off_import_job.specs.Opening.{closed_status, closed_line}
+use Rattle.off_import_job.specs.Importing.{Imports}
 use Rattle.off_jobs.specs.Jobs.{SealsInput, ChecksInput}
 use Rattle.off_serve.specs.Serving.{World, world_of, most_missed}
 use Rattle.off_serve.specs.declared.serving.Stop.{Stop}
@@ -185,12 +185,6 @@ words_refused = codes "words refused" ++ 10 ∷ []
 abbrev pub link_refused : List ℕ
 link_refused = codes "link refused" ++ 10 ∷ []
 
-abbrev pub keeper_refused : List ℕ
-keeper_refused = codes "keeper refused" ++ 10 ∷ []
-
-abbrev pub tables_refused : Key → List ℕ
-tables_refused key = codes "tables refused " ++ key_text_of key ++ 10 ∷ []
-
 abbrev pub memory_refused : List ℕ
 memory_refused = codes "memory refused" ++ 10 ∷ []
 
@@ -237,17 +231,6 @@ pub record Completed (turns : List Turn) (status : ℕ) : Type 0 where
   pub lost : lost_by turns ≡ 0
   pub status_is : status ≡ 0
 
--- the status and the own line of an office that didn't open
-abbrev pub closed_status : StartErr → ℕ
-closed_status (start_err.Bad key) = 2
-closed_status start_err.Failed = 3
-closed_status start_err.Memory = 6
-
-abbrev pub closed_line : StartErr → List ℕ
-closed_line (start_err.Bad key) = tables_refused key
-closed_line start_err.Failed = keeper_refused
-closed_line start_err.Memory = memory_refused
-
 -- The office didn't open: 2, the tables aren't good, and the line names their least bad key; 3, the
 -- keeper failed; 6, memory was wanted. No event is taken, nothing is sent, and the tables stay.
 pub record StaysClosed (old new : World) (status : ℕ) : Type 0 where
@@ -293,6 +276,8 @@ pub record RunsAsOffice (budget : ℕ) (old new : World) (status : ℕ) : Type 0
   -- what an address gets by its TFTP datagrams and by Ticks is what it gets alone, over its own
   -- transfers
   pub isolated : (t : Tables) → old.keeper.tables t → IsolatedThrough (start t) turns
+  -- a batch is put once, stays as it was put, and an import of it is answered by it from then on
+  pub imports : (t : Tables) → old.keeper.tables t → ImportsActOnceThrough (start t) turns
   -- what was written, and the status
   pub ends : Ends reason budget turns old new status
   pub writes : new.sink.calls ≡ own_writes reason (writes_by turns old.sink.calls)
@@ -332,12 +317,16 @@ pub record OfficeSame (old new : Outside) : Type 0 where
   pub link : LinkUnasked old.link new.link
   pub keeper : Unasked old.keeper new.keeper
 
--- What a job does. Only `serve` opens the tables, takes events and sends, and only the others take
--- bytes of the source.
+-- What a job does. Only `serve` takes events and sends, and every other job takes bytes of the
+-- source. `seal` and `check` don't open the tables.
 abbrev pub DoesJob : Job → Outside → Outside → ℕ → Type 0
 DoesJob (to_serve serve) old new status =
     ServesAsOffice serve.turns (world_in old) (world_in new) status
     × SourceUnasked old.source new.source
+DoesJob (to_import import) old new status =
+    Imports import.kind import.batch status old.keeper new.keeper old.source new.source
+    old.sink new.sink
+    × LinkUnasked old.link new.link
 DoesJob (to_seal secret) old new status =
     SealsInput secret status old.source new.source old.sink new.sink × OfficeSame old new
 DoesJob (to_check secret) old new status =

@@ -2,6 +2,7 @@ ghost use Rattle.std.specs.Prelude.{◌≡◌, ◌/◌, length, map, string_byte
 ghost use Rattle.off_book.specs.Words.{job_of, secret_of};
 ghost use Rattle.off_serve.specs.Reading.{asked_for, keyed_secret, IsDecoded};
 
+use crate::import_words::{ImportForm, read_import_form};
 use crate::words::{Form, read_form};
 use off_base::Secret;
 
@@ -9,6 +10,7 @@ use off_base::Secret;
 #[derive(Drop)]
 pub enum Asked<'a> {
     Serve(Form<'a>),
+    Import(ImportForm<'a>),
     Seal(Secret),
     Check(Secret),
 }
@@ -20,6 +22,9 @@ pub fn read_words(words: &[String]) -> Option<Asked<'_>>
 {
     if let Some(form) = read_form(words) {
         return Some(Asked::Serve(form));
+    }
+    if let Some(form) = read_import_form(words) {
+        return Some(Asked::Import(form));
     }
     if let Some(secret) = read_keyed(words, "seal") {
         return Some(Asked::Seal(secret));

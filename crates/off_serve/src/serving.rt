@@ -2,18 +2,15 @@ ghost use Rattle.std.specs.Prelude.{◌≡◌, ◌++◌, ◌≤◌, length, map,
 ghost use Rattle.off_book.specs.Words.{job_of};
 ghost use Rattle.off_serve.specs.Reading.{asked_for};
 ghost use Rattle.off_serve.specs.Headline.{Served, Ended, OwnWritten, ServesAsOffice, RefusesAll};
-ghost use Rattle.off_serve.specs.Headline.{DoesJob, outside_of, closed_status, closed_line};
-ghost use Rattle.off_serve.specs.Headline.{tables_refused};
+ghost use Rattle.off_serve.specs.Headline.{DoesJob, outside_of};
 ghost use Rattle.off_serve.specs.Serving.{world_of};
 
 use crate::jobs::{Asked, read_words};
 use crate::turning::{Turned, take_turn};
-use arrayvec::ArrayVec;
-use off_defs::Key;
+use off_import_job::{import_input, stay_closed};
 use off_jobs::{check_input, seal_input};
-use off_office::{Office, StartErr};
+use off_office::Office;
 use off_outside::{Failed, Keeper, Link, Sink, Source};
-use off_rows::key_text;
 use std::alloc::Global;
 
 /// Why `serve` stopped.
@@ -33,14 +30,16 @@ pub enum Stop {
 ///
 /// `serve --store STORE --ports DHCP,TIME,TFTP,HTTP --turns N` opens the keeper's tables, takes
 /// events from the link until an End, N of them at most, sends what the office says of each and
-/// writes its line. `seal HEX` seals the configuration file that the source holds under the secret
-/// HEX and writes it; `check HEX` verifies one. Other words are refused.
+/// writes its line. `import --store STORE KIND BATCH` does the import that the source holds, in one
+/// step, and writes its number of rows. `seal HEX` seals the configuration file that the source
+/// holds under the secret HEX and writes it; `check HEX` verifies one. Other words are refused.
 ///
 /// Status 0: an End was read, or N events were taken, or the job is done (for `check`: both values
 /// are good). 1: the words fit no form. 2: the tables aren't good, and the line names their least
-/// bad key. 3: the keeper failed when the tables were opened. 4: the sink failed in the last write.
-/// 5: the link failed sixteen times in a row. 6: memory was wanted outside of an event. 7: the
-/// source failed. 8: `check` finds a bad value or refuses the file. 9: `seal` refuses the file.
+/// bad key. 3: the keeper failed when the tables were opened, or in the step of `import`. 4: the
+/// sink failed in the last write. 5: the link failed sixteen times in a row. 6: memory was wanted
+/// outside of an event. 7: the source failed. 8: `check` finds a bad value or refuses the file. 9:
+/// `seal` refuses the file, or the import is refused.
 pub fn run<L: Link, K: Keeper, S: Source, W: Sink>(
     alloc: Global,
     words: &[String],
@@ -80,6 +79,7 @@ fn do_job<L: Link, K: Keeper, S: Source, W: Sink>(
 {
     match asked {
         Asked::Serve(form) => serve(alloc, form.turns, link, keeper, out),
+        Asked::Import(form) => { import_input(alloc, form.kind, form.batch, keeper, source, out) }
         Asked::Seal(secret) => seal_input(alloc, secret.as_slice(), source, out),
         Asked::Check(secret) => check_input(alloc, secret.as_slice(), source, out),
     }
@@ -104,33 +104,6 @@ fn serve<L: Link, K: Keeper, W: Sink>(
         }
         Err(err) => stay_closed(err, out),
     }
-}
-
-// Writes the line of an office that didn't open, and answers the status.
-fn stay_closed<W: Sink>(err: StartErr, out: &mut W) -> u8
-    ensures { OwnWritten (closed_status err) (closed_line err) result
-        (W.seen out.old) (W.seen out.new) }
-{
-    match err {
-        StartErr::Bad(key) => {
-            let line = refusal_line(&key);
-            own_line(out, line.as_slice(), 2)
-        }
-        StartErr::Failed => own_line(out, b"keeper refused\n", 3),
-        StartErr::Memory => own_line(out, b"memory refused\n", 6),
-    }
-}
-
-// The line that names the least bad key.
-fn refusal_line(key: &Key) -> ArrayVec<u8, 80>
-    ensures { result.items ≡ tables_refused key.now }
-{
-    let text = key_text(key);
-    let mut line = ArrayVec::new();
-    let _words = line.try_extend_from_slice(b"tables refused ");
-    let _key = line.try_extend_from_slice(text.as_slice());
-    let _end = line.try_extend_from_slice(b"\n");
-    line
 }
 
 // Writes the run's own line, where the end has one, and answers the status.

@@ -3,8 +3,9 @@ ghost use Rattle.std.specs.Prelude.{option_map, MatchOption};
 ghost use Rattle.std.specs.List.{position_or_len};
 ghost use Rattle.off_book.specs.Words.{serve_of, between_commas, four_ports, ports_of, port_of};
 ghost use Rattle.off_book.specs.Words.{is_store};
-ghost use Rattle.off_serve.specs.Reading.{form_of, places_of, places_in, flags_stand};
+ghost use Rattle.off_serve.specs.Reading.{form_of, places_of, places_wanted, flags_stand};
 
+use crate::import_words::read_import_form;
 use off_base::read_number;
 
 /// The greatest number of events that `serve` may be asked to take.
@@ -28,16 +29,22 @@ pub struct Form<'a> {
 
 /// What main is to make for these words, which stand behind the program's name.
 ///
-/// `None` comes exactly where the words aren't of the form
-/// `serve --store STORE --ports DHCP,TIME,TFTP,HTTP --turns N`.
+/// `None` comes exactly where the words are neither of the form
+/// `serve --store STORE --ports DHCP,TIME,TFTP,HTTP --turns N` nor
+/// `import --store STORE KIND BATCH`. The ports of `import` are 0, since it takes no events.
 pub fn place(words: &[String]) -> Option<Wanted<'_>>
-    ensures { option_map places_of result
-        ≡ option_map places_in (serve_of (map string_bytes words.now)) }
+    ensures { option_map places_of result ≡ places_wanted (map string_bytes words.now) }
 {
-    match read_form(words) {
-        Some(form) => Some(Wanted {
+    if let Some(form) = read_form(words) {
+        return Some(Wanted {
             store: form.store,
             ports: form.ports,
+        });
+    }
+    match read_import_form(words) {
+        Some(form) => Some(Wanted {
+            store: form.store,
+            ports: [0; 4],
         }),
         None => None,
     }
@@ -81,8 +88,8 @@ fn has_flags(words: &[String]) -> bool
         && words[5].as_str() == "--turns"
 }
 
-// `memory`, or a path that isn't empty and doesn't begin with `-`.
-fn is_store(text: &[u8]) -> bool
+/// `memory`, or a path that isn't empty and doesn't begin with `-`.
+pub(crate) fn is_store(text: &[u8]) -> bool
     ensures { result ≡ is_store text.now }
 {
     !text.is_empty() && text[0] != b'-'

@@ -60,27 +60,13 @@ fn serve(rt: &HostRuntime, words: &[String]) -> u8 {
     let mut input = StandardInput::new(rt);
     let mut output = StandardOutput::new(rt);
     match place(words) {
-        Some(wanted) => serve_sockets(rt, words, &wanted, &mut input, &mut output),
-        None => {
-            let events = Events::new(rt.alloc());
-            let fails = Calls::new(rt.alloc());
-            let mut keeper = MemKeeper::new(rt.alloc(), Calls::new(rt.alloc()));
-            match MemLink::new(rt.alloc(), events, 0, 0, fails) {
-                Ok(mut link) => run(
-                    rt.alloc(),
-                    words,
-                    &mut link,
-                    &mut keeper,
-                    &mut input,
-                    &mut output,
-                ),
-                Err(_refused) => no_memory(rt),
-            }
-        }
+        Some(wanted) => run_wanted(rt, words, &wanted, &mut input, &mut output),
+        None => run_alone(rt, words, &mut input, &mut output),
     }
 }
 
-fn serve_sockets(
+// Makes the store that the words name, and sockets where events are to come.
+fn run_wanted(
     rt: &HostRuntime,
     words: &[String],
     wanted: &Wanted<'_>,
@@ -90,8 +76,41 @@ fn serve_sockets(
     if wanted.store != "memory" {
         return NO_STORE;
     }
+    let ports = wanted.ports;
+    // An import takes no events, so it has no ports.
+    if ports[0] == 0 {
+        return run_alone(rt, words, input, output);
+    }
+    serve_sockets(rt, words, &ports, input, output)
+}
+
+// Runs what takes no events: an import, a job over the streams, or words that fit no form. Its link
+// is empty, and in memory, as is its keeper.
+fn run_alone(
+    rt: &HostRuntime,
+    words: &[String],
+    input: &mut StandardInput,
+    output: &mut StandardOutput,
+) -> u8 {
+    let events = Events::new(rt.alloc());
+    let fails = Calls::new(rt.alloc());
     let mut keeper = MemKeeper::new(rt.alloc(), Calls::new(rt.alloc()));
-    match open_link(rt, &wanted.ports) {
+    match MemLink::new(rt.alloc(), events, 0, 0, fails) {
+        Ok(mut link) => run(rt.alloc(), words, &mut link, &mut keeper, input, output),
+        Err(_refused) => no_memory(rt),
+    }
+}
+
+// Serves on sockets.
+fn serve_sockets(
+    rt: &HostRuntime,
+    words: &[String],
+    ports: &[u16; 4],
+    input: &mut StandardInput,
+    output: &mut StandardOutput,
+) -> u8 {
+    let mut keeper = MemKeeper::new(rt.alloc(), Calls::new(rt.alloc()));
+    match open_link(rt, ports) {
         Ok(mut link) => run(rt.alloc(), words, &mut link, &mut keeper, input, output),
         Err(OpenErr::Memory) => no_memory(rt),
         Err(OpenErr::Socket) => NO_SOCKET,

@@ -20,12 +20,12 @@ returns-in-Ok g c =
 
 pub returns-in-Err-TooLong : goal.returns-in-Err-TooLong
 returns-in-Err-TooLong g c =
-    seals_by (not_sealed overlong) _ _ _ _ _ _ (no_input_is _ _ _ _ c.in-Err-TooLong.field-0-is c.in-Err-TooLong.ensures) c.tell-in-Err-TooLong.ensures
+    seals_by (not_sealed overlong) _ _ _ _ _ _ (no_input_is _ _ _ _ _ c.in-Err-TooLong.field-0-is c.in-Err-TooLong.ensures) c.tell-in-Err-TooLong.ensures
 
 pub returns-in-Err-Failed : goal.returns-in-Err-Failed
 returns-in-Err-Failed g c =
-    seals_by (not_sealed sourceless) _ _ _ _ _ _ (no_input_is _ _ _ _ c.in-Err-Failed.field-0-is c.in-Err-Failed.ensures) c.tell-in-Err-Failed.ensures
+    seals_by (not_sealed sourceless) _ _ _ _ _ _ (no_input_is _ _ _ _ _ c.in-Err-Failed.field-0-is c.in-Err-Failed.ensures) c.tell-in-Err-Failed.ensures
 
 pub returns : goal.returns
 returns g c =
-    seals_by (not_sealed memoryless) _ _ _ _ _ _ (no_input_is _ _ _ _ c.in-Err-Memory.field-0-is c.in-Err-Memory.ensures) c.tell-in-Err-Memory.ensures
+    seals_by (not_sealed memoryless) _ _ _ _ _ _ (no_input_is _ _ _ _ _ c.in-Err-Memory.field-0-is c.in-Err-Memory.ensures) c.tell-in-Err-Memory.ensures

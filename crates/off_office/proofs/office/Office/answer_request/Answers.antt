@@ -1,10 +1,7 @@
 use Rattle.std.proofs.Common.{rules}
-use Rattle.off_office.proofs.RequestLemmas.{no_import, command_ends, fault_ends, command_asks}
+use Rattle.off_office.proofs.RequestLemmas.{command_ends, fault_ends, command_asks}
 use Rattle.off_office.proofs.CommandLemmas.{nothing_spent}
 use Rattle.off_office.proofs.office.Office.answer_request.Goals as goal
-
-pub answer_command-requires-clause-not_import : goal.answer_command-requires-clause-not_import
-answer_command-requires-clause-not_import g c = no_import c.method.result.now c.path.result.now c.body.result.now c.in-Ok.command c.in-Ok.ensures.exact
 
 pub returns-in-Ok-clause-told : goal.returns-in-Ok-clause-told
 returns-in-Ok-clause-told g c =

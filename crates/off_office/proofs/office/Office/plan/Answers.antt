@@ -2,7 +2,7 @@ use Rattle.std.proofs.Common.{subst}
 use Rattle.off_outside.specs.KeeperCalls.{Reads}
 use Rattle.off_office.specs.Desk.{Desk}
 use Rattle.off_office.specs.Answering.{IsPlanned, NotPlanned}
-use Rattle.off_office.proofs.CommandLemmas.{is_planned, not_planned, commits_within}
+use Rattle.off_office.proofs.CommandLemmas.{is_planned, not_planned, commits_within, counts_rows}
 use Rattle.off_office.proofs.office.Office.plan.Goals as goal
 
 pub returns-in-Ok-clause-told : goal.returns-in-Ok-clause-told
@@ -12,6 +12,9 @@ returns-in-Ok-clause-told g c =
 
 pub returns-in-Ok-clause-commits : goal.returns-in-Ok-clause-commits
 returns-in-Ok-clause-commits g c = commits_within _ _ c.in-Ok.ensures.answers
+
+pub returns-in-Ok-clause-rows : goal.returns-in-Ok-clause-rows
+returns-in-Ok-clause-rows g c = counts_rows _ _ c.in-Ok.ensures.rows
 
 pub returns-in-Err-clause-told : goal.returns-in-Err-clause-told
 returns-in-Err-clause-told g c =

@@ -1,0 +1,299 @@
+-- From what each call did to what `import` promises.
+use Rattle.std.proofs.Common.{◌≡◌, ◌≢◌, ℕ, ◌<◌, ◌⊎◌, Bool, true, false, cond, List, Result, Ok, Err, refl, sym, ap, ◌∙◌, subst, inl, inr, arith}
+use Rattle.std.specs.Prelude.{nat_lt, ◌≤◌, length, IsTrue}
+use Rattle.std.proofs.lemmas.Bool.Decides.{nat_tests}
+use Rattle.md5.specs.Md5.{md5}
+use Rattle.csv.specs.Reading.{default_config, records, strip_bom}
+use Rattle.off_defs.specs.Counts.{Grew, most_count}
+use Rattle.off_defs.specs.State.{Tables, Held, held_at, held_at_start}
+use Rattle.off_defs.specs.declared.tables.ImportKind.{ImportKind}
+use Rattle.off_defs.specs.declared.orders.Command.{Command}
+use Rattle.off_defs.specs.declared.orders.Command.TheVariants.{Import}
+use Rattle.off_defs.specs.declared.orders.ImportRow.{ImportRow}
+use Rattle.off_defs.specs.declared.orders.Reply.{Reply}
+use Rattle.off_defs.specs.declared.rules.Rule.{Rule}
+use Rattle.off_defs.specs.declared.orders.Reply.TheVariants.{Rows}
+use Rattle.off_rules.specs.Good.{Good, IsLeastBad}
+use Rattle.off_rules.specs.Clerk.{Stepped, clerk_step, step_done, step_refused}
+use Rattle.off_rows.specs.Sound.{is_sound}
+use Rattle.off_table_laws.specs.Laws.{secret_fits}
+use Rattle.off_table_laws.proofs.StepLaws.{step_keeps_good}
+use Rattle.off_defs.specs.declared.orders.Write.{Write}
+use Rattle.off_defs.specs.declared.keys.Key.{Key}
+use Rattle.off_defs.specs.Tables.{write_all}
+use Rattle.off_import_rules.specs.Reading.{◌>>=◌, import_in, table_of_records}
+use Rattle.off_import_rules.specs.declared.faults.ImportErr.{ImportErr}
+use Rattle.off_import_rules.specs.declared.faults.ImportErr.TheVariants as import_err
+use Rattle.off_deciding.specs.declared.results.AccountErr.{AccountErr}
+use Rattle.off_deciding.specs.declared.results.AccountErr.TheVariants as account_err
+use Rattle.off_outside.specs.KeeperSeen.{KeeperSeen, Rests}
+use Rattle.off_outside.specs.KeeperCalls.{Reads, NotCommitted}
+use Rattle.off_outside.specs.Streams.{SourceSeen, SinkSeen}
+use Rattle.off_outside.specs.declared.keeper.KeepErr.{KeepErr}
+use Rattle.off_outside.proofs.KeeperLemmas.{reads_as, reads_then, not_begun_then, not_committed_as, settled_then}
+use Rattle.off_jobs.specs.Jobs.{Tells, NoFault}
+use Rattle.off_jobs.specs.declared.input.InputErr.TheVariants as input_err
+use Rattle.off_jobs.proofs.JobLemmas.{told_whole, source_held, sink_kept, told_file, too_many_of}
+use Rattle.off_office.specs.Answering.{CommandBegins, Commanded, NotCommanded, CountsRows}
+use Rattle.off_office.specs.Conditions.{Fits}
+use Rattle.off_office.specs.Desk.{Desk}
+use Rattle.off_office.specs.declared.office.StartErr.TheVariants as start_err
+use Rattle.off_import_job.specs.Telling.{ended_text, ended_status}
+use Rattle.off_import_job.specs.Importing.{ReadAs, NotTaken, DidCommand, CarriesOut, ImportBegins, LeftUndone, Ends, NoneFailed, Doable, Imports}
+use Rattle.off_import_job.specs.declared.importing.Ended.{Ended}
+use Rattle.off_import_job.specs.declared.importing.Ended.TheVariants.{Closed, Unread, NoImport, NotDone, Done}
+
+-- an office that has just begun comes to moment 0
+pub at_zero : (a b : Held) → b ≡ held_at a 0 → a ≡ held_at_start → b.now ≡ 0
+at_zero a b came fresh = ap (λ (h : Held). h.now) came ∙ ap (λ (h : Held). (held_at h 0).now) fresh
+
+-- what bytes are read as is an import, and is answered with its number of rows
+abbrev NumbersRows : Reply → Result Command ImportErr → Type 0
+NumbersRows reply (Ok command) = CountsRows command reply → (n : ℕ) × (reply ≡ Rows n)
+NumbersRows reply (Err err) = Unit {0}
+
+abbrev rows_as : ImportKind → ℕ → List ℕ → List ImportRow → Result Command ImportErr
+rows_as kind batch digest rows = Ok (Import kind batch digest rows)
+
+table_numbers : (kind : ImportKind) (batch : ℕ) (digest : List ℕ) (reply : Reply) (table : Result (List ImportRow) ImportErr)
+    → NumbersRows reply (table >>= rows_as kind batch digest)
+table_numbers kind batch digest reply (Ok rows) = λ counts. counts
+table_numbers kind batch digest reply (Err err) = tt
+
+import_numbers : (kind : ImportKind) (batch : ℕ) (bytes : List ℕ) (reply : Reply) → NumbersRows reply (import_in kind batch bytes)
+import_numbers kind batch bytes reply =
+    table_numbers kind batch (md5 bytes) reply (table_of_records kind (records default_config (strip_bom bytes)))
+
+pub numbered : (kind : ImportKind) (batch : ℕ) (bytes : List ℕ) (command : Command) (reply : Reply) → import_in kind batch bytes ≡ Ok command
+    → CountsRows command reply → (n : ℕ) × (reply ≡ Rows n)
+numbered kind batch bytes command reply is counts =
+    let f : NumbersRows reply (Ok command) = subst (NumbersRows reply) is (import_numbers kind batch bytes reply) in f counts
+
+-- what bytes are read as leaves good tables good
+abbrev KeepsGood : Result Command ImportErr → Type 0
+KeepsGood (Ok command) = IsTrue (secret_fits command)
+KeepsGood (Err err) = Unit {0}
+
+table_keeps : (kind : ImportKind) (batch : ℕ) (digest : List ℕ) (table : Result (List ImportRow) ImportErr)
+    → KeepsGood (table >>= rows_as kind batch digest)
+table_keeps kind batch digest (Ok rows) = refl
+table_keeps kind batch digest (Err err) = tt
+
+import_keeps : (kind : ImportKind) (batch : ℕ) (bytes : List ℕ) → KeepsGood (import_in kind batch bytes)
+import_keeps kind batch bytes = table_keeps kind batch (md5 bytes) (table_of_records kind (records default_config (strip_bom bytes)))
+
+good_behind : (kind : ImportKind) (batch : ℕ) (bytes : List ℕ) (command : Command) (t u : Tables) (writes : List Write) (reply : Reply)
+    → import_in kind batch bytes ≡ Ok command → IsTrue (is_sound command) → clerk_step t 0 command ≡ step_done t writes reply → u ≡ write_all t writes
+    → Good t → Good u
+good_behind kind batch bytes command t u writes reply is sound step written good =
+    let fits : IsTrue (secret_fits command) = subst KeepsGood is (import_keeps kind batch bytes) in
+    let after : Good (step_done t writes reply).tables = subst (λ (s : Stepped). Good s.tables) step (step_keeps_good t 0 command sound fits good) in
+    subst (λ (v : Tables). Good v) (sym written) after
+
+-- so the rows that are told are those of the answer
+pub told_rows : (kind : ImportKind) (batch rows : ℕ) (bytes : List ℕ) (command : Command) (reply : Reply) → import_in kind batch bytes ≡ Ok command
+    → CountsRows command reply → ((n : ℕ) → reply ≡ Rows n → rows ≡ n) → reply ≡ Rows rows
+told_rows kind batch rows bytes command reply is counts are =
+    let found = numbered kind batch bytes command reply is counts in
+    found.1 ∙ ap (λ (n : ℕ). let r : Reply = Rows n in r) (sym (are found.0 found.1))
+
+-- what a command of an office that has just begun would leave, over the tables that it opened
+begins_on : {err : KeepErr} (desk : Desk) (command : Command) {k l m : KeeperSeen} → Rests k → Reads (Fits desk) k l
+    → NotCommitted (CommandBegins command 0 desk) err l m → NotCommitted (ImportBegins command) err k m
+begins_on desk command rests opened not =
+    not_committed_as (not_begun_then rests opened not) (λ t told u begins. begins ((opened.tables t told).1.mirrors))
+
+left_undone : (err : AccountErr) (desk : Desk) (command : Command) (k l m : KeeperSeen) → Rests k → Reads (Fits desk) k l
+    → NotCommanded command err 0 desk l m → LeftUndone err command k m
+left_undone (account_err.Refused row broken) desk command k l m rests opened not = reads_then opened not (λ t fits says. says fits.mirrors)
+left_undone account_err.Failed desk command k l m rests opened not = begins_on desk command rests opened not
+left_undone account_err.Memory desk command k l m rests opened not = begins_on desk command rests opened not
+
+pub opened_good : {desk : Desk} {k l : KeeperSeen} → Reads (Fits desk) k l → Reads Good k l
+opened_good opened = reads_as opened (λ t fits. fits.good)
+
+-- the office opened, the import was read, and the command was given to the office
+pub ends_given : (ended : Ended) (kind : ImportKind) (batch : ℕ) (command : Command) (desk : Desk) (k l m : KeeperSeen) (s s' : SourceSeen) → Rests k
+    → Reads (Fits desk) k l → ReadAs kind batch command s s' → IsTrue (is_sound command) → CarriesOut ended command desk l m → Ends ended kind batch k m s s'
+ends_given (Closed err) kind batch command desk k l m s s' rests opened read sound did = absurd did
+ends_given (Unread err) kind batch command desk k l m s s' rests opened read sound did = absurd did
+ends_given (NoImport err) kind batch command desk k l m s s' rests opened read sound did = absurd did
+ends_given (NotDone err) kind batch command desk k l m s s' rests opened read sound did = record {
+  command = command;
+  read = read;
+  good = λ t told. (opened.tables t told).1.good;
+  undone = left_undone err desk command k l m rests opened did;
+}
+ends_given (Done rows) kind batch command desk k l m s s' rests opened read sound did =
+    let is : did.reply ≡ Rows rows = told_rows kind batch rows read.bytes command did.reply read.means did.counts did.rows_are in
+    record {
+      command = command;
+      read = read;
+      good = λ t told. (opened.tables t told).1.good;
+      writes = did.done.writes;
+      tables = record {
+        each = λ t told.
+            let before = opened.tables t told in
+            let g = did.done.tables.each t before.0 in
+            let p = (g.fits.holds before.1.mirrors).0 in
+            record {
+              value = g.value;
+              told = g.told;
+              fits = (subst (λ (r : Reply). clerk_step t 0 command ≡ step_done t did.done.writes r) is p.0, p.1);
+            };
+      };
+      settled = settled_then rests opened did.done.settled;
+      stays_good = record {
+        each = λ t told.
+            let before = opened.tables t told in
+            let g = did.done.tables.each t before.0 in
+            let p = (g.fits.holds before.1.mirrors).0 in
+            record {
+              value = g.value;
+              told = g.told;
+              fits = good_behind kind batch read.bytes command t g.value did.done.writes did.reply read.means sound p.0 p.1 before.1.good;
+            };
+      };
+    }
+
+-- the office opened, and no import was taken from the source
+pub ends_unread : (ended : Ended) (kind : ImportKind) (batch : ℕ) (desk : Desk) (k l : KeeperSeen) (s s' : SourceSeen)
+    → Reads (Fits desk) k l → NotTaken ended kind batch s s' → Ends ended kind batch k l s s'
+ends_unread (Closed err) kind batch desk k l s s' opened not = absurd not
+ends_unread (Unread err) kind batch desk k l s s' opened not = (opened_good opened, not)
+ends_unread (NoImport err) kind batch desk k l s s' opened not = (opened_good opened, not)
+ends_unread (NotDone err) kind batch desk k l s s' opened not = absurd not
+ends_unread (Done rows) kind batch desk k l s s' opened not = absurd not
+
+-- what an office that has just begun did at its moment, it did at moment 0
+pub did_command : (command : Command) (reply : Reply) (rows : ℕ) (before after : Desk) (k l : KeeperSeen) → after.held ≡ held_at before.held 0
+    → before.held ≡ held_at_start → Commanded command reply after.held.now before after k l → CountsRows command reply
+    → ((n : ℕ) → reply ≡ Rows n → rows ≡ n) → DidCommand rows command before k l
+did_command command reply rows before after k l came fresh done counts are = record {
+  reply = reply;
+  after = after;
+  done = subst (λ (now : ℕ). Commanded command reply now before after k l) (at_zero before.held after.held came fresh) done;
+  counts = counts;
+  rows_are = are;
+}
+
+pub did_nothing : (command : Command) (err : AccountErr) (before after : Desk) (k l : KeeperSeen) → after.held ≡ held_at before.held 0
+    → before.held ≡ held_at_start → NotCommanded command err after.held.now before k l → NotCommanded command err 0 before k l
+did_nothing command err before after k l came fresh not =
+    subst (λ (now : ℕ). NotCommanded command err now before k l) (at_zero before.held after.held came fresh) not
+
+-- a count that rose is no count that stands
+stands : (a b : ℕ) → b ≡ a → a < most_count → Grew 1 a b → ⊥
+stands a b same fits grew = omega (arith, same, fits, grew.grew)
+
+-- where a count didn't rise, what stays up by it is up
+kept : {P : Type 0} (a b : ℕ) → b ≡ a → a < most_count → P ⊎ Grew 1 a b → P
+kept a b same fits (inl up) = up
+kept a b same fits (inr grew) = absurd (stands a b same fits grew)
+
+-- the statuses that are left where no count rose
+abbrev pub FewStatuses : ℕ → Type 0
+FewStatuses status = (status ≡ 0) ⊎ ((status ≡ 2) ⊎ ((status ≡ 6) ⊎ (status ≡ 9)))
+
+is_two : {status : ℕ} → status ≡ 2 → FewStatuses status
+is_two e = inr (inl e)
+
+is_six : {status : ℕ} → status ≡ 6 → FewStatuses status
+is_six e = inr (inr (inl e))
+
+is_nine : {status : ℕ} → status ≡ 9 → FewStatuses status
+is_nine e = inr (inr (inr e))
+
+few_of : (ended : Ended) (kind : ImportKind) (batch status : ℕ) (k k' : KeeperSeen) (s s' : SourceSeen) (t t' : SinkSeen) → Ends ended kind batch k k' s s'
+    → NoneFailed k k' s s' t t' → status ≡ ended_status ended → FewStatuses status
+few_of (Closed (start_err.Bad key)) kind batch status k k' s s' t t' ends none is = is_two is
+few_of (Closed start_err.Failed) kind batch status k k' s s' t t' ends none is = absurd (stands k.faults k'.faults none.keeper_same none.keeper_count ends.0.faults)
+few_of (Closed start_err.Memory) kind batch status k k' s s' t t' ends none is = is_six is
+few_of (Unread input_err.TooLong) kind batch status k k' s s' t t' ends none is = is_nine is
+few_of (Unread input_err.Failed) kind batch status k k' s s' t t' ends none is = absurd (source_held ends.1 none.streams)
+few_of (Unread input_err.Memory) kind batch status k k' s s' t t' ends none is = is_six is
+few_of (NoImport (import_err.Fault fault)) kind batch status k k' s s' t t' ends none is = is_nine is
+few_of (NoImport import_err.Memory) kind batch status k k' s s' t t' ends none is = is_six is
+few_of (NotDone (account_err.Refused row broken)) kind batch status k k' s s' t t' ends none is = is_nine is
+few_of (NotDone account_err.Failed) kind batch status k k' s s' t t' ends none is = absurd (stands k.faults k'.faults none.keeper_same none.keeper_count ends.undone.faults)
+few_of (NotDone account_err.Memory) kind batch status k k' s s' t t' ends none is = is_six is
+few_of (Done rows) kind batch status k k' s s' t t' ends none is = inl is
+
+keeper_kept : (ended : Ended) (kind : ImportKind) (batch : ℕ) (k k' : KeeperSeen) (s s' : SourceSeen) → Ends ended kind batch k k' s s'
+    → k'.faults ≡ k.faults → k.faults < most_count → k.up → k'.up
+keeper_kept (Closed (start_err.Bad key)) kind batch k k' s s' ends same fits up = ends.0.quiet.up up
+keeper_kept (Closed start_err.Failed) kind batch k k' s s' ends same fits up = kept k.faults k'.faults same fits (ends.0.up up)
+keeper_kept (Closed start_err.Memory) kind batch k k' s s' ends same fits up = kept k.faults k'.faults same fits (ends.0.up up)
+keeper_kept (Unread err) kind batch k k' s s' ends same fits up = ends.0.quiet.up up
+keeper_kept (NoImport err) kind batch k k' s s' ends same fits up = ends.0.quiet.up up
+keeper_kept (NotDone (account_err.Refused row broken)) kind batch k k' s s' ends same fits up = ends.undone.quiet.up up
+keeper_kept (NotDone account_err.Failed) kind batch k k' s s' ends same fits up = kept k.faults k'.faults same fits (ends.undone.up up)
+keeper_kept (NotDone account_err.Memory) kind batch k k' s s' ends same fits up = kept k.faults k'.faults same fits (ends.undone.up up)
+keeper_kept (Done rows) kind batch k k' s s' ends same fits up = ends.settled.up up
+
+source_kept : (ended : Ended) (kind : ImportKind) (batch : ℕ) (k k' : KeeperSeen) (s s' : SourceSeen) (t t' : SinkSeen) → Ends ended kind batch k k' s s'
+    → NoFault s s' t t' → s.up → s'.up
+source_kept (Closed err) kind batch k k' s s' t t' ends none up = ends.1.up up
+source_kept (Unread input_err.TooLong) kind batch k k' s s' t t' ends none up = ends.1.took.up up
+source_kept (Unread input_err.Failed) kind batch k k' s s' t t' ends none up = absurd (source_held ends.1 none)
+source_kept (Unread input_err.Memory) kind batch k k' s s' t t' ends none up = ends.1.took.up up
+source_kept (NoImport err) kind batch k k' s s' t t' ends none up = ends.1.took.took.up up
+source_kept (NotDone err) kind batch k k' s s' t t' ends none up = ends.read.took.took.up up
+source_kept (Done rows) kind batch k k' s s' t t' ends none up = ends.read.took.took.up up
+
+-- tables that are good have no bad key
+not_bad : (t : Tables) (key : Key) → Good t → IsLeastBad t key → ⊥
+not_bad t key good bad = let e : true ≡ false = sym (good key bad.held bad.there) ∙ bad.breaks in cc
+
+-- bytes are one command
+abbrev StepsTo : Tables → Stepped → Result Command ImportErr → Type 0
+StepsTo t s (Ok command) = clerk_step t 0 command ≡ s
+StepsTo t s (Err err) = ⊥
+
+same_step : (kind : ImportKind) (batch : ℕ) (bytes other : List ℕ) (command given : Command) (t : Tables) (s : Stepped) → import_in kind batch bytes ≡ Ok command
+    → import_in kind batch other ≡ Ok given → bytes ≡ other → clerk_step t 0 command ≡ s → clerk_step t 0 given ≡ s
+same_step kind batch bytes other command given t s is means same step =
+    let e : Ok command ≡ import_in kind batch other = sym is ∙ ap (import_in kind batch) same in
+    let f : StepsTo t s (Ok given) = subst (StepsTo t s) (e ∙ means) step in f
+
+no_fault : (kind : ImportKind) (batch : ℕ) (bytes other : List ℕ) (command : Command) (err : ImportErr) → import_in kind batch bytes ≡ Ok command → bytes ≡ other
+    → import_in kind batch other ≡ Err err → ⊥
+no_fault kind batch bytes other command err is same fault = let e : Ok command ≡ Err err = sym is ∙ (ap (import_in kind batch) same ∙ fault) in cc
+
+not_refused : (t : Tables) (writes : List Write) (reply : Reply) (row : ℕ) (broken : Rule) → step_done t writes reply ≡ step_refused t row broken → ⊥
+not_refused t writes reply row broken is = let e = ap (λ (s : Stepped). s.answer) is in cc
+
+done_of : (ended : Ended) (kind : ImportKind) (batch status : ℕ) (k k' : KeeperSeen) (s s' : SourceSeen) (t t' : SinkSeen) → Ends ended kind batch k k' s s'
+    → Doable kind batch k s → NoneFailed k k' s s' t t' → status ≢ 6 → status ≡ ended_status ended → status ≡ 0
+done_of (Closed (start_err.Bad key)) kind batch status k k' s s' t t' ends can none other is =
+    absurd (not_bad can.tables key can.good (ends.0.tables can.tables can.told).1)
+done_of (Closed start_err.Failed) kind batch status k k' s s' t t' ends can none other is = absurd (stands k.faults k'.faults none.keeper_same none.keeper_count ends.0.faults)
+done_of (Closed start_err.Memory) kind batch status k k' s s' t t' ends can none other is = absurd (other is)
+done_of (Unread input_err.TooLong) kind batch status k k' s s' t t' ends can none other is =
+    absurd (too_many_of ends.1 can.held can.short)
+done_of (Unread input_err.Failed) kind batch status k k' s s' t t' ends can none other is = absurd (source_held ends.1 none.streams)
+done_of (Unread input_err.Memory) kind batch status k k' s s' t t' ends can none other is = absurd (other is)
+done_of (NoImport (import_err.Fault fault)) kind batch status k k' s s' t t' ends can none other is =
+    absurd (no_fault kind batch can.bytes ends.1.bytes can.command (import_err.Fault fault) can.means (told_file ends.1.took can.held)
+    (ends.1.why (λ e. let f : import_err.Fault fault ≡ import_err.Memory = e in cc)))
+done_of (NoImport import_err.Memory) kind batch status k k' s s' t t' ends can none other is = absurd (other is)
+done_of (NotDone (account_err.Refused row broken)) kind batch status k k' s s' t t' ends can none other is =
+    let step = same_step kind batch can.bytes ends.read.bytes can.command ends.command can.tables _ can.means ends.read.means (told_file ends.read.took can.held) can.step in
+    absurd (not_refused can.tables can.writes can.reply row broken (sym step ∙ (ends.undone.tables can.tables can.told).1))
+done_of (NotDone account_err.Failed) kind batch status k k' s s' t t' ends can none other is = absurd (stands k.faults k'.faults none.keeper_same none.keeper_count ends.undone.faults)
+done_of (NotDone account_err.Memory) kind batch status k k' s s' t t' ends can none other is = absurd (other is)
+done_of (Done rows) kind batch status k k' s s' t t' ends can none other is = is
+
+pub imports_by : (ended : Ended) (kind : ImportKind) (batch status : ℕ) (k k' : KeeperSeen) (s s' : SourceSeen) (t t' : SinkSeen) → Ends ended kind batch k k' s s'
+    → Tells (ended_status ended) (ended_text ended) status t t' → Imports kind batch status k k' s s' t t'
+imports_by ended kind batch status k k' s s' t t' ends told = record {
+  ended = ended;
+  ends = ends;
+  told = told;
+  complete = λ can none other. done_of ended kind batch status k k' s s' t t' ends can none other (told_whole told none.streams);
+  statuses = λ none. few_of ended kind batch status k k' s s' t t' ends none (told_whole told none.streams);
+  up = λ none. record {
+    keeper_up = keeper_kept ended kind batch k k' s s' ends none.keeper_same none.keeper_count;
+    both_up = record { source_up = source_kept ended kind batch k k' s s' t t' ends none.streams; sink_up = sink_kept told none.streams };
+  };
+}

@@ -1,0 +1,167 @@
+-- What `import` promises. The order is: the tables are opened, the source is read to its end, its
+-- bytes are read as an import, and the office does it in one step at moment 0.
+use Rattle.std.specs.Prelude.{◌≡◌, ◌≢◌, ℕ, ◌<◌, ◌≤◌, ◌⊎◌, List, length, Ok, Err}
+use Rattle.off_defs.specs.Counts.{most_count}
+use Rattle.off_defs.specs.Told.{Told}
+use Rattle.off_defs.specs.State.{Tables}
+use Rattle.off_defs.specs.Tables.{write_all}
+use Rattle.off_defs.specs.declared.tables.ImportKind.{ImportKind}
+use Rattle.off_defs.specs.declared.orders.Command.{Command}
+use Rattle.off_defs.specs.declared.orders.Reply.{Reply}
+use Rattle.off_defs.specs.declared.orders.Reply.TheVariants.{Rows}
+use Rattle.off_defs.specs.declared.orders.Write.{Write}
+use Rattle.off_rules.specs.Good.{Good}
+use Rattle.off_rules.specs.Clerk.{clerk_step, step_done, step_refused}
+use Rattle.off_import_rules.specs.Reading.{import_in}
+use Rattle.off_import_rules.specs.declared.faults.ImportErr.{ImportErr}
+use Rattle.off_import_rules.specs.declared.faults.ImportErr.TheVariants as import_err
+use Rattle.off_deciding.specs.declared.results.AccountErr.{AccountErr}
+use Rattle.off_deciding.specs.declared.results.AccountErr.TheVariants as account_err
+use Rattle.off_outside.specs.KeeperSeen.{KeeperSeen}
+use Rattle.off_outside.specs.KeeperCalls.{Reads, IsWritten, Settled, NotCommitted}
+use Rattle.off_outside.specs.Streams.{SourceSeen, SourceUnasked, SinkSeen}
+use Rattle.off_outside.specs.declared.keeper.KeepErr.TheVariants as keep
+use Rattle.off_jobs.specs.Input.{TookAll, NoInput}
+use Rattle.off_jobs.specs.Jobs.{Tells, NoFault, BothUp}
+use Rattle.off_office.specs.Acting.{NotStarted}
+use Rattle.off_office.specs.Answering.{Commanded, NotCommanded, CountsRows}
+use Rattle.off_office.specs.Desk.{Desk}
+use Rattle.off_import_job.specs.Telling.{ended_text, ended_status}
+use Rattle.off_import_job.specs.declared.importing.Ended.{Ended}
+use Rattle.off_import_job.specs.declared.importing.Ended.TheVariants.{Closed, Unread, NoImport, NotDone, Done}
+
+-- how many bytes an import has at most
+abbrev pub most_import_bytes : ℕ
+most_import_bytes = 1048576
+
+-- all bytes of the source were taken, and they are this command
+pub record ReadAs (kind : ImportKind) (batch : ℕ) (command : Command) (old new : SourceSeen) :
+    Type 0 where
+  pub bytes : List ℕ
+  pub took : TookAll most_import_bytes bytes old new
+  pub means : import_in kind batch bytes ≡ Ok command
+
+-- or this is their first fault, or memory was wanted to read them
+pub record ReadAsNone (err : ImportErr) (kind : ImportKind) (batch : ℕ) (old new : SourceSeen) :
+    Type 0 where
+  pub bytes : List ℕ
+  pub took : TookAll most_import_bytes bytes old new
+  pub why : err ≢ import_err.Memory → import_in kind batch bytes ≡ Err err
+
+-- no import was taken from the source
+abbrev pub NotTaken : Ended → ImportKind → ℕ → SourceSeen → SourceSeen → Type 0
+NotTaken (Closed err) kind batch old new = ⊥
+NotTaken (Unread err) kind batch old new = NoInput most_import_bytes err old new
+NotTaken (NoImport err) kind batch old new = ReadAsNone err kind batch old new
+NotTaken (NotDone err) kind batch old new = ⊥
+NotTaken (Done rows) kind batch old new = ⊥
+
+-- an office did a command at moment 0, and answered with so many rows where it's an import
+pub record DidCommand (rows : ℕ) (command : Command) (before : Desk) (old new : KeeperSeen) :
+    Type 0 where
+  pub reply : Reply
+  pub after : Desk
+  pub done : Commanded command reply 0 before after old new
+  pub counts : CountsRows command reply
+  pub rows_are : (n : ℕ) → reply ≡ Rows n → rows ≡ n
+
+-- what became of a command that an office was given
+abbrev pub CarriesOut : Ended → Command → Desk → KeeperSeen → KeeperSeen → Type 0
+CarriesOut (Closed err) command before old new = ⊥
+CarriesOut (Unread err) command before old new = ⊥
+CarriesOut (NoImport err) command before old new = ⊥
+CarriesOut (NotDone err) command before old new = NotCommanded command err 0 before old new
+CarriesOut (Done rows) command before old new = DidCommand rows command before old new
+
+-- the tables that a command would leave
+abbrev pub ImportBegins : Command → Tables → Tables → Type 0
+ImportBegins command t u = u ≡ write_all t (clerk_step t 0 command).writes
+
+-- a command wasn't done, and the tables are as before: a rule of the book's refuses it, or the
+-- keeper failed and counted it, or memory was wanted
+abbrev pub LeftUndone : AccountErr → Command → KeeperSeen → KeeperSeen → Type 0
+LeftUndone (account_err.Refused row broken) command old new =
+    Reads (λ t. clerk_step t 0 command ≡ step_refused t row broken) old new
+LeftUndone account_err.Failed command old new =
+    NotCommitted (ImportBegins command) keep.Failed old new
+LeftUndone account_err.Memory command old new =
+    NotCommitted (ImportBegins command) keep.Memory old new
+
+-- the import was read, over good tables, and wasn't done
+pub record WasNotDone (err : AccountErr) (kind : ImportKind) (batch : ℕ) (old new : KeeperSeen)
+    (source source' : SourceSeen) : Type 0 where
+  pub command : Command
+  pub read : ReadAs kind batch command source source'
+  pub good : (t : Tables) → old.tables t → Good t
+  pub undone : LeftUndone err command old new
+
+-- The import was read, over good tables, and done: the tables are those of the book's step of this
+-- one command at moment 0, which answers with so many rows, and all its writes are committed.
+pub record WasDone (rows : ℕ) (kind : ImportKind) (batch : ℕ) (old new : KeeperSeen)
+    (source source' : SourceSeen) : Type 0 where
+  pub command : Command
+  pub read : ReadAs kind batch command source source'
+  pub good : (t : Tables) → old.tables t → Good t
+  pub writes : List Write
+  pub tables : Told old.tables new.tables
+      (λ t u. (clerk_step t 0 command ≡ step_done t writes (Rows rows)) × IsWritten writes t u)
+  pub settled : Settled writes old new
+  pub stays_good : Told old.tables new.tables (λ t u. Good u)
+
+-- What became of the tables and of the source. Nothing is taken of the source where the tables
+-- didn't open, and the tables are as before unless the import was done.
+abbrev pub Ends : Ended → ImportKind → ℕ → KeeperSeen → KeeperSeen → SourceSeen → SourceSeen
+    → Type 0
+Ends (Closed err) kind batch old new source source' =
+    NotStarted err old new × SourceUnasked source source'
+Ends (Unread err) kind batch old new source source' =
+    Reads Good old new × NoInput most_import_bytes err source source'
+Ends (NoImport err) kind batch old new source source' =
+    Reads Good old new × ReadAsNone err kind batch source source'
+Ends (NotDone err) kind batch old new source source' =
+    WasNotDone err kind batch old new source source'
+Ends (Done rows) kind batch old new source source' =
+    WasDone rows kind batch old new source source'
+
+-- what the source and the tables tell is an import that the book does
+pub record Doable (kind : ImportKind) (batch : ℕ) (keeper : KeeperSeen) (source : SourceSeen) :
+    Type 0 where
+  pub tables : Tables
+  pub told : keeper.tables tables
+  pub good : Good tables
+  pub bytes : List ℕ
+  pub held : source.left bytes
+  pub short : length bytes ≤ most_import_bytes
+  pub command : Command
+  pub means : import_in kind batch bytes ≡ Ok command
+  pub writes : List Write
+  pub reply : Reply
+  pub step : clerk_step tables 0 command ≡ step_done tables writes reply
+
+-- no count rose, and none stood at the greatest number
+pub record NoneFailed (old new : KeeperSeen) (source source' : SourceSeen)
+    (sink sink' : SinkSeen) : Type 0 where
+  pub keeper_same : new.faults ≡ old.faults
+  pub keeper_count : old.faults < most_count
+  pub streams : NoFault source source' sink sink'
+
+-- what was up is up
+pub record AllUp (old new : KeeperSeen) (source source' : SourceSeen) (sink sink' : SinkSeen) :
+    Type 0 where
+  pub keeper_up : old.up → new.up
+  pub both_up : BothUp source source' sink sink'
+
+-- What `import` did. Where the sink failed the status is 4, and a front of the text is there; else
+-- the text was written. Where no count rose and no memory was wanted, the status is 0, or 2, where
+-- the tables aren't good, or 9, where the import is refused; and what can be done is done.
+pub record Imports (kind : ImportKind) (batch : ℕ) (status : ℕ) (old new : KeeperSeen)
+    (source source' : SourceSeen) (sink sink' : SinkSeen) : Type 0 where
+  pub ended : Ended
+  pub ends : Ends ended kind batch old new source source'
+  pub told : Tells (ended_status ended) (ended_text ended) status sink sink'
+  pub statuses : NoneFailed old new source source' sink sink'
+      → (status ≡ 0) ⊎ ((status ≡ 2) ⊎ ((status ≡ 6) ⊎ (status ≡ 9)))
+  pub up : NoneFailed old new source source' sink sink'
+      → AllUp old new source source' sink sink'
+  pub complete : Doable kind batch old source → NoneFailed old new source source' sink sink'
+      → status ≢ 6 → status ≡ 0

@@ -1,0 +1,138 @@
+ghost use Rattle.std.specs.Prelude.{◌≡◌, ◌≤◌, ◌++◌, length, decimal, codes};
+ghost use Rattle.off_jobs.specs.Jobs.{Tells};
+ghost use Rattle.off_jobs.specs.Text.{refused};
+ghost use Rattle.off_import_job.specs.Telling.{ended_text, ended_status, unread_text};
+ghost use Rattle.off_import_job.specs.Telling.{unread_status, fault_text, fault_status};
+ghost use Rattle.off_import_job.specs.Telling.{undone_text, undone_status, broken_words, row_words};
+ghost use Rattle.off_import_job.specs.Telling.{rows_line};
+
+use crate::importing::Ended;
+use crate::opening::stay_closed;
+use arrayvec::ArrayVec;
+use itoa::Buffer;
+use off_accounts::AccountErr;
+use off_clerk_rules::Fault;
+use off_clerk_write::fault_word;
+use off_defs::Rule;
+use off_import::{ImportErr, fault_words};
+use off_jobs::{InputErr, tell};
+use off_outside::Sink;
+
+// Room for `refused`, a rule's word and a row.
+type Line = ArrayVec<u8, 96>;
+
+/// Tells what became of an import, and answers the status, or 4 where the sink fails.
+pub(crate) fn tell_end<W: Sink>(ended: Ended, out: &mut W) -> u8
+    ensures { Tells (ended_status ended) (ended_text ended) result
+        (W.seen out.old) (W.seen out.new) }
+{
+    match ended {
+        Ended::Closed(err) => stay_closed(err, out),
+        Ended::Unread(err) => tell_unread(err, out),
+        Ended::NoImport(err) => tell_fault(err, out),
+        Ended::NotDone(err) => tell_undone(err, out),
+        Ended::Done(rows) => tell(out, rows_line(rows).as_slice(), 0),
+    }
+}
+
+// Tells why the source wasn't read to its end.
+fn tell_unread<W: Sink>(err: InputErr, out: &mut W) -> u8
+    ensures { Tells (unread_status err) (unread_text err) result
+        (W.seen out.old) (W.seen out.new) }
+{
+    match err {
+        InputErr::TooLong => tell(out, b"refused too-long\n", 9),
+        InputErr::Failed => tell(out, b"source refused\n", 7),
+        InputErr::Memory => tell(out, b"memory refused\n", 6),
+    }
+}
+
+// Tells why the bytes are no import.
+fn tell_fault<W: Sink>(err: ImportErr, out: &mut W) -> u8
+    ensures { Tells (fault_status err) (fault_text err) result
+        (W.seen out.old) (W.seen out.new) }
+{
+    match err {
+        ImportErr::Fault(fault) => {
+            let words = fault_words(fault);
+            tell(out, refused_line(words.as_slice()).as_slice(), 9)
+        }
+        ImportErr::Memory => tell(out, b"memory refused\n", 6),
+    }
+}
+
+// Tells why an import wasn't done.
+fn tell_undone<W: Sink>(err: AccountErr, out: &mut W) -> u8
+    ensures { Tells (undone_status err) (undone_text err) result
+        (W.seen out.old) (W.seen out.new) }
+{
+    match err {
+        AccountErr::Refused { row, rule } => tell(out, broken_line(row, rule).as_slice(), 9),
+        AccountErr::Failed => tell(out, b"keeper refused\n", 3),
+        AccountErr::Memory => tell(out, b"memory refused\n", 6),
+    }
+}
+
+// The line of a rule that refuses an import: which batch differs, or the row that breaks it.
+fn broken_line(row: u32, rule: Rule) -> Line
+    ensures { result.items ≡ refused (broken_words row rule) }
+{
+    match rule {
+        Rule::BatchDiffers(batch) => numbered_line(b"batch-differs ", batch),
+        _ => row_line(row, fault_word(&Fault::Rule { row, rule })),
+    }
+}
+
+// The line of a rule's word, and of the row where there is one.
+fn row_line(row: u32, word: &[u8]) -> Line
+    requires { length word.now ≤ 40 }
+    ensures { result.items ≡ refused (row_words row word.now) }
+{
+    if row == 0 {
+        return refused_line(word);
+    }
+    let mut words: ArrayVec<u8, 64> = ArrayVec::new();
+    let _word = words.try_extend_from_slice(word);
+    let _row = words.try_extend_from_slice(b" row ");
+    numbered_line(words.as_slice(), u64::from(row))
+}
+
+// A refusal, by its words.
+fn refused_line(words: &[u8]) -> Line
+    requires { length words.now ≤ 64 }
+    ensures { result.items ≡ refused words.now }
+{
+    let mut line = ArrayVec::new();
+    let _refused = line.try_extend_from_slice(b"refused ");
+    let _words = line.try_extend_from_slice(words);
+    let _end = line.try_extend_from_slice(b"\n");
+    line
+}
+
+// A refusal, by its words and a number behind them.
+fn numbered_line(words: &[u8], number: u64) -> Line
+    requires { length words.now ≤ 45 }
+    ensures { result.items ≡ refused (words.now ++ decimal number) }
+{
+    let mut buffer = Buffer::new();
+    let digits = buffer.format(number);
+    let mut line = ArrayVec::new();
+    let _refused = line.try_extend_from_slice(b"refused ");
+    let _words = line.try_extend_from_slice(words);
+    let _number = line.try_extend_from_slice(digits.as_bytes());
+    let _end = line.try_extend_from_slice(b"\n");
+    line
+}
+
+// How many rows an import has.
+fn rows_line(rows: u32) -> Line
+    ensures { result.items ≡ rows_line rows }
+{
+    let mut buffer = Buffer::new();
+    let digits = buffer.format(rows);
+    let mut line = ArrayVec::new();
+    let _word = line.try_extend_from_slice(b"rows ");
+    let _number = line.try_extend_from_slice(digits.as_bytes());
+    let _end = line.try_extend_from_slice(b"\n");
+    line
+}
