@@ -1,17 +1,19 @@
 #!/usr/bin/env python3
 """Writes crates/clerk_script/stdin and stdout: questions on what clerks ask, and their answers.
 
-The answers are said here by hand, from the tables of docs/CLERK_API.md, or computed by Python's json, ipaddress and re. With the word `check`
+The answers are said here by hand, from the tables of docs/CLERK_API.md, or computed by Python's csv, hashlib, json, ipaddress and re. With the word `check`
 it compares the two files with what it would write.
 """
+import hashlib
 import ipaddress
 import json
 import re
 import sys
 
 from examples import Script, compact, escaped, quoted, reply
+from imports import HEADERS, MARK, MOST_ROWS, ImportFault, rows_of
 
-script = Script("clerks.py", "Python's json, ipaddress and re over the rules of docs/CLERK_API.md.")
+script = Script("clerks.py", "Python's csv, hashlib, json, ipaddress and re over the rules of docs/CLERK_API.md.")
 section = script.section
 ask = script.pair
 MODEM = "02aabbccddee"
@@ -116,6 +118,9 @@ def key_of(path):
         return ["modem", re.sub("[^0-9a-f]", "", path[8:].lower())]
     if path.startswith("/leases/") and address()(path[8:]):
         return ["lease", path[8:]]
+    found = re.fullmatch("/imports/(subscribers|modems)/([0-9]{1,20})", path)
+    if found and int(found.group(2)) < 2**64:
+        return ["import", found.group(1), str(int(found.group(2)))]
     return None
 
 
@@ -148,14 +153,27 @@ def row_text(kind, row):
     return tree_text(row["settings"])
 
 
+def imported(kind, batch, body):
+    """An import: its number, how many rows it has, and the digest of its body; or its first fault."""
+    try:
+        count = len(rows_of(kind, body))
+    except ImportFault as fault:
+        return told(422, fault.word, fault.place)
+    return f"import {kind} {batch} rows {count} {hashlib.md5(body).hexdigest()}"
+
+
+METHODS = {"lease": ("GET",), "site": ("GET", "PUT"), "import": ("PUT",)}
+
+
 def command(method, path, body):
     """What is asked, or why it is no command."""
     key = key_of(path)
     if key is None:
         return told(404, "no-path")
-    methods = ("GET",) if key[0] == "lease" else ("GET", "PUT") if key[0] == "site" else ("GET", "PUT", "DELETE")
-    if method not in methods:
+    if method not in METHODS.get(key[0], ("GET", "PUT", "DELETE")):
         return told(405, "no-method")
+    if key[0] == "import":
+        return imported(key[1], key[2], body)
     if method == "GET":
         return "show " + " ".join(key)
     if method == "DELETE":
@@ -192,10 +210,13 @@ def paths():
     section("another path has none", "The path comes before the method.")
     for path in ("", "/", "site", "/site/", "/Site", "http://office/site", "/subscribers/", "/subscribers/4294967296", "/subscribers/000000000000000000007",
                  "/subscribers/-1", "/subscribers/7/", "/subscribers/7/addons/8", "/subscribers/7/addons/", "/subscribers//addons/1", "/subscribers/7/addons/1/",
-                 "/modems/02aabbccdde", "/leases/10.64.0.010", "/imports/subscribers/9", "/imports/modems/9", "/held/02aabbccddee", "/pools/%31"):
+                 "/modems/02aabbccdde", "/leases/10.64.0.010", "/held/02aabbccddee", "/pools/%31", "/imports/", "/imports/9", "/imports/subscribers/",
+                 "/imports/modems", "/imports/pools/9", "/imports/modems/9/", "/imports/modems/-9", "/imports/Modems/9", "/import/modems/9",
+                 "/imports/modems/18446744073709551616", "/imports/modems/000000000000000000009", "/batches/9"):
         asked("POST", path)
     section("a path has its methods", "The method comes before the body. Case counts (RFC 9110, section 9.1).")
-    every = ("/site", "/subscribers/7", "/subscribers/7/addons/1", f"/modems/{MODEM}", "/classes/1", "/pools/1", "/leases/10.64.0.10")
+    every = ("/site", "/subscribers/7", "/subscribers/7/addons/1", f"/modems/{MODEM}", "/classes/1", "/pools/1", "/leases/10.64.0.10",
+             "/imports/subscribers/9", "/imports/modems/9")
     for path in every:
         for method in ("GET", "PUT", "DELETE", "", "get", "Get", "HEAD", "POST", "PATCH", "OPTIONS", "GETS"):
             asked(method, path, "{")
@@ -273,6 +294,37 @@ def trees():
     for body in ("{}", '{"settings":0}', '{"settings":0,"name":1}', '{"name":"gold"}', '{"name":"gold","settings":0}',
                  '{"settings":[{"code":1,"hex":"00"},{"code":43,"parts":[]}],"name":"gold"}'):
         asked("PUT", "/classes/2", body)
+
+
+def import_asked(path, *parts):
+    """A PUT of an import whose body is of these parts: bytes, or a number and the bytes that stand so many times."""
+    words = " ".join(quoted(part) if isinstance(part, bytes) else f"{part[0]}* {quoted(part[1])}" for part in parts)
+    bytes_asked(path, words, b"".join(part if isinstance(part, bytes) else part[0] * part[1] for part in parts))
+
+
+def imports():
+    subscribers, modems = (HEADERS[kind].encode() + b"\n" for kind in ("subscribers", "modems"))
+    two = modems + b"02:aa:bb:cc:dd:f0,7,1,\n02:aa:bb:cc:dd:f1,7,1,SN02\n"
+    ann = b"7,yes,2,Ann\n"
+    section("an import is asked for by its number, its rows and the digest of all its body", "Python's csv and hashlib.")
+    import_asked("/imports/modems/9", two)
+    import_asked("/imports/modems/11", MARK + two)
+    import_asked("/imports/modems/18446744073709551615?late", two.replace(b"\n", b"\r\n"))
+    import_asked("/imports/subscribers/0", subscribers + ann + b"\n8,no,254," + b'"Bob, ""B"" and\nsons"')
+    import_asked("/imports/subscribers/007", subscribers.strip())
+    import_asked("/imports/subscribers/7", subscribers.replace(b"\n", b"\r") + b"\r" + ann.replace(b"\n", b"\r"))
+    section("another body has its first fault", "docs/CLERK_API.md, imports. Rows count from 1 behind the header, columns from 1; an empty line is no row.")
+    for path, body in (("/imports/modems/9", b""), ("/imports/modems/9", MARK), ("/imports/modems/9", MARK + MARK + two), ("/imports/subscribers/9", two),
+                       ("/imports/modems/9", b"{}"), ("/imports/modems/9", two.replace(b"serial", b"Serial")),
+                       ("/imports/subscribers/9", subscribers + ann + b"\n8,no,3\n"), ("/imports/subscribers/9", subscribers + b"7,yes,2,Ann,\n8,no,0,Bob\n"),
+                       ("/imports/subscribers/9", subscribers + ann + b"8,no,0,Bob\n9,no\n"), ("/imports/subscribers/9", subscribers + b"x,true,0,\xff\n"),
+                       ("/imports/subscribers/9", subscribers + b"7,true,0,\xff\n"), ("/imports/subscribers/9", subscribers + b"7,yes,2,\xff\n"),
+                       ("/imports/modems/9", two + b"02:aa:bb:cc:dd,x,1,\n"), ("/imports/modems/9", modems + b"02aabbccddf0,7,4294967296,\n"),
+                       ("/imports/modems/9", modems + b"02aabbccddf0,7,1," + b"a" * 65)):
+        import_asked(path, body)
+    section("an import has at most 2,000 rows", "A row behind them is too many, whatever it holds; a fault of a row before it is told first.")
+    for count, behind in ((MOST_ROWS - 1, b"7,yes,2\n" + ann), (MOST_ROWS, b""), (MOST_ROWS, b"\n\n"), (MOST_ROWS, ann), (MOST_ROWS, b"x"), (MOST_ROWS + 1, b"")):
+        import_asked("/imports/subscribers/9", subscribers, (count, ann), *([behind] if behind else []))
 
 
 def answers():
@@ -426,6 +478,7 @@ def main():
     paths()
     bodies()
     trees()
+    imports()
     answers()
     tables()
     decisions()

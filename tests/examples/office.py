@@ -3,10 +3,12 @@
 
 The office of the worked examples is a site, class 1, subscriber 7, a modem and a pool. What is expected is said here by hand, from the rules
 in docs/, or computed by Python's hashlib, hmac and json and the readers of examples.py, which are written from the standards. The sections on
-DHCP are those of leases.py, and those on TFTP of transfers.py. With the word `check` it compares the two files with what it would write.
+DHCP are those of leases.py, those on TFTP of transfers.py, and those on imports
+of import_job.py. With the word `check` it compares the two files with what it would write.
 """
 import sys
 
+import import_job
 import leases
 import transfers
 from examples import T, Fault, Script, answer, answered, compact, datagram, fixed, ip, outcome, request, sealed, time_reply, verdict
@@ -675,6 +677,7 @@ def main():
     limits()
     leases.sections(script, OFFICE)
     transfers.sections(script, OFFICE)
+    import_job.sections(script, OFFICE)
     return script.write("office_script")
 
 

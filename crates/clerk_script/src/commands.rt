@@ -5,12 +5,12 @@ ghost use Rattle.off_clerk_rules.specs.Replies.{IsRightReply};
 use crate::faults::show_fault;
 use off_base::{Bytes, NoMemory};
 use off_clerk::{ClerkErr, Fault, command_of, reply_json};
-use off_defs::{Command, Hold, Key, Lease, Reply, Row};
+use off_defs::{Command, Hold, ImportKind, Key, Lease, Reply, Row};
 use script_words::{Line, Page, Unread, show_key, show_row};
 use std::alloc::Global;
 
-/// `ask PUT /site {"server":..}`: what is asked, and for a row that is put how it is shown again;
-/// or why it is no command.
+/// `ask PUT /site {"server":..}`: what is asked, and for a row that is put how it is shown again,
+/// for an import how many rows it has and its digest; or why it is no command.
 pub fn ask(alloc: Global, page: &mut Page, line: Line<'_>) -> Result<(), Unread> {
     let mut line = line;
     let method = line.word();
@@ -58,8 +58,32 @@ fn show_command(alloc: Global, page: &mut Page, command: Command) -> Result<(), 
             page.text("show ")?;
             Ok(show_key(page, &key)?)
         }
+        Command::Import {
+            kind,
+            batch,
+            digest,
+            rows,
+        } => Ok(show_import(page, kind, batch, &digest, rows.len())?),
         put => show_put(alloc, page, &as_shown(put)),
     }
+}
+
+fn show_import(
+    page: &mut Page,
+    kind: ImportKind,
+    batch: u64,
+    digest: &[u8],
+    rows: usize,
+) -> Result<(), NoMemory> {
+    page.text(match kind {
+        ImportKind::Subscribers => "import subscribers ",
+        ImportKind::Modems => "import modems ",
+    })?;
+    page.number(batch)?;
+    page.text(" rows ")?;
+    page.number(rows as u64)?;
+    page.text(" ")?;
+    page.hex(digest)
 }
 
 // The row that the command puts, as it is shown; other commands have nothing to show.
@@ -86,7 +110,7 @@ fn show_put(alloc: Global, page: &mut Page, reply: &Reply) -> Result<(), Unread>
     requires { IsRightReply reply.now }
 {
     let Reply::Shown(key, row) = reply else {
-        return Ok(page.text("import")?);
+        return Err(Unread::Words);
     };
     page.text("put ")?;
     show_row(page, key, row)?;
