@@ -113,12 +113,15 @@ def check_faults(text, api):
                 check(told.get(word) == status, f"{word} of {key} has the status {status}")
             if status in ("500", "503"):
                 check("content" not in resolved(api, response), f"{status} of {key} has no body")
-    check(set(told) - used == {"no-method", "batch-differs"}, "each fault is one of an operation")
+    check(set(told) - used == {"no-method"}, "each fault is one of an operation")
     definition = text_of("crates", "off_clerk_rules", "specs", "Faults.antt")
     words = dict(re.findall(r'^\w+_word \(?([\w.]+).*= codes "([^"]*)"$', definition, re.M))
     statuses = dict(re.findall(r"^\w+_status \(?([\w.]+).*= (\d+)$", definition, re.M))
     defined = {(word, statuses.get(name)) for name, word in words.items()}
-    check(len(words) > 20, "the definition's words are found")
+    imports = text_of("crates", "off_import_rules", "specs", "Faults.antt")
+    for status in re.findall(r"^fault_status \w+ = (\d+)$", imports, re.M):
+        defined.update((word, status) for word in re.findall(r'^fault_word .*= codes "([^"]*)"$', imports, re.M))
+    check(len(defined) > 24, "the definitions' words are found")
     check(defined == set(told.items()), f"the definition's faults: {sorted(defined ^ set(told.items()))}")
 
 
@@ -129,7 +132,7 @@ def fits(template_path, path):
 def check_examples(text, api):
     known = operations(api)
     shown = set()
-    for line in re.findall(r"^    (curl .*)$", text, re.M):
+    for table, line in re.findall(r"^    (?:printf '([^']*)' \| )?(curl .*)$", text, re.M):
         words = shlex.split(line)
         method = words[words.index("-X") + 1] if "-X" in words else "GET"
         url = next(word for word in words if word.startswith("http://"))
@@ -138,10 +141,15 @@ def check_examples(text, api):
         keys = [key for key in known if key[1] == method and fits(key[0], path)]
         check(len(keys) == 1, f"{method} {path} is one operation")
         shown.update(keys)
-        check(("-d" in words) == (method == "PUT"), f"a body of {method} {path}")
-        if "-d" in words and keys:
-            example = known[keys[0]]["requestBody"]["content"]["application/json"]["example"]
-            check(json.loads(words[words.index("-d") + 1]) == example, f"the body of {method} {path}")
+        check(("-d" in words or "--data-binary" in words) == (method == "PUT"), f"a body of {method} {path}")
+        check(("--data-binary" in words) == bool(table), f"a table for {method} {path}")
+        if method == "PUT" and keys:
+            content = known[keys[0]]["requestBody"]["content"]
+            if table:
+                check(table.replace("\\n", "\n") == content["text/csv"]["example"], f"the table of {method} {path}")
+            else:
+                example = content["application/json"]["example"]
+                check(json.loads(words[words.index("-d") + 1]) == example, f"the body of {method} {path}")
     check(shown == set(known), f"operations without an example: {sorted(set(known) - shown)}")
     answers = re.findall(r"answers `([^`]*)`", text)
     examples = [
