@@ -1,4 +1,5 @@
--- Numbers as a command line, a path and a table of rows have them: 1 to 20 decimal digits in ASCII, without a sign.
+-- Numbers as a command line, a path and a table of rows have them: 1 to 20 decimal digits in ASCII,
+-- without a sign.
 use Rattle.std.specs.Prelude.{ℕ, ◌+◌, ◌-◌, ◌*◌, ◌^◌, Bool, ◌&&◌, List, [], ◌∷◌, length, nat_lt, nat_le, Option, Some, None, if◌then◌else◌}
 use Rattle.std.specs.Str.{all_ascii_digits}
 

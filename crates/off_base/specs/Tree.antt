@@ -1,5 +1,6 @@
--- The settings of a cable modem's configuration file as trees, and their spelling (CM-SP-MULPIv3.1, annexes C and D): each is a
--- code byte, a length byte and a value. The value of a group is the joined spellings of its parts.
+-- The settings of a cable modem's configuration file as trees, and their spelling (CM-SP-MULPIv3.1,
+-- annexes C and D): each is a code byte, a length byte and a value. The value of a group is the
+-- joined spellings of its parts.
 use Rattle.std.specs.Prelude.{ℕ, ◌+◌, ◌≤◌, List, [], ◌∷◌, ◌++◌, length}
 use Rattle.std.specs.List.{flat_map, AllByRecursion}
 
@@ -39,7 +40,8 @@ abbrev mutual
 abbrev pub spelling : List Tree → List ℕ
 spelling trees = flat_map spelled trees
 
--- A length byte says at most 255: so many bytes a leaf's value may have, and the spelling of a group's parts.
+-- A length byte says at most 255: so many bytes a leaf's value may have, and the spelling of a
+-- group's parts.
 abbrev mutual
   pub Fits : Tree → Type 0
   Fits (leaf code value) = length value ≤ 255
@@ -52,8 +54,8 @@ abbrev mutual
 abbrev pub AllFit : List Tree → Type 0
 AllFit trees = AllByRecursion Fits trees
 
--- The number of bytes of a spelling, for all trees, also for those with a value whose length no byte can say: each setting has
--- two bytes and its value.
+-- The number of bytes of a spelling, for all trees, also for those with a value whose length no
+-- byte can say: each setting has two bytes and its value.
 abbrev mutual
   pub tree_length : Tree → ℕ
   tree_length (leaf code value) = 2 + length value

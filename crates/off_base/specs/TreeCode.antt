@@ -1,5 +1,6 @@
--- A code for lists of trees: the settings as a list of marks, read back from the right with a stack of rows. A mark is the end of
--- a group's parts, or a code with a leaf's bytes, or a code alone where a group begins.
+-- A code for lists of trees: the settings as a list of marks, read back from the right with a stack
+-- of rows. A mark is the end of a group's parts, or a code with a leaf's bytes, or a code alone
+-- where a group begins.
 use Rattle.std.specs.Prelude.{◌≡◌, ℕ, List, [], ◌∷◌, Option, Some, None, refl}
 use Rattle.std.proofs.Common.{ap, ◌∙◌}
 use Rattle.std.specs.Coded.{Coded, code_by, coded_ℕ, coded_list, coded_option, coded×}
@@ -42,13 +43,17 @@ top (r ∷ rs) = row_items r
 
 -- what is read behind the marks of a row is that row, where nothing of it had been read
 mutual
-  tree_read : (t : Tree) (more : List Mark) (r : Row) (rows : List Row) → rows_read more ≡ r ∷ rows → rows_read (tree_marks t more) ≡ followed t r ∷ rows
+  tree_read : (t : Tree) (more : List Mark) (r : Row) (rows : List Row) →
+      rows_read more ≡ r ∷ rows → rows_read (tree_marks t more) ≡ followed t r ∷ rows
   tree_read (leaf c v) more r rows e = ap (in_front (leaf c v)) e
-  tree_read (group c p) more r rows e = ap (as_group c) (row_read p (None ∷ more) (r ∷ rows) (ap (λ (x : List Row). no_more ∷ x) e))
+  tree_read (group c p) more r rows e = ap (as_group c)
+      (row_read p (None ∷ more) (r ∷ rows) (ap (λ (x : List Row). no_more ∷ x) e))
 
-  row_read : (p : Row) (more : List Mark) (rows : List Row) → rows_read more ≡ no_more ∷ rows → rows_read (row_marks p more) ≡ p ∷ rows
+  row_read : (p : Row) (more : List Mark) (rows : List Row) → rows_read more ≡ no_more ∷ rows →
+      rows_read (row_marks p more) ≡ p ∷ rows
   row_read no_more more rows e = e
-  row_read (followed t p) more rows e = tree_read t (row_marks p more) p rows (row_read p more rows e)
+  row_read (followed t p) more rows e = tree_read t (row_marks p more) p rows
+      (row_read p more rows e)
 
 row_items-row_of : (ts : List Tree) → row_items (row_of ts) ≡ ts
 row_items-row_of [] = refl
@@ -64,4 +69,7 @@ pub trees_read-marks : (ts : List Tree) → trees_read (marks ts) ≡ ts
 trees_read-marks ts = ap top (row_read (row_of ts) [] [] refl) ∙ row_items-row_of ts
 
 abbrev pub coded_trees : Coded (List Tree)
-coded_trees = code_by (List Mark) (coded_list (coded_option (coded× coded_ℕ (coded_option (coded_list coded_ℕ))))) marks trees_read trees_read-marks
+coded_trees =
+    code_by (List Mark) (coded_list
+    (coded_option (coded× coded_ℕ
+    (coded_option (coded_list coded_ℕ))))) marks trees_read trees_read-marks

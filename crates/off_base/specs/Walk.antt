@@ -1,4 +1,5 @@
--- How the calls that go over parts stand: what is left at a place, and what a step from there finds.
+-- How the calls that go over parts stand: what is left at a place, and what a step from there
+-- finds.
 use Rattle.std.specs.Prelude.{◌≡◌, ℕ, ◌+◌, ◌-◌, ◌<◌, ◌≤◌, Bool, true, List, [], take, drop, length, slice_index, Result, Ok, Err, IsOk}
 use Rattle.off_base.specs.Parts.{Part, onto, parts_from, parts_in, values}
 use Rattle.off_base.specs.declared.cursors.Cursor.{Cursor}
@@ -18,7 +19,9 @@ pub record FindsPart (marked : Bool) (bytes : List ℕ) (at code place len : ℕ
   pub ahead : at ≤ place
   pub within : place + 2 + len ≤ length bytes
   pub here : left marked at bytes ≡ left marked place bytes
-  pub first : left marked at bytes ≡ onto (record { code = code; place = place; value = take len (drop (place + 2) bytes) }) (left marked (place + 2 + len) bytes)
+  pub first : left marked at bytes
+      ≡ onto (record { code = code; place = place; value = take len (drop (place + 2) bytes) })
+      (left marked (place + 2 + len) bytes)
 
 abbrev pub Finds : Bool → List ℕ → ℕ → Step → Type 0
 Finds marked bytes at (Found code place len) = FindsPart marked bytes at code place len
@@ -32,16 +35,19 @@ all_values code options = values code (all_parts (parts_in true options))
 abbrev pub cursor_at : ℕ → ℕ → Cursor
 cursor_at at before = record { at = at; before = before }
 
--- the cursor stands at an option's code, or at pads in front of it, and so many joined bytes lie before that option
+-- the cursor stands at an option's code, or at pads in front of it, and so many joined bytes lie
+-- before that option
 pub record CursorStands (options : List ℕ) (code : ℕ) (cursor : Cursor) : Type 0 where
   pub within : cursor.at ≤ length options
   pub ok : IsOk (left true cursor.at options)
   pub few : cursor.before ≤ length (all_values code options)
-  pub rest : values code (all_parts (left true cursor.at options)) ≡ drop cursor.before (all_values code options)
+  pub rest : values code (all_parts (left true cursor.at options))
+      ≡ drop cursor.before (all_values code options)
 
 -- the option at the cursor has this joined byte
 pub record Holds (options : List ℕ) (code i : ℕ) (cursor : Cursor) : Type 0 where
   pub stands : CursorStands options code cursor
   pub behind : cursor.before ≤ i
   pub within : cursor.at + 2 + (i - cursor.before) < length options
-  pub byte : slice_index options (cursor.at + 2 + (i - cursor.before)) ≡ slice_index (all_values code options) i
+  pub byte : slice_index options (cursor.at + 2 + (i - cursor.before))
+      ≡ slice_index (all_values code options) i

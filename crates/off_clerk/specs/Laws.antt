@@ -14,7 +14,10 @@ use Rattle.off_clerk_rules.specs.Replies.{row_text}
 -- what a clerk is shown of a subscriber or a modem is a body that puts the same row
 pub record ShownReadBack : Type 0 where
   pub subscriber :
-      (number : ℕ) (held : Subscriber) → RowRanged (row.Subscriber held) → IsTrue (is_sound_subscriber held)
-      → put_read (key.Subscriber number) (row_text (row.Subscriber held)) ≡ Ok (PutSubscriber number held)
+      (number : ℕ) (held : Subscriber) → RowRanged (row.Subscriber held) →
+      IsTrue (is_sound_subscriber held)
+      → put_read (key.Subscriber number) (row_text (row.Subscriber held))
+      ≡ Ok (PutSubscriber number held)
   pub modem :
-      (mac : Mac) (held : Modem) → RowRanged (row.Modem held) → put_read (key.Modem mac) (row_text (row.Modem held)) ≡ Ok (PutModem mac held)
+      (mac : Mac) (held : Modem) → RowRanged (row.Modem held) →
+      put_read (key.Modem mac) (row_text (row.Modem held)) ≡ Ok (PutModem mac held)

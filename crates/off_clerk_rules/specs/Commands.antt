@@ -27,7 +27,8 @@ use Rattle.off_clerk_rules.specs.declared.names.Name.TheVariants as field
 use Rattle.off_clerk_rules.specs.declared.faults.ClerkErr.{ClerkErr}
 use Rattle.off_clerk_rules.specs.declared.faults.ClerkErr.TheVariants.{NoPath, NoMethod, NotJson, Import, Memory}
 
--- the second step, if the first gave a value: `do` reads fields in order, and ends at the first fault
+-- the second step, if the first gave a value: `do` reads fields in order, and ends at the first
+-- fault
 infixl 10 ◌>>=◌
 abbrev pub ◌>>=◌ : {A B : Type 0} → Result A ClerkErr → (A → Result B ClerkErr) → Result B ClerkErr
 Ok x >>= f = f x
@@ -145,4 +146,5 @@ command_read method target body = asked_at (place_at (path_of target)) method bo
 
 -- this is what was wanted, or memory was wanted
 abbrev pub GivesWanted : {A : Type 0} → Result A ClerkErr → Result A ClerkErr → Type 0
-GivesWanted wanted result = MatchResult result (λ x. wanted ≡ Ok x) (λ err. err ≢ Memory → wanted ≡ Err err)
+GivesWanted wanted result =
+    MatchResult result (λ x. wanted ≡ Ok x) (λ err. err ≢ Memory → wanted ≡ Err err)

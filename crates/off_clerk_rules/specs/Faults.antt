@@ -1,4 +1,5 @@
--- What a clerk is told of a fault: its word, where it is, and the status of the answer (RFC 9110, section 15).
+-- What a clerk is told of a fault: its word, where it is, and the status of the answer (RFC 9110,
+-- section 15).
 use Rattle.std.specs.Prelude.{◌≢◌, ℕ, ◌==◌, List, [], ◌++◌, codes, decimal, Option, Some, None, if◌then◌else◌}
 use Rattle.off_base.specs.AddressText.{ip_text_of}
 use Rattle.off_tree.specs.declared.paths.TreeFault.{TreeFault}
@@ -66,7 +67,8 @@ http_status http.Head = 400
 http_status http.Body = 400
 http_status http.TooLong = 413
 
--- 404 where there is no such row, 409 where other rows stand against it, 422 where the row itself can't be
+-- 404 where there is no such row, 409 where other rows stand against it, 422 where the row itself
+-- can't be
 abbrev pub rule_status : Rule → ℕ
 rule_status rule.NoRow = 404
 rule_status rule.HasModems = 409
@@ -108,7 +110,8 @@ clerk_detail (clerk.Value wrong) = Some (name_text wrong)
 clerk_detail (clerk.Import f) = fault_detail f
 clerk_detail clerk.Memory = None
 
--- what stands against a command: another pool, a leased address, a batch, a rule of settings, a limit, a field
+-- what stands against a command: another pool, a leased address, a batch, a rule of settings, a
+-- limit, a field
 abbrev pub rule_detail : Rule → Option (List ℕ)
 rule_detail rule.NoSubscriber = None
 rule_detail rule.NoClass = None
@@ -133,7 +136,8 @@ detail_of (fault.Rule row broken) = if row == 0 then rule_detail broken else Som
 -- the JSON object of a fault. No word and no detail has a character that JSON escapes
 abbrev pub with_detail : Option (List ℕ) → List ℕ → List ℕ
 with_detail None word = codes "{\"fault\":\"" ++ word ++ codes "\"}"
-with_detail (Some detail) word = codes "{\"at\":\"" ++ detail ++ codes "\",\"fault\":\"" ++ word ++ codes "\"}"
+with_detail (Some detail) word =
+    codes "{\"at\":\"" ++ detail ++ codes "\",\"fault\":\"" ++ word ++ codes "\"}"
 
 abbrev pub fault_text : Fault → List ℕ
 fault_text f = with_detail (detail_of f) (word_of f)

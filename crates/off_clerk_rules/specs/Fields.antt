@@ -1,5 +1,6 @@
--- The fields of a body: a member of a JSON object (RFC 8259), read as a value of a kind and range. What JSON is, is `serde_json`'s own definition: a
--- whole number is an integer without fraction and exponent, and of two members with one key the last counts.
+-- The fields of a body: a member of a JSON object (RFC 8259), read as a value of a kind and range.
+-- What JSON is, is `serde_json`'s own definition: a whole number is an integer without fraction and
+-- exponent, and of two members with one key the last counts.
 use Rattle.std.specs.Prelude.{ℕ, zero, suc, ◌-◌, ◌*◌, ◌^◌, ◌==◌, Bool, not, List, [], ◌∷◌, length, codes, nat_le, ℤ, pos, negsuc, Option, Some, None, option_map, option_and_then, ok_or, Result, Err, if◌then◌else◌}
 use Rattle.std.specs.Int.{is_in_range}
 use Rattle.std.specs.Result.{result_ok}
@@ -16,11 +17,13 @@ use Rattle.off_clerk_rules.specs.declared.faults.ClerkErr.{ClerkErr}
 use Rattle.off_clerk_rules.specs.declared.faults.ClerkErr.TheVariants.{Field, Value}
 
 -- what counts where a field is missing, or else its value: it can't be read, or is read
-abbrev pub member_in : {A : Type 0} → Result A ClerkErr → Name → (Data → Option A) → Option Data → Result A ClerkErr
+abbrev pub member_in : {A : Type 0} → Result A ClerkErr → Name → (Data → Option A) → Option Data →
+    Result A ClerkErr
 member_in missing which read None = missing
 member_in missing which read (Some held) = ok_or (read held) (Value which)
 
--- a field that must be there. Where one may be missing, `Ok` of its default stands in place of this fault
+-- a field that must be there. Where one may be missing, `Ok` of its default stands in place of this
+-- fault
 abbrev pub field_in : {A : Type 0} → Name → (Data → Option A) → Data → Result A ClerkErr
 field_in which read body = member_in (Err (Field which)) which read (get (name_text which) body)
 
@@ -29,7 +32,9 @@ only_if good x = if good then Some x else None
 
 -- a whole number within bounds
 abbrev pub number_in : ℕ → ℕ → Data → Option ℕ
-number_in least most held = option_and_then (λ n. only_if (is_in_range least most n) n) (option_and_then as_u64 (as_number held))
+number_in least most held =
+    option_and_then (λ n. only_if (is_in_range least most n) n)
+    (option_and_then as_u64 (as_number held))
 
 abbrev pub is_word : ℤ → Bool
 is_word (pos n) = nat_le n (2 ^ 31 - 1)
@@ -37,7 +42,8 @@ is_word (negsuc n) = nat_le n (2 ^ 31 - 1)
 
 -- a whole number of 32 bits with a sign
 abbrev pub offset_in : Data → Option ℤ
-offset_in held = option_and_then (λ z. only_if (is_word z) z) (option_and_then as_i64 (as_number held))
+offset_in held =
+    option_and_then (λ z. only_if (is_word z) z) (option_and_then as_i64 (as_number held))
 
 -- a text of at most 64 bytes
 abbrev pub text_in : Data → Option (List ℕ)
@@ -49,7 +55,8 @@ address_in held = option_map ip_with (option_and_then ip_of (as_str held))
 
 -- one that isn't 0.0.0.0
 abbrev pub relay_in : Data → Option Ip4
-relay_in held = option_and_then (λ address. only_if (not (address.0 == 0)) address) (address_in held)
+relay_in held =
+    option_and_then (λ address. only_if (not (address.0 == 0)) address) (address_in held)
 
 -- the bytes of pairs of hexadecimal digits in either case
 abbrev pub hex_of : ℕ → List ℕ → Option (List ℕ)
@@ -61,7 +68,8 @@ hex_in most held = option_and_then (hex_of most) (as_str held)
 -- an array, all of whose elements are read
 abbrev pub items_in : {A : Type 0} → (Data → Option A) → Items → Option (List A)
 items_in read no_items = Some []
-items_in read (item d ds) = option_and_then (λ x. option_map (λ xs. x ∷ xs) (items_in read ds)) (read d)
+items_in read (item d ds) =
+    option_and_then (λ x. option_map (λ xs. x ∷ xs) (items_in read ds)) (read d)
 
 abbrev pub list_in : {A : Type 0} → (Data → Option A) → Data → Option (List A)
 list_in read held = option_and_then (items_in read) (as_array held)
@@ -69,7 +77,8 @@ list_in read held = option_and_then (items_in read) (as_array held)
 -- a setting of a code: a leaf has `hex` alone, and a group `parts` alone
 abbrev pub setting_with : (Data → Option (List Tree)) → ℕ → Option Data → Option Data → Option Tree
 setting_with read code (Some hex) None = option_map (leaf code) (hex_in 255 hex)
-setting_with read code None (Some parts) = option_map (λ trees. group code (row_of trees)) (read parts)
+setting_with read code None (Some parts) =
+    option_map (λ trees. group code (row_of trees)) (read parts)
 setting_with read code None None = None
 setting_with read code (Some hex) (Some parts) = None
 
@@ -77,7 +86,8 @@ setting_with read code (Some hex) (Some parts) = None
 unfoldable pub tree_in : ℕ → Data → Option Tree
 tree_in zero held = None
 tree_in (suc depth) held =
-    option_and_then (λ code. setting_with (list_in (tree_in depth)) code (get (codes "hex") held) (get (codes "parts") held))
+    option_and_then (λ code. setting_with (list_in (tree_in depth)) code (get (codes "hex") held)
+    (get (codes "parts") held))
     (option_and_then (number_in 0 255) (get (codes "code") held))
 
 abbrev pub settings_in : Data → Option (List Tree)

@@ -1,4 +1,5 @@
--- What a request is about, a row or an import: the path of its target (RFC 9112, section 3.2), and which methods it has.
+-- What a request is about, a row or an import: the path of its target (RFC 9112, section 3.2), and
+-- which methods it has.
 use Rattle.std.specs.Prelude.{ℕ, ◌-◌, ◌^◌, ◌==◌, true, false, List, [], ◌∷◌, length, take, drop, codes, nat_eq, bytes_eq, Option, Some, None, option_map, option_and_then, IsTrue, if◌then◌else◌}
 use Rattle.std.specs.List.{starts_with, position_or_len, fold}
 use Rattle.std.specs.Option.{option_or}
@@ -25,14 +26,15 @@ path_of target = take (length_before 63 target) target
 
 -- what is read behind a front, where the text begins so
 abbrev pub read_behind : {A : Type 0} → List ℕ → (List ℕ → Option A) → List ℕ → Option A
-read_behind front read text = if starts_with nat_eq text front then read (drop (length front) text) else None
+read_behind front read text =
+    if starts_with nat_eq text front then read (drop (length front) text) else None
 
 -- the greatest number of a subscriber, a class or a pool
 abbrev pub last_number : ℕ
 last_number = 2 ^ 32 - 1
 
--- The methods of a path go by the path, not by its key. A row is only shown there (GET, RFC 9110, section 9.3.1), or also put (PUT, section
--- 9.3.4), or also removed (DELETE, section 9.3.5).
+-- The methods of a path go by the path, not by its key. A row is only shown there (GET, RFC 9110,
+-- section 9.3.1), or also put (PUT, section 9.3.4), or also removed (DELETE, section 9.3.5).
 abbrev pub only_shown : Key → Place
 only_shown row = at.Row row false false
 
@@ -55,7 +57,9 @@ ip_with number = record { 0 = number }
 abbrev pub add_on_named : List ℕ → Option Place
 add_on_named text =
     let cut = length_before 47 text in
-    option_and_then (λ subscriber. option_map (λ number. removable (key.AddOn subscriber number)) (read_behind (codes "/addons/") (number_read last_add_on) (drop cut text))) (number_read last_number (take cut text))
+    option_and_then (λ subscriber. option_map (λ number. removable (key.AddOn subscriber number))
+    (read_behind (codes "/addons/") (number_read last_add_on) (drop cut text)))
+    (number_read last_number (take cut text))
 
 -- the paths, and what each names. A site isn't removed, and a lease is only shown
 abbrev pub site_at : List ℕ → Option Place
@@ -68,7 +72,9 @@ abbrev pub add_on_at : List ℕ → Option Place
 add_on_at path = read_behind (codes "/subscribers/") add_on_named path
 
 abbrev pub modem_at : List ℕ → Option Place
-modem_at path = read_behind (codes "/modems/") (λ text. option_map (λ bytes. removable (key.Modem (mac_with bytes))) (mac_of text)) path
+modem_at path =
+    read_behind (codes "/modems/")
+    (λ text. option_map (λ bytes. removable (key.Modem (mac_with bytes))) (mac_of text)) path
 
 abbrev pub class_at : List ℕ → Option Place
 class_at path = read_behind (codes "/classes/") (numbered key.Class) path
@@ -77,7 +83,9 @@ abbrev pub pool_at : List ℕ → Option Place
 pool_at path = read_behind (codes "/pools/") (numbered key.Pool) path
 
 abbrev pub lease_at : List ℕ → Option Place
-lease_at path = read_behind (codes "/leases/") (λ text. option_map (λ number. only_shown (key.Lease (ip_with number))) (ip_of text)) path
+lease_at path =
+    read_behind (codes "/leases/")
+    (λ text. option_map (λ number. only_shown (key.Lease (ip_with number))) (ip_of text)) path
 
 -- the greatest number of an import
 abbrev pub last_batch : ℕ
@@ -96,9 +104,11 @@ modems_at path = read_behind (codes "/imports/modems/") (import_named Modems) pa
 abbrev pub place_at : List ℕ → Option Place
 place_at path =
     fold option_or (site_at path)
-    (subscriber_at path ∷ add_on_at path ∷ modem_at path ∷ class_at path ∷ pool_at path ∷ lease_at path ∷ subscribers_at path ∷ modems_at path ∷ [])
+    (subscriber_at path ∷ add_on_at path ∷ modem_at path ∷ class_at path ∷ pool_at path
+    ∷ lease_at path ∷ subscribers_at path ∷ modems_at path ∷ [])
 
 -- a clerk may be shown the row, and remove it where its path has DELETE
 abbrev pub IsNamed : Place → Type 0
-IsNamed (at.Row row puts deletes) = IsTrue (is_shown row) × (IsTrue deletes → IsTrue (is_removable row))
+IsNamed (at.Row row puts deletes) =
+    IsTrue (is_shown row) × (IsTrue deletes → IsTrue (is_removable row))
 IsNamed (at.Import kind batch) = Unit {0}

@@ -1,4 +1,5 @@
--- What a clerk is answered where the command was done: JSON objects (RFC 8259) without white space, keys in the order of their bytes.
+-- What a clerk is answered where the command was done: JSON objects (RFC 8259) without white space,
+-- keys in the order of their bytes.
 use Rattle.std.specs.Prelude.{ℕ, Bool, true, false, List, [], ◌∷◌, ◌++◌, codes, decimal, map}
 use Rattle.std.specs.Fmt.{signed_decimal}
 use Rattle.std.specs.List.{join_with_byte}
@@ -30,8 +31,10 @@ array_text texts = codes "[" ++ join_with_byte 44 texts ++ codes "]"
 -- a setting: its code, and its value in hexadecimal or the array of its parts
 abbrev mutual
   pub tree_text : Tree → List ℕ
-  tree_text (leaf code value) = codes "{\"code\":" ++ decimal code ++ codes ",\"hex\":\"" ++ encode_lower value ++ codes "\"}"
-  tree_text (group code parts) = codes "{\"code\":" ++ decimal code ++ codes ",\"parts\":" ++ array_text (part_texts parts) ++ codes "}"
+  tree_text (leaf code value) = codes "{\"code\":" ++ decimal code ++ codes ",\"hex\":\""
+      ++ encode_lower value ++ codes "\"}"
+  tree_text (group code parts) = codes "{\"code\":" ++ decimal code ++ codes ",\"parts\":"
+      ++ array_text (part_texts parts) ++ codes "}"
 
   pub part_texts : Row → List (List ℕ)
   part_texts no_more = []
@@ -54,19 +57,28 @@ state_text Declined = codes "declined"
 -- a row as a clerk sees it: the fields of the body that puts such a row, but a site's secret
 abbrev pub row_text : TableRow → List ℕ
 row_text (row.Site site) =
-    codes "{\"lease\":" ++ decimal site.lease ++ codes ",\"log\":\"" ++ ip_text_of site.log.0 ++ codes "\",\"offset\":" ++ signed_decimal site.offset ++ codes ",\"server\":\""
+    codes "{\"lease\":" ++ decimal site.lease ++ codes ",\"log\":\"" ++ ip_text_of site.log.0
+    ++ codes "\",\"offset\":" ++ signed_decimal site.offset ++ codes ",\"server\":\""
     ++ ip_text_of site.server.0 ++ codes "\"}"
 row_text (row.Subscriber subscriber) =
-    codes "{\"active\":" ++ flag_text subscriber.active ++ codes ",\"cpes\":" ++ decimal subscriber.cpes ++ codes ",\"name\":" ++ text_of subscriber.name ++ codes "}"
+    codes "{\"active\":" ++ flag_text subscriber.active ++ codes ",\"cpes\":"
+    ++ decimal subscriber.cpes ++ codes ",\"name\":" ++ text_of subscriber.name ++ codes "}"
 row_text (row.AddOn settings) = codes "{\"settings\":" ++ settings_text settings ++ codes "}"
 row_text (row.Modem modem) =
-    codes "{\"class\":" ++ decimal modem.class ++ codes ",\"serial\":" ++ text_of modem.serial ++ codes ",\"subscriber\":" ++ decimal modem.subscriber ++ codes "}"
-row_text (row.Class class) = codes "{\"name\":" ++ text_of class.name ++ codes ",\"settings\":" ++ settings_text class.settings ++ codes "}"
+    codes "{\"class\":" ++ decimal modem.class ++ codes ",\"serial\":" ++ text_of modem.serial
+    ++ codes ",\"subscriber\":" ++ decimal modem.subscriber ++ codes "}"
+row_text (row.Class class) =
+    codes "{\"name\":" ++ text_of class.name ++ codes ",\"settings\":"
+    ++ settings_text class.settings ++ codes "}"
 row_text (row.Pool pool) =
-    codes "{\"first\":\"" ++ ip_text_of pool.first.0 ++ codes "\",\"last\":\"" ++ ip_text_of pool.last.0 ++ codes "\",\"prefix\":" ++ decimal pool.prefix ++ codes ",\"relay\":\""
-    ++ ip_text_of pool.relay.0 ++ codes "\",\"router\":\"" ++ ip_text_of pool.router.0 ++ codes "\"}"
+    codes "{\"first\":\"" ++ ip_text_of pool.first.0 ++ codes "\",\"last\":\""
+    ++ ip_text_of pool.last.0 ++ codes "\",\"prefix\":" ++ decimal pool.prefix
+    ++ codes ",\"relay\":\""
+    ++ ip_text_of pool.relay.0 ++ codes "\",\"router\":\"" ++ ip_text_of pool.router.0
+    ++ codes "\"}"
 row_text (row.Lease lease) =
-    codes "{\"expiry\":" ++ decimal lease.expiry.0 ++ codes ",\"owner\":\"" ++ owner_text lease.hold ++ codes "\",\"state\":\"" ++ state_text lease.hold ++ codes "\"}"
+    codes "{\"expiry\":" ++ decimal lease.expiry.0 ++ codes ",\"owner\":\"" ++ owner_text lease.hold
+    ++ codes "\",\"state\":\"" ++ state_text lease.hold ++ codes "\"}"
 -- a clerk sees neither of these
 row_text (row.Held address) = []
 row_text (row.Batch batch) = []

@@ -12,7 +12,10 @@ use Rattle.off_deciding.specs.Tests.{IsSubject}
 
 abbrev pub CountsAfter : Counts → Subject → Command → Tables → Counts → Type 0
 CountsAfter counts subject c t after =
-    (now : ℕ) → counts ≡ counts_of t → IsSubject c subject t → first_broken (rules_of t now c) ≡ None → after ≡ counts_of (write_all t (writes_of t c))
+    (now : ℕ) → counts ≡ counts_of t → IsSubject c subject t →
+    first_broken (rules_of t now c) ≡ None → after ≡ counts_of (write_all t (writes_of t c))
 
 abbrev pub CountsAfterRemoval : Counts → Key → Tables → Counts → Type 0
-CountsAfterRemoval counts removed t after = counts ≡ counts_of t → no_row t removed ≡ None → after ≡ counts_of (write_all t (removal_writes t removed))
+CountsAfterRemoval counts removed t after =
+    counts ≡ counts_of t → no_row t removed ≡ None →
+    after ≡ counts_of (write_all t (removal_writes t removed))

@@ -25,7 +25,8 @@ abbrev pub is_import : Command → Bool
 is_import (Import kind batch digest rows) = true
 is_import command = false
 
--- how many calls of the keeper a command makes at most; the others walk the tables, and have no bound
+-- how many calls of the keeper a command makes at most; the others walk the tables, and have no
+-- bound
 abbrev pub most_calls_removing : Key → Option ℕ
 most_calls_removing key.Site = Some 1
 most_calls_removing (key.Subscriber n) = None
@@ -50,7 +51,9 @@ most_calls (Import kind batch digest rows) = None
 
 -- a command that the book decides by its list of rules
 abbrev pub IsByRules : Command → Type 0
-IsByRules c = (t : Tables) (now : ℕ) → decided t now c ≡ by_rule 0 (accepted (writes_of t c) Done) (first_broken (rules_of t now c))
+IsByRules c =
+    (t : Tables) (now : ℕ) → decided t now c
+    ≡ by_rule 0 (accepted (writes_of t c) Done) (first_broken (rules_of t now c))
 
 -- the error where the keeper didn't do a call
 abbrev pub not_kept : KeepErr → AccountErr
@@ -63,25 +66,32 @@ clerk_answer (Ok (Ok planned)) = Ok planned
 clerk_answer (Ok (Err broken)) = Err (Refused 0 broken)
 clerk_answer (Err kept) = Err (not_kept kept)
 
--- What was planned is what becomes of the command, and its counts are those of the tables once the writes are done.
-pub record IsDecided (counts : Counts) (now : ℕ) (command : Command) (planned : Planned) (t : Tables) : Type 0 where
+-- What was planned is what becomes of the command, and its counts are those of the tables once the
+-- writes are done.
+pub record IsDecided (counts : Counts) (now : ℕ) (command : Command) (planned : Planned)
+    (t : Tables) : Type 0 where
   pub accepted : decided t now command ≡ Ok (accepted planned.writes planned.reply)
   pub counted : planned.counts ≡ counts_of (write_all t planned.writes)
 
 -- the command is planned so, or this rule refuses it, where the counts are those of the tables
 abbrev pub IsRuling : Counts → ℕ → Command → Tables → Result Planned Rule → Type 0
-IsRuling counts now command t (Ok planned) = counts ≡ counts_of t → IsDecided counts now command planned t
-IsRuling counts now command t (Err broken) = counts ≡ counts_of t → decided t now command ≡ Err (refusal 0 broken)
+IsRuling counts now command t (Ok planned) =
+    counts ≡ counts_of t → IsDecided counts now command planned t
+IsRuling counts now command t (Err broken) =
+    counts ≡ counts_of t → decided t now command ≡ Err (refusal 0 broken)
 
 -- the command isn't to be done: a rule refuses it, or the keeper failed, or memory was wanted
 abbrev pub NotDecided : Counts → ℕ → Command → AccountErr → KeeperSeen → KeeperSeen → Type 0
-NotDecided counts now command (Refused row broken) old new = Reads (λ t. counts ≡ counts_of t → decided t now command ≡ Err (refusal row broken)) old new
+NotDecided counts now command (Refused row broken) old new =
+    Reads (λ t. counts ≡ counts_of t → decided t now command ≡ Err (refusal row broken)) old new
 NotDecided counts now command Failed old new = NotDone keeper.Failed old new
 NotDecided counts now command Memory old new = NotDone keeper.Memory old new
 
--- What a command is answered that is done, whatever the tables: a row of the key's kind where it shows one, and then nothing is written;
--- for any other command just that it was done.
+-- What a command is answered that is done, whatever the tables: a row of the key's kind where it
+-- shows one, and then nothing is written; for any other command just that it was done.
 abbrev pub AnswersCommand : Command → Planned → Type 0
-AnswersCommand (Show key) planned = ((held : Row) × (planned.reply ≡ Shown key held) × IsTrue (is_possible key held)) × (planned.writes ≡ [])
+AnswersCommand (Show key) planned =
+    ((held : Row) × (planned.reply ≡ Shown key held) × IsTrue (is_possible key held))
+    × (planned.writes ≡ [])
 AnswersCommand (Import kind batch digest rows) planned = Unit {0}
 AnswersCommand command planned = planned.reply ≡ Done

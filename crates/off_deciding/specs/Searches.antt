@@ -25,21 +25,27 @@ is_given_up lost entry = gives_up (Some lost.old) lost.new entry.0
 abbrev pub is_wanted : Sought → Key × Row → Bool
 is_wanted (Overlapping n pool) entry = passes (is_other_overlapping n pool) (pool_of entry)
 is_wanted (WithRelay n pool) entry = passes (is_other_with_relay n pool) (pool_of entry)
-is_wanted (LiveLost now lost) entry = passes (λ lease. is_given_up lost lease && is_live now.0 lease) (lease_of entry)
+is_wanted (LiveLost now lost) entry =
+    passes (λ lease. is_given_up lost lease && is_live now.0 lease) (lease_of entry)
 is_wanted (OfSubscriber n) entry = passes (λ modem. modem.1.subscriber == n) (modem_of entry)
 is_wanted (OfClass n) entry = passes (λ modem. modem.1.class == n) (modem_of entry)
 
 -- the least key that is wanted
 abbrev pub least_wanted : Sought → Tables → Option Key
-least_wanted sought t = option_map (λ (entry : Key × Row). entry.0) (find (is_wanted sought) (map.entries t))
+least_wanted sought t =
+    option_map (λ (entry : Key × Row). entry.0) (find (is_wanted sought) (map.entries t))
 
--- the leases that are lost where a pool, or none, was at the key and another, or none, takes its place
+-- the leases that are lost where a pool, or none, was at the key and another, or none, takes its
+-- place
 abbrev pub lost_from : Option Pool → Option Pool → Tables → List (Ip4 × Lease)
 lost_from old new t = filter (λ entry. gives_up old new entry.0) (leases t)
 
--- the rule that a pool may not lose leases that haven't expired, where the pool, or none, that was at the key before is known
+-- the rule that a pool may not lose leases that haven't expired, where the pool, or none, that was
+-- at the key before is known
 abbrev pub live_lost : ℕ → Option Pool → Option Pool → Tables → Option Rule
-live_lost now old new t = option_map (λ (entry : Ip4 × Lease). rule.PoolHasLeases entry.0) (find (is_live now) (lost_from old new t))
+live_lost now old new t =
+    option_map (λ (entry : Ip4 × Lease). rule.PoolHasLeases entry.0)
+    (find (is_live now) (lost_from old new t))
 
 -- the number of a pool, and the address of a lease
 abbrev pub pool_number : Option Key → Option ℕ

@@ -1,4 +1,5 @@
--- The rules of a command as they are tested: on what is known already, or by looking into the tables.
+-- The rules of a command as they are tested: on what is known already, or by looking into the
+-- tables.
 use Rattle.std.specs.Prelude.{◌≡◌, ℕ, Bool, true, false, not, ◌&&◌, ◌||◌, nat_le, ◌+◌, ◌==◌, length, List, [], ◌∷◌, Option, Some, None, is_some, option_map, option_and_then}
 use Rattle.off_tree.specs.declared.tables.Kind.TheVariants as tree
 use Rattle.off_tree.specs.Fault.{first_fault}
@@ -62,7 +63,9 @@ searches (FindsNone sought) = true
 
 -- what the tables have at the key of a command, before it
 abbrev pub SubjectStands : Tables → Key → Subject → Type 0
-SubjectStands t key subject = (subject.is_there ≡ is_some (seen_at t key)) × (subject.pool ≡ option_and_then as_pool (seen_at t key))
+SubjectStands t key subject =
+    (subject.is_there ≡ is_some (seen_at t key))
+    × (subject.pool ≡ option_and_then as_pool (seen_at t key))
 
 abbrev pub IsSubject : Command → Subject → Tables → Type 0
 IsSubject (SetSite site) subject t = Unit {0}
@@ -83,7 +86,9 @@ calls_for_subject command = 1
 
 -- the limit of a kind, where the counts and whether the key is there are known
 abbrev pub limit_rule : Counts → Kind → Bool → Option Rule
-limit_rule counts kind there = when (not there && nat_le (limit_of kind) (count_in kind counts)) (rule.Limit kind (limit_of kind))
+limit_rule counts kind there =
+    when (not there && nat_le (limit_of kind) (count_in kind counts))
+    (rule.Limit kind (limit_of kind))
 
 abbrev pub limit_test : Counts → Kind → Subject → Test
 limit_test counts kind subject = Tested (limit_rule counts kind subject.is_there)
@@ -91,7 +96,8 @@ limit_test counts kind subject = Tested (limit_rule counts kind subject.is_there
 abbrev pub row_test : Subject → Test
 row_test subject = Tested (when (not subject.is_there) rule.NoRow)
 
--- no lease that hasn't expired is lost where a pool, or none, takes the place of the pool, or none, that is there
+-- no lease that hasn't expired is lost where a pool, or none, takes the place of the pool, or none,
+-- that is there
 abbrev pub live_test : Moment → Option Pool → Option Pool → Test
 live_test now None new = Tested None
 live_test now (Some old) new = FindsNone (LiveLost now (record { old = old; new = new }))
@@ -102,15 +108,23 @@ no_test = Tested None
 
 -- The tests of a command, one for each of its rules, five in all.
 abbrev pub removal_tests : Moment → Subject → Key → List Test
-removal_tests now subject (key.Subscriber n) = row_test subject ∷ FindsNone (OfSubscriber n) ∷ no_test ∷ no_test ∷ no_test ∷ []
-removal_tests now subject (key.Class n) = row_test subject ∷ FindsNone (OfClass n) ∷ no_test ∷ no_test ∷ no_test ∷ []
-removal_tests now subject (key.Pool n) = row_test subject ∷ live_test now subject.pool None ∷ no_test ∷ no_test ∷ no_test ∷ []
+removal_tests now subject (key.Subscriber n) =
+    row_test subject ∷ FindsNone (OfSubscriber n) ∷ no_test ∷ no_test ∷ no_test ∷ []
+removal_tests now subject (key.Class n) =
+    row_test subject ∷ FindsNone (OfClass n) ∷ no_test ∷ no_test ∷ no_test ∷ []
+removal_tests now subject (key.Pool n) =
+    row_test subject ∷ live_test now subject.pool None ∷ no_test ∷ no_test ∷ no_test ∷ []
 removal_tests now subject key.Site = row_test subject ∷ no_test ∷ no_test ∷ no_test ∷ no_test ∷ []
-removal_tests now subject (key.AddOn n number) = row_test subject ∷ no_test ∷ no_test ∷ no_test ∷ no_test ∷ []
-removal_tests now subject (key.Modem mac) = row_test subject ∷ no_test ∷ no_test ∷ no_test ∷ no_test ∷ []
-removal_tests now subject (key.Lease address) = row_test subject ∷ no_test ∷ no_test ∷ no_test ∷ no_test ∷ []
-removal_tests now subject (key.Held mac) = row_test subject ∷ no_test ∷ no_test ∷ no_test ∷ no_test ∷ []
-removal_tests now subject (key.Batch n) = row_test subject ∷ no_test ∷ no_test ∷ no_test ∷ no_test ∷ []
+removal_tests now subject (key.AddOn n number) =
+    row_test subject ∷ no_test ∷ no_test ∷ no_test ∷ no_test ∷ []
+removal_tests now subject (key.Modem mac) =
+    row_test subject ∷ no_test ∷ no_test ∷ no_test ∷ no_test ∷ []
+removal_tests now subject (key.Lease address) =
+    row_test subject ∷ no_test ∷ no_test ∷ no_test ∷ no_test ∷ []
+removal_tests now subject (key.Held mac) =
+    row_test subject ∷ no_test ∷ no_test ∷ no_test ∷ no_test ∷ []
+removal_tests now subject (key.Batch n) =
+    row_test subject ∷ no_test ∷ no_test ∷ no_test ∷ no_test ∷ []
 
 abbrev pub site_tests : Site → List Test
 site_tests site =
@@ -123,12 +137,17 @@ site_tests site =
 
 abbrev pub tests_of : Counts → Moment → Subject → Command → List Test
 tests_of counts now subject (SetSite site) = site_tests site
-tests_of counts now subject (PutSubscriber n subscriber) = limit_test counts Subscribers subject ∷ no_test ∷ no_test ∷ no_test ∷ no_test ∷ []
+tests_of counts now subject (PutSubscriber n subscriber) =
+    limit_test counts Subscribers subject ∷ no_test ∷ no_test ∷ no_test ∷ no_test ∷ []
 tests_of counts now subject (PutAddOn n number settings) =
-    HasSubscriber n ∷ Tested (option_map rule.Tree (first_fault tree.AddOn settings)) ∷ limit_test counts AddOns subject ∷ no_test ∷ no_test ∷ []
-tests_of counts now subject (PutModem mac modem) = HasSubscriber modem.subscriber ∷ HasClass modem.class ∷ limit_test counts Modems subject ∷ no_test ∷ no_test ∷ []
+    HasSubscriber n ∷ Tested (option_map rule.Tree (first_fault tree.AddOn settings))
+    ∷ limit_test counts AddOns subject ∷ no_test ∷ no_test ∷ []
+tests_of counts now subject (PutModem mac modem) =
+    HasSubscriber modem.subscriber ∷ HasClass modem.class ∷ limit_test counts Modems subject
+    ∷ no_test ∷ no_test ∷ []
 tests_of counts now subject (PutClass n class) =
-    Tested (option_map rule.Tree (first_fault tree.Class class.settings)) ∷ limit_test counts Classes subject ∷ no_test ∷ no_test ∷ no_test ∷ []
+    Tested (option_map rule.Tree (first_fault tree.Class class.settings))
+    ∷ limit_test counts Classes subject ∷ no_test ∷ no_test ∷ no_test ∷ []
 tests_of counts now subject (PutPool n pool) =
     Tested (when (not (has_pool_size pool)) rule.PoolSize)
     ∷ FindsNone (Overlapping n pool)
@@ -137,8 +156,10 @@ tests_of counts now subject (PutPool n pool) =
     ∷ limit_test counts Pools subject
     ∷ []
 tests_of counts now subject (Remove removed) = removal_tests now subject removed
-tests_of counts now subject (Show shown) = row_test subject ∷ no_test ∷ no_test ∷ no_test ∷ no_test ∷ []
-tests_of counts now subject (Import kind batch digest rows) = no_test ∷ no_test ∷ no_test ∷ no_test ∷ no_test ∷ []
+tests_of counts now subject (Show shown) =
+    row_test subject ∷ no_test ∷ no_test ∷ no_test ∷ no_test ∷ []
+tests_of counts now subject (Import kind batch digest rows) =
+    no_test ∷ no_test ∷ no_test ∷ no_test ∷ no_test ∷ []
 
 -- how many keys the tests look up, in all
 abbrev pub lookups : List Test → ℕ

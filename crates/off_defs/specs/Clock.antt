@@ -1,5 +1,5 @@
--- The time of day of RFC 868: the seconds since 1 January 1900, 00:00 UTC, as a 32-bit number, its most significant byte first. The
--- number begins again at 0 every 2^32 seconds.
+-- The time of day of RFC 868: the seconds since 1 January 1900, 00:00 UTC, as a 32-bit number, its
+-- most significant byte first. The number begins again at 0 every 2^32 seconds.
 use Rattle.std.specs.Prelude.{ℕ, ◌+◌, ◌%◌, ◌^◌, List, min}
 use Rattle.std.specs.Int.{w32, to_be_bytes}
 use Rattle.off_base.specs.Number.{greatest_u64}

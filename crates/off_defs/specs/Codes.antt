@@ -1,4 +1,5 @@
--- Codes of what the office holds, by which a proof tells two such values apart. Nothing here says what the office does.
+-- Codes of what the office holds, by which a proof tells two such values apart. Nothing here says
+-- what the office does.
 use Rattle.std.specs.Prelude.{ℕ, Bool, List, refl}
 use Rattle.std.specs.Ordering.{nat_cmp}
 use Rattle.std.specs.FinMap as map
@@ -7,7 +8,9 @@ use Rattle.off_base.specs.declared.addresses.Peer.{Peer}
 use Rattle.off_defs.specs.State.{Transfer, Held, peer_cmp}
 
 abbrev pub peer_code : Coded Peer
-peer_code = code_by (ℕ × ℕ) (coded× coded_ℕ coded_ℕ) (λ p. (p.ip.0, p.port)) (λ q. record { ip = record { 0 = q.0 }; port = q.1 }) (λ _. refl)
+peer_code =
+    code_by (ℕ × ℕ) (coded× coded_ℕ coded_ℕ) (λ p. (p.ip.0, p.port))
+    (λ q. record { ip = record { 0 = q.0 }; port = q.1 }) (λ _. refl)
 
 abbrev Bytes : Type 0
 Bytes = List ℕ
@@ -18,8 +21,13 @@ bytes_code = coded_list coded_ℕ
 abbrev pub transfer_code : Coded Transfer
 transfer_code =
     code_by (((Bytes × Bytes) × (ℕ × Bytes)) × (((ℕ × Bytes) × (ℕ × Bool)) × (ℕ × ℕ)))
-    (coded× (coded× (coded× bytes_code bytes_code) (coded× coded_ℕ bytes_code)) (coded× (coded× (coded× coded_ℕ bytes_code) (coded× coded_ℕ coded_bool)) (coded× coded_ℕ coded_ℕ)))
-    (λ t. (((t.name, t.modem.0), (t.subscriber, t.file)), (((t.size, t.request), (t.sent, t.is_acknowledged)), (t.last_send, t.resends))))
+    (coded× (coded× (coded× bytes_code bytes_code) (coded× coded_ℕ bytes_code))
+    (coded× (coded× (coded× coded_ℕ bytes_code) (coded× coded_ℕ coded_bool))
+    (coded× coded_ℕ coded_ℕ)))
+    (λ t. (
+      ((t.name, t.modem.0), (t.subscriber, t.file)),
+      (((t.size, t.request), (t.sent, t.is_acknowledged)), (t.last_send, t.resends)),
+    ))
     (λ p. record {
       name = p.0.0.0;
       modem = record { 0 = p.0.0.1 };

@@ -8,7 +8,8 @@ use Rattle.off_defs.specs.declared.keys.Key.TheVariants.{Site, Subscriber, AddOn
 abbrev pub key_text_of : Key → List ℕ
 key_text_of Site = codes "site"
 key_text_of (Subscriber number) = codes "subscriber " ++ decimal number
-key_text_of (AddOn subscriber number) = codes "add-on " ++ decimal subscriber ++ codes " " ++ decimal number
+key_text_of (AddOn subscriber number) =
+    codes "add-on " ++ decimal subscriber ++ codes " " ++ decimal number
 key_text_of (Modem mac) = codes "modem " ++ mac_text_of mac.0
 key_text_of (Class number) = codes "class " ++ decimal number
 key_text_of (Pool number) = codes "pool " ++ decimal number

@@ -1,4 +1,5 @@
--- The order of the tables' keys: by kind, in the order in which `Key` names them, and then by their numbers.
+-- The order of the tables' keys: by kind, in the order in which `Key` names them, and then by their
+-- numbers.
 use Rattle.std.specs.declared.cmp.Ordering.{Ordering}
 use Rattle.off_defs.specs.declared.keys.Key.{Key}
 use Rattle.off_defs.specs.contracts.keys.KeyOrd.TheImpl as order

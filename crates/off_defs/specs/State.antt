@@ -10,12 +10,12 @@ use Rattle.off_defs.specs.declared.tables.Row.{Row}
 use Rattle.off_defs.specs.declared.orders.Write.{Write}
 use Rattle.off_defs.specs.Keys.{key_cmp}
 
--- The tables that clerks keep, by key: the site, subscribers and their add-ons, modems, classes, pools, leases and who holds them, and
--- the batches that were imported.
+-- The tables that clerks keep, by key: the site, subscribers and their add-ons, modems, classes,
+-- pools, leases and who holds them, and the batches that were imported.
 abbrev pub Tables : Type 0
 Tables = map.FinMap key_cmp Row
 
--- A file on its way to a modem (RFC 1350). No service makes one yet.
+-- A file on its way to a modem (RFC 1350).
 pub record Transfer : Type 0 where
   pub name : List ℕ
   pub modem : Mac
@@ -32,8 +32,8 @@ pub record Transfer : Type 0 where
 abbrev pub peer_cmp : Peer → Peer → Ordering
 peer_cmp a b = ordering_then (nat_cmp a.ip.0 b.ip.0) (nat_cmp a.port b.port)
 
--- What the office itself holds: the moment of its latest event, the transfers by peer, and of each clerk's
--- connection the bytes that have come.
+-- What the office itself holds: the moment of its latest event, the transfers by peer, and of each
+-- clerk's connection the bytes that have come.
 pub record Held : Type 0 where
   pub now : ℕ
   pub transfers : map.FinMap peer_cmp Transfer
@@ -61,8 +61,8 @@ held_at held at = record held { now = max held.now at }
 abbrev pub at_moment : State → ℕ → State
 at_moment s at = record s { held = held_at s.held at }
 
--- What an event has the office say: the things to send, and the line of the log, its service and words, which is
--- empty where there is none.
+-- What an event has the office say: the things to send, and the line of the log, its service and
+-- words, which is empty where there is none.
 pub record Said : Type 0 where
   pub items : List Sent
   pub line : List ℕ
@@ -70,7 +70,8 @@ pub record Said : Type 0 where
 abbrev pub says_nothing : Said
 says_nothing = record { items = []; line = [] }
 
--- what an event has the office say; what it writes to the tables, in one commit, and nothing where there is none; and the state that it leaves
+-- what an event has the office say; what it writes to the tables, in one commit, and nothing where
+-- there is none; and the state that it leaves
 pub record Effect : Type 0 where
   pub said : Said
   pub commit : List Write

@@ -32,13 +32,14 @@ abbrev pub write_all : Tables → List Write → Tables
 write_all tables [] = tables
 write_all tables (write ∷ writes) = write_all (written tables write) writes
 
--- Whether a commit that was in doubt is so behind these writes: one that is done leaves none in doubt.
+-- Whether a commit that was in doubt is so behind these writes: one that is done leaves none in
+-- doubt.
 abbrev pub doubt_behind : List Write → Type 0 → Type 0
 doubt_behind [] doubt = doubt
 doubt_behind (write ∷ writes) doubt = ⊥
 
--- A walk goes over the entries in the order of their keys. Its place is the key that it came to last, or None before the first.
--- Whether an entry lies behind a place:
+-- A walk goes over the entries in the order of their keys. Its place is the key that it came to
+-- last, or None before the first. Whether an entry lies behind a place:
 abbrev pub is_after : Option Key → Key × Row → Bool
 is_after None entry = true
 is_after (Some key) entry = is_lt (key_cmp key entry.0)

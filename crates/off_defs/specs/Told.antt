@@ -1,6 +1,6 @@
--- What is told of the outside. A link, a source or a sink may tell what it holds (the events still to come, the bytes
--- written, ..) or keep it to itself, so such a meaning is a relation to values: it holds of the one value that is told,
--- or of none.
+-- What is told of the outside. A link, a source or a sink may tell what it holds (the events still
+-- to come, the bytes written, ..) or keep it to itself, so such a meaning is a relation to values:
+-- it holds of the one value that is told, or of none.
 use Rattle.std.specs.Prelude.{◌≡◌}
 use Rattle.std.proofs.Common.{sym, ◌∙◌, subst}
 
@@ -18,8 +18,8 @@ pub record Told {X : Type 0} (old new : X → Type 0) (P : X → X → Type 0) :
 abbrev pub Stays : {X : Type 0} → (X → Type 0) → (X → Type 0) → Type 0
 Stays old new = Told old new (λ x y. y ≡ x)
 
--- no two values are told. Each trait of the outside has this as a law for each of its meanings, since `Told` would
--- say little of an object that tells every value
+-- no two values are told. Each trait of the outside has this as a law for each of its meanings,
+-- since `Told` would say little of an object that tells every value
 abbrev pub IsOne : {X : Type 0} → (X → Type 0) → Type 0
 IsOne {X} tells = (x y : X) → tells x → tells y → x ≡ y
 
@@ -32,5 +32,6 @@ pub one_none : {X : Type 0} → IsOne {X = X} (λ x. ⊥)
 one_none x y p q = absurd p
 
 -- so P relates the very values that are told
-pub told_exact : {X : Type 0} {old new : X → Type 0} {P : X → X → Type 0} → IsOne new → Told old new P → (x y : X) → old x → new y → P x y
+pub told_exact : {X : Type 0} {old new : X → Type 0} {P : X → X → Type 0} → IsOne new →
+    Told old new P → (x y : X) → old x → new y → P x y
 told_exact {P = P} one t x y p q = let g = t.each x p in subst (P x) (one g.value y g.told q) g.fits

@@ -1,5 +1,5 @@
--- A DHCP message as bytes (RFC 2131 section 2, figure 1; options by RFC 2132 and RFC 3396), and when a datagram is none
--- that the office reads.
+-- A DHCP message as bytes (RFC 2131 section 2, figure 1; options by RFC 2132 and RFC 3396), and
+-- when a datagram is none that the office reads.
 use Rattle.std.specs.Prelude.{ℕ, ◌+◌, ◌==◌, Bool, true, ◌&&◌, not, List, [], ◌∷◌, ◌++◌, length, nat_lt, take, drop, slice_index, if◌then◌else◌, Option, Some, None, is_some, Result, Ok, Err}
 use Rattle.std.specs.Int.{w16, w32, from_be_bytes}
 use Rattle.std.specs.List.{slice_range}

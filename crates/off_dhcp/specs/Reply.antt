@@ -11,7 +11,8 @@ zeros count = replicate count 0
 abbrev pub four : ℕ → List ℕ
 four number = to_be_bytes w32 number
 
--- the fixed part and the cookie: op 2 (BOOTREPLY), Ethernet, no hops, no secs, an empty sname, and file with a name
+-- the fixed part and the cookie: op 2 (BOOTREPLY), Ethernet, no hops, no secs, an empty sname, and
+-- file with a name
 unfoldable pub head : Received → ℕ → ℕ → ℕ → ℕ → List ℕ → List ℕ
 head m flags ciaddr yiaddr siaddr name =
     (2 ∷ 1 ∷ 6 ∷ 0 ∷ []) ++ four m.xid ++ (0 ∷ 0 ∷ []) ++ to_be_bytes w16 flags
@@ -22,7 +23,8 @@ head m flags ciaddr yiaddr siaddr name =
 abbrev pub option : ℕ → List ℕ → List ℕ
 option code value = code ∷ length value ∷ value
 
--- how many options a value of so many bytes takes: each but the last has 255 of them, and there is one at least
+-- how many options a value of so many bytes takes: each but the last has 255 of them, and there is
+-- one at least
 abbrev pub pieces : ℕ → ℕ
 pieces len = max 1 ((len + 254) / 255)
 
@@ -49,7 +51,8 @@ nak_flags m = if m.giaddr == 0 then m.flags else bit_or m.flags 0x8000
 -- a NAK: no address, no server, no name; options 53, 54 and 82
 unfoldable pub nak_bytes : Received → ℕ → List ℕ
 nak_bytes m server =
-    padded (head m (nak_flags m) 0 0 0 [] ++ option 53 (6 ∷ []) ++ option 54 (four server) ++ relay_options (option_in 82 m.options) ++ (255 ∷ []))
+    padded (head m (nak_flags m) 0 0 0 [] ++ option 53 (6 ∷ []) ++ option 54 (four server)
+    ++ relay_options (option_in 82 m.options) ++ (255 ∷ []))
 
 -- the mask of a prefix: so many ones, and zeros behind them
 abbrev pub mask : ℕ → ℕ

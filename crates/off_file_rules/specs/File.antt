@@ -1,5 +1,5 @@
--- A modem's configuration file (CM-SP-MULPIv3.1, annex D.1): its profile, the moment and the address at which it was made, both integrity
--- checks, the end marker and the pads.
+-- A modem's configuration file (CM-SP-MULPIv3.1, annex D.1): its profile, the moment and the
+-- address at which it was made, both integrity checks, the end marker and the pads.
 use Rattle.std.specs.Prelude.{◌≡◌, ℕ, List, [], ◌∷◌, ◌++◌, Some}
 use Rattle.std.specs.Int.{w32, to_be_bytes}
 use Rattle.off_base.specs.Tree.{Tree, leaf}
@@ -12,7 +12,8 @@ use Rattle.off_mic.specs.Mic.{Sealed}
 use Rattle.off_rules.specs.Rows.{site_in}
 use Rattle.off_file_rules.specs.Profile.{profile_in}
 
--- setting 19, the time of the server that made the file (annex C.1.1.10), and setting 20, the modem's address (annex C.1.1.11)
+-- setting 19, the time of the server that made the file (annex C.1.1.10), and setting 20, the
+-- modem's address (annex C.1.1.11)
 abbrev pub stamps : ℕ → Ip4 → List Tree
 stamps now ip = leaf 19 (time_bytes now) ∷ leaf 20 (to_be_bytes w32 ip.0) ∷ []
 

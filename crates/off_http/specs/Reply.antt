@@ -12,7 +12,8 @@ line text = text ++ 13 ∷ 10 ∷ []
 
 -- the version, the status and its phrase (RFC 9110, section 15)
 unfoldable pub status_line : ℕ → List ℕ
-status_line status = line (codes "HTTP/1.1 " ++ decimal status ++ codes " " ++ unwrap_or (reason_phrase status) [])
+status_line status =
+    line (codes "HTTP/1.1 " ++ decimal status ++ codes " " ++ unwrap_or (reason_phrase status) [])
 
 -- the field with the length of the body (RFC 9110, section 8.6)
 unfoldable pub length_line : ℕ → List ℕ

@@ -10,13 +10,15 @@ use Rattle.off_base.specs.Number.{number_read}
 use Rattle.off_http.specs.declared.answers.HttpFault.{HttpFault}
 use Rattle.off_http.specs.declared.answers.HttpFault.TheVariants.{Head, Body, TooLong}
 
--- what the bytes so far say: more are awaited, or they are no request, or they are one with this method, target and body
+-- what the bytes so far say: more are awaited, or they are no request, or they are one with this
+-- method, target and body
 pub data Meaning : Type 0 where
   Waits : Meaning
   Refused : HttpFault → Meaning
   Asked : List ℕ → List ℕ → List ℕ → Meaning
 
--- The limits are this office's own (RFC 9110, section 2.3, sets none). A head has at most so many bytes, its blank line among them
+-- The limits are this office's own (RFC 9110, section 2.3, sets none). A head has at most so many
+-- bytes, its blank line among them
 unfoldable pub head_limit : ℕ
 head_limit = 8192
 
@@ -52,17 +54,21 @@ length_read value = if nat_le (length value) 10 then number_read 9999999999 valu
 abbrev pub common_number : List (Option ℕ) → Option ℕ
 common_number [] = Some 0
 common_number (None ∷ numbers) = None
-common_number (Some n ∷ numbers) = if list_all (λ number. option_eq nat_eq number (Some n)) numbers then Some n else None
+common_number (Some n ∷ numbers) =
+    if list_all (λ number. option_eq nat_eq number (Some n)) numbers then Some n else None
 
--- the length of the body that fields declare (RFC 9112, sections 6.1 to 6.3), 0 where none does. None: the body is chunked or
--- coded (RFC 9110, section 8.4), which this office doesn't take, or a length is no number, or two of them differ
+-- the length of the body that fields declare (RFC 9112, sections 6.1 to 6.3), 0 where none does.
+-- None: the body is chunked or coded (RFC 9110, section 8.4), which this office doesn't take, or a
+-- length is no number, or two of them differ
 abbrev pub declared_length : List FieldText → Option ℕ
 declared_length fields =
-    if list_any (is_named (codes "transfer-encoding")) fields || list_any (is_named (codes "content-encoding")) fields
+    if list_any (is_named (codes "transfer-encoding")) fields || list_any
+    (is_named (codes "content-encoding")) fields
     then None
     else common_number (map length_read (values_of (codes "content-length") fields))
 
--- the bytes are one request head (RFC 9112, sections 3 and 5) and nothing else, and it has no more fields than are taken
+-- the bytes are one request head (RFC 9112, sections 3 and 5) and nothing else, and it has no more
+-- fields than are taken
 abbrev pub IsOneHead : List ℕ → RequestHead → Type 0
 IsOneHead text head = ReadsRequest text head [] × (length head.fields ≤ field_limit)
 
@@ -93,4 +99,5 @@ pub record RequestIs (bytes : List ℕ) (meaning : Meaning) : Type 0 where
   -- where the first blank line begins, if one ends within the first bytes that a head may have
   pub place : Option ℕ
   pub first : FindsNeedle (take head_limit bytes) blank_line 0 place
-  pub says : MatchOption place (meaning ≡ without_head bytes) (λ at. HeadSays (take (at + 4) bytes) (drop (at + 4) bytes) meaning)
+  pub says : MatchOption place (meaning ≡ without_head bytes)
+      (λ at. HeadSays (take (at + 4) bytes) (drop (at + 4) bytes) meaning)

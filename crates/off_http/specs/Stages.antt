@@ -1,4 +1,5 @@
--- What a session knows of its bytes: how far they have been read, and where the parts of a request stand.
+-- What a session knows of its bytes: how far they have been read, and where the parts of a request
+-- stand.
 use Rattle.std.specs.Prelude.{◌≡◌, ℕ, ◌+◌, ◌<◌, ◌≤◌, List, length, take, map, slice_range, Some, None}
 use Rattle.memchr.specs.Find.{FindsNeedle}
 use Rattle.httparse.specs.Grammar.{RequestHead}
@@ -30,8 +31,10 @@ pub record HasHead (bytes : List ℕ) (parts : Parts) : Type 0 where
 -- what is known of the bytes at each stage
 abbrev pub StageHolds : List ℕ → Stage → Type 0
 StageHolds bytes ReadingHead = FindsNeedle bytes blank_line 0 None × (length bytes < head_limit)
-StageHolds bytes (ReadingBody parts) = HasHead bytes parts × (length bytes < parts.head_len + parts.body_len)
-StageHolds bytes (Finished parts) = HasHead bytes parts × (parts.head_len + parts.body_len ≤ length bytes)
+StageHolds bytes (ReadingBody parts) =
+    HasHead bytes parts × (length bytes < parts.head_len + parts.body_len)
+StageHolds bytes (Finished parts) =
+    HasHead bytes parts × (parts.head_len + parts.body_len ≤ length bytes)
 StageHolds bytes (Failed fault) = RequestIs bytes (Refused fault)
 
 -- what the bytes say, by what is known of them

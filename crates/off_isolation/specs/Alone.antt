@@ -14,7 +14,8 @@ use Rattle.off_book.specs.Run.{Turn}
 use Rattle.off_isolation.specs.Own.{is_at, Happening, Came, Passed, OwnEvent, own_events, given_to}
 
 -- a datagram of a peer, over these transfers and no others
-pub record GetsAlone (tables : Tables) (now : ℕ) (from : Peer) (bytes : List ℕ) (old new : Transfers)
+pub record GetsAlone (tables : Tables) (now : ℕ) (from : Peer) (bytes : List ℕ)
+    (old new : Transfers)
     (said : Said) : Type 0 where
   pub given : Given
   pub step : TftpStep tables now old from bytes given

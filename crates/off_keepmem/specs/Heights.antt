@@ -1,4 +1,5 @@
--- How high a balanced tree is (Adelson-Velsky and Landis, 1962): the depths of the two sides of each box differ by one at most.
+-- How high a balanced tree is (Adelson-Velsky and Landis, 1962): the depths of the two sides of
+-- each box differ by one at most.
 use Rattle.std.specs.Prelude.{◌≡◌, Bool, false, ℕ, zero, suc, ◌+◌, ◌≤◌, max, List, [], length}
 use Rattle.off_defs.specs.declared.keys.Key.{Key}
 use Rattle.off_defs.specs.declared.tables.Row.{Row}
@@ -11,7 +12,8 @@ pub record TreeHeld : Type 0 where
 abbrev pub bare : TreeHeld
 bare = record { entries = []; depth = 0 }
 
--- how many entries a balanced tree has at least, of this depth and of one more: 0 and 1, 1 and 2, 2 and 4, 4 and 7, ..
+-- how many entries a balanced tree has at least, of this depth and of one more: 0 and 1, 1 and 2, 2
+-- and 4, 4 and 7, ..
 abbrev one_deeper : ℕ × ℕ → ℕ × ℕ
 one_deeper least = (least.1, least.0 + least.1 + 1)
 

@@ -11,7 +11,8 @@ use Rattle.off_outside.specs.declared.keeper.KeepErr.{KeepErr}
 use Rattle.off_outside.specs.declared.keeper.KeepErr.TheVariants.{Memory, Failed}
 use Rattle.off_keepmem.specs.Heights.{least_entries}
 
--- its tables, how many of the boxes of its tree of rows stand one below another, and how many it has in stock for rows to come
+-- its tables, how many of the boxes of its tree of rows stand one below another, and how many it
+-- has in stock for rows to come
 pub record MemKeeperHeld : Type 0 where
   pub tables : Tables
   pub depth : ℕ
@@ -20,17 +21,26 @@ pub record MemKeeperHeld : Type 0 where
   pub faults : ℕ
   pub commits : ℕ
 
--- It has at least as many rows as a balanced tree of its depth (Adelson-Velsky and Landis, 1962). So fewer than 2 ^ 32 rows stand in
--- 45 levels at most
+-- It has at least as many rows as a balanced tree of its depth (Adelson-Velsky and Landis, 1962).
+-- So fewer than 2 ^ 32 rows stand in 45 levels at most
 pub record IsShallow (m : MemKeeperHeld) : Type 0 where
   pub least : least_entries m.depth ≤ map.len m.tables
   pub few : map.len m.tables < 2 ^ 32 → m.depth ≤ 45
 
 -- a new one
 abbrev pub empty_keeper : List ℕ → MemKeeperHeld
-empty_keeper fails = record { tables = map.empty; depth = 0; spare = 0; calls = record { listed = fails; made = 0 }; faults = 0; commits = 0 }
+empty_keeper fails =
+    record {
+      tables = map.empty;
+      depth = 0;
+      spare = 0;
+      calls = record { listed = fails; made = 0 };
+      faults = 0;
+      commits = 0;
+    }
 
--- it tells its tables, and is always up. Its tables don't outlive the program, so it says nothing of a crash
+-- it tells its tables, and is always up. Its tables don't outlive the program, so it says nothing
+-- of a crash
 abbrev pub keeper_seen : MemKeeperHeld → KeeperSeen
 keeper_seen m = record {
   tables = λ tables. tables ≡ m.tables;
@@ -89,7 +99,8 @@ pub record MemUndone (err : KeepErr) (old new : MemKeeperHeld) : Type 0 where
   pub faults : new.faults ≡ faults_after err old.faults
   pub commits : new.commits ≡ old.commits
 
--- All but the stock of boxes is as before, and that has as many as are wanted at most, unless it had more
+-- All but the stock of boxes is as before, and that has as many as are wanted at most, unless it
+-- had more
 pub record SameButSpare (wanted : ℕ) (old new : MemKeeperHeld) : Type 0 where
   pub tables : new.tables ≡ old.tables
   pub depth : new.depth ≡ old.depth
@@ -100,8 +111,12 @@ pub record SameButSpare (wanted : ℕ) (old new : MemKeeperHeld) : Type 0 where
   pub most : new.spare ≤ max old.spare wanted
 
 -- what each call does, by the answer
-abbrev pub MemLooks : {A : Type 0} → Result A KeepErr → MemKeeperHeld → MemKeeperHeld → (A → Tables → Type 0) → Type 0
-MemLooks result old new P = MatchResult result (λ x. P x old.tables × MemRead old new) (λ err. MemUndone err old new)
+abbrev pub MemLooks : {A : Type 0} → Result A KeepErr → MemKeeperHeld → MemKeeperHeld →
+    (A → Tables → Type 0) → Type 0
+MemLooks result old new P =
+    MatchResult result (λ x. P x old.tables × MemRead old new) (λ err. MemUndone err old new)
 
-abbrev pub MemCommits : Result (Unit {0}) KeepErr → MemKeeperHeld → MemKeeperHeld → List Write → Type 0
-MemCommits result old new writes = MatchResult result (λ _. MemCommitted writes old new) (λ err. MemUndone err old new)
+abbrev pub MemCommits : Result (Unit {0}) KeepErr → MemKeeperHeld → MemKeeperHeld → List Write →
+    Type 0
+MemCommits result old new writes =
+    MatchResult result (λ _. MemCommitted writes old new) (λ err. MemUndone err old new)

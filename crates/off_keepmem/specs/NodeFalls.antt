@@ -8,4 +8,9 @@ use Rattle.off_keepmem.specs.Nodes.{node_held}
 
 pub sides_below : (n : Node) → max (deep-Node n) 0 ≤ length (node_held n).entries
 sides_below Leaf = omega arith
-sides_below (Fork height branch) = omega (arith, length-append branch.value.left.entries ((branch.value.key, branch.value.row) ∷ branch.value.right.entries))
+sides_below (Fork height branch) =
+    omega (
+      arith,
+      length-append branch.value.left.entries
+          ((branch.value.key, branch.value.row) ∷ branch.value.right.entries),
+    )

@@ -40,13 +40,15 @@ IsBalanced (Fork height branch) = (height ≡ branch_depth branch.value) × Side
 -- the sides differ by two at most, where they may have to be settled
 abbrev pub IsNearlyBalanced : Node → Type 0
 IsNearlyBalanced Leaf = Unit {0}
-IsNearlyBalanced (Fork height branch) = Near 2 branch.value.left.depth branch.value.right.depth × (branch_depth branch.value ≤ 254)
+IsNearlyBalanced (Fork height branch) =
+    Near 2 branch.value.left.depth branch.value.right.depth × (branch_depth branch.value ≤ 254)
 
 -- the sides of a box can be settled to this depth
 abbrev pub SidesSettleTo : Branch → ℕ → Type 0
 SidesSettleTo b depth = SettlesTo b.left.depth b.right.depth depth
 
--- what settling makes of a box, beside which there was this height. Where it says that the height is the same, it is
+-- what settling makes of a box, beside which there was this height. Where it says that the height
+-- is the same, it is
 pub record SettledAbove (b : Branch) (height : ℕ) (is_other : Bool) (new : Node) : Type 0 where
   pub balanced : IsBalanced new
   pub entries : (node_held new).entries ≡ branch_entries b
@@ -60,7 +62,8 @@ SettledNode is_other (Fork height branch) new = SettledAbove branch.value height
 -- a box above a first and a last one, between which its sides are shared
 abbrev pub three_entries : Branch → Branch → Branch → List (Key × Row)
 three_entries top first last =
-    (first.left.entries ++ (first.key, first.row) ∷ top.left.entries) ++ (top.key, top.row) ∷ (top.right.entries ++ (last.key, last.row) ∷ last.right.entries)
+    (first.left.entries ++ (first.key, first.row) ∷ top.left.entries)
+    ++ (top.key, top.row) ∷ (top.right.entries ++ (last.key, last.row) ∷ last.right.entries)
 
 -- both are then even, and equally deep
 pub record ThreeEven (top first last : Branch) : Type 0 where

@@ -38,7 +38,8 @@ pub record IsOfferedBy (tables : Tables) (now : ℕ) (m : Received) (step : Leas
   pub address : Ip4
   pub site_is : site_in tables ≡ Some site
   pub reply : step.reply ≡ Some (offer_to 2 m site pool address)
-  pub lease : (lease_in (write_all tables step.writes) address ≡ Some (lease_until (Offered (client m)) (later_by 120 now)))
+  pub lease : (lease_in (write_all tables step.writes) address
+      ≡ Some (lease_until (Offered (client m)) (later_by 120 now)))
       ⊎ IsLiveBound now (client m) (lease_in (write_all tables step.writes) address)
   pub held : held_in (write_all tables step.writes) (client m) ≡ Some address
   pub in_pool : LiesInAPool tables address
@@ -53,7 +54,8 @@ pub record IsBoundBy (tables : Tables) (now : ℕ) (m : Received) (step : LeaseS
   pub pool_is : pool_for tables m ≡ Some pool
   pub claim : claimed m ≡ Some address
   pub reply : step.reply ≡ Some (offer_to 5 m site pool address)
-  pub lease : lease_in (write_all tables step.writes) address ≡ Some (bound_until (client m) (later_by site.lease now))
+  pub lease : lease_in (write_all tables step.writes) address
+      ≡ Some (bound_until (client m) (later_by site.lease now))
   pub held : held_in (write_all tables step.writes) (client m) ≡ Some address
   pub in_pool : LiesInAPool tables address
 
@@ -62,7 +64,8 @@ pub record IsDeclinedBy (tables : Tables) (now : ℕ) (m : Received) (step : Lea
   pub address : Ip4
   pub claim : claimed m ≡ Some address
   pub reply : step.reply ≡ None
-  pub lease : lease_in (write_all tables step.writes) address ≡ Some (lease_until Declined (later_by 600 now))
+  pub lease : lease_in (write_all tables step.writes) address
+      ≡ Some (lease_until Declined (later_by 600 now))
   pub held : held_in (write_all tables step.writes) (client m) ≡ None
 
 -- the address that the client released has no lease, and the client holds nothing

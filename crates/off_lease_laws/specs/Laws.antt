@@ -29,14 +29,18 @@ use Rattle.off_lease_laws.specs.Effects.{bound_until, IsOfferedBy, IsBoundBy, Is
 -- ---- one result
 
 -- a datagram does one thing
-pub record SameStep (one other : Tables) (reply answer : Option Sent) (word said : DhcpWord) : Type 0 where
+pub record SameStep (one other : Tables) (reply answer : Option Sent)
+    (word said : DhcpWord) : Type 0 where
   pub tables : one ≡ other
   pub replies : reply ≡ answer
   pub words : word ≡ said
 
 abbrev pub StepIsOne : Type 0
-StepIsOne = (tables : Tables) (now : ℕ) (bytes : List ℕ) (one other : Tables) (reply answer : Option Sent) (word said : DhcpWord)
-    → DhcpStep tables now bytes one reply word → DhcpStep tables now bytes other answer said → SameStep one other reply answer word said
+StepIsOne =
+    (tables : Tables) (now : ℕ) (bytes : List ℕ) (one other : Tables) (reply answer : Option Sent)
+    (word said : DhcpWord)
+    → DhcpStep tables now bytes one reply word → DhcpStep tables now bytes other answer said →
+    SameStep one other reply answer word said
 
 -- and it does something
 pub record SomeStep (tables : Tables) (now : ℕ) (bytes : List ℕ) : Type 0 where
@@ -51,10 +55,13 @@ StepIsThere = (tables : Tables) (now : ℕ) (bytes : List ℕ) → SomeStep tabl
 -- a datagram that is a message does what the message does; one that is none has its fault's word
 -- and does nothing
 abbrev pub MessagesDo : Type 0
-MessagesDo = (tables : Tables) (now : ℕ) (bytes : List ℕ) (m : Received) → message_of bytes ≡ Ok m → dhcp_step tables now bytes ≡ lease_step tables now m
+MessagesDo =
+    (tables : Tables) (now : ℕ) (bytes : List ℕ) (m : Received) → message_of bytes ≡ Ok m →
+    dhcp_step tables now bytes ≡ lease_step tables now m
 
 abbrev pub FaultsDoNothing : Type 0
-FaultsDoNothing = (tables : Tables) (now : ℕ) (bytes : List ℕ) (fault : DhcpFault) → message_of bytes ≡ Err fault
+FaultsDoNothing =
+    (tables : Tables) (now : ℕ) (bytes : List ℕ) (fault : DhcpFault) → message_of bytes ≡ Err fault
     → dhcp_step tables now bytes ≡ lease_step_by (unread fault) [] None
 
 -- ---- the tables after a message
@@ -63,28 +70,39 @@ abbrev pub after_message : Tables → ℕ → Received → Tables
 after_message tables now m = write_all tables (lease_step tables now m).writes
 
 abbrev pub EachHasAnOutcome : Type 0
-EachHasAnOutcome = (tables : Tables) (now : ℕ) (m : Received) → Outcome tables now m (lease_step tables now m)
+EachHasAnOutcome =
+    (tables : Tables) (now : ℕ) (m : Received) → Outcome tables now m (lease_step tables now m)
 
 -- a message whose word isn't one of the four that act changes nothing
 abbrev pub RefusalsChangeNothing : Type 0
-RefusalsChangeNothing = (tables : Tables) (now : ℕ) (m : Received) → acts (lease_step tables now m).word ≡ false → (lease_step tables now m).writes ≡ []
+RefusalsChangeNothing =
+    (tables : Tables) (now : ℕ) (m : Received) → acts (lease_step tables now m).word ≡ false →
+    (lease_step tables now m).writes ≡ []
 
 abbrev pub MessagesMove : Type 0
-MessagesMove = (tables : Tables) (now : ℕ) (m : Received) → HoldersAgree tables → Moves now (client m) tables (after_message tables now m)
+MessagesMove =
+    (tables : Tables) (now : ℕ) (m : Received) → HoldersAgree tables →
+    Moves now (client m) tables (after_message tables now m)
 
 abbrev pub AgreementStays : Type 0
-AgreementStays = (tables : Tables) (now : ℕ) (m : Received) → HoldersAgree tables → HoldersAgree (after_message tables now m)
+AgreementStays =
+    (tables : Tables) (now : ℕ) (m : Received) → HoldersAgree tables →
+    HoldersAgree (after_message tables now m)
 
 -- all rows but leases (7) and those of who holds them (8) stay
 abbrev pub OnlyLeasesChange : Type 0
-OnlyLeasesChange = (tables : Tables) (now : ℕ) (m : Received) (key : Key) → kind_of key ≢ 7 → kind_of key ≢ 8
+OnlyLeasesChange =
+    (tables : Tables) (now : ℕ) (m : Received) (key : Key) → kind_of key ≢ 7 → kind_of key ≢ 8
     → row_at (after_message tables now m) key ≡ row_at tables key
 
 abbrev pub GoodStays : Type 0
-GoodStays = (tables : Tables) (now : ℕ) (m : Received) → Good tables → Good (after_message tables now m)
+GoodStays =
+    (tables : Tables) (now : ℕ) (m : Received) → Good tables → Good (after_message tables now m)
 
 abbrev pub CountsStay : Type 0
-CountsStay = (tables : Tables) (now : ℕ) (m : Received) → counts_of (after_message tables now m) ≡ counts_of tables
+CountsStay =
+    (tables : Tables) (now : ℕ) (m : Received) →
+    counts_of (after_message tables now m) ≡ counts_of tables
 
 -- The same of a datagram: whatever it does, tables that were good are good again, the counts are
 -- the same, and only leases change.
@@ -95,7 +113,9 @@ pub record LeavesFit (old new : Tables) : Type 0 where
   pub others : (key : Key) → kind_of key ≢ 7 → kind_of key ≢ 8 → row_at new key ≡ row_at old key
 
 abbrev pub DatagramsLeaveFit : Type 0
-DatagramsLeaveFit = (tables : Tables) (now : ℕ) (bytes : List ℕ) (after : Tables) (reply : Option Sent) (word : DhcpWord)
+DatagramsLeaveFit =
+    (tables : Tables) (now : ℕ) (bytes : List ℕ) (after : Tables) (reply : Option Sent)
+    (word : DhcpWord)
     → DhcpStep tables now bytes after reply word → LeavesFit tables after
 
 -- ---- free addresses
@@ -104,16 +124,20 @@ DatagramsLeaveFit = (tables : Tables) (now : ℕ) (bytes : List ℕ) (after : Ta
 -- empty
 abbrev pub LeastIsLeast : Type 0
 LeastIsLeast = (tables : Tables) (now : ℕ) (pool : Pool)
-    → MatchOption (least_free tables now pool) ((address : Ip4) → is_free tables now pool address ≡ false)
-    (λ least. IsTrue (is_free tables now pool least) × ((address : Ip4) → IsTrue (is_free tables now pool address) → least.0 ≤ address.0))
+    → MatchOption (least_free tables now pool)
+    ((address : Ip4) → is_free tables now pool address ≡ false)
+    (λ least. IsTrue (is_free tables now pool least)
+    × ((address : Ip4) → IsTrue (is_free tables now pool address) → least.0 ≤ address.0))
 
 -- what is chosen lies in the pool and is the client's own or free, and nothing is chosen only where
 -- no address of the pool is either
 abbrev pub ChoiceFits : Type 0
 ChoiceFits = (tables : Tables) (now : ℕ) (pool : Pool) (held asked : Option Ip4)
     → MatchOption (choice tables now pool held asked)
-    ((address : Ip4) → IsTrue (has_address pool address) → (held ≢ Some address) × (is_free tables now pool address ≡ false))
-    (λ chosen. IsTrue (has_address pool chosen) × ((held ≡ Some chosen) ⊎ IsTrue (is_free tables now pool chosen)))
+    ((address : Ip4) → IsTrue (has_address pool address) →
+    (held ≢ Some address) × (is_free tables now pool address ≡ false))
+    (λ chosen. IsTrue (has_address pool chosen)
+    × ((held ≡ Some chosen) ⊎ IsTrue (is_free tables now pool chosen)))
 
 -- ---- each address is exactly one of these at a moment
 
@@ -140,39 +164,53 @@ live_for resting = None
 
 -- an address of a pool stands free where it is in the set of free ones, and nowhere else
 abbrev pub FreeStandsFree : Type 0
-FreeStandsFree = (tables : Tables) (now : ℕ) (pool : Pool) (address : Ip4) → IsTrue (has_address pool address)
+FreeStandsFree =
+    (tables : Tables) (now : ℕ) (pool : Pool) (address : Ip4) → IsTrue (has_address pool address)
     → (standing now (lease_in tables address) ≡ free) ↔ IsTrue (is_free tables now pool address)
 
 -- an address is live for nobody but the owner of its lease
 abbrev pub LiveForItsOwner : Type 0
-LiveForItsOwner = (tables : Tables) (now : ℕ) (address : Ip4) (mac : Mac) → live_for (standing now (lease_in tables address)) ≡ Some mac
+LiveForItsOwner =
+    (tables : Tables) (now : ℕ) (address : Ip4) (mac : Mac) →
+    live_for (standing now (lease_in tables address)) ≡ Some mac
     → owner_in tables address ≡ Some mac
 
 -- and a client owns one lease at most
 abbrev pub OneLeaseAClient : Type 0
-OneLeaseAClient = (tables : Tables) (mac : Mac) (one other : Ip4) → HoldersAgree tables → owner_in tables one ≡ Some mac → owner_in tables other ≡ Some mac
+OneLeaseAClient =
+    (tables : Tables) (mac : Mac) (one other : Ip4) → HoldersAgree tables →
+    owner_in tables one ≡ Some mac → owner_in tables other ≡ Some mac
     → one ≡ other
 
 -- ---- what the four words that act say
 
 abbrev pub OffersHold : Type 0
-OffersHold = (tables : Tables) (now : ℕ) (m : Received) → HoldersAgree tables → (lease_step tables now m).word ≡ word.Offer
+OffersHold =
+    (tables : Tables) (now : ℕ) (m : Received) → HoldersAgree tables →
+    (lease_step tables now m).word ≡ word.Offer
     → IsOfferedBy tables now m (lease_step tables now m)
 
 abbrev pub AcksBind : Type 0
-AcksBind = (tables : Tables) (now : ℕ) (m : Received) → (lease_step tables now m).word ≡ word.Ack → IsBoundBy tables now m (lease_step tables now m)
+AcksBind =
+    (tables : Tables) (now : ℕ) (m : Received) → (lease_step tables now m).word ≡ word.Ack →
+    IsBoundBy tables now m (lease_step tables now m)
 
 abbrev pub DeclinesRest : Type 0
-DeclinesRest = (tables : Tables) (now : ℕ) (m : Received) → (lease_step tables now m).word ≡ word.Declined
+DeclinesRest =
+    (tables : Tables) (now : ℕ) (m : Received) → (lease_step tables now m).word ≡ word.Declined
     → IsDeclinedBy tables now m (lease_step tables now m)
 
 abbrev pub ReleasesFree : Type 0
-ReleasesFree = (tables : Tables) (now : ℕ) (m : Received) → (lease_step tables now m).word ≡ word.Released
+ReleasesFree =
+    (tables : Tables) (now : ℕ) (m : Received) → (lease_step tables now m).word ≡ word.Released
     → IsReleasedBy tables m (lease_step tables now m)
 
 -- until it ends a binding outlasts each message of another client, and each of its own that is
 -- refused
 abbrev pub BindingsLast : Type 0
-BindingsLast = (tables : Tables) (now : ℕ) (m : Received) (mac : Mac) (address : Ip4) (expiry : ℕ) → HoldersAgree tables
-    → lease_in tables address ≡ Some (bound_until mac expiry) → now < expiry → (client m ≢ mac) ⊎ (acts (lease_step tables now m).word ≡ false)
+BindingsLast =
+    (tables : Tables) (now : ℕ) (m : Received) (mac : Mac) (address : Ip4) (expiry : ℕ) →
+    HoldersAgree tables
+    → lease_in tables address ≡ Some (bound_until mac expiry) → now < expiry →
+    (client m ≢ mac) ⊎ (acts (lease_step tables now m).word ≡ false)
     → lease_in (after_message tables now m) address ≡ Some (bound_until mac expiry)

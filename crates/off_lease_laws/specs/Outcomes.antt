@@ -26,9 +26,11 @@ pub record WasOffered (tables : Tables) (now : ℕ) (m : Received) (step : Lease
   pub address : Ip4
   pub site_is : site_in tables ≡ Some site
   pub pool_is : pool_for tables m ≡ Some pool
-  pub chosen : choice tables now pool (held_in tables (client m)) (at_address (named_address m)) ≡ Some address
+  pub chosen : choice tables now pool (held_in tables (client m)) (at_address (named_address m))
+      ≡ Some address
   pub said : step.word ≡ word.Offer
-  pub writes : step.writes ≡ offered now (client m) (held_in tables (client m)) address (lease_in tables address)
+  pub writes : step.writes ≡ offered now (client m) (held_in tables (client m)) address
+      (lease_in tables address)
   pub reply : step.reply ≡ Some (offer_to 2 m site pool address)
 
 -- the client got the address for which it asked: one of its pool, which it held already

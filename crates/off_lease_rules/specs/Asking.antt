@@ -92,7 +92,8 @@ claimed m =
     else if is_decline m then at_address (named_address m)
     else Some (ip m.ciaddr)
 
--- ---- parts of options: of 43, what the client says of itself, and of 82, what the relay says of it
+-- ---- parts of options: of 43, what the client says of itself, and of 82, what the relay says of
+-- it
 
 abbrev pub vendor_parts : Received → Result (List Part) ℕ
 vendor_parts m = parts_in true (bytes_of (option_in 43 m.options))

@@ -18,13 +18,21 @@ abbrev pub is_renewal : Received → Bool
 is_renewal m = is_request m && is_renewing (form_of m)
 
 abbrev pub serves : Received → Pool → Bool
-serves m pool = if m.giaddr == 0 then is_renewal m && has_address pool (ip m.ciaddr) else pool.relay.0 == m.giaddr
+serves m pool =
+    if m.giaddr == 0 then is_renewal m && has_address pool (ip m.ciaddr)
+    else pool.relay.0 == m.giaddr
 
 abbrev pub pool_for : Tables → Received → Option Pool
 pool_for tables m = option_map (λ entry. entry.1) (find (λ entry. serves m entry.1) (pools tables))
 
 unfoldable pub case_of : Tables → Received → Case
-case_of tables m = record { site = site_in tables; pool = pool_for tables m; modem = modem_in tables (client m); held = held_in tables (client m) }
+case_of tables m =
+    record {
+      site = site_in tables;
+      pool = pool_for tables m;
+      modem = modem_in tables (client m);
+      held = held_in tables (client m);
+    }
 
 -- Free is an address that has no lease, or one that has ended. The set of a pool's free addresses
 -- at a moment, as its test:
@@ -33,7 +41,8 @@ has_ended now None = true
 has_ended now (Some lease) = nat_le lease.expiry.0 now
 
 abbrev pub is_free : Tables → ℕ → Pool → Ip4 → Bool
-is_free tables now pool address = has_address pool address && has_ended now (lease_in tables address)
+is_free tables now pool address =
+    has_address pool address && has_ended now (lease_in tables address)
 
 -- its least member, or None where it has none
 abbrev pub addresses : Pool → List Ip4
@@ -51,9 +60,11 @@ provided test (Some x) = if test x then Some x else None
 -- holds; else the one that it asks for, where that is free; else the least that is free
 abbrev pub choice : Tables → ℕ → Pool → Option Ip4 → Option Ip4 → Option Ip4
 choice tables now pool held asked =
-    option_or (provided (has_address pool) held) (option_or (provided (is_free tables now pool) asked) (least_free tables now pool))
+    option_or (provided (has_address pool) held)
+    (option_or (provided (is_free tables now pool) asked) (least_free tables now pool))
 
 -- the address that a message is about: for a DISCOVER it is chosen
 abbrev pub chosen_in : Tables → ℕ → Received → Case → Option Ip4
 chosen_in tables now m c =
-    if is_discover m then option_and_then (λ pool. choice tables now pool c.held (at_address (named_address m))) c.pool else claimed m
+    if is_discover m then option_and_then
+    (λ pool. choice tables now pool c.held (at_address (named_address m))) c.pool else claimed m

@@ -29,7 +29,9 @@ has_cut_part m = (asks m && is_err (vendor_parts m)) || is_err (relay_parts m)
 
 -- a remote identifier of six bytes is the hardware address of the client
 abbrev pub relays_another : Received → Bool
-relays_another m = passes (λ remote. (length remote == 6) && not (bytes_eq remote (mac_of_client m))) (remote_identifier m)
+relays_another m =
+    passes (λ remote. (length remote == 6) && not (bytes_eq remote (mac_of_client m)))
+    (remote_identifier m)
 
 -- a client that asks says in option 60 that it's a modem; one that has an address already may leave
 -- option 60 out
@@ -40,7 +42,9 @@ is_no_modem m =
 
 -- a modem may say another serial number than its row, where both have one
 abbrev pub has_other_serial : Received → Modem → Bool
-has_other_serial m modem = not (length modem.serial == 0) && passes (λ serial. not (bytes_eq serial modem.serial)) (serial_number m)
+has_other_serial m modem =
+    not (length modem.serial == 0)
+    && passes (λ serial. not (bytes_eq serial modem.serial)) (serial_number m)
 
 -- a message that names a server is for that one alone (RFC 2131 sections 3.1 and 4.3); a REQUEST
 -- does in one of its forms
@@ -58,12 +62,15 @@ abbrev pub claims_held : Received → Case → Bool
 claims_held m c = passes (λ address. passes (is_address address) c.held) (claimed m)
 
 abbrev pub claims_in_pool : Received → Case → Bool
-claims_in_pool m c = passes (λ address. passes (λ pool. has_address pool address) c.pool) (claimed m)
+claims_in_pool m c =
+    passes (λ address. passes (λ pool. has_address pool address) c.pool) (claimed m)
 
 -- Who selects an offer that was never made is told that the address isn't its own; who has one of
 -- which the office knows nothing gets no answer (RFC 2131 section 4.3.2).
 abbrev pub lacks_record : Received → Case → Bool
-lacks_record m c = (is_request m && not (is_selecting (form_of m)) && is_none c.held) || (gives_back m && not (claims_held m c))
+lacks_record m c =
+    (is_request m && not (is_selecting (form_of m)) && is_none c.held) ||
+    (gives_back m && not (claims_held m c))
 
 abbrev pub claims_wrongly : Received → Case → Bool
 claims_wrongly m c = is_request m && not (claims_held m c && claims_in_pool m c)

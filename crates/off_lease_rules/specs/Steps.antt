@@ -40,7 +40,9 @@ use Rattle.off_lease_rules.specs.declared.words.DhcpWord.TheVariants as word
 -- ---- what is written. Each lease ends so many seconds after now
 
 abbrev pub lease_row : Ip4 → Hold → ℕ → ℕ → Write
-lease_row address hold seconds now = Put (key.Lease address) (row.Lease (record { hold = hold; expiry = record { 0 = later_by seconds now } }))
+lease_row address hold seconds now =
+    Put (key.Lease address) (row.Lease
+    (record { hold = hold; expiry = record { 0 = later_by seconds now } }))
 
 abbrev pub lease_drop : Option Ip4 → List Write
 lease_drop None = []
@@ -52,7 +54,9 @@ held_elsewhere address held = provided (λ other. not (is_address address other)
 
 -- the modem whose lease it was, where it's another one
 abbrev pub former_owner : Mac → Option Lease → Option Mac
-former_owner mac lease = provided (λ other. not (bytes_eq other.0 mac.0)) (option_and_then (λ lease. owner_of lease.hold) lease)
+former_owner mac lease =
+    provided (λ other. not (bytes_eq other.0 mac.0))
+    (option_and_then (λ lease. owner_of lease.hold) lease)
 
 abbrev pub is_bound : Hold → Bool
 is_bound (Bound mac) = true
@@ -67,7 +71,8 @@ is_live_bound now lease = is_bound lease.hold && nat_lt now lease.expiry.0
 abbrev pub offered : ℕ → Mac → Option Ip4 → Ip4 → Option Lease → List Write
 offered now mac held address lease =
     if passes (is_live_bound now) lease then []
-    else lease_drop (held_elsewhere address held) ++ held_drop (former_owner mac lease) ++ lease_row address (Offered mac) 120 now ∷ Put (key.Held mac) (row.Held address) ∷ []
+    else lease_drop (held_elsewhere address held) ++ held_drop (former_owner mac lease)
+    ++ lease_row address (Offered mac) 120 now ∷ Put (key.Held mac) (row.Held address) ∷ []
 
 -- it is bound for as long as the site's leases last, whether or not the lease had ended
 abbrev pub bound : ℕ → Mac → Ip4 → Site → List Write
@@ -90,21 +95,30 @@ abbrev pub destination : Received → Ip4 → Peer
 destination m direct = if m.giaddr == 0 then peer_at direct 68 else peer_at (ip m.giaddr) 67
 
 abbrev pub nak_to : Received → Site → Sent
-nak_to m site = sent.Datagram service.Dhcp (destination m (ip 0xffffffff)) (nak_bytes m site.server.0)
+nak_to m site =
+    sent.Datagram service.Dhcp (destination m (ip 0xffffffff)) (nak_bytes m site.server.0)
 
 abbrev pub offer_of : ℕ → Received → Site → Pool → Ip4 → Offer
 offer_of kind m site pool address =
-    record { kind = kind; yiaddr = address; site = site; pool = pool; name = name_of site.secret (client m) address }
+    record {
+      kind = kind;
+      yiaddr = address;
+      site = site;
+      pool = pool;
+      name = name_of site.secret (client m) address;
+    }
 
 -- without a relay it is an ACK, since no pool serves a DISCOVER then
 abbrev pub offer_to : ℕ → Received → Site → Pool → Ip4 → Sent
 offer_to kind m site pool address =
-    sent.Datagram service.Dhcp (destination m (ip m.ciaddr)) (reply_bytes m (offer_of kind m site pool address))
+    sent.Datagram service.Dhcp (destination m (ip m.ciaddr))
+    (reply_bytes m (offer_of kind m site pool address))
 
 -- an OFFER (2) or an ACK (5), where the site, the pool and the address are there
 abbrev pub reply_for : ℕ → Received → Case → Option Ip4 → Option Sent
 reply_for kind m c chosen =
-    option_and_then (λ site. option_and_then (λ pool. option_map (offer_to kind m site pool) chosen) c.pool) c.site
+    option_and_then (λ site. option_and_then
+    (λ pool. option_map (offer_to kind m site pool) chosen) c.pool) c.site
 
 -- ---- what becomes of a message
 
@@ -126,14 +140,17 @@ for_some writes (Some x) = writes x
 
 abbrev pub offers : ℕ → Received → Case → Option Ip4 → Option Lease → LeaseStep
 offers now m c chosen lease =
-    lease_step_by word.Offer (for_some (λ address. offered now (client m) c.held address lease) chosen) (reply_for 2 m c chosen)
+    lease_step_by word.Offer (for_some
+    (λ address. offered now (client m) c.held address lease) chosen) (reply_for 2 m c chosen)
 
 abbrev pub acknowledges : ℕ → Received → Case → Option Ip4 → LeaseStep
 acknowledges now m c chosen =
-    lease_step_by word.Ack (for_some (λ address. for_some (bound now (client m) address) c.site) chosen) (reply_for 5 m c chosen)
+    lease_step_by word.Ack (for_some
+    (λ address. for_some (bound now (client m) address) c.site) chosen) (reply_for 5 m c chosen)
 
 abbrev pub declines : ℕ → Received → Option Ip4 → LeaseStep
-declines now m chosen = lease_step_by word.Declined (for_some (set_aside now (client m)) chosen) None
+declines now m chosen =
+    lease_step_by word.Declined (for_some (set_aside now (client m)) chosen) None
 
 abbrev pub releases : Received → Option Ip4 → LeaseStep
 releases m chosen = lease_step_by word.Released (for_some (given_up (client m)) chosen) None
@@ -151,7 +168,8 @@ unless_refused m c accepted (Some word) = refuses m c word
 
 -- by the rows, the address that the message is about, and that address's lease
 unfoldable pub settled : ℕ → Received → Case → Option Ip4 → Option Lease → LeaseStep
-settled now m c chosen lease = unless_refused m c (accepts now m c chosen lease) (refused_by (rules_for m c chosen))
+settled now m c chosen lease =
+    unless_refused m c (accepts now m c chosen lease) (refused_by (rules_for m c chosen))
 
 abbrev pub settled_in : Tables → ℕ → Received → Case → Option Ip4 → LeaseStep
 settled_in tables now m c chosen = settled now m c chosen (option_and_then (lease_in tables) chosen)
@@ -159,7 +177,8 @@ settled_in tables now m c chosen = settled now m c chosen (option_and_then (leas
 -- A message at a moment: what it writes, its reply and its word. All that is read of the tables is
 -- read by kind.
 unfoldable pub lease_step : Tables → ℕ → Received → LeaseStep
-lease_step tables now m = settled_in tables now m (case_of tables m) (chosen_in tables now m (case_of tables m))
+lease_step tables now m =
+    settled_in tables now m (case_of tables m) (chosen_in tables now m (case_of tables m))
 
 -- A datagram: what isn't a message has a word, and does nothing
 abbrev pub step_of : Tables → ℕ → Result Received DhcpFault → LeaseStep
@@ -170,7 +189,8 @@ unfoldable pub dhcp_step : Tables → ℕ → List ℕ → LeaseStep
 dhcp_step tables now bytes = step_of tables now (message_of bytes)
 
 -- what a datagram makes of the tables, what is sent for it, and its word
-pub record DhcpStep (tables : Tables) (now : ℕ) (bytes : List ℕ) (after : Tables) (reply : Option Sent) (word : DhcpWord) : Type 0 where
+pub record DhcpStep (tables : Tables) (now : ℕ) (bytes : List ℕ) (after : Tables)
+    (reply : Option Sent) (word : DhcpWord) : Type 0 where
   pub tables_after : after ≡ write_all tables (dhcp_step tables now bytes).writes
   pub sent : reply ≡ (dhcp_step tables now bytes).reply
   pub said : word ≡ (dhcp_step tables now bytes).word

@@ -16,7 +16,8 @@ values_fault code (value ∷ other ∷ more) = Some (TwiceMic code)
 
 -- setting 6 is looked at first, then setting 7
 abbrev pub mic_fault : List Tree → Option MicFault
-mic_fault trees = option_or (values_fault 6 (setting_values 6 trees)) (values_fault 7 (setting_values 7 trees))
+mic_fault trees =
+    option_or (values_fault 6 (setting_values 6 trees)) (values_fault 7 (setting_values 7 trees))
 
 -- each value is right, or it isn't
 pub record IsVerdict (secret : List ℕ) (trees : List Tree) (verdict : Verdict) : Type 0 where

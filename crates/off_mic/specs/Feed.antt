@@ -16,7 +16,8 @@ is_fed (OfCode wanted) code = code == wanted
 abbrev pub wanted_text : Wanted → List Tree → List ℕ
 wanted_text wanted trees = spelling (filter (λ t. is_fed wanted (code_of t)) trees)
 
--- a walk over settings has come to the rest of the bytes, and the wanted ones before it have this text
+-- a walk over settings has come to the rest of the bytes, and the wanted ones before it have this
+-- text
 pub record Came (wanted : Wanted) (trees : List Tree) (rest text : List ℕ) : Type 0 where
   pub before : List Tree
   pub behind : List Tree
@@ -25,7 +26,8 @@ pub record Came (wanted : Wanted) (trees : List Tree) (rest text : List ℕ) : T
   pub passed : text ≡ wanted_text wanted before
 
 -- their text is taken in behind a message
-pub record Fed (wanted : Wanted) (message : List ℕ) (trees : List Tree) (rest : List ℕ) (hasher : Md5) : Type 0 where
+pub record Fed (wanted : Wanted) (message : List ℕ) (trees : List Tree) (rest : List ℕ)
+    (hasher : Md5) : Type 0 where
   pub text : List ℕ
   pub came : Came wanted trees rest text
   pub held : Holds hasher (message ++ text)

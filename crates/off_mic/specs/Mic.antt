@@ -1,4 +1,5 @@
--- The two message integrity checks of a configuration file (CM-SP-MULPIv3.1, annexes C.1.1.6, C.1.1.7 and D.1.3).
+-- The two message integrity checks of a configuration file (CM-SP-MULPIv3.1, annexes C.1.1.6,
+-- C.1.1.7 and D.1.3).
 use Rattle.std.specs.Prelude.{◌≡◌, ℕ, ◌≤◌, ◌%◌, Bool, ◌==◌, ◌||◌, not, List, [], ◌∷◌, ◌++◌, length, replicate, map}
 use Rattle.std.specs.List.{filter, flat_map}
 use Rattle.md5.specs.Md5.{md5}
@@ -24,13 +25,17 @@ value_of (group code parts) = spelled_row parts
 abbrev pub setting_values : ℕ → List Tree → List (List ℕ)
 setting_values code trees = map value_of (of_code code trees)
 
--- The modem's: the digest of all settings as they stand but these two. The marker and the pads aren't counted.
+-- The modem's: the digest of all settings as they stand but these two. The marker and the pads
+-- aren't counted.
 abbrev pub cm_mic_of : List Tree → List ℕ
 cm_mic_of trees = md5 (spelling (without_mics trees))
 
--- The codes that the termination system's covers, in the order in which their settings are taken. The list is this project's profile.
+-- The codes that the termination system's covers, in the order in which their settings are taken.
+-- The list is this project's profile.
 abbrev pub digest_order : List ℕ
-digest_order = 1 ∷ 2 ∷ 3 ∷ 4 ∷ 17 ∷ 43 ∷ 6 ∷ 18 ∷ 19 ∷ 20 ∷ 22 ∷ 23 ∷ 24 ∷ 25 ∷ 28 ∷ 29 ∷ 26 ∷ 35 ∷ 36 ∷ 37 ∷ 40 ∷ []
+digest_order =
+    1 ∷ 2 ∷ 3 ∷ 4 ∷ 17 ∷ 43 ∷ 6 ∷ 18 ∷ 19 ∷ 20 ∷ 22 ∷ 23 ∷ 24 ∷ 25 ∷ 28 ∷ 29 ∷ 26 ∷ 35 ∷ 36 ∷ 37
+    ∷ 40 ∷ []
 
 -- for each code of a list all settings of the code, in the order of the file
 abbrev pub text_of_codes : List ℕ → List Tree → List ℕ
@@ -57,7 +62,8 @@ with_cm trees = trees ++ leaf 6 (cm_mic_of trees) ∷ []
 abbrev pub with_both : List ℕ → List Tree → List Tree
 with_both secret trees = with_cm trees ++ leaf 7 (cmts_mic_of secret (with_cm trees)) ∷ []
 
--- The sealed file of settings that have neither value: both values behind them, the marker, and zeros to a multiple of four bytes.
+-- The sealed file of settings that have neither value: both values behind them, the marker, and
+-- zeros to a multiple of four bytes.
 pub record Sealed (file : List ℕ) (trees : List Tree) (secret : List ℕ) : Type 0 where
   pub neither : without_mics trees ≡ trees
   pub pads : ℕ

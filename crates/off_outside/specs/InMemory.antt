@@ -35,7 +35,12 @@ abbrev pub HasRoom : OutboxHeld → ℕ → Type 0
 HasRoom box len = (0 < box.item_room) × (len ≤ box.octet_room)
 
 abbrev pub with_item : OutboxHeld → Sent → ℕ → OutboxHeld
-with_item box item len = record { sent = box.sent ++ item ∷ []; item_room = box.item_room - 1; octet_room = box.octet_room - len }
+with_item box item len =
+    record {
+      sent = box.sent ++ item ∷ [];
+      item_room = box.item_room - 1;
+      octet_room = box.octet_room - len;
+    }
 
 abbrev pub empty_outbox : ℕ → ℕ → OutboxHeld
 empty_outbox items octets = record { sent = []; item_room = items; octet_room = octets }
@@ -82,7 +87,10 @@ pub record MemTook (event : Event) (old new : MemLinkHeld) : Type 0 where
 pub record MemNotTook (err : LinkErr) (old new : MemLinkHeld) : Type 0 where
   pub listed : IsToFail old.calls
   pub cause : err ≡ link_err.Failed
-  pub after : new ≡ record (link_called old) { missed = one_more old.missed; faults = one_more old.faults }
+  pub after : new ≡ record (link_called old) {
+    missed = one_more old.missed;
+    faults = one_more old.faults;
+  }
 
 -- an item of `len` bytes is sent exactly where the call isn't listed and there is room
 pub record MemSent (item : Sent) (len : ℕ) (old new : MemLinkHeld) : Type 0 where
@@ -96,10 +104,12 @@ pub record MemNotSent (len : ℕ) (old new : MemLinkHeld) : Type 0 where
 
 -- what `next` of a link in memory does, and what a call that sends does, by the answer
 abbrev pub MemTakes : Result Event LinkErr → MemLinkHeld → MemLinkHeld → Type 0
-MemTakes result old new = MatchResult result (λ event. MemTook event old new) (λ err. MemNotTook err old new)
+MemTakes result old new =
+    MatchResult result (λ event. MemTook event old new) (λ err. MemNotTook err old new)
 
 abbrev pub MemSends : Result (Unit {0}) Failed → Sent → ℕ → MemLinkHeld → MemLinkHeld → Type 0
-MemSends result item len old new = MatchResult result (λ _. MemSent item len old new) (λ _. MemNotSent len old new)
+MemSends result item len old new =
+    MatchResult result (λ _. MemSent item len old new) (λ _. MemNotSent len old new)
 
 -- a link that has just been made
 abbrev pub new_link : List Event → ℕ → ℕ → List ℕ → MemLinkHeld
@@ -120,7 +130,14 @@ pub record MemSourceHeld : Type 0 where
   pub ends : ℕ
 
 abbrev pub source_seen : MemSourceHeld → SourceSeen
-source_seen m = record { left = λ bytes. bytes ≡ m.left; up = Unit {0}; faults = m.faults; calls = m.calls.made; ends = m.ends }
+source_seen m =
+    record {
+      left = λ bytes. bytes ≡ m.left;
+      up = Unit {0};
+      faults = m.faults;
+      calls = m.calls.made;
+      ends = m.ends;
+    }
 
 -- what is seen of a source in memory is all that it holds
 pub record SourceTells (m : MemSourceHeld) (seen : SourceSeen) : Type 0 where
@@ -149,10 +166,12 @@ pub record MemNotGiven (before after : List ℕ) (old new : MemSourceHeld) : Typ
 
 -- what `read` of a source in memory does, by the answer
 abbrev pub MemDraws : Result ℕ Failed → List ℕ → List ℕ → MemSourceHeld → MemSourceHeld → Type 0
-MemDraws result before after old new = MatchResult result (λ n. MemGave n before after old new) (λ _. MemNotGiven before after old new)
+MemDraws result before after old new =
+    MatchResult result (λ n. MemGave n before after old new) (λ _. MemNotGiven before after old new)
 
 abbrev pub new_source : List ℕ → List ℕ → MemSourceHeld
-new_source bytes fails = record { left = bytes; calls = record { listed = fails; made = 0 }; faults = 0; ends = 0 }
+new_source bytes fails =
+    record { left = bytes; calls = record { listed = fails; made = 0 }; faults = 0; ends = 0 }
 
 -- a sink in memory
 pub record MemSinkHeld : Type 0 where
@@ -162,7 +181,13 @@ pub record MemSinkHeld : Type 0 where
   pub faults : ℕ
 
 abbrev pub sink_seen : MemSinkHeld → SinkSeen
-sink_seen m = record { written = λ bytes. bytes ≡ m.written; up = Unit {0}; faults = m.faults; calls = m.calls.made }
+sink_seen m =
+    record {
+      written = λ bytes. bytes ≡ m.written;
+      up = Unit {0};
+      faults = m.faults;
+      calls = m.calls.made;
+    }
 
 -- what is seen of a sink in memory is all that it holds
 pub record SinkTells (m : MemSinkHeld) (seen : SinkSeen) : Type 0 where
@@ -175,7 +200,12 @@ pub record SinkTells (m : MemSinkHeld) (seen : SinkSeen) : Type 0 where
 pub record MemWrote (piece : List ℕ) (old new : MemSinkHeld) : Type 0 where
   pub unlisted : ¬ (IsToFail old.calls)
   pub room : length piece ≤ old.room
-  pub after : new ≡ record { written = old.written ++ piece; room = old.room - length piece; calls = one_called old.calls; faults = old.faults }
+  pub after : new ≡ record {
+    written = old.written ++ piece;
+    room = old.room - length piece;
+    calls = one_called old.calls;
+    faults = old.faults;
+  }
 
 -- a listed call writes nothing
 pub record MemFailed (old new : MemSinkHeld) : Type 0 where
@@ -186,14 +216,21 @@ pub record MemFailed (old new : MemSinkHeld) : Type 0 where
 pub record MemFilled (piece : List ℕ) (old new : MemSinkHeld) : Type 0 where
   pub unlisted : ¬ (IsToFail old.calls)
   pub short : old.room < length piece
-  pub after : new ≡ record { written = old.written ++ take old.room piece; room = 0; calls = one_called old.calls; faults = one_more old.faults }
+  pub after : new ≡ record {
+    written = old.written ++ take old.room piece;
+    room = 0;
+    calls = one_called old.calls;
+    faults = one_more old.faults;
+  }
 
 abbrev pub MemNotWritten : List ℕ → MemSinkHeld → MemSinkHeld → Type 0
 MemNotWritten piece old new = MemFailed old new ⊎ MemFilled piece old new
 
 -- what `write` of a sink in memory does, by the answer
 abbrev pub MemAppends : Result (Unit {0}) Failed → List ℕ → MemSinkHeld → MemSinkHeld → Type 0
-MemAppends result piece old new = MatchResult result (λ _. MemWrote piece old new) (λ _. MemNotWritten piece old new)
+MemAppends result piece old new =
+    MatchResult result (λ _. MemWrote piece old new) (λ _. MemNotWritten piece old new)
 
 abbrev pub new_sink : ℕ → List ℕ → MemSinkHeld
-new_sink room fails = record { written = []; room = room; calls = record { listed = fails; made = 0 }; faults = 0 }
+new_sink room fails =
+    record { written = []; room = room; calls = record { listed = fails; made = 0 }; faults = 0 }

@@ -22,14 +22,17 @@ StaysUp old new = old.up → new.up ⊎ Grew 1 old.faults new.faults
 pub record Still (old new : KeeperSeen) : Type 0 where
   pub later : old.moment ≤ new.moment
   pub past : (m : ℕ) (u : Tables) → m ≤ old.moment → new.opened m u → old.opened m u
-  pub within : (m : ℕ) (u : Tables) → old.moment ≤ m → m ≤ new.moment → new.opened m u → old.opened old.moment u
+  pub within : (m : ℕ) (u : Tables) → old.moment ≤ m → m ≤ new.moment → new.opened m u →
+      old.opened old.moment u
   pub doubts : (u : Tables) → new.doubt u → old.doubt u
 
--- A commit was begun that makes tables u of tables t as P says: a crash meanwhile leaves the tables, or what was in doubt, or u.
+-- A commit was begun that makes tables u of tables t as P says: a crash meanwhile leaves the
+-- tables, or what was in doubt, or u.
 pub record Crash (P : Tables → Tables → Type 0) (old new : KeeperSeen) : Type 0 where
   pub later : old.moment ≤ new.moment
   pub past : (m : ℕ) (u : Tables) → m ≤ old.moment → new.opened m u → old.opened m u
-  pub within : (t : Tables) → old.tables t → (m : ℕ) (u : Tables) → old.moment < m → m ≤ new.moment → new.opened m u
+  pub within : (t : Tables) → old.tables t → (m : ℕ) (u : Tables) → old.moment < m →
+      m ≤ new.moment → new.opened m u
       → (u ≡ t) ⊎ (old.doubt u ⊎ P t u)
   pub doubts : (t : Tables) → old.tables t → (u : Tables) → new.doubt u → old.doubt u ⊎ P t u
 
@@ -40,7 +43,8 @@ pub record Quiet (old new : KeeperSeen) : Type 0 where
   pub commits : new.commits ≡ old.commits
   pub still : Still old new
 
--- The tables were read: P holds of them, and they are told still. It holds of one call, and of several in a row.
+-- The tables were read: P holds of them, and they are told still. It holds of one call, and of
+-- several in a row.
 pub record Reads (P : Tables → Type 0) (old new : KeeperSeen) : Type 0 where
   pub tables : (t : Tables) → old.tables t → new.tables t × P t
   pub quiet : Quiet old new
@@ -72,7 +76,8 @@ begun_by Memory P before after = ⊥
 begun_by Failed P before after = P before after
 
 -- none of the writes was done: the tables are as before
-pub record NotCommitted (P : Tables → Tables → Type 0) (err : KeepErr) (old new : KeeperSeen) : Type 0 where
+pub record NotCommitted (P : Tables → Tables → Type 0) (err : KeepErr)
+    (old new : KeeperSeen) : Type 0 where
   pub tables : (t : Tables) → old.tables t → new.tables t
   pub up : StaysUp old new
   pub faults : Grew (keeper_faults_in err) old.faults new.faults
@@ -80,12 +85,14 @@ pub record NotCommitted (P : Tables → Tables → Type 0) (err : KeepErr) (old 
   pub crash : Crash (begun_by err P) old new
 
 -- a call that looks at the tables, and one that commits writes, by the answer
-abbrev pub Looks : {A : Type 0} → Result A KeepErr → KeeperSeen → KeeperSeen → (A → Tables → Type 0) → Type 0
+abbrev pub Looks : {A : Type 0} → Result A KeepErr → KeeperSeen → KeeperSeen →
+    (A → Tables → Type 0) → Type 0
 Looks result old new P = MatchResult result (λ x. Reads (P x) old new) (λ err. NotDone err old new)
 
 abbrev pub Commits : Result (Unit {0}) KeepErr → KeeperSeen → KeeperSeen → List Write → Type 0
 Commits result old new writes =
-    MatchResult result (λ _. Committed writes old new) (λ err. NotCommitted (IsWritten writes) err old new)
+    MatchResult result (λ _. Committed writes old new)
+    (λ err. NotCommitted (IsWritten writes) err old new)
 
 -- at most n calls were made
 pub record Spent (n : ℕ) (old new : KeeperSeen) : Type 0 where
@@ -110,4 +117,5 @@ pub record Settled (writes : List Write) (old new : KeeperSeen) : Type 0 where
   pub faults : new.faults ≡ old.faults
   pub commits : new.commits ≡ commits_after writes old.commits
   pub crash : Crash (IsWritten writes) old new
-  pub doubts : (t : Tables) → old.tables t → (u : Tables) → new.doubt u → doubt_behind writes (old.doubt u)
+  pub doubts : (t : Tables) → old.tables t → (u : Tables) → new.doubt u →
+      doubt_behind writes (old.doubt u)

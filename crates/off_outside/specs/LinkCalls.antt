@@ -17,18 +17,21 @@ first_event (event ∷ events) = event
 
 -- the link stays up, or has counted a failed call of `next`, or an item that wasn't sent
 abbrev pub LinkStaysUp : LinkSeen → LinkSeen → Type 0
-LinkStaysUp old new = old.up → new.up ⊎ (Grew 1 old.faults new.faults ⊎ Grew 1 old.unsent new.unsent)
+LinkStaysUp old new =
+    old.up → new.up ⊎ (Grew 1 old.faults new.faults ⊎ Grew 1 old.unsent new.unsent)
 
 -- an event was taken
 pub record Took (event : Event) (old new : LinkSeen) : Type 0 where
-  pub left : Told old.left new.left (λ before after. (event ≡ first_event before) × (after ≡ drop 1 before))
+  pub left : Told old.left new.left
+      (λ before after. (event ≡ first_event before) × (after ≡ drop 1 before))
   pub sent : Stays old.sent new.sent
   pub up : old.up → new.up
   pub missed : new.missed ≡ 0
   pub faults : new.faults ≡ old.faults
   pub unsent : new.unsent ≡ old.unsent
 
--- how many faults an error counts, and what it makes of the failures in a row: want of memory is no failure
+-- how many faults an error counts, and what it makes of the failures in a row: want of memory is no
+-- failure
 abbrev pub faults_in : LinkErr → ℕ
 faults_in link_err.Memory = 0
 faults_in link_err.Failed = 1

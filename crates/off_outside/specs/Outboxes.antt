@@ -1,4 +1,5 @@
--- What a link in memory has sent: a list of items whose bytes stand one behind another in one buffer.
+-- What a link in memory has sent: a list of items whose bytes stand one behind another in one
+-- buffer.
 use Rattle.std.specs.Prelude.{ℕ, ◌+◌, ◌≤◌, List, take, drop, length}
 use Rattle.off_defs.specs.declared.results.Sent.{Sent}
 use Rattle.off_defs.specs.declared.results.Sent.TheVariants as sent

@@ -4,8 +4,9 @@ use Rattle.off_defs.specs.Told.{Told, Stays}
 use Rattle.off_defs.specs.Counts.{Grew, one_more}
 use Rattle.off_outside.specs.declared.link.Failed.{Failed}
 
--- the bytes that are left, told or not, of which one value at most is told where the source is `up`; a count of faults, one of calls, and
--- one of ends: of the reads that gave nothing although there was room
+-- the bytes that are left, told or not, of which one value at most is told where the source is
+-- `up`; a count of faults, one of calls, and one of ends: of the reads that gave nothing although
+-- there was room
 pub record SourceSeen : Type 1 where
   pub left : List ℕ → Type 0
   pub up : Type 0
@@ -13,7 +14,8 @@ pub record SourceSeen : Type 1 where
   pub calls : ℕ
   pub ends : ℕ
 
--- a count of ends behind a read that gave n bytes: one more where that is nothing although there was room
+-- a count of ends behind a read that gave n bytes: one more where that is nothing although there
+-- was room
 abbrev pub ends_after : ℕ → ℕ → ℕ → ℕ
 ends_after zero zero ends = ends
 ends_after zero (suc room) ends = one_more ends
@@ -21,7 +23,8 @@ ends_after (suc n) room ends = ends
 
 -- `n` bytes came, and stand at the front of `out`
 pub record Gave (n : ℕ) (out : List ℕ) (old new : SourceSeen) : Type 0 where
-  pub left : Told old.left new.left (λ before after. (before ≡ take n out ++ after) × (n ≡ 0 → 0 < length out → before ≡ []))
+  pub left : Told old.left new.left
+      (λ before after. (before ≡ take n out ++ after) × (n ≡ 0 → 0 < length out → before ≡ []))
   pub up : old.up → new.up
   pub faults : new.faults ≡ old.faults
   pub calls : new.calls ≡ one_more old.calls
@@ -42,7 +45,8 @@ pub record SourceUnasked (old new : SourceSeen) : Type 0 where
   pub calls : new.calls ≡ old.calls
   pub ends : new.ends ≡ old.ends
 
--- the bytes that were written, told or not, of which one value at most is told where the sink is `up`; a count of faults, and one of calls
+-- the bytes that were written, told or not, of which one value at most is told where the sink is
+-- `up`; a count of faults, and one of calls
 pub record SinkSeen : Type 1 where
   pub written : List ℕ → Type 0
   pub up : Type 0
@@ -84,4 +88,5 @@ abbrev pub Draws : Result ℕ Failed → List ℕ → SourceSeen → SourceSeen 
 Draws result out old new = MatchResult result (λ n. Gave n out old new) (λ _. NotGiven old new)
 
 abbrev pub Appends : Result (Unit {0}) Failed → List ℕ → SinkSeen → SinkSeen → Type 0
-Appends result piece old new = MatchResult result (λ _. Wrote piece old new) (λ _. NotWritten piece old new)
+Appends result piece old new =
+    MatchResult result (λ _. Wrote piece old new) (λ _. NotWritten piece old new)

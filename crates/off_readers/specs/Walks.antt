@@ -6,8 +6,8 @@ use Rattle.off_defs.specs.declared.tables.Row.{Row}
 use Rattle.off_defs.specs.Tables.{is_after}
 use Rattle.off_rows.specs.KeyBytes.{key_bytes, IsRanged}
 
--- A list of at most k bytes as a number that rises with the order of such lists. Each byte is a digit one greater than itself, so that a
--- list which goes on is above one that ends.
+-- A list of at most k bytes as a number that rises with the order of such lists. Each byte is a
+-- digit one greater than itself, so that a list which goes on is above one that ends.
 unfoldable pub height : ℕ → List ℕ → ℕ
 height zero bytes = 0
 height (suc k) [] = 0

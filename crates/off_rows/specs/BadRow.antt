@@ -1,5 +1,6 @@
--- Which byte of a row can't be read: the first byte of the first field that no value of the field begins with. A row's fields are told by
--- its key's kind alone, but for a lease's owner, which is absent where the address was declined.
+-- Which byte of a row can't be read: the first byte of the first field that no value of the field
+-- begins with. A row's fields are told by its key's kind alone, but for a lease's owner, which is
+-- absent where the address was declined.
 use Rattle.std.specs.Prelude.{◌≡◌, ◌≢◌, ℕ, ◌+◌, ◌≤◌, ◌==◌, List, [], ◌∷◌, ◌++◌, length, slice_index, Contains, if◌then◌else◌}
 use Rattle.off_base.specs.Tree.{Tree}
 use Rattle.off_tlv.specs.Grammar.{in_file, AllStand}
@@ -21,12 +22,15 @@ IsField (bytes_of n) bytes = length bytes ≡ n
 IsField (one_of marks) bytes = (mark : ℕ) × Contains marks mark × (bytes ≡ mark ∷ [])
 IsField text bytes = (held : List ℕ) × IsText held × (bytes ≡ counted held)
 IsField secret bytes = (held : List ℕ) × (length held ≤ 64) × (bytes ≡ counted held)
-IsField settings bytes = (trees : List Tree) × AllStand in_file trees × IsShortSpelling trees × (bytes ≡ settings_bytes trees)
+IsField settings bytes =
+    (trees : List Tree) × AllStand in_file trees × IsShortSpelling trees
+    × (bytes ≡ settings_bytes trees)
 
 -- how an address is held: offered, bound or declined, and its owner, whom a declined address hasn't
 abbrev pub hold_fields : List ℕ → List Field
 hold_fields bytes =
-    if slice_index bytes 0 == 3 then one_of (1 ∷ 2 ∷ 3 ∷ []) ∷ [] else one_of (1 ∷ 2 ∷ 3 ∷ []) ∷ bytes_of 6 ∷ []
+    if slice_index bytes 0 == 3 then one_of (1 ∷ 2 ∷ 3 ∷ []) ∷ []
+    else one_of (1 ∷ 2 ∷ 3 ∷ []) ∷ bytes_of 6 ∷ []
 
 -- the fields of each kind of rows, in their order
 abbrev pub site_fields : List Field
@@ -69,17 +73,19 @@ fields_of (Batch number) bytes = batch_fields
 abbrev pub CannotRead : Field → List ℕ → Type 0
 CannotRead field bytes = (first rest : List ℕ) → IsField field first → bytes ≢ first ++ rest
 
--- From a place on, fields stand in the bytes up to the first that can't be read, which is at `place`; or all of them stand there, and at
--- `place` a byte is left over.
+-- From a place on, fields stand in the bytes up to the first that can't be read, which is at
+-- `place`; or all of them stand there, and at `place` a byte is left over.
 pub data BadFrom : List Field → List ℕ → ℕ → ℕ → Type 0 where
   unread : {field : Field} {fields : List Field} {bytes : List ℕ} {from place : ℕ}
       → CannotRead field bytes → place ≡ from
       → BadFrom (field ∷ fields) bytes from place
   behind : {field : Field} {fields : List Field} {bytes : List ℕ} {from place : ℕ}
-      → (first rest : List ℕ) (next : ℕ) → IsField field first → bytes ≡ first ++ rest → next ≡ from + length first
+      → (first rest : List ℕ) (next : ℕ) → IsField field first → bytes ≡ first ++ rest →
+      next ≡ from + length first
       → BadFrom fields rest next place
       → BadFrom (field ∷ fields) bytes from place
-  left_over : {bytes : List ℕ} {from place : ℕ} → bytes ≢ [] → place ≡ from → BadFrom [] bytes from place
+  left_over : {bytes : List ℕ} {from place : ℕ} → bytes ≢ [] → place ≡ from →
+      BadFrom [] bytes from place
 
 -- the place of the first byte of a row of the key's kind that can't be read
 abbrev pub IsBadAt : Key → List ℕ → ℕ → Type 0

@@ -1,4 +1,5 @@
--- The bytes of a key of the tables: its kind in one byte, and then its numbers, the most significant byte first.
+-- The bytes of a key of the tables: its kind in one byte, and then its numbers, the most
+-- significant byte first.
 use Rattle.std.specs.Prelude.{◌≡◌, ℕ, ◌<◌, ◌^◌, List, [], ◌∷◌, ◌++◌, length}
 use Rattle.std.specs.Int.{to_be_bytes, w32, w64}
 use Rattle.off_defs.specs.declared.keys.Key.{Key}
@@ -20,7 +21,8 @@ numbers_of (Batch number) = to_be_bytes w64 number
 abbrev pub key_bytes : Key → List ℕ
 key_bytes key = kind_of key ∷ numbers_of key
 
--- The key's numbers are in the ranges of their types, and a hardware address has six bytes. Each key of the program is so.
+-- The key's numbers are in the ranges of their types, and a hardware address has six bytes. Each
+-- key of the program is so.
 abbrev pub IsRanged : Key → Type 0
 IsRanged Site = Unit {0}
 IsRanged (Subscriber number) = number < 2 ^ 32

@@ -13,7 +13,9 @@ use Rattle.off_rows.specs.declared.faults.RowErr.{RowErr}
 
 -- keys are ordered as their bytes are
 abbrev pub OrderedAsBytes : Type 0
-OrderedAsBytes = (a b : Key) → IsRanged a → IsRanged b → slice_cmp nat_cmp (key_bytes a) (key_bytes b) ≡ key_cmp a b
+OrderedAsBytes =
+    (a b : Key) → IsRanged a → IsRanged b →
+    slice_cmp nat_cmp (key_bytes a) (key_bytes b) ≡ key_cmp a b
 
 -- Different keys have different bytes.
 abbrev pub OneKey : Type 0
@@ -21,13 +23,17 @@ OneKey = (a b : Key) → IsRanged a → IsRanged b → key_bytes a ≡ key_bytes
 
 -- Rows of one key's kind have different bytes, so each has one spelling and each spelling one row.
 abbrev pub OneSpelling : Type 0
-OneSpelling = (key : Key) (a b : Row) → IsRowOf key a → IsRowOf key b → row_bytes a ≡ row_bytes b → a ≡ b
+OneSpelling =
+    (key : Key) (a b : Row) → IsRowOf key a → IsRowOf key b → row_bytes a ≡ row_bytes b → a ≡ b
 
 -- what `decode` promises to answer gives a row back from its bytes, unless memory runs out
 abbrev pub RowsReadBack : Type 0
 RowsReadBack =
-    (key : Key) (row : Row) (result : Result Row RowErr) → IsRowOf key row → MatchResult result (λ given. IsRowOf key given × (row_bytes given ≡ row_bytes row)) (WhyNoRow key (row_bytes row)) → GivesRow row result
+    (key : Key) (row : Row) (result : Result Row RowErr) → IsRowOf key row →
+    MatchResult result (λ given. IsRowOf key given × (row_bytes given ≡ row_bytes row))
+    (WhyNoRow key (row_bytes row)) → GivesRow row result
 
 -- bytes have one bad place at most
 abbrev pub OneBadPlace : Type 0
-OneBadPlace = (key : Key) (bytes : List ℕ) (p q : ℕ) → IsBadAt key bytes p → IsBadAt key bytes q → p ≡ q
+OneBadPlace =
+    (key : Key) (bytes : List ℕ) (p q : ℕ) → IsBadAt key bytes p → IsBadAt key bytes q → p ≡ q

@@ -13,9 +13,11 @@ use Rattle.off_rows.specs.Left.{Left}
 use Rattle.off_rows.specs.declared.faults.RowErr.{RowErr}
 use Rattle.off_rows.specs.declared.faults.RowErr.TheVariants.{BadRow, Memory}
 
--- why a row isn't read: no row of the key's kind has the bytes, or one has them and memory was wanted
+-- why a row isn't read: no row of the key's kind has the bytes, or one has them and memory was
+-- wanted
 abbrev pub WhyNoRow : Key → List ℕ → RowErr → Type 0
-WhyNoRow key bytes (BadRow place) = IsBadAt key bytes place × ((row : Row) → IsRowOf key row → row_bytes row ≢ bytes)
+WhyNoRow key bytes (BadRow place) =
+    IsBadAt key bytes place × ((row : Row) → IsRowOf key row → row_bytes row ≢ bytes)
 WhyNoRow key bytes Memory = (row : Row) × IsRowOf key row × (row_bytes row ≡ bytes)
 
 -- the row is given, unless memory runs out
@@ -58,7 +60,8 @@ pub record BadIn (fields : List Field) (old : Left) (err : RowErr) : Type 0 wher
 -- no length in two bytes and so many bytes stand there
 pub record FailsSpelled (old : Left) (err : RowErr) : Type 0 where
   pub place : err ≡ BadRow old.place
-  pub none : (held rest : List ℕ) → length held ≤ 65535 → old.rest ≢ (to_be_bytes w16 (length held) ++ held) ++ rest
+  pub none : (held rest : List ℕ) → length held ≤ 65535 →
+      old.rest ≢ (to_be_bytes w16 (length held) ++ held) ++ rest
 
 -- settings spell the bytes
 pub record IsSettings (bytes : List ℕ) : Type 0 where
@@ -73,13 +76,18 @@ from_start bytes = record { place = 0; rest = bytes }
 -- all of these fields were read, whatever stands behind them
 pub record Passes (fields : List Field) (first : List ℕ) (old new : Left) : Type 0 where
   pub front : old.rest ≡ first ++ new.rest
-  pub later : (more : List Field) (err : RowErr) → BadIn more new err → BadIn (fields ++ more) old err
+  pub later : (more : List Field) (err : RowErr) → BadIn more new err →
+      BadIn (fields ++ more) old err
 
 -- why an add-on isn't read, and why a class isn't
 abbrev pub WhyNoAddOn : List ℕ → RowErr → Type 0
 WhyNoAddOn bytes err =
-    BadIn add_on_fields (from_start bytes) err ⊎ ((err ≡ Memory) × ((held : List Tree) × SettingsStand (row.AddOn held) × (row_bytes (row.AddOn held) ≡ bytes)))
+    BadIn add_on_fields (from_start bytes) err
+    ⊎ ((err ≡ Memory) × ((held : List Tree) × SettingsStand (row.AddOn held)
+    × (row_bytes (row.AddOn held) ≡ bytes)))
 
 abbrev pub WhyNoClass : List ℕ → RowErr → Type 0
 WhyNoClass bytes err =
-    BadIn class_fields (from_start bytes) err ⊎ ((err ≡ Memory) × ((class : Class) × RowRanged (row.Class class) × SettingsStand (row.Class class) × (row_bytes (row.Class class) ≡ bytes)))
+    BadIn class_fields (from_start bytes) err
+    ⊎ ((err ≡ Memory) × ((class : Class) × RowRanged (row.Class class)
+    × SettingsStand (row.Class class) × (row_bytes (row.Class class) ≡ bytes)))

@@ -1,4 +1,5 @@
--- The bytes of a row of the tables: its fields in order, without gaps. Numbers have their most significant byte first.
+-- The bytes of a row of the tables: its fields in order, without gaps. Numbers have their most
+-- significant byte first.
 use Rattle.std.specs.Prelude.{◌≡◌, ℕ, ◌<◌, ◌≤◌, ◌^◌, Bool, true, false, List, [], ◌∷◌, ◌++◌, length, IsUtf8, FitsSigned}
 use Rattle.std.specs.Int.{to_be_bytes, cast_unsigned, w16, w32, w64}
 use Rattle.off_base.specs.Tree.{Tree, spelling, AllFit}
@@ -16,7 +17,8 @@ use Rattle.off_defs.specs.declared.tables.Row.TheVariants.{Site, Subscriber, Add
 abbrev pub counted : List ℕ → List ℕ
 counted bytes = length bytes ∷ bytes
 
--- settings: the length of their spelling in two bytes, and the spelling (CM-SP-MULPIv3.1, annex D.1) without end marker and pads
+-- settings: the length of their spelling in two bytes, and the spelling (CM-SP-MULPIv3.1, annex
+-- D.1) without end marker and pads
 abbrev pub settings_bytes : List Tree → List ℕ
 settings_bytes settings = to_be_bytes w16 (length (spelling settings)) ++ spelling settings
 
@@ -37,13 +39,18 @@ import_kind_bytes Modems = 2 ∷ []
 abbrev pub row_bytes : Row → List ℕ
 -- the offset in two's complement
 row_bytes (Site site) =
-    to_be_bytes w32 site.server.0 ++ counted site.secret ++ to_be_bytes w32 (cast_unsigned w32 site.offset) ++ to_be_bytes w32 site.lease ++ to_be_bytes w32 site.log.0
-row_bytes (Subscriber subscriber) = flag_bytes subscriber.active ++ subscriber.cpes ∷ [] ++ counted subscriber.name
+    to_be_bytes w32 site.server.0 ++ counted site.secret
+    ++ to_be_bytes w32 (cast_unsigned w32 site.offset) ++ to_be_bytes w32 site.lease
+    ++ to_be_bytes w32 site.log.0
+row_bytes (Subscriber subscriber) =
+    flag_bytes subscriber.active ++ subscriber.cpes ∷ [] ++ counted subscriber.name
 row_bytes (AddOn settings) = settings_bytes settings
-row_bytes (Modem modem) = to_be_bytes w32 modem.subscriber ++ to_be_bytes w32 modem.class ++ counted modem.serial
+row_bytes (Modem modem) =
+    to_be_bytes w32 modem.subscriber ++ to_be_bytes w32 modem.class ++ counted modem.serial
 row_bytes (Class class) = counted class.name ++ settings_bytes class.settings
 row_bytes (Pool pool) =
-    to_be_bytes w32 pool.first.0 ++ to_be_bytes w32 pool.last.0 ++ pool.prefix ∷ [] ++ to_be_bytes w32 pool.router.0 ++ to_be_bytes w32 pool.relay.0
+    to_be_bytes w32 pool.first.0 ++ to_be_bytes w32 pool.last.0 ++ pool.prefix ∷ []
+    ++ to_be_bytes w32 pool.router.0 ++ to_be_bytes w32 pool.relay.0
 row_bytes (Lease lease) = hold_bytes lease.hold ++ to_be_bytes w64 lease.expiry.0
 row_bytes (Held address) = to_be_bytes w32 address.0
 row_bytes (Batch batch) = import_kind_bytes batch.kind ++ batch.digest ++ to_be_bytes w32 batch.rows
@@ -73,13 +80,15 @@ OwnerIsMac Declined = Unit {0}
 -- The row's numbers and texts are in the ranges of their types. Each row of the program is so.
 abbrev pub RowRanged : Row → Type 0
 RowRanged (Site site) =
-    (site.server.0 < 2 ^ 32) × (length site.secret ≤ 64) × FitsSigned w32 site.offset × (site.lease < 2 ^ 32) × (site.log.0 < 2 ^ 32)
+    (site.server.0 < 2 ^ 32) × (length site.secret ≤ 64) × FitsSigned w32 site.offset
+    × (site.lease < 2 ^ 32) × (site.log.0 < 2 ^ 32)
 RowRanged (Subscriber subscriber) = (subscriber.cpes < 256) × IsText subscriber.name
 RowRanged (AddOn settings) = Unit {0}
 RowRanged (Modem modem) = (modem.subscriber < 2 ^ 32) × (modem.class < 2 ^ 32) × IsText modem.serial
 RowRanged (Class class) = IsText class.name
 RowRanged (Pool pool) =
-    (pool.first.0 < 2 ^ 32) × (pool.last.0 < 2 ^ 32) × (pool.prefix < 256) × (pool.router.0 < 2 ^ 32) × (pool.relay.0 < 2 ^ 32)
+    (pool.first.0 < 2 ^ 32) × (pool.last.0 < 2 ^ 32) × (pool.prefix < 256)
+    × (pool.router.0 < 2 ^ 32) × (pool.relay.0 < 2 ^ 32)
 RowRanged (Lease lease) = OwnerIsMac lease.hold × (lease.expiry.0 < 2 ^ 64)
 RowRanged (Held address) = address.0 < 2 ^ 32
 RowRanged (Batch batch) = (length batch.digest ≡ 16) × (batch.rows < 2 ^ 32)
@@ -100,7 +109,8 @@ CanSpell (Lease lease) = Unit {0}
 CanSpell (Held address) = Unit {0}
 CanSpell (Batch batch) = Unit {0}
 
--- the row's settings are as the grammar of a configuration file wants them, and two bytes can say the length of their spelling
+-- the row's settings are as the grammar of a configuration file wants them, and two bytes can say
+-- the length of their spelling
 abbrev pub SettingsStand : Row → Type 0
 SettingsStand (Site site) = Unit {0}
 SettingsStand (Subscriber subscriber) = Unit {0}

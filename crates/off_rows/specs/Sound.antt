@@ -1,5 +1,5 @@
--- Which commands are sound: their numbers are in the ranges that a clerk's request may have, and what they remove or show is of a
--- kind that can be removed or shown.
+-- Which commands are sound: their numbers are in the ranges that a clerk's request may have, and
+-- what they remove or show is of a kind that can be removed or shown.
 use Rattle.std.specs.Prelude.{ℕ, ◌==◌, Bool, true, false, not, ◌&&◌, nat_le, length}
 use Rattle.std.specs.List.{list_all}
 use Rattle.std.specs.Int.{is_in_range}
@@ -68,4 +68,5 @@ is_sound (PutPool number pool) = is_sound_pool pool
 is_sound (Remove removed) = is_removable removed
 is_sound (Show shown) = is_shown shown
 -- an import has at most 2,000 rows, all of its kind
-is_sound (Import kind batch digest rows) = nat_le (length rows) 2000 && list_all (is_row_of kind) rows
+is_sound (Import kind batch digest rows) =
+    nat_le (length rows) 2000 && list_all (is_row_of kind) rows

@@ -1,5 +1,5 @@
--- What a clerk's command does. Its rules are tested in order, and the first that is broken is the answer; then nothing changes. Else the
--- command's writes are done, all of them.
+-- What a clerk's command does. Its rules are tested in order, and the first that is broken is the
+-- answer; then nothing changes. Else the command's writes are done, all of them.
 use Rattle.std.specs.Prelude.{ℕ, ◌+◌, ◌==◌, Bool, true, false, not, ◌&&◌, nat_le, nat_lt, List, [], ◌∷◌, ◌++◌, length, map, Option, Some, None, is_none, option_map, Result, Ok, Err}
 use Rattle.std.specs.List.{find, filter, flat_map, list_any}
 use Rattle.std.specs.Ordering.{eq_by_cmp, nat_cmp}
@@ -57,7 +57,9 @@ limit_of Batches = 100000
 
 -- the limit is broken by a key that is new, where there are as many rows as there may be
 abbrev pub limit : Tables → Key → Kind → Option Rule
-limit tables key kind = when (is_none (seen_at tables key) && nat_le (limit_of kind) (count_of kind tables)) (rule.Limit kind (limit_of kind))
+limit tables key kind =
+    when (is_none (seen_at tables key) && nat_le (limit_of kind) (count_of kind tables))
+    (rule.Limit kind (limit_of kind))
 
 abbrev pub no_subscriber : Tables → ℕ → Option Rule
 no_subscriber tables n = when (is_none (subscriber_in tables n)) rule.NoSubscriber
@@ -76,12 +78,16 @@ abbrev pub is_other_with_relay : ℕ → Pool → ℕ × Pool → Bool
 is_other_with_relay n pool other = not (other.0 == n) && (other.1.relay.0 == pool.relay.0)
 
 abbrev pub pool_overlap : Tables → ℕ → Pool → Option Rule
-pool_overlap tables n pool = option_map (λ other. rule.PoolOverlap other.0) (find (is_other_overlapping n pool) (pools tables))
+pool_overlap tables n pool =
+    option_map (λ other. rule.PoolOverlap other.0)
+    (find (is_other_overlapping n pool) (pools tables))
 
 abbrev pub relay_taken : Tables → ℕ → Pool → Option Rule
-relay_taken tables n pool = option_map (λ other. rule.RelayTaken other.0) (find (is_other_with_relay n pool) (pools tables))
+relay_taken tables n pool =
+    option_map (λ other. rule.RelayTaken other.0) (find (is_other_with_relay n pool) (pools tables))
 
--- what a pool gives up where another one or none takes its place, and the leases that are lost by it
+-- what a pool gives up where another one or none takes its place, and the leases that are lost by
+-- it
 abbrev pub gives_up : Option Pool → Option Pool → Ip4 → Bool
 gives_up None new address = false
 gives_up (Some old) None address = has_address old address
@@ -95,19 +101,24 @@ abbrev pub is_live : ℕ → Ip4 × Lease → Bool
 is_live now entry = nat_lt now entry.1.expiry.0
 
 abbrev pub pool_has_leases : Tables → ℕ → ℕ → Option Pool → Option Rule
-pool_has_leases tables now n new = option_map (λ entry. rule.PoolHasLeases entry.0) (find (is_live now) (lost_leases tables n new))
+pool_has_leases tables now n new =
+    option_map (λ entry. rule.PoolHasLeases entry.0) (find (is_live now) (lost_leases tables n new))
 
 -- some modem belongs to the subscriber, or has the class
 abbrev pub has_modems : Tables → ℕ → Option Rule
-has_modems tables n = when (list_any (λ entry. entry.1.subscriber == n) (modems tables)) rule.HasModems
+has_modems tables n =
+    when (list_any (λ entry. entry.1.subscriber == n) (modems tables)) rule.HasModems
 
 abbrev pub class_in_use : Tables → ℕ → Option Rule
-class_in_use tables n = when (list_any (λ entry. entry.1.class == n) (modems tables)) rule.ClassInUse
+class_in_use tables n =
+    when (list_any (λ entry. entry.1.class == n) (modems tables)) rule.ClassInUse
 
 abbrev pub removal_rules : Tables → ℕ → Key → List (Option Rule)
-removal_rules tables now (key.Subscriber n) = no_row tables (key.Subscriber n) ∷ has_modems tables n ∷ []
+removal_rules tables now (key.Subscriber n) =
+    no_row tables (key.Subscriber n) ∷ has_modems tables n ∷ []
 removal_rules tables now (key.Class n) = no_row tables (key.Class n) ∷ class_in_use tables n ∷ []
-removal_rules tables now (key.Pool n) = no_row tables (key.Pool n) ∷ pool_has_leases tables now n None ∷ []
+removal_rules tables now (key.Pool n) =
+    no_row tables (key.Pool n) ∷ pool_has_leases tables now n None ∷ []
 removal_rules tables now (key.AddOn n number) = no_row tables (key.AddOn n number) ∷ []
 removal_rules tables now (key.Modem mac) = no_row tables (key.Modem mac) ∷ []
 removal_rules tables now key.Site = no_row tables key.Site ∷ []
@@ -125,10 +136,14 @@ rules_of tables now (SetSite site) =
     ∷ []
 rules_of tables now (PutSubscriber n subscriber) = limit tables (key.Subscriber n) Subscribers ∷ []
 rules_of tables now (PutAddOn n number settings) =
-    no_subscriber tables n ∷ option_map rule.Tree (first_fault tree.AddOn settings) ∷ limit tables (key.AddOn n number) AddOns ∷ []
+    no_subscriber tables n ∷ option_map rule.Tree (first_fault tree.AddOn settings)
+    ∷ limit tables (key.AddOn n number) AddOns ∷ []
 rules_of tables now (PutModem mac modem) =
-    no_subscriber tables modem.subscriber ∷ no_class tables modem.class ∷ limit tables (key.Modem mac) Modems ∷ []
-rules_of tables now (PutClass n class) = option_map rule.Tree (first_fault tree.Class class.settings) ∷ limit tables (key.Class n) Classes ∷ []
+    no_subscriber tables modem.subscriber ∷ no_class tables modem.class
+    ∷ limit tables (key.Modem mac) Modems ∷ []
+rules_of tables now (PutClass n class) =
+    option_map rule.Tree (first_fault tree.Class class.settings)
+    ∷ limit tables (key.Class n) Classes ∷ []
 rules_of tables now (PutPool n pool) =
     when (not (has_pool_size pool)) rule.PoolSize
     ∷ pool_overlap tables n pool
@@ -154,7 +169,8 @@ add_on_keys n = map (key.AddOn n) add_on_numbers
 
 abbrev pub removal_writes : Tables → Key → List Write
 removal_writes tables (key.Subscriber n) = Drop (key.Subscriber n) ∷ map Drop (add_on_keys n)
-removal_writes tables (key.Pool n) = Drop (key.Pool n) ∷ flat_map lease_drops (lost_leases tables n None)
+removal_writes tables (key.Pool n) =
+    Drop (key.Pool n) ∷ flat_map lease_drops (lost_leases tables n None)
 removal_writes tables (key.AddOn n number) = Drop (key.AddOn n number) ∷ []
 removal_writes tables (key.Modem mac) = Drop (key.Modem mac) ∷ []
 removal_writes tables (key.Class n) = Drop (key.Class n) ∷ []
@@ -166,16 +182,19 @@ removal_writes tables (key.Batch n) = Drop (key.Batch n) ∷ []
 -- what a command writes that no rule refuses
 abbrev pub writes_of : Tables → Command → List Write
 writes_of tables (SetSite site) = Put key.Site (row.Site site) ∷ []
-writes_of tables (PutSubscriber n subscriber) = Put (key.Subscriber n) (row.Subscriber subscriber) ∷ []
+writes_of tables (PutSubscriber n subscriber) =
+    Put (key.Subscriber n) (row.Subscriber subscriber) ∷ []
 writes_of tables (PutAddOn n number settings) = Put (key.AddOn n number) (row.AddOn settings) ∷ []
 writes_of tables (PutModem mac modem) = Put (key.Modem mac) (row.Modem modem) ∷ []
 writes_of tables (PutClass n class) = Put (key.Class n) (row.Class class) ∷ []
-writes_of tables (PutPool n pool) = Put (key.Pool n) (row.Pool pool) ∷ flat_map lease_drops (lost_leases tables n (Some pool))
+writes_of tables (PutPool n pool) =
+    Put (key.Pool n) (row.Pool pool) ∷ flat_map lease_drops (lost_leases tables n (Some pool))
 writes_of tables (Remove removed) = removal_writes tables removed
 writes_of tables (Show shown) = []
 writes_of tables (Import kind batch digest rows) = []
 
--- A command is refused by a rule, and where it's an import, at one of its rows, which count from 1; else the row is 0.
+-- A command is refused by a rule, and where it's an import, at one of its rows, which count from 1;
+-- else the row is 0.
 pub record Refusal : Type 0 where
   pub row : ℕ
   pub broken : Rule
@@ -202,7 +221,8 @@ abbrev pub shown : Key → Option Row → Decision
 shown key None = Err (refusal 0 rule.NoRow)
 shown key (Some held) = Ok (accepted [] (Shown key held))
 
--- An import stands for the commands that put its rows, in order, each over the tables that those before it left; all are done, or none.
+-- An import stands for the commands that put its rows, in order, each over the tables that those
+-- before it left; all are done, or none.
 abbrev pub command_of : ImportRow → Command
 command_of (imported.Subscriber n subscriber) = PutSubscriber n subscriber
 command_of (imported.Modem mac modem) = PutModem mac modem
@@ -211,7 +231,8 @@ abbrev pub then_writes : List Write → Result (List Write) Refusal → Result (
 then_writes writes (Ok more) = Ok (writes ++ more)
 then_writes writes (Err refused) = Err refused
 
-abbrev pub unless_broken : ℕ → Option Rule → Result (List Write) Refusal → Result (List Write) Refusal
+abbrev pub unless_broken : ℕ → Option Rule → Result (List Write) Refusal →
+    Result (List Write) Refusal
 unless_broken at None rest = rest
 unless_broken at (Some broken) rest = Err (refusal at broken)
 
@@ -227,7 +248,8 @@ abbrev pub rows_written : Tables → ℕ → ℕ → List ImportRow → Result (
 rows_written tables now at [] = Ok []
 rows_written tables now at (first ∷ rest) =
     unless_broken at (row_breaks tables now first)
-    (then_writes (row_writes tables first) (rows_written (write_all tables (row_writes tables first)) now (at + 1) rest))
+    (then_writes (row_writes tables first)
+    (rows_written (write_all tables (row_writes tables first)) now (at + 1) rest))
 
 abbrev pub is_kind : ImportKind → ImportKind → Bool
 is_kind import.Subscribers import.Subscribers = true
@@ -237,43 +259,56 @@ is_kind kind other = false
 -- an import that was done before is answered as then, if it has the same kind and digest
 abbrev pub repeated : ImportKind → ℕ → List ℕ → Batch → Decision
 repeated kind batch digest old =
-    by_rule 0 (accepted [] (Rows old.rows)) (when (not (is_kind kind old.kind && eq_by_cmp (slice_cmp nat_cmp) digest old.digest)) (rule.BatchDiffers batch))
+    by_rule 0 (accepted [] (Rows old.rows))
+    (when (not (is_kind kind old.kind && eq_by_cmp (slice_cmp nat_cmp) digest old.digest))
+    (rule.BatchDiffers batch))
 
 abbrev pub batch_row : ImportKind → List ℕ → List ImportRow → Row
 batch_row kind digest rows = row.Batch (record { kind = kind; digest = digest; rows = length rows })
 
-abbrev pub imported_as : Tables → ImportKind → ℕ → List ℕ → List ImportRow → Result (List Write) Refusal → Decision
+abbrev pub imported_as : Tables → ImportKind → ℕ → List ℕ → List ImportRow →
+    Result (List Write) Refusal → Decision
 imported_as tables kind batch digest rows (Err refused) = Err refused
 imported_as tables kind batch digest rows (Ok writes) =
-    by_rule 0 (accepted (writes ++ Put (key.Batch batch) (batch_row kind digest rows) ∷ []) (Rows (length rows))) (limit tables (key.Batch batch) Batches)
+    by_rule 0 (accepted (writes ++ Put (key.Batch batch) (batch_row kind digest rows) ∷ [])
+    (Rows (length rows))) (limit tables (key.Batch batch) Batches)
 
-abbrev pub import_decided : Tables → ℕ → ImportKind → ℕ → List ℕ → List ImportRow → Option Batch → Decision
+abbrev pub import_decided : Tables → ℕ → ImportKind → ℕ → List ℕ → List ImportRow → Option Batch →
+    Decision
 import_decided tables now kind batch digest rows (Some old) = repeated kind batch digest old
-import_decided tables now kind batch digest rows None = imported_as tables kind batch digest rows (rows_written tables now 1 rows)
+import_decided tables now kind batch digest rows None =
+    imported_as tables kind batch digest rows (rows_written tables now 1 rows)
 
 -- what becomes of a command
 abbrev pub decided : Tables → ℕ → Command → Decision
 decided tables now (Show key) = shown key (seen_at tables key)
-decided tables now (Import kind batch digest rows) = import_decided tables now kind batch digest rows (batch_in tables batch)
-decided tables now command = by_rule 0 (accepted (writes_of tables command) Done) (first_broken (rules_of tables now command))
+decided tables now (Import kind batch digest rows) =
+    import_decided tables now kind batch digest rows (batch_in tables batch)
+decided tables now command =
+    by_rule 0 (accepted (writes_of tables command) Done)
+    (first_broken (rules_of tables now command))
 
--- The step of a command at a moment: what is written, the tables after it, and the answer. Where it was refused, nothing is written, and the
--- tables are as before
+-- The step of a command at a moment: what is written, the tables after it, and the answer. Where it
+-- was refused, nothing is written, and the tables are as before
 pub record Stepped : Type 0 where
   pub writes : List Write
   pub tables : Tables
   pub answer : Result Reply Refusal
 
 abbrev pub stepped_by : Tables → Decision → Stepped
-stepped_by tables (Ok done) = record { writes = done.writes; tables = write_all tables done.writes; answer = Ok done.reply }
+stepped_by tables (Ok done) =
+    record { writes = done.writes; tables = write_all tables done.writes; answer = Ok done.reply }
 stepped_by tables (Err refused) = record { writes = []; tables = tables; answer = Err refused }
 
 unfoldable pub clerk_step : Tables → ℕ → Command → Stepped
 clerk_step tables now command = stepped_by tables (decided tables now command)
 
--- what becomes of tables in a step that was done with these writes and this answer, and in one that a rule refused
+-- what becomes of tables in a step that was done with these writes and this answer, and in one that
+-- a rule refused
 abbrev pub step_done : Tables → List Write → Reply → Stepped
-step_done tables writes reply = record { writes = writes; tables = write_all tables writes; answer = Ok reply }
+step_done tables writes reply =
+    record { writes = writes; tables = write_all tables writes; answer = Ok reply }
 
 abbrev pub step_refused : Tables → ℕ → Rule → Stepped
-step_refused tables at broken = record { writes = []; tables = tables; answer = Err (refusal at broken) }
+step_refused tables at broken =
+    record { writes = []; tables = tables; answer = Err (refusal at broken) }

@@ -1,5 +1,6 @@
--- When tables are good: each key's row is possible and stands in the right relations to the other rows. Here rows are read as they are,
--- also impossible ones, so that the least bad key is named and not one that stands on it.
+-- When tables are good: each key's row is possible and stands in the right relations to the other
+-- rows. Here rows are read as they are, also impossible ones, so that the least bad key is named
+-- and not one that stands on it.
 use Rattle.std.specs.Prelude.{◌≡◌, ◌==◌, Bool, true, false, not, ◌&&◌, ◌||◌, IsTrue, List, Option, Some, None, is_some, option_and_then}
 use Rattle.std.specs.List.{filter_map, list_all, count_by}
 use Rattle.std.specs.Ordering.{eq_by_cmp, nat_cmp}
@@ -36,7 +37,8 @@ raw_pools tables = filter_map raw_pool_of (map.entries tables)
 
 -- no other pool has an address of this one or its relay
 abbrev pub is_apart : ℕ → Pool → ℕ × Pool → Bool
-is_apart n pool other = (other.0 == n) || (not (overlaps pool other.1) && not (other.1.relay.0 == pool.relay.0))
+is_apart n pool other =
+    (other.0 == n) || (not (overlaps pool other.1) && not (other.1.relay.0 == pool.relay.0))
 
 -- how many pools have the address
 abbrev pub pools_around : Tables → Ip4 → ℕ
@@ -66,28 +68,34 @@ owner_holds tables address None = true
 owner_holds tables address (Some mac) = holds tables address mac
 
 abbrev pub owner_at : Tables → Ip4 → Option Mac
-owner_at tables address = option_and_then (λ lease. owner_of lease.hold) (option_and_then as_lease (row_at tables (key.Lease address)))
+owner_at tables address =
+    option_and_then (λ lease. owner_of lease.hold)
+    (option_and_then as_lease (row_at tables (key.Lease address)))
 
 abbrev pub owns : Tables → Mac → Ip4 → Bool
 owns tables mac address = passes (is_mac mac) (owner_at tables address)
 
 -- a modem has its subscriber and its class
 abbrev pub modem_stands : Tables → Modem → Bool
-modem_stands tables modem = is_there tables (key.Subscriber modem.subscriber) && is_there tables (key.Class modem.class)
+modem_stands tables modem =
+    is_there tables (key.Subscriber modem.subscriber) && is_there tables (key.Class modem.class)
 
 -- a lease has its site and its one pool, and its owner holds its address
 abbrev pub lease_stands : Tables → Ip4 → Lease → Bool
 lease_stands tables address lease =
-    is_there tables key.Site && ((pools_around tables address == 1) && owner_holds tables address (owner_of lease.hold))
+    is_there tables key.Site && ((pools_around tables address == 1)
+    && owner_holds tables address (owner_of lease.hold))
 
--- an add-on has its subscriber; no pool has an address or the relay of another; who holds an address owns its lease
+-- an add-on has its subscriber; no pool has an address or the relay of another; who holds an
+-- address owns its lease
 abbrev pub stands_right : Tables → Key → Row → Bool
 stands_right tables key.Site held = true
 stands_right tables (key.Subscriber n) held = true
 stands_right tables (key.AddOn n number) held = is_there tables (key.Subscriber n)
 stands_right tables (key.Modem mac) held = passes (modem_stands tables) (as_modem held)
 stands_right tables (key.Class n) held = true
-stands_right tables (key.Pool n) held = passes (λ pool. list_all (is_apart n pool) (raw_pools tables)) (as_pool held)
+stands_right tables (key.Pool n) held =
+    passes (λ pool. list_all (is_apart n pool) (raw_pools tables)) (as_pool held)
 stands_right tables (key.Lease address) held = passes (lease_stands tables address) (as_lease held)
 stands_right tables (key.Held mac) held = passes (owns tables mac) (as_held held)
 stands_right tables (key.Batch n) held = true

@@ -1,5 +1,6 @@
--- Rows of the tables, by kind. A row is possible at a key where it's of the key's kind and its own values are in their ranges, whatever
--- the other rows are. Whoever reads a row takes an impossible one as one that isn't there; only the test of good tables doesn't.
+-- Rows of the tables, by kind. A row is possible at a key where it's of the key's kind and its own
+-- values are in their ranges, whatever the other rows are. Whoever reads a row takes an impossible
+-- one as one that isn't there; only the test of good tables doesn't.
 use Rattle.std.specs.Prelude.{ℕ, ℤ, pos, neg_ℤ, ◌-◌, ◌==◌, Bool, true, false, not, ◌&&◌, nat_le, nat_lt, int_le, min, max, List, length, Option, Some, None, is_some, is_none, option_and_then, if◌then◌else◌}
 use Rattle.std.specs.List.{filter_map, count_by}
 use Rattle.std.specs.Int.{is_in_range}
@@ -28,7 +29,8 @@ use Rattle.off_defs.specs.State.{Tables}
 use Rattle.off_defs.specs.Tables.{row_at}
 use Rattle.off_rules.specs.declared.counts.Counts.{Counts}
 
--- a site has an address and a secret of 1 to 64 bytes; its leases last a minute to a week; it lies within a day of UTC
+-- a site has an address and a secret of 1 to 64 bytes; its leases last a minute to a week; it lies
+-- within a day of UTC
 abbrev pub is_offset : ℤ → Bool
 is_offset offset = int_le (neg_ℤ (pos 86400)) offset && int_le offset (pos 86400)
 
@@ -36,7 +38,9 @@ abbrev pub is_lease_time : ℕ → Bool
 is_lease_time seconds = is_in_range 60 604800 seconds
 
 abbrev pub site_fits : Site → Bool
-site_fits site = not (site.server.0 == 0) && (is_in_range 1 64 (length site.secret) && (is_offset site.offset && is_lease_time site.lease))
+site_fits site =
+    not (site.server.0 == 0) && (is_in_range 1 64 (length site.secret)
+    && (is_offset site.offset && is_lease_time site.lease))
 
 -- behind a modem may be 1 to 254 devices
 abbrev pub subscriber_fits : Subscriber → Bool
@@ -54,7 +58,9 @@ abbrev pub has_pool_size : Pool → Bool
 has_pool_size pool = nat_le pool.first.0 pool.last.0 && nat_lt (pool.last.0 - pool.first.0) 4096
 
 abbrev pub pool_fits : Pool → Bool
-pool_fits pool = has_pool_size pool && (is_in_range least_prefix most_prefix pool.prefix && not (pool.relay.0 == 0))
+pool_fits pool =
+    has_pool_size pool && (is_in_range least_prefix most_prefix pool.prefix
+    && not (pool.relay.0 == 0))
 
 -- the row, where it is of the kind; each reader takes the rows of its own kind and no others
 abbrev pub as_site : Row → Option Site
@@ -101,7 +107,8 @@ passes test (Some x) = test x
 abbrev pub is_possible : Key → Row → Bool
 is_possible key.Site held = passes site_fits (as_site held)
 is_possible (key.Subscriber n) held = passes subscriber_fits (as_subscriber held)
-is_possible (key.AddOn n number) held = passes (λ settings. nat_le number last_add_on && add_on_is_good settings) (as_add_on held)
+is_possible (key.AddOn n number) held =
+    passes (λ settings. nat_le number last_add_on && add_on_is_good settings) (as_add_on held)
 is_possible (key.Modem mac) held = is_some (as_modem held)
 is_possible (key.Class n) held = passes (λ class. class_is_good class.settings) (as_class held)
 is_possible (key.Pool n) held = passes pool_fits (as_pool held)
@@ -193,7 +200,8 @@ is_counted kind entry = is_of_kind kind entry.0 && is_possible entry.0 entry.1
 abbrev pub count_of : Kind → Tables → ℕ
 count_of kind tables = count_by (is_counted kind) (map.entries tables)
 
--- All counts as the office keeps them. There are fewer keys of each kind but the last than 2^64; so many batches or more count as 2^64 - 1.
+-- All counts as the office keeps them. There are fewer keys of each kind but the last than 2^64; so
+-- many batches or more count as 2^64 - 1.
 abbrev pub counts_of : Tables → Counts
 counts_of tables = record {
   subscribers = count_of Subscribers tables;

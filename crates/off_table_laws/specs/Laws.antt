@@ -16,8 +16,8 @@ use Rattle.off_rules.specs.Rows.{has_address, seen_at, site_in, subscriber_in, a
 use Rattle.off_rules.specs.Good.{owner_of, raw_pools, Good, IsLeastBad, Judged}
 use Rattle.off_rules.specs.Clerk.{Refusal, clerk_step}
 
--- A site's secret has at most 64 bytes, by its type. But a law ranges over lists of any length, and no rule of a command refuses a longer
--- one, so the law of steps has this as a premise.
+-- A site's secret has at most 64 bytes, by its type. But a law ranges over lists of any length, and
+-- no rule of a command refuses a longer one, so the law of steps has this as a premise.
 abbrev pub secret_fits : Command → Bool
 secret_fits (SetSite site) = nat_le (length site.secret) 64
 secret_fits command = true
@@ -25,13 +25,15 @@ secret_fits command = true
 -- what a command leaves of good tables is good
 abbrev pub StepKeepsGood : Type 0
 StepKeepsGood =
-    (tables : Tables) (now : ℕ) (command : Command) → IsTrue (is_sound command) → IsTrue (secret_fits command) → Good tables
+    (tables : Tables) (now : ℕ) (command : Command) → IsTrue (is_sound command) →
+    IsTrue (secret_fits command) → Good tables
     → Good (clerk_step tables now command).tables
 
 -- a command that is refused changes no table
 abbrev pub RefusedChangesNothing : Type 0
 RefusedChangesNothing =
-    (tables : Tables) (now : ℕ) (command : Command) (refused : Refusal) → (clerk_step tables now command).answer ≡ Err refused
+    (tables : Tables) (now : ℕ) (command : Command) (refused : Refusal) →
+    (clerk_step tables now command).answer ≡ Err refused
     → (clerk_step tables now command).tables ≡ tables
 
 -- the modem that owns the lease of an address
@@ -41,18 +43,21 @@ owner_in tables address = option_and_then (λ lease. owner_of lease.hold) (lease
 -- a modem owns the lease of one address at most
 abbrev pub OneLeaseAModem : Type 0
 OneLeaseAModem =
-    (tables : Tables) → Good tables → (mac : Mac) (one other : Ip4) → owner_in tables one ≡ Some mac → owner_in tables other ≡ Some mac
+    (tables : Tables) → Good tables → (mac : Mac) (one other : Ip4) →
+    owner_in tables one ≡ Some mac → owner_in tables other ≡ Some mac
     → one ≡ other
 
 -- a modem owns the lease of the address that it holds, and holds the address whose lease it owns
 abbrev pub OwnersHold : Type 0
 OwnersHold =
-    (tables : Tables) → Good tables → (mac : Mac) (address : Ip4) → (owner_in tables address ≡ Some mac) ↔ (held_in tables mac ≡ Some address)
+    (tables : Tables) → Good tables → (mac : Mac) (address : Ip4) →
+    (owner_in tables address ≡ Some mac) ↔ (held_in tables mac ≡ Some address)
 
 -- no address lies in two pools
 abbrev pub PoolsAreApart : Type 0
 PoolsAreApart =
-    (tables : Tables) → Good tables → (address : Ip4) (n m : ℕ) (pool other : Pool) → pool_in tables n ≡ Some pool → pool_in tables m ≡ Some other
+    (tables : Tables) → Good tables → (address : Ip4) (n m : ℕ) (pool other : Pool) →
+    pool_in tables n ≡ Some pool → pool_in tables m ≡ Some other
     → IsTrue (has_address pool address) → IsTrue (has_address other address) → n ≡ m
 
 -- a modem's subscriber and class are there, and an add-on's subscriber
@@ -63,7 +68,8 @@ ModemsStand =
 
 abbrev pub AddOnsStand : Type 0
 AddOnsStand =
-    (tables : Tables) → Good tables → (n number : ℕ) (settings : List Tree) → add_on_in tables n number ≡ Some settings
+    (tables : Tables) → Good tables → (n number : ℕ) (settings : List Tree) →
+    add_on_in tables n number ≡ Some settings
     → IsSome (subscriber_in tables n)
 
 -- a pool has the address, and no other has
@@ -72,12 +78,14 @@ pub record LiesInOnePool (tables : Tables) (address : Ip4) : Type 0 where
   pub pool : Pool
   pub there : pool_in tables number ≡ Some pool
   pub within : IsTrue (has_address pool address)
-  pub only : (m : ℕ) (other : Pool) → pool_in tables m ≡ Some other → IsTrue (has_address other address) → m ≡ number
+  pub only : (m : ℕ) (other : Pool) → pool_in tables m ≡ Some other →
+      IsTrue (has_address other address) → m ≡ number
 
 -- a lease has its site, and its address lies in one pool
 abbrev pub LeasesStand : Type 0
 LeasesStand =
-    (tables : Tables) → Good tables → (address : Ip4) (lease : Lease) → lease_in tables address ≡ Some lease
+    (tables : Tables) → Good tables → (address : Ip4) (lease : Lease) →
+    lease_in tables address ≡ Some lease
     → IsSome (site_in tables) × LiesInOnePool tables address
 
 -- good tables have no bad key
@@ -86,9 +94,12 @@ GoodHaveNoBadKey = (tables : Tables) (bad : Key) → Good tables → IsLeastBad 
 
 -- a test of tables has one answer
 abbrev pub OneJudgement : Type 0
-OneJudgement = (tables : Tables) (one other : Option Key) → Judged tables one → Judged tables other → one ≡ other
+OneJudgement =
+    (tables : Tables) (one other : Option Key) → Judged tables one → Judged tables other →
+    one ≡ other
 
 -- in good tables what is read stands there, and what stands there is read
 abbrev pub SeenAsTheyStand : Type 0
 SeenAsTheyStand =
-    (tables : Tables) → Good tables → ((key : Key) → seen_at tables key ≡ row_at tables key) × (pools tables ≡ raw_pools tables)
+    (tables : Tables) → Good tables →
+    ((key : Key) → seen_at tables key ≡ row_at tables key) × (pools tables ≡ raw_pools tables)

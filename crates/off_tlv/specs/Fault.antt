@@ -1,4 +1,5 @@
--- The first fault of a file that no settings spell: what stands behind settings that are as the grammar wants them.
+-- The first fault of a file that no settings spell: what stands behind settings that are as the
+-- grammar wants them.
 use Rattle.std.specs.Prelude.{◌≡◌, ℕ, ◌+◌, ◌<◌, ◌≢◌, true, List, [], ◌∷◌, ◌++◌, length, replicate, Result, Ok, Err}
 use Rattle.off_base.specs.Tree.{Tree, spelling}
 use Rattle.off_tlv.specs.Grammar.{end_byte, pad_byte, Level, in_file, is_group, is_code, inside_of, AllStand, FileOf}
@@ -23,12 +24,15 @@ abbrev pub HasCode : Level → List ℕ → Type 0
 HasCode level [] = ⊥
 HasCode level (code ∷ bytes) = is_code level code ≡ true
 
--- The setting whose code stands at a place is the first that passes the end of the file, or the end of its group.
+-- The setting whose code stands at a place is the first that passes the end of the file, or the end
+-- of its group.
 pub data CutAt : Level → List ℕ → ℕ → Type 0 where
-  passes : {level : Level} {bytes : List ℕ} {place : ℕ} → (rest : List ℕ) → Behind level bytes place rest → HasCode level rest → IsShort rest
+  passes : {level : Level} {bytes : List ℕ} {place : ℕ} → (rest : List ℕ) →
+      Behind level bytes place rest → HasCode level rest → IsShort rest
       → CutAt level bytes place
   within : {level : Level} {bytes : List ℕ} {place : ℕ} → (code at deeper : ℕ) (body more : List ℕ)
-      → Behind level bytes at (code ∷ length body ∷ body ++ more) → is_code level code ≡ true → is_group level code ≡ true
+      → Behind level bytes at (code ∷ length body ∷ body ++ more) → is_code level code ≡ true →
+      is_group level code ≡ true
       → CutAt (inside_of level code) body deeper → place ≡ at + 2 + deeper
       → CutAt level bytes place
 
@@ -38,7 +42,9 @@ IsFirstFault file (Cut place) = CutAt in_file file place
 IsFirstFault file NoEnd = (place : ℕ) × Behind in_file file place []
 -- the first byte behind the end marker that is no zero
 IsFirstFault file (AfterEnd place) =
-    (end pads byte : ℕ) × (more : List ℕ) × Behind in_file file end (end_byte ∷ replicate pads pad_byte ++ byte ∷ more) × (byte ≢ pad_byte) × (place ≡ end + 1 + pads)
+    (end pads byte : ℕ) × (more : List ℕ)
+    × Behind in_file file end (end_byte ∷ replicate pads pad_byte ++ byte ∷ more)
+    × (byte ≢ pad_byte) × (place ≡ end + 1 + pads)
 -- a zero in the place of a code
 IsFirstFault file (EarlyPad place) = (more : List ℕ) × Behind in_file file place (pad_byte ∷ more)
 
@@ -49,7 +55,9 @@ Reads file (Err fault) = IsFirstFault file fault
 
 -- A file has at most one reading or one first fault, never both and never two.
 abbrev pub HasOneReading : Type 0
-HasOneReading = (file : List ℕ) (one other : Result (List Tree) ReadFault) → Reads file one → Reads file other → one ≡ other
+HasOneReading =
+    (file : List ℕ) (one other : Result (List Tree) ReadFault) → Reads file one → Reads file other →
+    one ≡ other
 
 -- A file has one at least.
 abbrev pub HasReading : List ℕ → Type 0

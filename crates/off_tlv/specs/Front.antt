@@ -4,7 +4,8 @@ use Rattle.off_base.specs.Tree.{Tree, Row, leaf, group, no_more, followed, spell
 use Rattle.off_tlv.specs.Grammar.{pad_byte, Level, is_code, is_group, inside_of, Stands, AllStand}
 use Rattle.off_tlv.specs.Fault.{Behind, CutAt}
 
--- the settings of a level reach from the first byte to a place, and there the bytes end, or a byte stands that is no code
+-- the settings of a level reach from the first byte to a place, and there the bytes end, or a byte
+-- stands that is no code
 pub record Front (level : Level) (bytes : List ℕ) (end : ℕ) : Type 0 where
   pub behind : Behind level bytes end (drop end bytes)
   pub in_range : end ≤ length bytes
@@ -46,7 +47,8 @@ BeginsWith old new = (more : List ℕ) × (new ≡ old ++ more)
 abbrev mutual
   pub is_shaped : Level → Tree → Bool
   is_shaped level (leaf code value) = is_code level code && not (is_group level code)
-  is_shaped level (group code parts) = is_code level code && (is_group level code && row_is_shaped (inside_of level code) parts)
+  is_shaped level (group code parts) = is_code level code
+      && (is_group level code && row_is_shaped (inside_of level code) parts)
 
   pub row_is_shaped : Level → Row → Bool
   row_is_shaped level no_more = true

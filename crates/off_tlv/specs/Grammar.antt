@@ -1,10 +1,12 @@
--- The grammar of a cable modem's configuration file (CM-SP-MULPIv3.1, annex D.1, with the encodings of annex C): settings, one
--- byte 255, and any number of zero bytes. It builds the bytes from the settings, and walks over nothing.
+-- The grammar of a cable modem's configuration file (CM-SP-MULPIv3.1, annex D.1, with the encodings
+-- of annex C): settings, one byte 255, and any number of zero bytes. It builds the bytes from the
+-- settings, and walks over nothing.
 use Rattle.std.specs.Prelude.{◌≡◌, ℕ, Bool, false, true, ◌==◌, ◌&&◌, not, List, [], ◌∷◌, ◌++◌, length, replicate}
 use Rattle.std.specs.List.{AllByRecursion, list_any}
 use Rattle.off_base.specs.Tree.{Tree, Row, leaf, group, no_more, followed, spelling, Fits}
 
--- where a list of settings stands: in the file itself, within a group of a code there, or within a part of such a group
+-- where a list of settings stands: in the file itself, within a group of a code there, or within a
+-- part of such a group
 pub data Level : Type 0 where
   in_file : Level
   in_group : ℕ → Level
@@ -45,7 +47,8 @@ inside_of in_file code = in_group code
 inside_of (in_group outer) code = in_part
 inside_of in_part code = in_part
 
--- In the file itself 0 is a pad and 255 the end, and no setting has these codes. Within a group every code is a setting's.
+-- In the file itself 0 is a pad and 255 the end, and no setting has these codes. Within a group
+-- every code is a setting's.
 abbrev pub is_code : Level → ℕ → Bool
 is_code in_file code = not (code == end_byte) && not (code == pad_byte)
 is_code (in_group outer) code = true
@@ -55,7 +58,8 @@ is_code in_part code = true
 abbrev mutual
   pub Shaped : Level → Tree → Type 0
   Shaped level (leaf code value) = (is_code level code ≡ true) × (is_group level code ≡ false)
-  Shaped level (group code parts) = (is_code level code ≡ true) × (is_group level code ≡ true) × RowShaped (inside_of level code) parts
+  Shaped level (group code parts) = (is_code level code ≡ true) × (is_group level code ≡ true)
+      × RowShaped (inside_of level code) parts
 
   pub RowShaped : Level → Row → Type 0
   RowShaped level no_more = Unit {0}

@@ -6,7 +6,8 @@ pub record Walk : Type 0 where
   pub place : ℕ
   pub rest : List ℕ
 
--- a setting is taken: its code, its length and its value stand first, and the walk goes on behind them
+-- a setting is taken: its code, its length and its value stand first, and the walk goes on behind
+-- them
 pub record TakesSetting (old : Walk) (code : ℕ) (value : List ℕ) (new : Walk) : Type 0 where
   pub spelled : old.rest ≡ code ∷ length value ∷ value ++ new.rest
   pub onward : new.place ≡ old.place + 2 + length value
@@ -14,6 +15,7 @@ pub record TakesSetting (old : Walk) (code : ℕ) (value : List ℕ) (new : Walk
 
 -- a whole setting stands at a place of the bytes
 pub record TakesAt (bytes : List ℕ) (place : ℕ) (value : List ℕ) : Type 0 where
-  pub spelled : drop place bytes ≡ slice_index bytes place ∷ length value ∷ value ++ drop (place + 2 + length value) bytes
+  pub spelled : drop place bytes
+      ≡ slice_index bytes place ∷ length value ∷ value ++ drop (place + 2 + length value) bytes
   pub fits : place + 2 + length value ≤ length bytes
   pub byte : length value ≤ 255

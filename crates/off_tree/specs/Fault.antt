@@ -1,4 +1,5 @@
--- The first broken rule of a tree of settings: a walk over the tree, each setting before its parts, then the references, then the lengths.
+-- The first broken rule of a tree of settings: a walk over the tree, each setting before its parts,
+-- then the references, then the lengths.
 use Rattle.std.specs.Prelude.{ℕ, ◌+◌, ◌*◌, ◌==◌, ◌&&◌, ◌||◌, Bool, true, false, not, nat_lt, min, ◌-◌, ◌^◌, List, [], ◌∷◌, ◌++◌, length, Option, Some, None, option_map, if◌then◌else◌}
 use Rattle.std.specs.Option.{option_or}
 use Rattle.std.specs.List.{list_any, flat_map}
@@ -20,7 +21,8 @@ use Rattle.off_tree.specs.Value.{in_range}
 abbrev pub contains : ℕ → List ℕ → Bool
 contains code codes = list_any (λ c. c == code) codes
 
--- what is wrong with a leaf where the table has this line, by its path, and whether its code has stood before
+-- what is wrong with a leaf where the table has this line, by its path, and whether its code has
+-- stood before
 abbrev pub leaf_broken : Form → Path → Bool → List ℕ → Option TreeFault
 leaf_broken Group path again value = Some (UnknownCode path)
 leaf_broken (Leaf shortest longest range) path again value =
@@ -31,7 +33,8 @@ leaf_broken (Leaf shortest longest range) path again value =
 
 abbrev pub leaf_fault : Option Rule → Path → Bool → List ℕ → Option TreeFault
 leaf_fault None path seen value = Some (UnknownCode path)
-leaf_fault (Some rule) path seen value = leaf_broken rule.form path (seen && is_single rule.times) value
+leaf_fault (Some rule) path seen value =
+    leaf_broken rule.form path (seen && is_single rule.times) value
 
 -- the same of a group, apart from its parts
 abbrev pub group_broken : Form → Path → Bool → Option TreeFault
@@ -42,21 +45,28 @@ abbrev pub group_fault : Option Rule → Path → Bool → Option TreeFault
 group_fault None path seen = Some (UnknownCode path)
 group_fault (Some rule) path seen = group_broken rule.form path (seen && is_single rule.times)
 
--- the first line of a table that has to stand and doesn't; each table's codes ascend (`proofs/TableFacts.antt`), so it's the least such code
+-- the first line of a table that has to stand and doesn't; each table's codes ascend
+-- (`proofs/TableFacts.antt`), so it's the least such code
 abbrev pub missing_in : List Rule → Path → List ℕ → Option TreeFault
 missing_in [] path codes = None
-missing_in (rule ∷ rules) path codes = if is_needed rule.times && not (contains rule.code codes) then Some (Missing (below path rule.code)) else missing_in rules path codes
+missing_in (rule ∷ rules) path codes =
+    if is_needed rule.times && not (contains rule.code codes)
+    then Some (Missing (below path rule.code)) else missing_in rules path codes
 
--- a setting before its parts, and one after another; what is missing stands behind the last. The codes are those that have stood before.
+-- a setting before its parts, and one after another; what is missing stands behind the last. The
+-- codes are those that have stood before.
 abbrev mutual
   pub setting_fault : Level → Path → List ℕ → Tree → Option TreeFault
-  setting_fault level path codes (leaf code value) = leaf_fault (rule_of level code) (below path code) (contains code codes) value
+  setting_fault level path codes (leaf code value) = leaf_fault (rule_of level code)
+      (below path code) (contains code codes) value
   setting_fault level path codes (group code parts) =
-      option_or (group_fault (rule_of level code) (below path code) (contains code codes)) (parts_fault (level_inside level code) (below path code) [] parts)
+      option_or (group_fault (rule_of level code) (below path code) (contains code codes))
+      (parts_fault (level_inside level code) (below path code) [] parts)
 
   pub parts_fault : Level → Path → List ℕ → Row → Option TreeFault
   parts_fault level path codes no_more = missing_in (table_of level) path codes
-  parts_fault level path codes (followed t r) = option_or (setting_fault level path codes t) (parts_fault level path (codes ++ code_of t ∷ []) r)
+  parts_fault level path codes (followed t r) = option_or (setting_fault level path codes t)
+      (parts_fault level path (codes ++ code_of t ∷ []) r)
 
 -- the value of the first leaf of a code among settings
 abbrev pub leaf_value : ℕ → Tree → Option (List ℕ)
@@ -85,7 +95,8 @@ single (Some []) = None
 single (Some (a ∷ [])) = Some a
 single (Some (a ∷ b ∷ more)) = None
 
--- the reference of a service flow of some directions, that of a classifier, and that of the flow which a classifier names
+-- the reference of a service flow of some directions, that of a classifier, and that of the flow
+-- which a classifier names
 abbrev pub flow_number : List ℕ → Tree → Option ℕ
 flow_number directions t = if contains (code_of t) directions then pair (part_value 1 t) else None
 
@@ -116,7 +127,8 @@ numbers f trees = flat_map (λ t. as_list (f t)) trees
 -- the first number that stands a second time, behind those before
 abbrev pub first_repeat : List ℕ → List ℕ → Option ℕ
 first_repeat before [] = None
-first_repeat before (n ∷ ns) = if contains n before then Some n else first_repeat (before ++ n ∷ []) ns
+first_repeat before (n ∷ ns) =
+    if contains n before then Some n else first_repeat (before ++ n ∷ []) ns
 
 -- the flow that a classifier names and that isn't there in its direction
 abbrev pub unless : Bool → Option ℕ → Option ℕ
@@ -128,17 +140,21 @@ lost_number flows None = None
 lost_number flows (Some n) = unless (contains n flows) (Some n)
 
 abbrev pub lost_flow : List Tree → Tree → Option ℕ
-lost_flow all t = lost_number (numbers (flow_number (direction_of (code_of t) ∷ [])) all) (named_flow t)
+lost_flow all t =
+    lost_number (numbers (flow_number (direction_of (code_of t) ∷ [])) all) (named_flow t)
 
 abbrev pub first_lost : List Tree → List Tree → Option ℕ
 first_lost all [] = None
 first_lost all (t ∷ ts) = option_or (lost_flow all t) (first_lost all ts)
 
 abbrev pub flow_fault : List Tree → Option TreeFault
-flow_fault trees = option_map FlowReference (option_or (first_repeat [] (numbers (flow_number both_directions) trees)) (first_lost trees trees))
+flow_fault trees =
+    option_map FlowReference (option_or
+    (first_repeat [] (numbers (flow_number both_directions) trees)) (first_lost trees trees))
 
 abbrev pub classifier_fault : List Tree → Option TreeFault
-classifier_fault trees = option_map ClassifierReference (first_repeat [] (numbers classifier_number trees))
+classifier_fault trees =
+    option_map ClassifierReference (first_repeat [] (numbers classifier_number trees))
 
 -- a value or the spelled parts of a group have more than 254 bytes, each setting before its parts
 abbrev pub too_many : ℕ → ℕ → Option ℕ
@@ -159,11 +175,16 @@ size_limit Class = 2048
 size_limit AddOn = 512
 
 abbrev pub length_fault : Kind → List Tree → Option TreeFault
-length_fault kind trees = option_map (λ n. TooLong (min n (2 ^ 32 - 1))) (option_or (long_part (row_of trees)) (too_many (size_limit kind) (trees_length trees)))
+length_fault kind trees =
+    option_map (λ n. TooLong (min n (2 ^ 32 - 1)))
+    (option_or (long_part (row_of trees)) (too_many (size_limit kind) (trees_length trees)))
 
 abbrev pub root : Path
 root = record { depth = 0; a = 0; b = 0; c = 0 }
 
--- the first broken rule: by the tables, then the references of flows, then those of classifiers, then the lengths
+-- the first broken rule: by the tables, then the references of flows, then those of classifiers,
+-- then the lengths
 abbrev pub first_fault : Kind → List Tree → Option TreeFault
-first_fault kind trees = option_or (parts_fault (Top kind) root [] (row_of trees)) (option_or (flow_fault trees) (option_or (classifier_fault trees) (length_fault kind trees)))
+first_fault kind trees =
+    option_or (parts_fault (Top kind) root [] (row_of trees))
+    (option_or (flow_fault trees) (option_or (classifier_fault trees) (length_fault kind trees)))

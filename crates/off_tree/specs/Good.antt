@@ -1,4 +1,5 @@
--- Good settings of a class or an add-on, in no order: what the tables, the references and the lengths ask.
+-- Good settings of a class or an add-on, in no order: what the tables, the references and the
+-- lengths ask.
 use Rattle.std.specs.Prelude.{◌≡◌, ℕ, ◌≤◌, Bool, false, IsTrue, List, [], ◌∷◌, length, Option, Some, None, Result, Ok, Err, count_by, ◌==◌}
 use Rattle.std.specs.List.{AllByRecursion}
 use Rattle.off_base.specs.Tree.{Tree, Row, leaf, group, no_more, followed, code_of, row_of, row_length, trees_length}
@@ -19,7 +20,8 @@ times_in n ns = count_by (λ x. x == n) ns
 -- a leaf is one of the table, with a length and a value in their ranges
 abbrev pub LeafFits : Form → List ℕ → Type 0
 LeafFits Group value = ⊥
-LeafFits (Leaf shortest longest range) value = (shortest ≤ length value) × (length value ≤ longest) × IsTrue (in_range range value)
+LeafFits (Leaf shortest longest range) value =
+    (shortest ≤ length value) × (length value ≤ longest) × IsTrue (in_range range value)
 
 abbrev pub LeafStands : Option Rule → List ℕ → Type 0
 LeafStands None value = ⊥
@@ -43,7 +45,8 @@ single_rule (Some rule) = is_single rule.times
 abbrev pub KeepsTimes : Level → List ℕ → Type 0
 KeepsTimes level codes =
     ((code : ℕ) → IsTrue (single_rule (rule_of level code)) → times_in code codes ≤ 1)
-    × AllByRecursion (λ rule. IsTrue (is_needed rule.times) → IsTrue (contains rule.code codes)) (table_of level)
+    × AllByRecursion (λ rule. IsTrue (is_needed rule.times) → IsTrue (contains rule.code codes))
+    (table_of level)
 
 abbrev pub row_codes : Row → List ℕ
 row_codes no_more = []
@@ -53,7 +56,9 @@ row_codes (followed t r) = code_of t ∷ row_codes r
 abbrev mutual
   pub Stands : Level → Tree → Type 0
   Stands level (leaf code value) = LeafStands (rule_of level code) value
-  Stands level (group code parts) = GroupStands (rule_of level code) × EachStands (level_inside level code) parts × KeepsTimes (level_inside level code) (row_codes parts)
+  Stands level (group code parts) = GroupStands (rule_of level code)
+      × EachStands (level_inside level code) parts
+      × KeepsTimes (level_inside level code) (row_codes parts)
 
   pub EachStands : Level → Row → Type 0
   EachStands level no_more = Unit {0}
@@ -61,7 +66,9 @@ abbrev mutual
 
 -- the flow that a classifier names is there, in the classifier's direction
 abbrev pub IsServed : List Tree → Tree → Type 0
-IsServed all t = (n : ℕ) → named_flow t ≡ Some n → IsTrue (contains n (numbers (flow_number (direction_of (code_of t) ∷ [])) all))
+IsServed all t =
+    (n : ℕ) → named_flow t ≡ Some n →
+    IsTrue (contains n (numbers (flow_number (direction_of (code_of t) ∷ [])) all))
 
 -- no value and no group's spelled parts have over 254 bytes
 abbrev mutual

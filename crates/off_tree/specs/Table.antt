@@ -1,5 +1,6 @@
--- The tables of settings, by the place of a list of settings: this project's profile of CM-SP-MULPIv3.1, annex C. A line has a code, what stands
--- under it, and how often. The tables of the code are proved to be these.
+-- The tables of settings, by the place of a list of settings: this project's profile of
+-- CM-SP-MULPIv3.1, annex C. A line has a code, what stands under it, and how often. The tables of
+-- the code are proved to be these.
 use Rattle.std.specs.Prelude.{ℕ, ◌==◌, ◌||◌, Bool, true, false, List, [], ◌∷◌, Option, Some, None, if◌then◌else◌}
 use Rattle.std.specs.List.{flat_map}
 use Rattle.off_tree.specs.declared.tables.Level.{Level}
@@ -12,7 +13,8 @@ use Rattle.off_tree.specs.declared.tables.Range.TheVariants as range
 use Rattle.off_tree.specs.declared.tables.Times.{Times}
 use Rattle.off_tree.specs.declared.tables.Times.TheVariants.{Any, AtMostOnce, Once, AtLeastOnce}
 
--- a value of so many bytes, the same with a number in a range, a text of 2 to 16 bytes with its zero, and a list of parts
+-- a value of so many bytes, the same with a number in a range, a text of 2 to 16 bytes with its
+-- zero, and a list of parts
 abbrev pub leaf_of : ℕ → Form
 leaf_of n = Leaf n n range.Any
 
@@ -25,7 +27,8 @@ name_form = Leaf 2 16 range.Name
 abbrev pub a_group : Form
 a_group = Group
 
--- how often a setting stands in a place: not at all, at most once, exactly once, any number of times, at least once
+-- how often a setting stands in a place: not at all, at most once, exactly once, any number of
+-- times, at least once
 abbrev pub never : Option Times
 never = None
 
@@ -170,8 +173,9 @@ or_other (Some found) other = Some found
 abbrev pub rule_of : Level → ℕ → Option Rule
 rule_of level code = or_other (rule_with code (table_of level)) (others level)
 
--- Where the parts of a group stand: of 22 to 25 and 43 at the top, and of 9 in a classifier. No table has another group, so a group of
--- another code or in another place is a fault (or isn't good) by its line alone, and what stands here for it is of no effect.
+-- Where the parts of a group stand: of 22 to 25 and 43 at the top, and of 9 in a classifier. No
+-- table has another group, so a group of another code or in another place is a fault (or isn't
+-- good) by its line alone, and what stands here for it is of no effect.
 abbrev pub level_inside : Level → ℕ → Level
 level_inside (Top kind) code =
     if code == 22 || code == 23 then Classifier kind

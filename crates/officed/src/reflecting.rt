@@ -61,8 +61,9 @@ fn is_no_client(address: u32) -> bool
 }
 
 /// Whether a datagram is what a time service answers: four bytes that tell a moment within a day of
-/// this one. No client sends them (RFC 868: it sends an empty datagram), and they are no TFTP packet
-/// but an acknowledgement; so two offices whose ports are no standard ones don't answer each other.
+/// this one. No client sends them (RFC 868: it sends an empty datagram), and they are no TFTP
+/// packet but an acknowledgement; so two offices whose ports are no standard ones don't answer each
+/// other.
 pub fn is_time_answer(datagram: &[u8], now: Moment) -> bool {
     let &[first, second, third, fourth] = datagram else {
         return false;
