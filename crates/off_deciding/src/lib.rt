@@ -20,6 +20,7 @@ mod values;
 mod wanted;
 
 pub use deciding::decide;
+pub use limits::{counts_put, limit_rule};
 pub use lost::Lost;
 pub use results::{AccountErr, Planned};
 pub use searching::Sought;

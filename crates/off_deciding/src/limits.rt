@@ -10,7 +10,7 @@ use off_defs::{Kind, Rule};
 use off_rules::Counts;
 
 /// The rule that there may be only so many rows of a kind, where a key of it gets a row.
-pub(crate) fn limit_rule(counts: &Counts, kind: Kind, is_there: bool) -> Option<Rule>
+pub fn limit_rule(counts: &Counts, kind: Kind, is_there: bool) -> Option<Rule>
     ensures { result ≡ limit_rule counts.now kind is_there }
 {
     let most = limit_of(kind);
@@ -21,7 +21,7 @@ pub(crate) fn limit_rule(counts: &Counts, kind: Kind, is_there: bool) -> Option<
 }
 
 /// The counts after a key of the kind gets a row, where the limit of the kind permits it.
-pub(crate) fn counts_put(counts: &Counts, kind: Kind, is_there: bool) -> Counts
+pub fn counts_put(counts: &Counts, kind: Kind, is_there: bool) -> Counts
     ensures { limit_rule counts.now kind is_there ≡ None
         → result ≡ counts_put kind is_there counts.now }
 {

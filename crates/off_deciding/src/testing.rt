@@ -27,9 +27,6 @@ pub enum Test {
 
 /// The first rule that is broken, in their order, or `None` where none is. What comes behind it
 /// isn't tested.
-///
-/// Rules are tested over any keeper, so over one too that shows the tables as the rows before left
-/// them.
 pub fn first_broken<K: Keeper>(
     alloc: Global,
     keeper: &mut K,

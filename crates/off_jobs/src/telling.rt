@@ -9,8 +9,8 @@ use off_mic::MicFault;
 use off_outside::{Failed, Sink};
 use off_tlv::ReadFault;
 
-// Room for `refused`, a fault's word and a number.
-type Line = ArrayVec<u8, 64>;
+/// Room for `refused`, the word of a fault or of a rule, and a number.
+pub type Line = ArrayVec<u8, 96>;
 
 /// Writes a text, and answers its status, or 4 where the sink fails.
 pub fn tell<W: Sink>(out: &mut W, text: &[u8], status: u8) -> u8
@@ -27,10 +27,10 @@ pub(crate) fn read_fault_line(fault: ReadFault) -> Line
     ensures { result.items ≡ refused (read_fault_words fault) }
 {
     match fault {
-        ReadFault::Cut(place) => numbered(b"cut ", place),
-        ReadFault::NoEnd => plain(b"no-end"),
-        ReadFault::AfterEnd(place) => numbered(b"after-end ", place),
-        ReadFault::EarlyPad(place) => numbered(b"early-pad ", place),
+        ReadFault::Cut(place) => numbered_line(b"cut ", place as u64),
+        ReadFault::NoEnd => refused_line(b"no-end"),
+        ReadFault::AfterEnd(place) => numbered_line(b"after-end ", place as u64),
+        ReadFault::EarlyPad(place) => numbered_line(b"early-pad ", place as u64),
     }
 }
 
@@ -40,15 +40,15 @@ pub(crate) fn mic_fault_line(fault: MicFault) -> Line
 {
     match fault {
         MicFault::Read(fault) => read_fault_line(fault),
-        MicFault::NoMic(code) => numbered(b"no-mic ", usize::from(code)),
-        MicFault::TwiceMic(code) => numbered(b"twice-mic ", usize::from(code)),
-        MicFault::MicLength(code) => numbered(b"mic-length ", usize::from(code)),
+        MicFault::NoMic(code) => numbered_line(b"no-mic ", u64::from(code)),
+        MicFault::TwiceMic(code) => numbered_line(b"twice-mic ", u64::from(code)),
+        MicFault::MicLength(code) => numbered_line(b"mic-length ", u64::from(code)),
     }
 }
 
-// A line with words alone.
-fn plain(words: &[u8]) -> Line
-    requires { length words.now ≤ 20 }
+/// The line of a refusal, by its words.
+pub fn refused_line(words: &[u8]) -> Line
+    requires { length words.now ≤ 64 }
     ensures { result.items ≡ refused words.now }
 {
     let mut line = ArrayVec::new();
@@ -58,9 +58,9 @@ fn plain(words: &[u8]) -> Line
     line
 }
 
-// A line with words and a number behind them.
-fn numbered(words: &[u8], number: usize) -> Line
-    requires { length words.now ≤ 20 }
+/// The line of a refusal, by its words and a number behind them.
+pub fn numbered_line(words: &[u8], number: u64) -> Line
+    requires { length words.now ≤ 45 }
     ensures { result.items ≡ refused (words.now ++ decimal number) }
 {
     let mut buffer = Buffer::new();
