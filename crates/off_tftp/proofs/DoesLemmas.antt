@@ -1,5 +1,5 @@
 -- What a datagram does, by the stages in which it is judged.
-use Rattle.std.proofs.Common.{◌≡◌, ℕ, ◌==◌, Bool, true, false, cond, List, [], Option, Some, None, option_and_then, Result, Ok, Err, is_ok, IfOk, OnOk, IfSome, MatchResult, refl, sym, ap, ◌∙◌, subst}
+use Rattle.std.proofs.Common.{◌≡◌, ℕ, ◌==◌, ◌&&◌, not, Bool, true, false, cond, is_some, List, [], Option, Some, None, option_and_then, Result, Ok, Err, is_ok, IfOk, OnOk, IfSome, MatchResult, refl, sym, ap, ◌∙◌, subst}
 use Rattle.std.proofs.lemmas.List.{append-nil}
 use Rattle.std.specs.FinMap as map
 use Rattle.off_base.specs.Tree.{Tree}
@@ -9,8 +9,9 @@ use Rattle.off_base.specs.declared.addresses.Peer.{Peer}
 use Rattle.off_base.specs.declared.macs.Mac.{Mac}
 use Rattle.off_defs.specs.declared.results.Sent.{Sent}
 use Rattle.off_defs.specs.declared.tables.Site.{Site}
+use Rattle.off_defs.specs.declared.tables.Modem.{Modem}
 use Rattle.off_defs.specs.State.{Tables, Said, Transfer}
-use Rattle.off_rules.specs.Rows.{site_in, lease_in}
+use Rattle.off_rules.specs.Rows.{passes, site_in, lease_in}
 use Rattle.off_file_rules.specs.Profile.{profile_in}
 use Rattle.off_file_laws.specs.Laws.{SpellsProfile}
 use Rattle.off_file_laws.proofs.LawLemmas.{profiles_spell, files_are_short}
@@ -21,15 +22,15 @@ use Rattle.off_outside.specs.declared.keeper.KeepErr.TheVariants.{Memory}
 use Rattle.off_outside.proofs.KeeperLemmas.{reads_as, reads_none, reads_forgotten}
 use Rattle.off_transfer_rules.specs.Packets.{Meant, GivesUp, packet_of}
 use Rattle.off_transfer_rules.specs.Transfers.{Transfers, has_no_room, is_at_last}
-use Rattle.off_transfer_rules.specs.View.{View, view, owner_by, agrees}
-use Rattle.off_transfer_rules.specs.Steps.{Way, Given, gives, GivesBy, Repeats, Finishes, GoesOn, BreaksOff, Ignores, TftpStep, way, way_of, way_anew, way_of_request, way_of_last, way_of_acknowledgement, ended, error_to, Denial, Denies}
+use Rattle.off_transfer_rules.specs.View.{View, view, owner_by, holder, is_own_name, agrees}
+use Rattle.off_transfer_rules.specs.Steps.{Way, Given, gives, GivesBy, Repeats, Finishes, GoesOn, BreaksOff, Ignores, Accepts, TftpStep, way, way_of, way_anew, way_for_modem, way_for_holder, no_lease, no_longer_agreed, file_not_found, too_many_transfers, way_of_request, way_of_last, way_of_acknowledgement, ended, error_to, Denial, Denies}
 use Rattle.off_transfer_rules.specs.declared.faults.PacketFault.{PacketFault}
 use Rattle.off_transfer_rules.specs.declared.words.TftpWord.{TftpWord}
 use Rattle.off_transfer_rules.specs.declared.words.TftpWord.TheVariants as word
 use Rattle.off_tftp.specs.declared.acknowledging.Stage.TheVariants as stage
 use Rattle.off_tftp.specs.Built.{CanBuild}
 use Rattle.off_tftp.specs.Saying.{says_more, Does, Answers}
-use Rattle.off_tftp.specs.Seen.{without_profile, CanServe}
+use Rattle.off_tftp.specs.Seen.{without_profile, names_file, seen_for, CanServe}
 use Rattle.off_tftp.specs.Stages.{repeats, lacks_room_by, stage_of}
 
 -- ---- by the answer
@@ -153,13 +154,42 @@ module _ (now : ℕ) (old new : Transfers) (from : Peer) (bytes : List ℕ) (sai
   anew_is v ip full name asked None is = refl
   anew_is v ip full name asked (Some x) is = sym (ap (λ b. cond b (Repeats x) (way_anew v now ip false name asked)) is)
 
+  -- a refusal goes by no profile
+  denies_as : (v : View) (d : Denial) (answered : TftpWord) → DoesSo (without_profile v) (Denies d) answered → DoesSo v (Denies d) answered
+  denies_as v d answered done = record { items = done.items; gave = done.gave; says = done.says }
+
+  unnamed_modem : (v : View) (ip : Ip4) (no_room : Bool) (name : List ℕ) (asked : Option ℕ) (mac : Mac) (m : Option Modem) (answered : TftpWord) → passes (is_own_name name mac ip) v.site ≡ false
+      → DoesSo (without_profile v) (way_for_modem (without_profile v) ip no_room name asked mac m) answered → DoesSo v (way_for_modem v ip no_room name asked mac m) answered
+  unnamed_modem v ip no_room name asked mac None answered wrong d = denies_as v no_longer_agreed answered d
+  unnamed_modem v ip no_room name asked mac (Some modem) answered wrong d =
+      let refused : (there : Bool) → cond (not (passes (is_own_name name mac ip) v.site && there)) (Denies file_not_found) (cond no_room (Denies too_many_transfers) (Accepts mac modem.subscriber name asked)) ≡ Denies file_not_found
+      = λ there. ap (λ b. cond (not (b && there)) (Denies file_not_found) (cond no_room (Denies too_many_transfers) (Accepts mac modem.subscriber name asked))) wrong in
+      does_as v (Denies file_not_found) (way_for_modem v ip no_room name asked mac (Some modem)) answered (sym (refused (is_some v.profile)))
+      (denies_as v file_not_found answered (does_as (without_profile v) (way_for_modem (without_profile v) ip no_room name asked mac (Some modem)) (Denies file_not_found) answered (refused false) d))
+
+  unnamed_holder : (v : View) (ip : Ip4) (no_room : Bool) (name : List ℕ) (asked : Option ℕ) (h : Option Mac) (answered : TftpWord) → passes (λ mac. passes (is_own_name name mac ip) v.site) h ≡ false
+      → DoesSo (without_profile v) (way_for_holder (without_profile v) ip no_room name asked h) answered → DoesSo v (way_for_holder v ip no_room name asked h) answered
+  unnamed_holder v ip no_room name asked None answered wrong d = denies_as v no_lease answered d
+  unnamed_holder v ip no_room name asked (Some mac) answered wrong d = unnamed_modem v ip no_room name asked mac v.modem answered wrong d
+
+  -- what is seen for a file, the whole or all but the profile
+  abbrev AnewDone : View → Ip4 → Bool → List ℕ → Option ℕ → Result TftpWord NoMemory → Type 0
+  AnewDone u ip no_room name asked step = CanServe u now ip → IfOk step (λ w. DoesSo u (way_anew u now ip no_room name asked) w)
+
+  seen_does : (v : View) (ip : Ip4) (no_room : Bool) (name : List ℕ) (asked : Option ℕ) (step : Result TftpWord NoMemory) (right : Bool) → names_file now ip name v ≡ right
+      → CanServe v now ip → AnewDone (cond right v (without_profile v)) ip no_room name asked step → IfOk step (λ w. DoesSo v (way_anew v now ip no_room name asked) w)
+  seen_does v ip no_room name asked step true is serves done = done serves
+  seen_does v ip no_room name asked step false is serves done =
+      if_ok_as step _ (λ w. DoesSo v (way_anew v now ip no_room name asked) w) (done (λ site profile s p. cc)) (λ w d. unnamed_holder v ip no_room name asked (holder now v) w is d)
+
   pub open_does : (v seen : View) (ip : Ip4) (full : Bool) (name : List ℕ) (asked : Option ℕ) (live : Option Transfer) (step : Result TftpWord NoMemory) → repeats bytes live ≡ false
-      → seen ≡ v → CanServe v now ip
+      → seen ≡ seen_for now ip name v → CanServe v now ip
       → (CanServe seen now ip → IfOk step (λ w. Does seen now old new from bytes (way_anew seen now ip (lacks_room_by full live) name asked) said after w))
       → IfOk step (λ w. Does v now old new from bytes (way_of_request v now ip full bytes name asked live) said after w)
   open_does v seen ip full name asked live step is e serves done =
       if_ok_as step _ (λ w. DoesSo v (way_of_request v now ip full bytes name asked live) w)
-      (subst (λ (u : View). CanServe u now ip → IfOk step (λ w. DoesSo u (way_anew u now ip (lacks_room_by full live) name asked) w)) e done serves)
+      (seen_does v ip (lacks_room_by full live) name asked step (names_file now ip name v) refl serves
+      (subst (λ (u : View). AnewDone u ip (lacks_room_by full live) name asked step) e done))
       (λ w d. does_as v (way_anew v now ip (lacks_room_by full live) name asked) (way_of_request v now ip full bytes name asked live) w (anew_is v ip full name asked live is) d)
 
   -- ---- the whole

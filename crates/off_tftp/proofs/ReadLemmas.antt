@@ -1,5 +1,5 @@
 -- Reads of the keeper, one after another.
-use Rattle.std.proofs.Common.{◌≡◌, ℕ, ◌+◌, ◌<◌, List, [], ◌∷◌, ◌++◌, zero, suc, take, Option, Some, None, option_map, option_and_then, Result, Ok, Err, MatchResult, refl, sym, ap, ◌∙◌, subst, arith}
+use Rattle.std.proofs.Common.{◌≡◌, cond, true, false, ℕ, ◌+◌, ◌<◌, List, [], ◌∷◌, ◌++◌, zero, suc, take, Option, Some, None, option_map, option_and_then, Result, Ok, Err, MatchResult, refl, sym, ap, ◌∙◌, subst, arith}
 use Rattle.std.specs.List.{filter_map, cons_option}
 use Rattle.std.proofs.lemmas.List.{append-nil}
 use Rattle.std.proofs.lemmas.List.Elements.{filter_map-append}
@@ -14,7 +14,7 @@ use Rattle.off_rules.specs.Rows.{site_in, modem_in, lease_in, add_on_in}
 use Rattle.off_file_rules.specs.Profile.{numbered_add_on, profile_in}
 use Rattle.off_transfer_rules.specs.View.{View, view, owner_by}
 use Rattle.off_tftp.specs.Listed.{with_add_on}
-use Rattle.off_tftp.specs.Seen.{without_profile, profile_for}
+use Rattle.off_tftp.specs.Seen.{without_profile, names_file, seen_for, IsNamed, profile_for}
 use Rattle.off_defs.specs.State.{Tables}
 use Rattle.off_outside.specs.KeeperSeen.{KeeperSeen}
 use Rattle.off_outside.specs.KeeperCalls.{Looks, Reads, NotDone}
@@ -88,3 +88,19 @@ all_is t ip site lease modem old profile seen is =
     ap (λ (v : View). seen_by v.site v.lease v.modem profile) seen
     ∙ ap (λ (p : Option (List Tree)). seen_by (view t ip).site (view t ip).lease (view t ip).modem p)
     (is ∙ ap (λ (v : View). profile_for t v.modem) seen ∙ profile_seen t ip)
+
+-- what a read request needs of it, by whether the name is right
+pub named_is : (t : Tables) (ip : Ip4) (now : ℕ) (name : List ℕ) (site : Option Site) (lease : Option Lease) (modem : Option Modem) (old profile : Option (List Tree))
+    → seen_by site lease modem old ≡ without_profile (view t ip) → names_file now ip name (seen_by site lease modem old) ≡ true
+    → profile ≡ profile_for t modem → seen_by site lease modem profile ≡ seen_for now ip name (view t ip)
+named_is t ip now name site lease modem old profile seen right is =
+    all_is t ip site lease modem old profile seen is
+    ∙ sym (ap (λ b. cond b (view t ip) (without_profile (view t ip))) (ap (names_file now ip name) (sym seen) ∙ right))
+
+pub unnamed_is : (v seen : View) (ip : Ip4) (now : ℕ) (name : List ℕ) → seen ≡ without_profile v → names_file now ip name seen ≡ false → seen ≡ seen_for now ip name v
+unnamed_is v seen ip now name is wrong =
+    is ∙ sym (ap (λ b. cond b v (without_profile v)) (ap (names_file now ip name) (sym is) ∙ wrong))
+
+pub named_with : (now : ℕ) (ip : Ip4) (name : List ℕ) (site : Option Site) (lease : Option Lease) (modem : Option Modem) (old profile : Option (List Tree))
+    → names_file now ip name (seen_by site lease modem old) ≡ true → IsNamed now ip name (seen_by site lease modem profile)
+named_with now ip name site lease modem old profile right = λ there. right

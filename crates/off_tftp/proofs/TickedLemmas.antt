@@ -1,7 +1,9 @@
 -- A Tick over transfers as they are held, from the last one on.
-use Rattle.std.proofs.Common.{◌≡◌, ℕ, zero, suc, ◌+◌, ◌-◌, ◌<◌, ◌≤◌, Bool, true, false, cond, not, ◌&&◌, List, [], ◌∷◌, ◌++◌, length, length-append, take, drop, Option, Some, None, count_by, slice_get, slice_index_or, slice_set, refl, sym, ap, ◌∙◌, subst, arith}
+use Rattle.std.proofs.Common.{◌≡◌, ℕ, zero, suc, ◌+◌, ◌-◌, ◌<◌, ◌≤◌, Bool, true, false, cond, not, ◌&&◌, List, [], ◌∷◌, ◌++◌, length, length-append, take, drop, Option, Some, None, count_by, slice_get, slice_index_or, slice_set, refl, sym, ap, ◌∙◌, subst, ◌==◌, option_and_then, arith}
 use Rattle.std.specs.List.{flat_map}
 use Rattle.std.specs.FinMap as map
+use Rattle.std.proofs.lemmas.Bool.{eqb-true}
+use Rattle.std.proofs.lemmas.List.{append-nil}
 use Rattle.std.proofs.lemmas.List.Sums.{sum_by-cons}
 use Rattle.off_base.specs.declared.addresses.Peer.{Peer}
 use Rattle.off_defs.specs.State.{Transfer, Said, peer_cmp}
@@ -11,7 +13,8 @@ use Rattle.off_transfer_rules.specs.Ticks.{is_due, has_resend, is_resent, is_clo
 use Rattle.off_transfer_rules.proofs.KeptLemmas.{left_of, sorted_kept, left_at as their_left}
 use Rattle.off_transfer_rules.proofs.TickLemmas.{tick_entry, items_counted, closed_counted, ticked_entries}
 use Rattle.off_tftp.specs.Kept.{Entries, AreKept, left_at, tick_left, ticked_list}
-use Rattle.off_tftp.specs.Saying.{says_more, Ticks}
+use Rattle.off_transfer_rules.specs.Ticks.{TickStep}
+use Rattle.off_tftp.specs.Saying.{says_more, nothing_ticked, Ticks}
 use Rattle.off_tftp.proofs.EntryLemmas.{true_T, T_true, entries_kept, opened, set_opened}
 
 -- ---- one more of a list
@@ -158,3 +161,35 @@ ticks_are now xs es fs said out new a b before after sorted is made copied pushe
       };
       says = pushed ∙ ap (λ (s : Said). says_more s (flat_map (tick_items now) es)) copied ∙ ap (λ (l : Entries). says_more out (flat_map (tick_items now) l)) (sym entries);
     }
+
+-- ---- where no transfer is live
+
+no_entries : (es : Entries) → length es ≡ 0 → es ≡ []
+no_entries [] none = refl
+no_entries (e ∷ es) none = absurd (omega (arith, none))
+
+none_live : map.entries (map.empty {X = Transfer} {R = peer_cmp}) ≡ []
+none_live = no_entries (map.entries map.empty) (sym (map.len-entries map.empty) ∙ map.len-empty peer_cmp Transfer)
+
+idle_step : (now : ℕ) → TickStep now map.empty map.empty [] nothing_ticked
+idle_step now = record {
+  each = λ peer. map.get-empty peer_cmp peer ∙ sym (ap (option_and_then (tick_of now)) (map.get-empty peer_cmp peer));
+  sends = sym (ap (flat_map (tick_items now)) none_live);
+  again = sym (ap (count_by (λ (live : Peer × Transfer). is_resent now live.1)) none_live);
+  closed = sym (ap (count_by (λ (live : Peer × Transfer). is_closed now live.1)) none_live);
+}
+
+pub idle_ticks : (now : ℕ) (xs : Transfers) (said : Said) (idle : Bool) → idle ≡ (map.len xs == 0) → idle ≡ true → Ticks now xs xs said said nothing_ticked
+idle_ticks now xs said idle is holds =
+    let none : xs ≡ map.empty = map.empty_of_len xs (eqb-true (map.len xs) 0 (sym is ∙ holds)) in
+    record {
+      items = [];
+      step = subst (λ (x : Transfers). TickStep now x x [] nothing_ticked) (sym none) (idle_step now);
+      says = ap (λ (l : List Sent). record said { items = l }) (sym (append-nil said.items));
+    }
+
+pub not_idle : (xs : Transfers) (idle : Bool) → idle ≡ (map.len xs == 0) → idle ≡ false → xs ≡ map.empty → ⊥
+not_idle xs idle is fails none =
+    let zero_len : map.len xs ≡ 0 = ap map.len none ∙ map.len-empty peer_cmp Transfer in
+    let both : false ≡ true = sym fails ∙ is ∙ ap (λ n. n == 0) zero_len in
+    cc

@@ -26,6 +26,10 @@ pub record Answers (tables : Tables) (now : ℕ) (old new : Transfers) (from : P
   pub step : TftpStep tables now old from bytes (gives new items word)
   pub says : after ≡ says_more said items
 
+-- a Tick that found nothing to do
+abbrev pub nothing_ticked : Ticked
+nothing_ticked = record { again = 0; closed = 0 }
+
 -- what is done in one way, by what is read for the peer
 pub record Does (v : View) (now : ℕ) (old new : Transfers) (from : Peer) (bytes : List ℕ)
     (way : Way) (said after : Said) (word : TftpWord) : Type 0 where

@@ -1,5 +1,5 @@
 -- What is read for a peer, as it is judged; and the profile of rows that were read.
-use Rattle.std.specs.Prelude.{◌≡◌, ℕ, List, Option, Some, None, option_map, option_and_then, if◌then◌else◌}
+use Rattle.std.specs.Prelude.{◌≡◌, ℕ, Bool, List, Option, Some, None, is_some, true, option_map, option_and_then, if◌then◌else◌}
 use Rattle.off_base.specs.Tree.{Tree}
 use Rattle.off_base.specs.declared.addresses.Ip4.{Ip4}
 use Rattle.off_base.specs.declared.macs.Mac.{Mac}
@@ -9,9 +9,10 @@ use Rattle.off_defs.specs.declared.tables.Class.{Class}
 use Rattle.off_defs.specs.declared.tables.Modem.{Modem}
 use Rattle.off_defs.specs.declared.tables.Lease.{Lease}
 use Rattle.off_defs.specs.State.{Tables}
+use Rattle.off_rules.specs.Rows.{passes}
 use Rattle.off_lease_rules.specs.Free.{has_ended}
 use Rattle.off_file_rules.specs.Profile.{profile_of, profile_at}
-use Rattle.off_transfer_rules.specs.View.{View, bound_to}
+use Rattle.off_transfer_rules.specs.View.{View, bound_to, holder, is_own_name}
 use Rattle.off_tftp.specs.Built.{CanBuild}
 use Rattle.off_tftp.specs.declared.gathering.Seen.{Seen}
 
@@ -22,6 +23,22 @@ view_of seen =
 -- all of it but the profile, which an acknowledgement doesn't need
 abbrev pub without_profile : View → View
 without_profile v = record v { profile = None }
+
+-- the name is that of the file of the modem to which the address is bound
+abbrev pub names_file : ℕ → Ip4 → List ℕ → View → Bool
+names_file now ip name v = passes (λ mac. passes (is_own_name name mac ip) v.site) (holder now v)
+
+-- what a read request needs: the profile only where the name is right
+abbrev pub seen_for : ℕ → Ip4 → List ℕ → View → View
+seen_for now ip name v = if names_file now ip name v then v else without_profile v
+
+-- where a profile was read, the name is right
+abbrev pub IsNamed : ℕ → Ip4 → List ℕ → View → Type 0
+IsNamed now ip name v = is_some v.profile ≡ true → names_file now ip name v ≡ true
+
+-- where a profile was read, the name is that of the modem's file
+abbrev pub HasName : Ip4 → List ℕ → Mac → View → Type 0
+HasName ip name mac v = is_some v.profile ≡ true → passes (is_own_name name mac ip) v.site ≡ true
 
 -- the modem to which a lease binds at a moment
 abbrev pub held_by : ℕ → Option Lease → Option Mac

@@ -14,7 +14,7 @@ ghost use Rattle.off_tftp.specs.Calls.{datagram_calls, reading_calls, acknowledg
 ghost use Rattle.off_tftp.specs.Saying.{says_more, Answers, Does};
 
 use crate::acknowledging::Stage;
-use crate::gathering::{look, look_at_all};
+use crate::gathering::{look, look_for_file};
 use crate::packets::read_packet;
 use crate::saying::deny;
 use crate::transfers::Transfers;
@@ -95,7 +95,7 @@ impl Transfers {
         if self.repeats(from, bytes) {
             return settled(self.repeat(alloc, now, from, out));
         }
-        let seen = look_at_all(alloc, keeper, from.ip)?;
+        let seen = look_for_file(alloc, keeper, now, from.ip, name)?;
         settled(self.open(alloc, &seen, now, from, bytes, name, size, out))
     }
 

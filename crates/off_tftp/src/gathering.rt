@@ -1,15 +1,18 @@
 //! What is read of the tables for a peer.
 
-ghost use Rattle.std.specs.Prelude.{◌≡◌, ◌++◌, ◌∷◌, [], None, Ok, option_and_then, MatchResult};
+ghost use Rattle.std.specs.Prelude.{◌≡◌, ◌++◌, ◌∷◌, [], None, Ok, option_and_then, IfOk};
+ghost use Rattle.std.specs.Prelude.{MatchResult};
 ghost use Rattle.off_rules.specs.Rows.{modem_in};
 ghost use Rattle.off_file_rules.specs.Profile.{profile_at, add_ons_in};
 ghost use Rattle.off_transfer_rules.specs.View.{view, owner_by};
-ghost use Rattle.off_tftp.specs.Seen.{view_of, without_profile, profile_from, profile_for};
+ghost use Rattle.off_tftp.specs.Seen.{view_of, without_profile, seen_for, IsNamed};
+ghost use Rattle.off_tftp.specs.Seen.{profile_from, profile_for};
 ghost use Rattle.off_tftp.specs.Listed.{with_add_on};
 ghost use Rattle.off_outside.specs.declared.keeper.KeepErr.TheVariants.{Memory};
 ghost use Rattle.off_outside.specs.KeeperCalls.{Looks, Spent};
 
-use off_base::{Ip4, Mac, NoMemory, Settings};
+use crate::judging::names_file;
+use off_base::{Ip4, Mac, Moment, NoMemory, Settings};
 use off_defs::{Class, Lease, Modem, Site, Subscriber};
 use off_outside::{KeepErr, Keeper};
 use off_profile::{AddOns, profile_of};
@@ -36,6 +39,7 @@ pub(crate) struct Seen {
 pub(crate) fn look<K: Keeper>(alloc: Global, keeper: &mut K, ip: Ip4) -> Result<Seen, KeepErr>
     ensures told { Looks result (K.seen keeper.old) (K.seen keeper.new)
         (λ seen t. view_of seen ≡ without_profile (view t ip)) }
+    ensures bare { IfOk result (λ seen. seen.profile ≡ None) }
     ensures spent { Spent 3 (K.seen keeper.old) (K.seen keeper.new) }
 {
     let site = read_site(alloc, keeper)?;
@@ -49,18 +53,25 @@ pub(crate) fn look<K: Keeper>(alloc: Global, keeper: &mut K, ip: Ip4) -> Result<
     })
 }
 
-/// All of it. It's thirteen calls.
+/// What a request for a file needs of it. It's three calls, and ten more for the profile, which is
+/// read only where the name is right: a wrong one costs little.
 #[tactic(auto, using(crate::proofs::ReadLemmas::readings))]
-pub(crate) fn look_at_all<K: Keeper>(
+pub(crate) fn look_for_file<K: Keeper>(
     alloc: Global,
     keeper: &mut K,
+    now: Moment,
     ip: Ip4,
+    name: &[u8],
 ) -> Result<Seen, KeepErr>
     ensures told { Looks result (K.seen keeper.old) (K.seen keeper.new)
-        (λ seen t. view_of seen ≡ view t ip) }
+        (λ seen t. view_of seen ≡ seen_for now.0 ip name.now (view t ip)) }
+    ensures named { IfOk result (λ seen. IsNamed now.0 ip name.now (view_of seen)) }
     ensures spent { Spent 13 (K.seen keeper.old) (K.seen keeper.new) }
 {
     let mut seen = look(alloc, keeper, ip)?;
+    if !names_file(&seen, now, ip, name) {
+        return Ok(seen);
+    }
     let profile = read_profile(alloc, keeper, &seen.modem)?;
     seen.profile = profile;
     Ok(seen)

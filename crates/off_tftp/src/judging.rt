@@ -5,8 +5,7 @@ ghost use Rattle.off_rules.specs.Rows.{passes};
 ghost use Rattle.off_rules.specs.Good.{is_mac};
 ghost use Rattle.off_lease_rules.specs.Free.{has_ended};
 ghost use Rattle.off_transfer_rules.specs.View.{bound_to, is_own_name, is_of_subscriber, agrees};
-ghost use Rattle.off_transfer_rules.specs.Steps.{has_file};
-ghost use Rattle.off_tftp.specs.Seen.{view_of, held_by};
+ghost use Rattle.off_tftp.specs.Seen.{view_of, held_by, names_file};
 
 use crate::gathering::Seen;
 use crate::live::Live;
@@ -25,11 +24,14 @@ pub(crate) fn agrees(seen: &Seen, now: Moment, ip: Ip4, live: &Live) -> bool
         && is_own_name(&seen.site, live.name(), live.modem(), ip)
 }
 
-/// Whether the modem has a file of this name at the address.
-pub(crate) fn has_file(seen: &Seen, ip: Ip4, name: &[u8], mac: Mac) -> bool
-    ensures { result ≡ has_file (view_of seen.now) ip name.now mac }
+/// Whether the name is that of the file of the modem to which the address is bound.
+pub(crate) fn names_file(seen: &Seen, now: Moment, ip: Ip4, name: &[u8]) -> bool
+    ensures { result ≡ names_file now.0 ip name.now (view_of seen.now) }
 {
-    is_own_name(&seen.site, name, mac, ip) && seen.profile.is_some()
+    match holder(now, seen.lease) {
+        Some(mac) => is_own_name(&seen.site, name, mac, ip),
+        None => false,
+    }
 }
 
 /// The modem to which a lease binds.

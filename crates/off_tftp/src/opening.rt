@@ -8,12 +8,12 @@ ghost use Rattle.off_transfer_rules.specs.Transfers.{begun, first_word};
 ghost use Rattle.off_tftp.specs.Kept.{HasPlaceFor};
 ghost use Rattle.off_tftp.specs.Opened.{IsBegun};
 ghost use Rattle.off_tftp.specs.Saying.{says_more, Does};
-ghost use Rattle.off_tftp.specs.Seen.{view_of, CanServe};
+ghost use Rattle.off_tftp.specs.Seen.{view_of, IsNamed, HasName, CanServe};
 ghost use Rattle.off_tftp.specs.Stages.{lacks_room};
 
 use crate::files::File;
 use crate::gathering::Seen;
-use crate::judging::{has_file, holder};
+use crate::judging::holder;
 use crate::live::Live;
 use crate::saying::{deny, packet_to};
 use crate::transfers::Transfers;
@@ -35,7 +35,8 @@ impl Transfers {
         size: Option<u16>,
         out: &mut Replies,
     ) -> Result<TftpWord, NoMemory>
-        requires { IfSome size (λ size. 8 ≤ size) }
+        requires least { IfSome size (λ size. 8 ≤ size) }
+        requires named { IsNamed now.0 from.ip name.now (view_of seen.now) }
         ensures done { CanServe (view_of seen.now) now.0 from.ip → IfOk result
             (Does (view_of seen.now) now.0 self.old self.new from bytes.now
             (way_anew (view_of seen.now) now.0 from.ip (lacks_room self.old from) name.now size)
@@ -76,7 +77,8 @@ impl Transfers {
         size: Option<u16>,
         out: &mut Replies,
     ) -> Result<TftpWord, NoMemory>
-        requires { IfSome size (λ size. 8 ≤ size) }
+        requires least { IfSome size (λ size. 8 ≤ size) }
+        requires named { HasName from.ip name.now mac (view_of seen.now) }
         ensures done { (modem : ModemSeen) → modem.subscriber ≡ subscriber
             → CanServe (view_of seen.now) now.0 from.ip → IfOk result
             (Does (view_of seen.now) now.0 self.old self.new from bytes.now
@@ -85,7 +87,7 @@ impl Transfers {
         ensures kept { OnErr result (self.new ≡ self.old) }
         ensures unsaid { OnErr result (out.new ≡ out.old) }
     {
-        if !has_file(seen, from.ip, name, mac) {
+        if seen.profile.is_none() {
             return deny(alloc, from, 1, b"file not found", TftpWord::Name, out);
         }
         if self.lacks_room(from) {

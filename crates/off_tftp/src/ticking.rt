@@ -1,15 +1,16 @@
 //! What a Tick does: packets that weren't answered are sent again, and transfers of which nothing
 //! came for too long are closed.
 
-ghost use Rattle.std.specs.Prelude.{◌≡◌, ◌+◌, ◌≤◌, ◌<◌, ◌++◌, suc, take, drop, vec_len, IfOk, OnOk};
+ghost use Rattle.std.specs.Prelude.{◌≡◌, ◌+◌, ◌≤◌, ◌<◌, ◌++◌, suc, take, drop, vec_len, Ok, IfOk, OnOk};
 ghost use Rattle.std.specs.Prelude.{OnErr, slice_index_or};
 ghost use Rattle.std.specs.List.{flat_map};
 ghost use Rattle.std.specs.Vec.{vec_capacity};
+ghost use Rattle.std.specs.FinMap as map;
 ghost use Rattle.off_base.specs.declared.addresses.Peer.{Peer as PeerSeen};
 ghost use Rattle.off_defs.specs.State.{Transfer};
 ghost use Rattle.off_transfer_rules.specs.Ticks.{tick_items};
 ghost use Rattle.off_tftp.specs.Kept.{tick_left, ticked_list};
-ghost use Rattle.off_tftp.specs.Saying.{says_more, Ticks};
+ghost use Rattle.off_tftp.specs.Saying.{says_more, nothing_ticked, Ticks};
 
 use crate::live::Live;
 use crate::saying::{copy_said, packet_to};
@@ -20,7 +21,8 @@ use off_transfer_rules::Ticked;
 use std::alloc::Global;
 
 impl Transfers {
-    /// What a Tick does at a moment. After `NoMemory` the transfers and `out` are as before.
+    /// What a Tick does at a moment. Where no transfer is live it takes no memory. After `NoMemory`
+    /// the transfers and `out` are as before.
     pub fn on_tick(
         &mut self,
         alloc: Global,
@@ -28,9 +30,16 @@ impl Transfers {
         out: &mut Replies,
     ) -> Result<Ticked, NoMemory>
         ensures ticks { IfOk result (Ticks now.0 self.old self.new out.old out.new) }
+        ensures idle { self.old ≡ map.empty → result ≡ Ok nothing_ticked }
         ensures kept { OnErr result (self.new ≡ self.old) }
         ensures unsaid { OnErr result (out.new ≡ out.old) }
     {
+        if self.is_empty() {
+            return Ok(Ticked {
+                again: 0,
+                closed: 0,
+            });
+        }
         let mut said = copy_said(alloc, out)?;
         push_due(alloc, &self.live, now, &mut said)?;
         let again = said.len() - out.len();

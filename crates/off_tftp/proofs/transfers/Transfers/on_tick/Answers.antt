@@ -1,5 +1,5 @@
 use Rattle.std.proofs.Common.{arith}
-use Rattle.off_tftp.proofs.TickedLemmas.{again_few, sorted_ticked, ticks_are}
+use Rattle.off_tftp.proofs.TickedLemmas.{again_few, sorted_ticked, ticks_are, idle_ticks, not_idle}
 use Rattle.off_tftp.proofs.transfers.Transfers.on_tick.Goals as goal
 
 pub overflow_cast-result : goal.overflow_cast-result
@@ -20,3 +20,19 @@ returns-clause-ticks c =
     ticks_are c.args.now.0 c.args.self.now c.self.inside.live.items c.tick_all.new.entries.items c.in_ok-said.said c.args.out.now c.push_due.new.out c.len.result c.len-2.result c.len-before.result c.len-3.result
     c.self.invariant.0 c.self.view_is c.tick_all.ensures.items c.in_ok-said.ensures c.in_ok-push_due.ensures c.len.ensures c.len-2.ensures
     (omega (arith, c.len-before.ensures, c.self.inside.live.ok.0)) (omega (arith, c.len-3.ensures, c.tick_all.new.entries.ok.0))
+
+pub returns-then-is_empty-clause-ticks : goal.returns-then-is_empty-clause-ticks
+returns-then-is_empty-clause-ticks c =
+    idle_ticks c.args.now.0 c.args.self.now c.args.out.now c.is_empty.result c.is_empty.ensures c.if-is_empty.true
+
+pub returns-in_err-said-clause-idle : goal.returns-in_err-said-clause-idle
+returns-in_err-said-clause-idle c none =
+    absurd (not_idle c.args.self.now c.is_empty.result c.is_empty.ensures c.if-is_empty.false none)
+
+pub returns-in_err-push_due-clause-idle : goal.returns-in_err-push_due-clause-idle
+returns-in_err-push_due-clause-idle c none =
+    absurd (not_idle c.args.self.now c.is_empty.result c.is_empty.ensures c.if-is_empty.false none)
+
+pub returns-clause-idle : goal.returns-clause-idle
+returns-clause-idle c none =
+    absurd (not_idle c.args.self.now c.is_empty.result c.is_empty.ensures c.if-is_empty.false none)
