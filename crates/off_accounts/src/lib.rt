@@ -6,5 +6,5 @@
 
 pub use off_deciding::{AccountErr, Planned};
 pub use off_import_deciding::decide;
-pub use off_opening::{count_rows, first_bad};
+pub use off_opening::{Opening, count_rows, first_bad, open_tables};
 pub use off_rules::Counts;

@@ -1,4 +1,3 @@
-pub mod CountingLemmas
-pub mod OpeningLemmas
+pub mod MarkLemmas
 pub mod OrderLemmas
-pub mod PoolLemmas
+pub mod StandingLemmas

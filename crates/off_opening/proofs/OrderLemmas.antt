@@ -1,15 +1,24 @@
 -- Entries in the order of their keys, over any total order in which tied keys are equal: the row of a key is that of its entry, and the first
 -- entry that passes a test is below all others that do.
-use Rattle.std.proofs.Common.{◌≡◌, Bool, true, false, cond, ◌⊎◌, inl, inr, Some, None, unwrap_or, List, [], ◌∷◌, refl, sym, ap, subst, ◌∙◌}
+use Rattle.std.proofs.Common.{◌≡◌, ℕ, zero, suc, ◌<◌, ◌≤◌, true, false, cond, ◌⊎◌, inl, inr, Some, None, unwrap_or, List, [], ◌∷◌, length, refl, sym, ap, subst, ◌∙◌, arith}
+use Rattle.std.specs.Prelude.{slice_index_or}
 use lib.Dec.{T}
-use Rattle.std.specs.List.{find}
-use Rattle.std.specs.Ordering.{is_eq, eq_by_cmp, ordering_reverse}
+use Rattle.std.specs.Ordering.{is_eq, eq_by_cmp, ordering_reverse, ordering_index}
 use Rattle.std.specs.Cmp.{IsTotalOrder, tied_itself}
 use Rattle.std.specs.declared.cmp.Ordering.{Ordering}
-use Rattle.std.specs.declared.cmp.Ordering.TheVariants.{Less, Greater}
+use Rattle.std.specs.declared.cmp.Ordering.TheVariants.{Less, Equal, Greater}
 use Rattle.std.specs.FinMap.{IsAntisymmetric}
 use Rattle.std.specs.FinMap.Entries as list
 use Rattle.off_defs.proofs.EntryLemmas.{is_less, is_equal, holds, first, second}
+
+-- of two places the one is below the other, or not; and where it isn't above, it's the same or below
+pub below_or_not : (i j : ℕ) → (i < j) ⊎ (j ≤ i)
+below_or_not i zero = inr (omega arith)
+below_or_not zero (suc j) = inl (omega arith)
+below_or_not (suc i) (suc j) = elim (below_or_not i j) [ inl less ↦ inl (omega (arith, less)) | inr not ↦ inr (omega (arith, not)) ]
+
+same_or_below : (i j : ℕ) → i ≤ j → (i ≡ j) ⊎ (i < j)
+same_or_below i j below = elim (below_or_not i j) [ inl less ↦ inr less | inr not ↦ inl (omega (arith, below, not)) ]
 
 -- it is one of the list
 abbrev pub Among : {A : Type 0} → A → List A → Type 0
@@ -19,22 +28,35 @@ Among x (y ∷ ys) = (x ≡ y) ⊎ Among x ys
 same_some : {A : Type 0} (x y : A) → Some x ≡ Some y → x ≡ y
 same_some x y e = ap (λ v. unwrap_or v x) e
 
-pub found_among : {A : Type 0} (p : A → Bool) (xs : List A) (x : A) → find p xs ≡ Some x → Among x xs
-found_among p [] x f = cc
-found_among p (y ∷ ys) x f =
-    elim (p y) as (λ b. cond b (Some y) (find p ys) ≡ Some x → (x ≡ y) ⊎ Among x ys) [
-      | true ↦ λ f. inl (sym (same_some y x f))
-      | false ↦ λ f. inr (found_among p ys x f)
-    ] f
+module _ {K : Type 0} (R : K → K → Ordering) (o : IsTotalOrder R) where
+  turn : (x y : K) → R x y ≡ Less → R y x ≡ Greater
+  turn x y less = o.antisymm y x ∙ ap ordering_reverse less
 
--- where nothing is found, nothing passes
-pub none_passes : {A : Type 0} (p : A → Bool) (xs : List A) (x : A) → find p xs ≡ None → Among x xs → p x ≡ false
-none_passes p [] x f among = absurd among
-none_passes p (y ∷ ys) x f among =
-    elim (p y) as (λ b. p y ≡ b → cond b (Some y) (find p ys) ≡ None → p x ≡ false) [
-      | true ↦ λ is f. cc
-      | false ↦ λ is f. elim among [ inl same ↦ ap p same ∙ is | inr later ↦ none_passes p ys x f later ]
-    ] refl f
+  turn_back : (x y : K) → R x y ≡ Greater → R y x ≡ Less
+  turn_back x y more = o.antisymm y x ∙ ap ordering_reverse more
+
+  still_above : (x y q : K) → R x y ≡ Less → R x q ≡ Greater → R y q ≡ Greater
+  still_above x y q less more = turn q y (o.trans q x y (turn_back x q more) less)
+
+  equal_above : (x y q : K) → R x y ≡ Less → R x q ≡ Equal → R y q ≡ Greater
+  equal_above x y q less same = turn q y (sym (o.congr x q y same) ∙ less)
+
+  -- compared with one key, keys that rise are first less, then equal, then greater
+  index_rises : (x y q : K) → R x y ≡ Less → ordering_index (R x q) ≤ ordering_index (R y q)
+  index_rises x y q less =
+      elim (R x q) as (λ r. R x q ≡ r → ordering_index r ≤ ordering_index (R y q)) [
+        | Less ↦ λ is. omega arith
+        | Equal ↦ λ is. subst (λ (r : Ordering). 1 ≤ ordering_index r) (sym (equal_above x y q less is)) (omega arith)
+        | Greater ↦ λ is. subst (λ (r : Ordering). 2 ≤ ordering_index r) (sym (still_above x y q less is)) (omega arith)
+      ] refl
+
+  -- one that is less or greater isn't equal
+  pub not_equal : (x q : K) → (R x q ≡ Less) ⊎ (R x q ≡ Greater) → eq_by_cmp R q x ≡ false
+  not_equal x q apart =
+      elim apart [
+        | inl less ↦ ap is_eq (turn x q less)
+        | inr more ↦ ap is_eq (turn_back x q more)
+      ]
 
 module _ {K X : Type 0} (R : K → K → Ordering) where
   below_among : (k : K) (es : List (K × X)) (e : K × X) → T (list.below_all R k es) → Among e es → R k e.0 ≡ Less
@@ -70,22 +92,46 @@ module _ {K X : Type 0} (R : K → K → Ordering) where
               ∙ row_of e es (second _ _ h) later
         ]
 
-    -- the first entry that passes is the only one, or below the other
-    pub first_least : (p : K × X → Bool) (es : List (K × X)) (e x : K × X) → T (list.is_sorted R es) → find p es ≡ Some e → Among x es → p x ≡ true → (x ≡ e) ⊎ (R e.0 x.0 ≡ Less)
-    first_least p [] e x h f among passes = cc
-    first_least p (y ∷ es) e x h f among passes =
-        elim (p y) as (λ b. p y ≡ b → cond b (Some y) (find p es) ≡ Some e → (x ≡ e) ⊎ (R e.0 x.0 ≡ Less)) [
-          | true ↦ λ is f. let same : y ≡ e = same_some y e f in
-              elim among [
-                | inl here ↦ inl (here ∙ same)
-                | inr later ↦ inr (subst (λ (v : K × X). R v.0 x.0 ≡ Less) same (below_among y.0 es x (first _ _ h) later))
-              ]
-          | false ↦ λ is f.
-              elim among [
-                | inl here ↦ let t : p y ≡ true = ap p (sym here) ∙ passes in cc
-                | inr later ↦ first_least p es e x (second _ _ h) f later passes
-              ]
-        ] refl f
+    -- keys rise from place to place
+    above_first : (k : K) (es : List (K × X)) (j : ℕ) (d : K × X) → T (list.below_all R k es) → j < length es → R k (slice_index_or es j d).0 ≡ Less
+    above_first k [] j d h within = absurd (omega (arith, within))
+    above_first k (x ∷ es) zero d h within = is_less (R k x.0) (holds _ (first _ _ h))
+    above_first k (x ∷ es) (suc j) d h within = above_first k es j d (second _ _ h) (omega (arith, within))
+
+    pub rises : (es : List (K × X)) (i j : ℕ) (d : K × X) → T (list.is_sorted R es) → i < j → j < length es → R (slice_index_or es i d).0 (slice_index_or es j d).0 ≡ Less
+    rises [] i j d h below within = absurd (omega (arith, within))
+    rises (x ∷ es) zero zero d h below within = absurd (omega (arith, below))
+    rises (x ∷ es) zero (suc j) d h below within = above_first x.0 es j d (first _ _ h) (omega (arith, within))
+    rises (x ∷ es) (suc i) zero d h below within = absurd (omega (arith, below))
+    rises (x ∷ es) (suc i) (suc j) d h below within = rises es i j d (second _ _ h) (omega (arith, below)) (omega (arith, within))
+
+    -- what stands at a place, and at which place what is among them stands
+    pub among_at : (es : List (K × X)) (i : ℕ) (d : K × X) → i < length es → Among (slice_index_or es i d) es
+    among_at [] i d within = absurd (omega (arith, within))
+    among_at (x ∷ es) zero d within = inl refl
+    among_at (x ∷ es) (suc i) d within = inr (among_at es i d (omega (arith, within)))
+
+    pub place_of : (e : K × X) (es : List (K × X)) (d : K × X) → Among e es → (i : ℕ) × (i < length es) × (slice_index_or es i d ≡ e)
+    place_of e [] d among = absurd among
+    place_of e (x ∷ es) d among =
+        elim among [
+          | inl same ↦ (0, omega arith, sym same)
+          | inr later ↦ let p = place_of e es d later in (suc p.0, omega (arith, p.1), p.2)
+        ]
+
+    -- a key from which all others differ has no row
+    pub none_of : (q : K) (es : List (K × X)) → ((e : K × X) → Among e es → eq_by_cmp R q e.0 ≡ false) → list.find R q es ≡ None
+    none_of q [] differ = refl
+    none_of q (x ∷ es) differ =
+        ap (λ b. cond b (Some x.1) (list.find R q es)) (differ x (inl refl)) ∙ none_of q es (λ e among. differ e (inr among))
+
+    pub indexes_rise : (es : List (K × X)) (i j : ℕ) (d : K × X) (q : K) → T (list.is_sorted R es) → i ≤ j → j < length es
+        → ordering_index (R (slice_index_or es i d).0 q) ≤ ordering_index (R (slice_index_or es j d).0 q)
+    indexes_rise es i j d q h below within =
+        elim (same_or_below i j below) [
+          | inl same ↦ subst (λ (n : ℕ). ordering_index (R (slice_index_or es i d).0 q) ≤ ordering_index (R (slice_index_or es n d).0 q)) same (omega arith)
+          | inr less ↦ index_rises R o (slice_index_or es i d).0 (slice_index_or es j d).0 q (rises es i j d h less within)
+        ]
 
 pub not_both : {K : Type 0} (R : K → K → Ordering) → IsTotalOrder R → (a b : K) → R a b ≡ Less → R b a ≡ Less → ⊥
 not_both R o a b p q =

@@ -1,10 +1,13 @@
 //! The test of the tables when the office opens: their least bad key, and how many rows there are.
+//!
+//! The rows are walked once. What other rows are compared with is kept of each, in the order of
+//! keys, and the lines are tested on that.
 #![tactic(auto)]
 
 mod counting;
-mod gathering;
+mod marks;
 mod opening;
 mod standing;
 
 pub use counting::count_rows;
-pub use opening::first_bad;
+pub use opening::{Opening, first_bad, open_tables};

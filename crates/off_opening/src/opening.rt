@@ -1,60 +1,90 @@
-ghost use Rattle.std.specs.Prelude.{◌≡◌};
+ghost use Rattle.std.specs.Prelude.{◌≡◌, IfOk, IfErr};
+ghost use Rattle.off_defs.specs.State.{Tables};
 ghost use Rattle.off_outside.specs.KeeperCalls.{Looks};
-ghost use Rattle.off_rules.specs.Good.{raw_pools, keeps, Judged};
+ghost use Rattle.off_rules.specs.Good.{raw_pools, Judged};
+ghost use Rattle.off_opening.specs.Marks.{marks_of};
+ghost use Rattle.off_opening.specs.Standing.{Opens};
 
-use crate::gathering::raw_pools;
+use crate::counting::counts_in;
+use crate::marks::{Mark, pools_in, read_marks};
 use crate::standing::keeps;
-use off_defs::{Key, Pool, Row};
+use off_defs::{Key, Pool};
 use off_outside::{KeepErr, Keeper};
-use off_readers::next_behind;
+use off_rules::Counts;
 use std::alloc::Global;
+
+/// What the tables are when the office opens.
+#[derive(Clone, Copy, Debug, PartialEq, Eq)]
+pub enum Opening {
+    /// They aren't good, and this is the least key whose row is bad.
+    Bad(Key),
+    /// They are good, and have so many rows of each kind.
+    Good(Counts),
+}
+
+/// Tests the tables and counts their rows, in one walk over them. It changes nothing.
+///
+/// An error is the keeper's, or `Memory` where what is kept of the rows has no memory: 48 bytes a
+/// row, and up to three times as much while they grow. The time grows as the number of rows times
+/// its logarithm, and as the number of leases times the number of pools.
+pub fn open_tables<K: Keeper>(alloc: Global, keeper: &mut K) -> Result<Opening, KeepErr>
+    ensures told { Looks result (K.seen keeper.old) (K.seen keeper.new)
+        (λ opening t. Opens t opening) }
+{
+    let marks = read_marks(alloc, keeper)?;
+    opening_of(alloc, marks.as_slice())
+}
 
 /// The least key whose row breaks its line of good tables, or `None` where the tables are good. It
 /// changes nothing.
 ///
-/// An error is the keeper's, or `Memory` where the list of pools has no memory. The time grows as
-/// the number of rows times the number of pools.
-#[tactic(auto, using(off_readers::proofs::ReadRules::chained_reads))]
+/// An error is that of `open_tables`.
 pub fn first_bad<K: Keeper>(alloc: Global, keeper: &mut K) -> Result<Option<Key>, KeepErr>
     ensures told { Looks result (K.seen keeper.old) (K.seen keeper.new)
         (λ bad t. Judged t bad) }
 {
-    let pools = raw_pools(alloc, keeper)?;
-    least_bad(alloc, keeper, &pools)
+    let marks = read_marks(alloc, keeper)?;
+    bad_in(alloc, marks.as_slice())
 }
 
-// Likewise, where these are the tables' pools.
-fn least_bad<K: Keeper>(
-    alloc: Global,
-    keeper: &mut K,
-    pools: &[(u32, Pool)],
-) -> Result<Option<Key>, KeepErr>
-    ensures { Looks result (K.seen keeper.old) (K.seen keeper.new)
-        (λ bad t. pools.now ≡ raw_pools t → Judged t bad) }
+// What tables are that have these marks.
+fn opening_of(alloc: Global, marks: &[Mark]) -> Result<Opening, KeepErr>
+    ensures ok { IfOk result (λ opening. (t : Tables) → marks.now ≡ marks_of t → Opens t opening) }
+    ensures err { IfErr result (λ err. err ≡ KeepErr.Memory) }
 {
-    let mut place = None;
-    'walk: loop {
-        let Some(entry) = next_behind(alloc, keeper, place)? else {
-            return Ok(None);
-        };
-        let key = entry.0;
-        let is_kept = entry_keeps(alloc, keeper, pools, entry)?;
-        if !is_kept {
-            return Ok(Some(key));
-        }
-        place = Some(key);
+    match bad_in(alloc, marks) {
+        Ok(bad) => Ok(opening_with(marks, bad)),
+        Err(err) => Err(err),
     }
 }
 
-// Whether the entry keeps its line.
-fn entry_keeps<K: Keeper>(
-    alloc: Global,
-    keeper: &mut K,
-    pools: &[(u32, Pool)],
-    entry: (Key, Row),
-) -> Result<bool, KeepErr>
-    ensures { Looks result (K.seen keeper.old) (K.seen keeper.new)
-        (λ kept t. pools.now ≡ raw_pools t → kept ≡ keeps t entry.0 entry.1) }
+fn opening_with(marks: &[Mark], bad: Option<Key>) -> Opening
+    ensures { (t : Tables) → marks.now ≡ marks_of t → Judged t bad → Opens t result }
 {
-    keeps(alloc, keeper, pools, entry.0, &entry.1)
+    match bad {
+        Some(key) => Opening::Bad(key),
+        None => Opening::Good(counts_in(marks)),
+    }
+}
+
+// The least key whose row breaks its line, in tables that have these marks.
+fn bad_in(alloc: Global, marks: &[Mark]) -> Result<Option<Key>, KeepErr>
+    ensures ok { IfOk result (λ bad. (t : Tables) → marks.now ≡ marks_of t → Judged t bad) }
+    ensures err { IfErr result (λ err. err ≡ KeepErr.Memory) }
+{
+    let pools = pools_in(alloc, marks)?;
+    let bad = least_bad(marks, pools.as_slice());
+    Ok(bad)
+}
+
+// Likewise, where these are the tables' pools.
+fn least_bad(marks: &[Mark], pools: &[(u32, Pool)]) -> Option<Key>
+    ensures { (t : Tables) → marks.now ≡ marks_of t → pools.now ≡ raw_pools t → Judged t result }
+{
+    for mark in marks {
+        if !keeps(marks, pools, mark) {
+            return Some(mark.key);
+        }
+    }
+    None
 }

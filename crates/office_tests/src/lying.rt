@@ -66,9 +66,9 @@ fn a_walk_over_entries_that_do_not_rise_ends(rt: HostRuntime) -> Result<(), Fail
     for step in [0, 1] {
         let mut keeper = fresh_stray(step);
         assert_eq!(rt; first_bad(rt.alloc(), &mut keeper)?, None);
-        assert_eq!(rt; keeper.calls, 3);
+        assert_eq!(rt; keeper.calls, 2);
         assert_eq!(rt; count_rows(rt.alloc(), &mut keeper)?.batches, 1);
-        assert_eq!(rt; keeper.calls, 5);
+        assert_eq!(rt; keeper.calls, 4);
     }
     Ok(())
 }

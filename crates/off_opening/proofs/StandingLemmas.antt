@@ -1,0 +1,220 @@
+-- Good tables, by the marks of all rows.
+use Rattle.std.proofs.Common.{◌≡◌, ℕ, ◌+◌, ◌^◌, ◌<◌, ◌≤◌, min, true, false, inl, inr, ◌&&◌, Option, Some, None, Result, Ok, Err, IfOk, IfErr, Bool, List, [], ◌∷◌, map, length, count_by, cond, refl, sym, ap, subst, ◌∙◌, arith}
+use Rattle.std.proofs.lemmas.List.Sums.{sum_by-cons}
+use Rattle.std.specs.List.{filter_map, cons_option}
+use Rattle.std.specs.Prelude.{slice_index_or}
+use Rattle.std.specs.declared.cmp.Ordering.TheVariants.{Less, Equal}
+use Rattle.std.specs.Cmp.{tied_itself}
+use Rattle.std.specs.FinMap as map_of
+use Rattle.off_base.specs.Number.{greatest_u64}
+use Rattle.off_defs.specs.declared.keys.Key.{Key}
+use Rattle.off_defs.specs.declared.keys.Key.TheVariants as key
+use Rattle.off_defs.specs.declared.tables.Row.{Row}
+use Rattle.off_defs.specs.declared.tables.Row.TheVariants as row
+use Rattle.off_defs.specs.declared.tables.Pool.{Pool}
+use Rattle.off_defs.specs.declared.orders.Kind.{Kind}
+use Rattle.off_defs.specs.declared.orders.Kind.TheVariants.{Subscribers, AddOns, Modems, Classes, Pools, Batches}
+use Rattle.off_defs.specs.Keys.{key_cmp}
+use Rattle.off_defs.specs.State.{Tables}
+use Rattle.off_defs.specs.Tables.{row_at}
+use Rattle.off_defs.proofs.KeyLemmas.{key_total, key_exact}
+use Rattle.off_rules.specs.declared.counts.Counts.{Counts}
+use Rattle.off_rules.specs.Rows.{is_possible, count_of, counts_of}
+use Rattle.off_rules.specs.Good.{raw_pool_of, raw_pools, stands_right, keeps, Judged}
+use Rattle.off_outside.specs.declared.keeper.KeepErr.{KeepErr}
+use Rattle.off_outside.specs.declared.keeper.KeepErr.TheVariants as keep
+use Rattle.off_outside.specs.KeeperSeen.{KeeperSeen}
+use Rattle.off_outside.specs.KeeperCalls.{Reads, NotDone, Looks}
+use Rattle.off_outside.proofs.KeeperLemmas.{reads_as, reads_forgotten}
+use Rattle.off_opening.specs.declared.marks.Mark.{Mark}
+use Rattle.off_opening.specs.declared.marks.Tie.TheVariants as tie
+use Rattle.off_opening.specs.Marks.{tie_of, mark_of, marks_of, tied_pool, marked_pool, is_marked}
+use Rattle.off_opening.specs.Standing.{tie_stands, is_kept}
+use Rattle.off_opening.proofs.OrderLemmas.{below_or_not, rises, among_at, row_of, entry_of, place_of, not_both}
+use Rattle.off_opening.proofs.MarkLemmas.{no_entry, entry_at, as_many, mark_at}
+
+-- ---- pools and counts
+
+pooled : (k : Key) (r : Row) → tied_pool k (tie_of r) ≡ raw_pool_of (k, r)
+pooled (key.Pool n) (row.Site site) = refl
+pooled (key.Pool n) (row.Subscriber subscriber) = refl
+pooled (key.Pool n) (row.AddOn settings) = refl
+pooled (key.Pool n) (row.Modem modem) = refl
+pooled (key.Pool n) (row.Class class) = refl
+pooled (key.Pool n) (row.Pool pool) = refl
+pooled (key.Pool n) (row.Lease lease) = refl
+pooled (key.Pool n) (row.Held address) = refl
+pooled (key.Pool n) (row.Batch batch) = refl
+pooled _ r = refl
+
+all_pooled : (es : List (Key × Row)) → filter_map marked_pool (map mark_of es) ≡ filter_map raw_pool_of es
+all_pooled [] = refl
+all_pooled (e ∷ es) =
+    ap (λ (v : Option (ℕ × Pool)). cons_option v (filter_map marked_pool (map mark_of es))) (pooled e.0 e.1)
+    ∙ ap (λ (v : List (ℕ × Pool)). cons_option (raw_pool_of e) v) (all_pooled es)
+
+pub pools_are : (t : Tables) (marks : List Mark) (pools : List (ℕ × Pool)) → marks ≡ marks_of t → pools ≡ filter_map marked_pool marks → pools ≡ raw_pools t
+pools_are t marks pools are from = from ∙ ap (λ (v : List Mark). filter_map marked_pool v) are ∙ all_pooled (map_of.entries t)
+
+count_marked : (p : Mark → Bool) (es : List (Key × Row)) → count_by p (map mark_of es) ≡ count_by (λ e. p (mark_of e)) es
+count_marked p [] = refl
+count_marked p (e ∷ es) =
+    sum_by-cons (λ m. cond (p m) 1 0) (mark_of e) (map mark_of es)
+    ∙ ap (λ n. cond (p (mark_of e)) 1 0 + n) (count_marked p es)
+    ∙ sym (sum_by-cons (λ x. cond (p (mark_of x)) 1 0) e es)
+
+marked : (kind : Kind) (t : Tables) (marks : List Mark) (n : ℕ) → marks ≡ marks_of t → n ≡ count_by (is_marked kind) marks → n ≡ count_of kind t
+marked kind t marks n are is = is ∙ ap (λ (v : List Mark). count_by (is_marked kind) v) are ∙ count_marked (is_marked kind) (map_of.entries t)
+
+pub counts_are : (marks : List Mark) (counts : Counts) → counts.batches < 2 ^ 64
+    → counts.subscribers ≡ count_by (is_marked Subscribers) marks → counts.addons ≡ count_by (is_marked AddOns) marks → counts.modems ≡ count_by (is_marked Modems) marks
+    → counts.classes ≡ count_by (is_marked Classes) marks → counts.pools ≡ count_by (is_marked Pools) marks → counts.batches ≡ count_by (is_marked Batches) marks
+    → (t : Tables) → marks ≡ marks_of t → counts ≡ counts_of t
+counts_are marks counts small a b c d e f t are =
+    let fa = marked Subscribers t marks counts.subscribers are a in
+    let fb = marked AddOns t marks counts.addons are b in
+    let fc = marked Modems t marks counts.modems are c in
+    let fd = marked Classes t marks counts.classes are d in
+    let fe = marked Pools t marks counts.pools are e in
+    let ff = marked Batches t marks counts.batches are f in
+    let capped : counts.batches ≡ min greatest_u64 (count_of Batches t) = omega (arith, small, ff) in
+    λ i. record { subscribers = fa i; addons = fb i; modems = fc i; classes = fd i; pools = fe i; batches = capped i }
+
+-- ---- a row by its mark
+
+stands : (t : Tables) (k : Key) (r : Row) → tie_stands t k (tie_of r) ≡ stands_right t k r
+stands t (key.Modem mac) (row.Modem modem) = refl
+stands t (key.Modem mac) (row.Site site) = refl
+stands t (key.Modem mac) (row.Subscriber subscriber) = refl
+stands t (key.Modem mac) (row.AddOn settings) = refl
+stands t (key.Modem mac) (row.Class class) = refl
+stands t (key.Modem mac) (row.Pool pool) = refl
+stands t (key.Modem mac) (row.Lease lease) = refl
+stands t (key.Modem mac) (row.Held address) = refl
+stands t (key.Modem mac) (row.Batch batch) = refl
+stands t (key.Pool n) (row.Modem modem) = refl
+stands t (key.Pool n) (row.Site site) = refl
+stands t (key.Pool n) (row.Subscriber subscriber) = refl
+stands t (key.Pool n) (row.AddOn settings) = refl
+stands t (key.Pool n) (row.Class class) = refl
+stands t (key.Pool n) (row.Pool pool) = refl
+stands t (key.Pool n) (row.Lease lease) = refl
+stands t (key.Pool n) (row.Held address) = refl
+stands t (key.Pool n) (row.Batch batch) = refl
+stands t (key.Lease a) (row.Modem modem) = refl
+stands t (key.Lease a) (row.Site site) = refl
+stands t (key.Lease a) (row.Subscriber subscriber) = refl
+stands t (key.Lease a) (row.AddOn settings) = refl
+stands t (key.Lease a) (row.Class class) = refl
+stands t (key.Lease a) (row.Pool pool) = refl
+stands t (key.Lease a) (row.Lease lease) = refl
+stands t (key.Lease a) (row.Held address) = refl
+stands t (key.Lease a) (row.Batch batch) = refl
+stands t (key.Held mac) (row.Modem modem) = refl
+stands t (key.Held mac) (row.Site site) = refl
+stands t (key.Held mac) (row.Subscriber subscriber) = refl
+stands t (key.Held mac) (row.AddOn settings) = refl
+stands t (key.Held mac) (row.Class class) = refl
+stands t (key.Held mac) (row.Pool pool) = refl
+stands t (key.Held mac) (row.Lease lease) = refl
+stands t (key.Held mac) (row.Held address) = refl
+stands t (key.Held mac) (row.Batch batch) = refl
+stands t key.Site r = refl
+stands t (key.Subscriber n) r = refl
+stands t (key.AddOn n i) r = refl
+stands t (key.Class n) r = refl
+stands t (key.Batch n) r = refl
+
+kept_by : (t : Tables) (e : Key × Row) → is_kept t (mark_of e) ≡ keeps t e.0 e.1
+kept_by t e = ap (λ b. is_possible e.0 e.1 && b) (stands t e.0 e.1)
+
+-- ---- from place to place
+
+-- the rows keep their lines up to a place
+pub record KeptTo (t : Tables) (n : ℕ) : Type 0 where
+  pub kept : (i : ℕ) → i < n → i < length (map_of.entries t) → keeps t (entry_at t i).0 (entry_at t i).1 ≡ true
+
+abbrev pub Kept : List Mark → List (ℕ × Pool) → ℕ → Type 0
+Kept marks pools n = (t : Tables) → marks ≡ marks_of t → pools ≡ raw_pools t → KeptTo t n
+
+pub none_kept : (marks : List Mark) (pools : List (ℕ × Pool)) → Kept marks pools 0
+none_kept marks pools t are pooled = record { kept = λ i below within. absurd (omega (arith, below)) }
+
+-- the test of the mark at a place is that of its entry
+tested : (t : Tables) (marks : List Mark) (n : ℕ) (d mark : Mark) → marks ≡ marks_of t → n < length marks → mark ≡ slice_index_or marks n d
+    → is_kept t mark ≡ keeps t (entry_at t n).0 (entry_at t n).1
+tested t marks n d mark are within here =
+    let is : mark ≡ mark_of (entry_at t n) = here ∙ ap (λ (v : List Mark). slice_index_or v n d) are ∙ mark_at t n d (subst (λ (v : List Mark). n < length v) are within) in
+    ap (λ (m : Mark). is_kept t m) is ∙ kept_by t (entry_at t n)
+
+pub one_more_kept : (marks : List Mark) (pools : List (ℕ × Pool)) (n : ℕ) (d mark : Mark) (right : _) → Kept marks pools n → n < length marks → mark ≡ slice_index_or marks n d
+    → ((t : Tables) → marks ≡ marks_of t → pools ≡ raw_pools t → right ≡ is_kept t mark) → right ≡ true → Kept marks pools (n + 1)
+one_more_kept marks pools n d mark right so_far within here test is t are pooled = record {
+  kept = λ i below inside.
+      elim (below_or_not i n) [
+        | inl less ↦ (so_far t are pooled).kept i less inside
+        | inr not ↦
+            let same : n ≡ i = omega (arith, below, not) in
+            let good : keeps t (entry_at t n).0 (entry_at t n).1 ≡ true = sym (tested t marks n d mark are within here) ∙ sym (test t are pooled) ∙ is in
+            subst (λ (k : ℕ). keeps t (entry_at t k).0 (entry_at t k).1 ≡ true) same good
+      ];
+}
+
+-- the row of a key stands at a place
+found_at : (t : Tables) (k : Key) (held : Row) → row_at t k ≡ Some held → (i : ℕ) × (i < length (map_of.entries t)) × (entry_at t i ≡ (k, held))
+found_at t k held there =
+    place_of key_cmp key_total (k, held) (map_of.entries t) no_entry (entry_of key_cmp key_exact k held (map_of.entries t) (sym (map_of.get-entries t k) ∙ there))
+
+-- what stands no earlier isn't below
+not_above : (t : Tables) (n i : ℕ) → n ≤ i → i < length (map_of.entries t) → key_cmp (entry_at t i).0 (entry_at t n).0 ≡ Less → ⊥
+not_above t n i not within lower =
+    let es = map_of.entries t in
+    elim (below_or_not n i) [
+      | inl less ↦ not_both key_cmp key_total (entry_at t n).0 (entry_at t i).0 (rises key_cmp key_total es n i no_entry (map_of.entries_sorted t) less within) lower
+      | inr same ↦
+          let one : i ≡ n = omega (arith, not, same) in
+          let tied : key_cmp (entry_at t n).0 (entry_at t n).0 ≡ Less = subst (λ (k : ℕ). key_cmp (entry_at t k).0 (entry_at t n).0 ≡ Less) one lower in
+          let equal : key_cmp (entry_at t n).0 (entry_at t n).0 ≡ Equal = tied_itself key_total (entry_at t n).0 in
+          cc
+    ]
+
+pub all_kept : (marks : List Mark) (pools : List (ℕ × Pool)) (n : ℕ) → Kept marks pools n → length marks ≡ n → (t : Tables) → marks ≡ marks_of t → pools ≡ raw_pools t → Judged t None
+all_kept marks pools n so_far end t are pooled k held there =
+    let p = found_at t k held there in
+    let many : length marks ≡ length (map_of.entries t) = ap (λ (v : List Mark). length v) are ∙ as_many t in
+    subst (λ (e : Key × Row). keeps t e.0 e.1 ≡ true) p.2 ((so_far t are pooled).kept p.0 (omega (arith, end, many, p.1)) p.1)
+
+pub bad_found : (marks : List Mark) (pools : List (ℕ × Pool)) (n : ℕ) (d mark : Mark) (right : _) → Kept marks pools n → n < length marks → mark ≡ slice_index_or marks n d
+    → ((t : Tables) → marks ≡ marks_of t → pools ≡ raw_pools t → right ≡ is_kept t mark) → right ≡ false
+    → (t : Tables) → marks ≡ marks_of t → pools ≡ raw_pools t → Judged t (Some mark.key)
+bad_found marks pools n d mark right so_far within here test is t are pooled =
+    let es = map_of.entries t in
+    let many : length marks ≡ length es = ap (λ (v : List Mark). length v) are ∙ as_many t in
+    let inside : n < length es = omega (arith, many, within) in
+    let own : mark ≡ mark_of (entry_at t n) = here ∙ ap (λ (v : List Mark). slice_index_or v n d) are ∙ mark_at t n d (subst (λ (v : List Mark). n < length v) are within) in
+    let wrong : keeps t (entry_at t n).0 (entry_at t n).1 ≡ false = sym (tested t marks n d mark are within here) ∙ sym (test t are pooled) ∙ is in
+    let row : row_at t (entry_at t n).0 ≡ Some (entry_at t n).1 =
+    map_of.get-entries t (entry_at t n).0 ∙ row_of key_cmp key_total (entry_at t n) es (map_of.entries_sorted t) (among_at key_cmp key_total es n no_entry inside) in
+    subst (λ (m : Mark). Judged t (Some m.key)) (sym own) (record {
+      held = (entry_at t n).1;
+      there = row;
+      breaks = wrong;
+      least = λ other lower held there.
+          let p = found_at t other held there in
+          elim (below_or_not p.0 n) [
+            | inl less ↦ subst (λ (e : Key × Row). keeps t e.0 e.1 ≡ true) p.2 ((so_far t are pooled).kept p.0 less p.1)
+            | inr not ↦ absurd (not_above t n p.0 not p.1 (subst (λ (e : Key × Row). key_cmp e.0 (entry_at t n).0 ≡ Less) (sym p.2) lower))
+          ];
+    })
+
+-- ---- over a keeper
+
+-- the mark that stands in for one past the end
+abbrev pub no_mark : Mark
+no_mark = record { key = key.Site; fits = false; tie = tie.Free }
+
+-- what the marks say of the tables from which they were read
+pub looked : {A : Type 0} (P : A → Tables → Type 0) (marks lent : List Mark) (q : Result A KeepErr) (a b : KeeperSeen) → Reads (λ t. marks ≡ marks_of t) a b → lent ≡ marks
+    → IfOk q (λ x. (t : Tables) → lent ≡ marks_of t → P x t) → IfErr q (λ err. err ≡ keep.Memory) → Looks q a b P
+looked P marks lent (Ok x) a b reads is ok none = reads_as reads (λ t are. ok t (is ∙ are))
+looked P marks lent (Err err) a b reads same none is = subst (λ (e : KeepErr). NotDone e a b) (sym is) (reads_forgotten reads)

@@ -1,0 +1,10 @@
+use Rattle.off_rules.specs.Good.{Judged}
+use Rattle.off_opening.proofs.StandingLemmas.{looked}
+use Rattle.off_opening.proofs.opening.first_bad.Goals as goal
+
+pub returns : goal.returns
+returns g c = record {
+  told =
+      looked (λ bad t. Judged t bad) c.in_ok-marks.marks.items c.as_slice.result.now c.bad_in.result _ _ c.in_ok-marks.ensures c.as_slice.ensures.value
+      c.bad_in.ensures.ok c.bad_in.ensures.err;
+}

@@ -1,0 +1,46 @@
+-- What the test of the tables keeps of each row.
+use Rattle.std.specs.Prelude.{ℕ, Bool, ◌&&◌, List, map, Option, Some, None}
+use Rattle.std.specs.FinMap as map_of
+use Rattle.off_defs.specs.declared.keys.Key.{Key}
+use Rattle.off_defs.specs.declared.keys.Key.TheVariants as key
+use Rattle.off_defs.specs.declared.tables.Row.{Row}
+use Rattle.off_defs.specs.declared.tables.Row.TheVariants as row
+use Rattle.off_defs.specs.declared.tables.Pool.{Pool}
+use Rattle.off_defs.specs.declared.orders.Kind.{Kind}
+use Rattle.off_defs.specs.State.{Tables}
+use Rattle.off_rules.specs.Rows.{is_possible, is_of_kind}
+use Rattle.off_rules.specs.Good.{owner_of}
+use Rattle.off_opening.specs.declared.marks.Mark.{Mark}
+use Rattle.off_opening.specs.declared.marks.Tie.{Tie}
+use Rattle.off_opening.specs.declared.marks.Tie.TheVariants as tie
+
+-- what of a row is compared with other rows
+abbrev pub tie_of : Row → Tie
+tie_of (row.Site site) = tie.Free
+tie_of (row.Subscriber subscriber) = tie.Free
+tie_of (row.AddOn settings) = tie.Free
+tie_of (row.Modem modem) = tie.Modem modem.subscriber modem.class
+tie_of (row.Class class) = tie.Free
+tie_of (row.Pool pool) = tie.Pool pool
+tie_of (row.Lease lease) = tie.Lease (owner_of lease.hold)
+tie_of (row.Held address) = tie.Held address
+tie_of (row.Batch batch) = tie.Free
+
+abbrev pub mark_of : Key × Row → Mark
+mark_of entry = record { key = entry.0; fits = is_possible entry.0 entry.1; tie = tie_of entry.1 }
+
+-- the marks of all rows, in the order of keys
+abbrev pub marks_of : Tables → List Mark
+marks_of tables = map mark_of (map_of.entries tables)
+
+-- the pool of a mark
+abbrev pub tied_pool : Key → Tie → Option (ℕ × Pool)
+tied_pool (key.Pool n) (tie.Pool pool) = Some (n, pool)
+tied_pool key tie = None
+
+abbrev pub marked_pool : Mark → Option (ℕ × Pool)
+marked_pool mark = tied_pool mark.key mark.tie
+
+-- whether a mark is of a row that is counted
+abbrev pub is_marked : Kind → Mark → Bool
+is_marked kind mark = is_of_kind kind mark.key && mark.fits

@@ -1,0 +1,48 @@
+-- Good tables by what is kept of each row.
+use Rattle.std.specs.Prelude.{◌≡◌, ℕ, ◌==◌, Bool, true, false, ◌&&◌, Option}
+use Rattle.std.specs.List.{list_all}
+use Rattle.off_base.specs.declared.addresses.Ip4.{Ip4}
+use Rattle.off_base.specs.declared.macs.Mac.{Mac}
+use Rattle.off_defs.specs.declared.keys.Key.{Key}
+use Rattle.off_defs.specs.declared.keys.Key.TheVariants as key
+use Rattle.off_defs.specs.State.{Tables}
+use Rattle.off_rules.specs.Rows.{counts_of}
+use Rattle.off_rules.specs.Good.{raw_pools, is_there, is_apart, pools_around, owner_holds, owns, Good, IsLeastBad}
+use Rattle.off_opening.specs.declared.marks.Mark.{Mark}
+use Rattle.off_opening.specs.declared.marks.Tie.{Tie}
+use Rattle.off_opening.specs.declared.marks.Tie.TheVariants as tie
+use Rattle.off_opening.specs.declared.opening.Opening.{Opening}
+use Rattle.off_opening.specs.declared.opening.Opening.TheVariants as opening
+
+-- a modem has its subscriber and its class
+abbrev pub modem_tied : Tables → ℕ → ℕ → Bool
+modem_tied tables subscriber class = is_there tables (key.Subscriber subscriber) && is_there tables (key.Class class)
+
+-- a lease has its site and its one pool, and its owner holds its address
+abbrev pub lease_tied : Tables → Ip4 → Option Mac → Bool
+lease_tied tables address owner = is_there tables key.Site && ((pools_around tables address == 1) && owner_holds tables address owner)
+
+-- a row stands in the right relations to the other rows, by what is compared with them
+abbrev pub tie_stands : Tables → Key → Tie → Bool
+tie_stands tables key.Site held = true
+tie_stands tables (key.Subscriber n) held = true
+tie_stands tables (key.AddOn n number) held = is_there tables (key.Subscriber n)
+tie_stands tables (key.Modem mac) (tie.Modem subscriber class) = modem_tied tables subscriber class
+tie_stands tables (key.Modem mac) held = false
+tie_stands tables (key.Class n) held = true
+tie_stands tables (key.Pool n) (tie.Pool pool) = list_all (is_apart n pool) (raw_pools tables)
+tie_stands tables (key.Pool n) held = false
+tie_stands tables (key.Lease address) (tie.Lease owner) = lease_tied tables address owner
+tie_stands tables (key.Lease address) held = false
+tie_stands tables (key.Held mac) (tie.Held address) = owns tables mac address
+tie_stands tables (key.Held mac) held = false
+tie_stands tables (key.Batch n) held = true
+
+-- the row of a mark keeps its line
+abbrev pub is_kept : Tables → Mark → Bool
+is_kept tables mark = mark.fits && tie_stands tables mark.key mark.tie
+
+-- what an opening says of the tables: this is their least bad key; or they are good, and these are their counts
+abbrev pub Opens : Tables → Opening → Type 0
+Opens tables (opening.Bad key) = IsLeastBad tables key
+Opens tables (opening.Good counts) = Good tables × (counts ≡ counts_of tables)
