@@ -1,7 +1,7 @@
 #!/usr/bin/env python3
 """Writes crates/format_script/stdin and stdout: questions on formats, and their answers.
 
-The answers are said here by hand, from the standards' tables, or computed by Python's hashlib, hmac, ipaddress and re and the readers of
+The answers are said here by hand, from the standards' tables, or computed by Python's csv, hashlib, hmac, ipaddress and re and the readers of
 examples.py, which are written from the standards. With the word `check` it compares the two files with what it would write.
 """
 import hashlib
@@ -10,7 +10,8 @@ import ipaddress
 import re
 import sys
 
-from examples import GROUPS, Fault, Script, covered, escaped, hexed, ip, read_file, sealed, spelled, verdict
+from examples import GROUPS, Fault, Script, covered, escaped, hexed, ip, quoted, read_file, sealed, spelled, verdict
+from imports import HEADERS, MARK, MOST_ROWS, ImportFault, rows_of
 from messages import MODEM, RELAYED, RELAYED_DISCOVER as DISCOVER, fault_of, option, options_in, reply_to
 
 script = Script("formats.py", "By hand, from the formats' rules in docs/CONTRACTS.md.")
@@ -371,12 +372,110 @@ def messages():
         ask(f"nak 10.0.0.2 {data.hex()}", f"{len(made)} {hexed(made)}")
 
 
+def row_text(kind, fields):
+    """A row of an import as the tables show it. Its fields have the bytes of the text one to a character."""
+    first, second, third, fourth = fields
+    name = escaped(fourth.encode("latin-1"))
+    if kind == "subscribers":
+        return f'subscriber {int(first)} {"active" if second == "yes" else "suspended"} {int(third)} "{name}"'
+    return f'modem {re.sub("[^0-9a-f]", "", first.lower())} {int(second)} {int(third)} "{name}"'
+
+
+def import_of(kind, data):
+    try:
+        rows = rows_of(kind, data)
+    except ImportFault as fault:
+        return " ".join(["field", *fault.place.split(",")] if fault.word == "import-field" else [fault.word, fault.place] if fault.place else [fault.word])
+    return "; ".join([f"{hashlib.md5(data).hexdigest()} rows {len(rows)}", *(row_text(kind, fields) for fields in rows[-10:])])
+
+
+def asks_import(kind, *parts, fault=None):
+    """Asks what parts mean: bytes, or a number and the bytes that stand so many times. What is said by hand is compared with what is computed."""
+    parts = [part if isinstance(part, tuple) else (1, part) for part in parts]
+    words = " ".join(f"{count}* {quoted(part)}" if count > 1 else quoted(part) for count, part in parts if part) or "-"
+    expected = import_of(kind, b"".join(count * part for count, part in parts))
+    if fault not in (None, expected):
+        raise AssertionError(f"{expected} where {fault} is said, of {kind} {words}")
+    ask(f"import {kind} {words}", expected)
+
+
+# For each column of an import, fields that can't be read.
+UNREAD = {
+    "subscribers": ((b"", b"-1", b"+1", b" 1", b"1.0", b"4294967296", b"000000000000000000001", b"x"), (b"", b"Yes", b"true", b"1", b" no", b"yes "),
+                    (b"", b"0", b"255", b"-1", b"2 "), (b"a" * 65, b"\xff", b"Ann\xc3", b"a" * 63 + b"\xc3\xa9")),
+    "modems": ((b"", b"02aabbccdde", b"02aabbccddeeff", b"02:aa:bb-cc:dd:ee", b"02aa.bbcc:ddee", b" 02aabbccddee", b"0gaabbccddee"), (b"", b"4294967296", b"-7"),
+               (b"", b"gold", b"4294967296"), (b"b" * 65, b"\x80", b"\xed\xa0\x80")),
+}
+GOOD_FIELDS = {"subscribers": (b"7", b"yes", b"2", b"Ann"), "modems": (b"02aabbccddee", b"7", b"1", b"SN01")}
+
+
+def imports():
+    heads = {kind: header.encode() for kind, header in HEADERS.items()}
+    subscribers, modems = heads["subscribers"], heads["modems"]
+    section("an import has a row for each record behind its header", "RFC 4180, section 2, by Python's csv; an empty line is no record.")
+    asks_import("subscribers", subscribers)
+    asks_import("subscribers", subscribers + b"\n7,yes,2,Ann\n8,no,254,\n")
+    asks_import("subscribers", subscribers + b"\n7,yes,2,Ann\n8,no,254,Bob")
+    asks_import("subscribers", subscribers + b"\n4294967295,yes,1," + b"a" * 64 + b"\n0000000007,no,001,Ann\xc3\xa9\n")
+    asks_import("subscribers", subscribers + b"\n7,yes,2,Ann\n7,no,3, Ann \n")
+    asks_import("modems", modems + b"\n02aabbccddee,7,1,SN01\n02:AA:bb:cc:dd:f0,0,4294967295,\n02-aa-bb-cc-dd-f1,7,1,a\n02aa.bbcc.ddf2,7,1,b\n")
+    section("a record ends at CR, LF or both", "")
+    text = subscribers + b"\n7,yes,2,Ann\n8,no,254,Bob\n"
+    for end in (b"\r\n", b"\r", b"\n\n", b"\r\r", b"\n\r", b"\r\n\r\n"):
+        asks_import("subscribers", text.replace(b"\n", end))
+        asks_import("subscribers", end + text.replace(b"\n", end).strip())
+    section("quotes hold commas, line ends and quotes", "")
+    for name in (b'"Lee, Ann"', b'"say ""Ann"""', b'"Ann\nLee"', b'"Ann\r\nLee"', b'""', b'"Ann"Lee', b'An"n', b'"Ann', b'"Ann\n8,no,2,Bob\n', b"'Ann'"):
+        asks_import("subscribers", subscribers + b"\n7,yes,2," + name + b"\n8,no,254,Bob\n")
+    asks_import("subscribers", b'"subscriber","active","cpes","name"\n"7","yes","2","Ann"\n')
+    asks_import("subscribers", subscribers + b'\n""\n', fault="width 1")
+    section("one byte order mark at the front is passed over, and is in the digest", "RFC 3629, section 6.")
+    for kind, head in heads.items():
+        asks_import(kind, MARK + head + b"\n")
+        asks_import(kind, MARK + MARK + head + b"\n", fault="header")
+        asks_import(kind, MARK, fault="header")
+        asks_import(kind, MARK[:2] + head + b"\n", fault="header")
+    asks_import("subscribers", MARK + subscribers + b"\n7,yes,2," + MARK + b"\n")
+    section("the first record is the names of the columns", "docs/CLERK_API.md, imports.")
+    for kind, head in heads.items():
+        for wrong in (b"", b"\n", heads["modems" if kind == "subscribers" else "subscribers"], head.upper(), head + b",", head.rsplit(b",", 1)[0], head.replace(b",", b", "),
+                      head.replace(b",", b";"), b" " + head, b"," + head, b",".join(GOOD_FIELDS[kind]), b'"' + head + b'"'):
+            asks_import(kind, wrong + b"\n", fault="header")
+            asks_import(kind, wrong + b"\nx\n", fault="header")
+    section("a row has four fields", "Rows count from 1 behind the header.")
+    for kind, head in heads.items():
+        good = b",".join(GOOD_FIELDS[kind])
+        for wrong in (b"x", b",,", b",,,,", good + b",", good.rsplit(b",", 1)[0], b"x,x,x,x,x"):
+            asks_import(kind, head + b"\n" + wrong + b"\n", fault="width 1")
+            asks_import(kind, head + b"\n\n" + good + b"\n\n" + wrong + b"\nx,x,x,x\n", fault="width 2")
+    section("each field is of its column", "Columns count from 1, and the first of a row that can't be read is told.")
+    for kind, head in heads.items():
+        good = GOOD_FIELDS[kind]
+        for column, wrongs in enumerate(UNREAD[kind], 1):
+            for wrong in wrongs:
+                row = b",".join([*good[:column - 1], wrong, *good[column:]])
+                asks_import(kind, head + b"\n" + row + b"\n", fault=f"field 1 {column}")
+            row = b",".join([*good[:column - 1], *(each[-1] for each in UNREAD[kind][column - 1:])])
+            asks_import(kind, head + b"\n" + b",".join(good) + b"\n" + row + b"\nx\n", fault=f"field 2 {column}")
+    section("an import has at most 2,000 rows", "What a row too many holds doesn't count; what is wrong with a row before it does, and is told first.")
+    for kind, head in heads.items():
+        good = b",".join(GOOD_FIELDS[kind]) + b"\n"
+        last = b",".join([*GOOD_FIELDS[kind][:3], b"\xff"]) + b"\n"
+        asks_import(kind, head + b"\n", (MOST_ROWS, good), b"\n\n")
+        for behind in (good, b"x", b"x,x,x,x", last, b'"'):
+            asks_import(kind, head + b"\n", (MOST_ROWS, good), behind, fault="too-many")
+        for wrong, fault in ((b"x\n", f"width {MOST_ROWS}"), (last, f"field {MOST_ROWS} 4")):
+            asks_import(kind, head + b"\n", (MOST_ROWS - 1, good), wrong, good, fault=fault)
+            asks_import(kind, head + b"\n", (MOST_ROWS - 1, good), wrong, (2, wrong), fault=fault)
+
+
 def main():
     texts()
     files()
     checks()
     trees()
     tables()
+    imports()
     messages()
     return script.write("format_script")
 

@@ -1,6 +1,6 @@
 //! Answers questions on formats, a line each: numbers and addresses, configuration files and their
-//! MICs, trees of settings, keys and rows, DHCP messages and the parts of their options. Each
-//! question is printed, and behind it its answer.
+//! MICs, trees of settings, keys and rows, imports, DHCP messages and the parts of their options.
+//! Each question is printed, and behind it its answer.
 //!
 //! `tests/examples/README.md` says how a question is written. The text that is expected is the file
 //! `stdout`, which comes from public vectors, the standards' tables and
@@ -8,6 +8,7 @@
 #![tactic(auto)]
 
 mod files;
+mod imports;
 mod messages;
 mod replies;
 mod tables;
@@ -44,6 +45,7 @@ impl Answers for Formats {
             b"key-of" => tables::key_of(alloc, page, line),
             b"row-of" => tables::row_of(alloc, page, line),
             b"sound" => tables::is_sound(alloc, page, line),
+            b"import" => imports::import(alloc, page, line),
             b"options" => messages::options(alloc, page, line),
             b"option" => messages::option(alloc, page, line),
             b"relay" => messages::relay_of(alloc, page, line),

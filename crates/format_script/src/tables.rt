@@ -1,8 +1,9 @@
 ghost use Rattle.std.specs.Prelude.{IfOk};
 ghost use Rattle.off_rows.specs.RowBytes.{CanSpell};
 
+use crate::imports::read_kind;
 use off_base::{Bytes, Mac};
-use off_defs::{Command, ImportKind, ImportRow, ImportRows, Key, Row, Write};
+use off_defs::{Command, ImportRow, ImportRows, Key, Row, Write};
 use off_rows::{RowErr, copy_row, decode, decode_key, encode, encode_key, key_text, sound};
 use script_words::{Line, Page, Unread, read_command, read_key, read_write, show_row};
 use std::alloc::Global;
@@ -76,11 +77,7 @@ fn command_of(alloc: Global, line: &mut Line<'_>) -> Result<Command, Unread> {
 }
 
 fn import_of(alloc: Global, line: &mut Line<'_>) -> Result<Command, Unread> {
-    let kind = match line.word() {
-        b"subscribers" => ImportKind::Subscribers,
-        b"modems" => ImportKind::Modems,
-        _ => return Err(Unread::Words),
-    };
+    let kind = read_kind(line.word())?;
     let count = line.count()?;
     Ok(Command::Import {
         kind,
