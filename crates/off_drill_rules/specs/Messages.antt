@@ -19,7 +19,7 @@ by_relay = peer relay.0 67
 abbrev pub by_modem : ℕ → Peer
 by_modem i = peer (address i).0 5000
 
--- a BOOTREQUEST over Ethernet, with nothing but its number, its relay and its client, and the cookie
+-- a BOOTREQUEST over Ethernet that names its number, its relay and its client alone, and the cookie
 abbrev pub fixed_part : ℕ → List ℕ
 fixed_part i =
     (1 ∷ 1 ∷ 6 ∷ 0 ∷ []) ++ four i ++ zeros 16 ++ four relay.0 ++ (mac i).0 ++ zeros 202

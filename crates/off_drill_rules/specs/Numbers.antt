@@ -3,9 +3,9 @@ use Rattle.std.specs.Prelude.{ℕ, ◌+◌, ◌-◌, ◌*◌, ◌/◌, ◌==◌,
 use Rattle.std.specs.List.{filter}
 use Rattle.std.specs.Str.{bytes_eq}
 use Rattle.off_defs.specs.declared.events.Service.{Service}
-use Rattle.off_defs.specs.declared.events.Service.TheVariants.{Dhcp, Time, Tftp}
+use Rattle.off_defs.specs.declared.events.Service.TheVariants.{Tftp}
 use Rattle.off_defs.specs.declared.results.Sent.{Sent}
-use Rattle.off_defs.specs.declared.results.Sent.TheVariants.{Datagram, Answer, Close}
+use Rattle.off_defs.specs.declared.results.Sent.TheVariants.{Datagram}
 use Rattle.off_defs.specs.State.{Said}
 use Rattle.off_book.specs.Run.{Turn}
 use Rattle.off_drill_rules.specs.declared.tally.Tally.{Tally}

@@ -36,7 +36,13 @@ abbrev pub lease_seconds : ℕ
 lease_seconds = 86400
 
 abbrev pub site : Site
-site = record { server = ip 0x0a000002; secret = codes "drill"; offset = pos 0; lease = lease_seconds; log = ip 0 }
+site = record {
+  server = ip 0x0a000002;
+  secret = codes "drill";
+  offset = pos 0;
+  lease = lease_seconds;
+  log = ip 0;
+}
 
 -- a flow with its reference, the bits that provision, admit and activate it, and its greatest rate
 abbrev pub flow : ℕ → ℕ → List ℕ → Tree
@@ -49,7 +55,8 @@ flow code reference rate =
 abbrev pub class : Class
 class = record {
   name = codes "gold";
-  settings = flow 24 1 (0x00 ∷ 0x98 ∷ 0x96 ∷ 0x80 ∷ []) ∷ flow 25 2 (0x05 ∷ 0xf5 ∷ 0xe1 ∷ 0x00 ∷ []) ∷ [];
+  settings =
+      flow 24 1 (0x00 ∷ 0x98 ∷ 0x96 ∷ 0x80 ∷ []) ∷ flow 25 2 (0x05 ∷ 0xf5 ∷ 0xe1 ∷ 0x00 ∷ []) ∷ [];
 }
 
 -- 10.64.16.0 to 10.64.31.255, behind the relay 10.64.0.1
@@ -57,7 +64,13 @@ abbrev pub relay : Ip4
 relay = ip 0x0a400001
 
 abbrev pub pool : Pool
-pool = record { first = ip 0x0a401000; last = ip 0x0a401fff; prefix = 20; router = relay; relay = relay }
+pool = record {
+  first = ip 0x0a401000;
+  last = ip 0x0a401fff;
+  prefix = 20;
+  router = relay;
+  relay = relay;
+}
 
 -- every tenth subscriber is suspended
 abbrev pub is_active : ℕ → Bool
@@ -80,11 +93,15 @@ address i = ip (0x0a400fff + i)
 abbrev pub lease : ℕ → Lease
 lease i = record { hold = Bound (mac i); expiry = record { 0 = moment i + lease_seconds } }
 
--- an office without modems, and with so many
+-- an office without modems, as it is founded row by row, and with so many
+abbrev pub with_site : Tables
+with_site = with_row map.empty key.Site (row.Site site)
+
+abbrev pub with_class : Tables
+with_class = with_row with_site (key.Class 1) (row.Class class)
+
 abbrev pub founded : Tables
-founded =
-    with_row (with_row (with_row map.empty key.Site (row.Site site)) (key.Class 1) (row.Class class))
-    (key.Pool 1) (row.Pool pool)
+founded = with_row with_class (key.Pool 1) (row.Pool pool)
 
 abbrev pub peopled : ℕ → Tables
 peopled zero = founded
