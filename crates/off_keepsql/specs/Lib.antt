@@ -1,0 +1,9 @@
+pub mod CellsSeen
+pub mod CellCalls
+pub mod Stored
+pub mod SqlSeen
+pub mod OwnCount
+pub mod CellWritten
+pub mod RowKinds
+pub mod SqlLaws
+pub mod Laws

@@ -1,0 +1,13 @@
+//! Laws of tables in cells. What the functions do is of no use; their contracts are the laws.
+ghost use Rattle.off_keepsql.specs.Laws.{EntriesAreTables, TablesAreEntries};
+
+/// Cells store tables where each of them is a key and a row.
+pub fn entries_are_tables()
+    ensures { EntriesAreTables }
+{}
+
+/// Each cell of tables is a key and a row.
+#[tactic(auto, using(crate::proofs::LawLemmas::tables_are_entries))]
+pub fn tables_are_entries()
+    ensures { TablesAreEntries }
+{}
