@@ -97,6 +97,8 @@ def check_paths(text, api):
         check(key in told, f"the Markdown has {key}")
         check(key in known, f"the JSON has {key}")
         check(told.get(key) == known.get(key), f"the statuses of {key}: {told.get(key)}, {known.get(key)}")
+    names = [operation.get("operationId") for operation in operations(api).values()]
+    check(None not in names and len(set(names)) == len(names), "each operation has a name of its own")
     for path, item in api["paths"].items():
         named = {parameter["name"] for parameter in item.get("parameters", [])}
         check(named == set(re.findall(r"\{(\w+)\}", path)), f"the parameters of {path}")
@@ -167,7 +169,7 @@ def check_examples(text, api):
 def check_fields(text, api):
     schemas = api["components"]["schemas"]
     told = [[bare(row[0]) for row in rows[1:]] for rows in tables(text) if rows[0][0] == "Field"]
-    known = [list(schemas[name]["properties"]) for name in ("Site", "Subscriber", "AddOn", "Modem", "Class", "Pool", "Lease")]
+    known = [list(schemas[name]["properties"]) for name in ("Site", "Class", "Pool", "Subscriber", "AddOn", "Modem", "Lease")]
     check(told == known, f"the fields: {told}")
     for name, schema in schemas.items():
         for field in schema.get("required", []):
@@ -186,4 +188,5 @@ def main():
     return 1 if failures else 0
 
 
-sys.exit(main())
+if __name__ == "__main__":
+    sys.exit(main())

@@ -1,0 +1,168 @@
+#!/usr/bin/env python3
+"""The examples of docs/CLERK_API.md work when pasted one behind the other, and so does a clerk.
+
+Each line is run by a shell as it stands, but for its port, and its status and answer are compared
+with what the page says. Then bin/office-clerk puts, shows, removes and imports, and explains the
+faults: its list of them is the page's, both ways. It ends what it started, and takes some seconds.
+"""
+# needs: curl
+import json
+import os
+import re
+import subprocess
+import sys
+import tempfile
+import time
+import urllib.request
+
+from clerk_api import table, text_of
+from first_office import loaded
+from listening import stop
+from time_service import PROGRAM, ROOT, check, failures, free_ports, start
+
+CLERK = os.path.join(ROOT, "bin", "office-clerk")
+FLOWS = [{"code": code, "parts": [{"code": 1, "hex": reference}, {"code": 6, "hex": "07"}]}
+         for code, reference in ((24, "0001"), (25, "0002"))]
+POOL = {"first": "10.0.0.10", "last": "10.0.0.20", "prefix": 24, "router": "10.0.0.1",
+        "relay": "10.0.0.1"}
+ANN, GOLD = {"active": True, "cpes": 2, "name": "Ann"}, {"name": "gold", "settings": FLOWS}
+SITE = {"server": "10.0.0.2", "secret": "00", "offset": 0, "lease": 3600, "log": "0.0.0.0"}
+MODEM = {"subscriber": 7, "class": 1, "serial": ""}
+NAMES = {"subscribers": "subscriber,active,cpes,name", "modems": "mac,subscriber,class,serial"}
+
+
+def wait_for(port):
+    for _ in range(100):
+        try:
+            urllib.request.urlopen(f"http://127.0.0.1:{port}/site", timeout=2).close()
+        except urllib.error.HTTPError:
+            return
+        except OSError:
+            time.sleep(0.05)
+
+
+def pasted(port):
+    """Each example of the page, from the top downward, and the status and answer that it has."""
+    page, answer = text_of("docs", "CLERK_API.md"), None
+    count = 0
+    for line in page.splitlines():
+        told = re.search(r"answers `([^`]*)`", line)
+        if told and answer is not None and "no-row" not in answer:
+            check(answer == told.group(1), f"{answer} is what the page says")
+        if not re.match(r"    (printf|curl) ", line):
+            continue
+        done = subprocess.run(["sh", "-c", line.replace(":8080", f":{port}")],
+                              stdout=subprocess.PIPE, stderr=subprocess.DEVNULL, timeout=20)
+        head, _, answer = done.stdout.decode().replace("\r", "").partition("\n\n")
+        wanted = "404" if "/leases/" in line else "200"
+        check(head.split(" ")[1:2] == [wanted], f"{wanted} of {line.strip()}: {head[:30]} {answer}")
+        count += 1
+    return count
+
+
+def clerk(port, *words, given=None):
+    """A clerk's status, what it prints, and what it says of a fault."""
+    known = {**os.environ, "OFFICE_URL": f"http://127.0.0.1:{port}"}
+    done = subprocess.run([sys.executable, CLERK, *words], env=known, input=given, timeout=30,
+                          stdout=subprocess.PIPE, stderr=subprocess.PIPE)
+    return done.returncode, done.stdout.decode(), done.stderr.decode()
+
+
+def furnished(port, folder):
+    """Rows are put in each way, shown and imported."""
+    page = os.path.join(folder, "class.json")
+    with open(page, "w", encoding="utf-8") as held:
+        json.dump(GOLD, held)
+    modems = os.path.join(folder, "modems.csv")
+    with open(modems, "w", encoding="utf-8") as held:
+        held.write(f"{NAMES['modems']}\n020000000001,7,1,SN01\n020000000002,7,1,\n")
+    for words, given in ((("put", "site", json.dumps(SITE)), None),
+                         (("put", "/classes/1", "@" + page), None),
+                         (("put", "subscribers/7", "-"), json.dumps(ANN).encode()),
+                         (("put", "pools/1", json.dumps(POOL)), None)):
+        found = clerk(port, *words, given=given)
+        check(found[0] == 0 and json.loads(found[1]) == {"ok": True}, f"{words}: {found}")
+    for _ in range(2):
+        found = clerk(port, "import", modems)
+        check(found[0] == 0 and json.loads(found[1]) == {"rows": 2}, f"an import: {found}")
+    check(clerk(port, "import", "--batch", "9", modems)[0] == 0, "an import of a number")
+    check(json.loads(clerk(port, "get", "modems/020000000001")[1])["serial"] == "SN01", "a row")
+
+
+def rows(kind, *lines):
+    return "\n".join([NAMES[kind], *lines, ""]).encode()
+
+
+OTHER_POOL = {**POOL, "first": "10.0.1.0", "last": "10.0.1.9", "relay": "10.0.1.1"}
+BAD_TREE = {"name": "", "settings": FLOWS[:1]}
+# What is refused: the words, standard input, the fault, and what the explanation names.
+REFUSED = [
+    (("get", "subscribers/8"), b"", "no-row", "no such row"),
+    (("get", "subscriber/8"), b"", "no-path", "no such path"),
+    (("delete", "site"), b"", "no-method", "can't be done"),
+    (("put", "site", "{"), b"", "not-json", "JSON"),
+    (("put", "subscribers/7", "{}"), b"", "field", "`active`"),
+    (("put", "subscribers/7", '{"active":true,"cpes":0}'), b"", "value", "`cpes`"),
+    (("put", "subscribers/8/addons/0", '{"settings":[]}'), b"", "no-subscriber", "first"),
+    (("put", "modems/020000000001", json.dumps({**MODEM, "class": 2})), b"", "no-class", "first"),
+    (("put", "site", json.dumps({**SITE, "lease": 59})), b"", "site", "`lease` isn't 60"),
+    (("put", "classes/1", json.dumps(BAD_TREE)), b"", "tree", "a class needs 24 and 25"),
+    (("put", "pools/2", json.dumps({**POOL, "first": "10.0.0.30"})), b"", "pool-size", "above"),
+    (("put", "pools/2", json.dumps({**POOL, "relay": "10.0.0.3"})), b"", "pool-overlap", "pool 1"),
+    (("put", "pools/2", json.dumps({**OTHER_POOL, "relay": "10.0.0.1"})), b"", "relay-taken",
+     "pool 1 has this relay"),
+    (("delete", "subscribers/7"), b"", "has-modems", "remove the modem first"),
+    (("delete", "classes/1"), b"", "class-in-use", "another class first"),
+    (("import", "-"), b"mac,subscriber,class\n", "header", "mac,subscriber,class,serial"),
+    (("import", "-"), rows("modems", "1,2"), "width", "row 1 hasn't"),
+    (("import", "-"), rows("subscribers", "1,maybe,2,"), "import-field", "1,2"),
+    (("import", "-"), rows("subscribers", *["1,yes,2,"] * 2001), "too-many", "two files"),
+    (("import", "-"), rows("modems", "020000000003,8,1,"), "no-subscriber", "row or limit 1"),
+    (("import", "--batch", "9", "-"), rows("modems"), "batch-differs", "import 9"),
+]
+
+
+def explains(port):
+    for words, given, word, part in REFUSED:
+        status, _, said = clerk(port, *words, given=given)
+        check(status == 1 and f" {word}: " in said and part in said, f"{words}: {status} {said}")
+    page = {row[0].strip("`") for row in table(text_of("docs", "CLERK_API.md"), "Fault", "Status")}
+    check(page == set(loaded("office-clerk").FAULTS), "the clerk knows the page's faults")
+    status, _, said = clerk(port, "import", "-", given=b"x,y\n")
+    check(status == 2 and "columns" in said, f"a table of another kind: {said}")
+    check(clerk(port, "put", "site", "@/nowhere")[0] == 2, "a file that isn't there")
+    check(clerk(port, "move", "site")[0] == 2, "another word")
+    status, _, said = clerk(free_ports()[3], "get", "site")
+    check(status == 3 and "no answer" in said, "no office")
+
+
+def with_an_office(act):
+    """Calls something with the port of an office of empty tables."""
+    ports = free_ports()
+    with tempfile.TemporaryFile() as log:
+        program = start(ports, 10**6, log)
+        try:
+            wait_for(ports[3])
+            return act(ports[3])
+        finally:
+            stop(program)
+
+
+def clerks(port):
+    with tempfile.TemporaryDirectory() as folder:
+        furnished(port, folder)
+    explains(port)
+
+
+def main():
+    if not os.path.exists(PROGRAM):
+        print("officed isn't built: run bin/officed once")
+        return 1
+    print(f"{with_an_office(pasted)} examples pasted")
+    with_an_office(clerks)
+    print(f"acceptance: {len(failures)} failed")
+    return 1 if failures else 0
+
+
+if __name__ == "__main__":
+    sys.exit(main())
