@@ -1,0 +1,148 @@
+#!/usr/bin/env python3
+"""bin/office-counts counts lines by service and word, in whatever pieces they come.
+
+What is expected is counted here line by line, in another way. It reads files and pipes, rewrites
+its Prometheus file while it goes on, and ends at SIGTERM with all that came; each line of the file
+has the form of the text format. Its speed is printed and judged: 200,000 lines a second.
+"""
+import collections
+import os
+import random
+import re
+import signal
+import subprocess
+import sys
+import tempfile
+import time
+
+from first_office import loaded
+from time_service import ROOT, check, failures
+
+COUNTS = os.path.join(ROOT, "bin", "office-counts")
+PLAIN = ["dhcp offer", "dhcp ack", "dhcp not-your-address", "time sent", "tftp oack", "tftp done",
+         "tftp again", "http 200", "http 409 has-modems", "http wait", "tick memory", "tftp link"]
+ODD = ["words refused", "tables refused held 02aabbccddee", "link refused", "", "12", "12 dhcp",
+       "what is this", "Nov 27 host officed[1]: 7 dhcp ack", "3 smtp sent",
+       "9 tick again x closed 1"]
+SERIES = re.compile(r'officed_lines_total\{service="(\w+)",word="([^"\\]*)"\} (\d+)')
+
+
+def event(number):
+    chosen = random.random()
+    if chosen < 0.5:
+        return f"{number} {random.choice(PLAIN)}"
+    if chosen < 0.9:
+        return f"{number} tftp block {random.randint(1, 65535)}"
+    return f"{number} tick again {random.randint(0, 256)} closed {random.randint(0, 9)}"
+
+
+def expected(lines):
+    """The counts by service and word, and the two sums of ticks."""
+    found, again, closed = collections.Counter(), 0, 0
+    for line in lines:
+        number, *words = line.split(" ")
+        if number.isdigit() and words[:1] == ["tick"] and words[1:2] == ["again"]:
+            if words[2].isdigit():
+                again, closed = again + int(words[2]), closed + int(words[4])
+                found["tick", "again closed"] += 1
+            else:
+                found["tick", " ".join(words[1:])] += 1
+        elif number.isdigit() and words[:2] == ["tftp", "block"]:
+            found["tftp", "block"] += 1
+        elif number.isdigit() and len(words) > 1 and words[0] in "dhcp time tftp http tick".split():
+            found[words[0], " ".join(words[1:])] += 1
+        elif words[:1] == ["refused"] and not number.isdigit():
+            found["office", f"{number} refused"] += 1
+        else:
+            found["other", ""] += 1
+    return found, again, closed
+
+
+def read_prometheus(path):
+    """The counts of a file, each of whose lines is of the text format."""
+    with open(path, encoding="utf-8") as held:
+        lines = held.read().splitlines()
+    found, sums = collections.Counter(), {}
+    for line in lines:
+        series, plain = SERIES.fullmatch(line), re.fullmatch(r"(\w+_total) (\d+)", line)
+        if series:
+            found[series[1], series[2]] += int(series[3])
+        elif plain:
+            sums[plain[1]] = int(plain[2])
+        else:
+            form = r"# (HELP \w+_total [A-Z].*\.|TYPE \w+_total counter)"
+            check(re.fullmatch(form, line), f"the form of {line!r}")
+    return found, sums["officed_transfers_sent_again_total"], sums["officed_transfers_closed_total"]
+
+
+def in_pieces(lines):
+    """Any cut of the bytes has the same counts."""
+    program, data = loaded("office-counts"), "\n".join(lines).encode()
+    for size in (1, 7, 1000, len(data)):
+        counts = program.Counts()
+        for at in range(0, len(data), size):
+            counts.take(data[at:at + size])
+        counts.finish()
+        found = collections.Counter(dict(counts.words)), counts.again, counts.closed
+        check(found == expected(lines), f"in pieces of {size}: {found}")
+
+
+def from_files(folder, lines):
+    """Once, from a file and from a pipe, as text and for Prometheus."""
+    path, out = os.path.join(folder, "lines"), os.path.join(folder, "out.prom")
+    with open(path, "w", encoding="utf-8") as held:
+        held.write("\n".join(lines) + "\n")
+    began = time.perf_counter()
+    text = subprocess.run([COUNTS, path], stdout=subprocess.PIPE, timeout=60).stdout.decode()
+    speed = len(lines) / (time.perf_counter() - began)
+    print(f"{speed:,.0f} lines a second")
+    check(speed >= 200_000, "it reads 200,000 lines a second")
+    found, again, closed = expected(lines)
+    shown = {tuple(re.split(r"\s{2,}", line.strip())) for line in text.splitlines()}
+    check(("dhcp", "ack", str(found["dhcp", "ack"])) in shown, f"the text: {text}")
+    check(("tick", "packets sent again", str(again)) in shown, "the text has the sums")
+    with open(path, "rb") as held:
+        subprocess.run([COUNTS, "--prometheus", out], stdin=held, timeout=60)
+    check(read_prometheus(out) == (found, again, closed), "the file for Prometheus")
+    check(os.stat(out).st_mode & 0o777 == 0o644, "others may read it")
+    done = subprocess.run([COUNTS, "/nowhere"], stderr=subprocess.DEVNULL, timeout=60)
+    check(done.returncode == 2, "no file")
+
+
+def while_it_goes_on(folder):
+    """The file is written again and again, and once more at SIGTERM, with the last whole line."""
+    out = os.path.join(folder, "on.prom")
+    words = [COUNTS, "--prometheus", out, "--every", "0.1"]
+    program = subprocess.Popen(words, stdin=subprocess.PIPE)
+    program.stdin.write(b"1 dhcp offer\n2 dhcp ack\n3 dh")
+    program.stdin.flush()
+    end = time.monotonic() + 10
+    while not os.path.exists(out) and time.monotonic() < end:
+        time.sleep(0.02)
+    found, _, _ = read_prometheus(out)
+    check(found == {("dhcp", "offer"): 1, ("dhcp", "ack"): 1}, f"while it goes on: {found}")
+    program.stdin.write(b"cp ack\n")
+    program.stdin.flush()
+    time.sleep(0.3)
+    program.send_signal(signal.SIGTERM)
+    check(program.wait(timeout=10) == 0, "SIGTERM ends it with 0")
+    check(read_prometheus(out)[0]["dhcp", "ack"] == 2, "with all that came")
+    left = [name for name in os.listdir(folder) if name.startswith(".office")]
+    check(not left, "nothing is left beside it")
+
+
+def main():
+    random.seed(7)
+    few = [event(number) for number in range(1, 2000)]
+    few[100:100] = few[1500:1500] = ODD
+    in_pieces(few)
+    many = [event(number) for number in range(1, 400_001)] + ODD
+    with tempfile.TemporaryDirectory() as folder:
+        from_files(folder, many)
+        while_it_goes_on(folder)
+    print(f"acceptance: {len(failures)} failed")
+    return 1 if failures else 0
+
+
+if __name__ == "__main__":
+    sys.exit(main())
