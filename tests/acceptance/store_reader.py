@@ -1,0 +1,174 @@
+#!/usr/bin/env python3
+"""bin/office-sql reads the rows of a store as the office writes them.
+
+The store is made here by Python's sqlite3, its rows by the layout of docs/OPERATING.md: a whole
+file, one whose last commits are in the log beside it, one that a program has open, and files that
+are no store. What is expected is said by hand. The store stays as it is, to the byte.
+"""
+import csv
+import io
+import ipaddress
+import os
+import sqlite3
+import subprocess
+import sys
+import tempfile
+
+from time_service import ROOT, check, failures
+
+READER = os.path.join(ROOT, "bin", "office-sql")
+TABLE = "CREATE TABLE office(ident BLOB PRIMARY KEY NOT NULL, val BLOB NOT NULL) STRICT"
+NOW = 1_700_000_000
+OFFERED, BOUND, DECLINED = 1, 2, 3
+
+
+def text(value):
+    return bytes([len(value)]) + value
+
+
+def big(value, size):
+    return value.to_bytes(size, "big")
+
+
+def ip(value):
+    return ipaddress.IPv4Address(value).packed
+
+
+def mac(last):
+    return bytes.fromhex("02aabbccdd") + bytes([last])
+
+
+def modem(last, subscriber, class_, serial=b""):
+    return b"\x04" + mac(last), big(subscriber, 4) + big(class_, 4) + text(serial)
+
+
+def leased(held, hold, owner, expiry):
+    """The rows of a lease: the address's, and the modem's where it has one."""
+    named = mac(owner) if hold != DECLINED else b""
+    yield b"\x07" + ip(held), bytes([hold]) + named + big(expiry, 8)
+    if hold != DECLINED:
+        yield b"\x08" + named, ip(held)
+
+
+ROWS = [
+    (b"\x01", ip("10.0.0.2") + text(b"secret") + big(3600, 4) + big(86400, 4) + bytes(4)),
+    (b"\x02" + big(7, 4), b"\x01\x02" + text(b"Ann")),
+    (b"\x02" + big(8, 4), b"\x00\x02" + text("Bö".encode())),
+    modem(0xEE, 7, 1, b"SN01"), modem(0xEF, 8, 1), modem(0xF0, 7, 2, b"a,b"), modem(0xF1, 7, 1),
+    (b"\x06" + big(1, 4), ip("10.64.0.10") + ip("10.64.0.14") + b"\x18" + ip("10.64.0.1") * 2),
+    *leased("10.64.0.10", BOUND, 0xEE, NOW + 100), *leased("10.64.0.11", BOUND, 0xF0, NOW),
+    *leased("10.64.0.12", OFFERED, 0xEF, NOW + 9), *leased("10.64.0.13", DECLINED, 0, NOW - 5),
+    *leased("10.65.0.10", BOUND, 0x77, NOW + 100),
+    (b"\x09" + big(9, 8), b"\x02" + bytes(range(16)) + big(2, 4)),
+    (b"\x09" + big(2**64 - 1, 8), b"\x01" + bytes(16) + big(2000, 4)),
+]
+MOMENT, BEFORE = "2023-11-14 22:13:20", "2023-11-14 22:13:15"
+LATER, SOON = "2023-11-14 22:15:00", "2023-11-14 22:13:29"
+MODEMS = ["modem", "class", "serial", "address", "lease", "until (UTC)"]
+LEASE = ["modem", "address", "lease", "until (UTC)", "seconds left"]
+ANSWERS = [
+    (("modems", "7"), [MODEMS, ["02aabbccddee", "1", "SN01", "10.64.0.10", "bound", LATER],
+                       ["02aabbccddf0", "2", "a,b", "10.64.0.11", "ended", MOMENT],
+                       ["02aabbccddf1", "1", "", "", "none", ""]]),
+    (("modems", "8"), [MODEMS, ["02aabbccddef", "1", "", "10.64.0.12", "offered", SOON]]),
+    (("lease", "02:AA:bb:cc:dd:ee"),
+     [LEASE, ["02aabbccddee", "10.64.0.10", "bound", LATER, "100"]]),
+    (("lease", "02aabbccddf0"), [LEASE, ["02aabbccddf0", "10.64.0.11", "ended", MOMENT, "0"]]),
+    (("lease", "02aabbccdd77"), [LEASE, ["02aabbccdd77", "10.65.0.10", "bound", LATER, "100"]]),
+    (("free", "1"), [["address", "last modem", "ended (UTC)"],
+                     ["10.64.0.11", "02aabbccddf0", MOMENT], ["10.64.0.13", "", BEFORE],
+                     ["10.64.0.14", "", ""]]),
+    (("batches",), [["batch", "kind", "rows", "digest"],
+                    ["9", "modems", "2", bytes(range(16)).hex()],
+                    [str(2**64 - 1), "subscribers", "2000", "00" * 16]]),
+]
+
+
+def made(path, rows=ROWS):
+    """A store, its log beside it while the connection lives."""
+    store = sqlite3.connect(path, isolation_level=None)
+    store.execute("PRAGMA journal_mode = WAL")
+    store.execute(TABLE)
+    store.execute("PRAGMA wal_checkpoint(TRUNCATE)")
+    store.executemany("INSERT INTO office VALUES (?, ?)", rows)
+    return store
+
+
+def asked(path, *words):
+    done = subprocess.run([READER, "--at", str(NOW), path, *words], timeout=30,
+                          stdout=subprocess.PIPE, stderr=subprocess.PIPE)
+    return done.returncode, done.stdout.decode(), done.stderr.decode()
+
+
+def bytes_of(path):
+    with open(path, "rb") as held:
+        return held.read()
+
+
+def answers(path, what):
+    before = {name: bytes_of(name) for name in (path, path + "-wal") if os.path.exists(name)}
+    for words, expected in ANSWERS:
+        status, came, said = asked(path, "--csv", *words)
+        found = list(csv.reader(io.StringIO(came)))
+        check((status, found) == (0, expected), f"{what}: {words}: {status} {found} {said}")
+    check(all(bytes_of(name) == data for name, data in before.items()), f"{what}: it stays")
+    beside = [name for name in os.listdir(os.path.dirname(path)) if name.endswith("-shm")]
+    check(not beside, f"{what}: nothing is left beside it")
+
+
+def stores(folder):
+    path, other = os.path.join(folder, "office.db"), os.path.join(folder, "logged", "office.db")
+    os.mkdir(os.path.dirname(other))
+    store = made(path)
+    # Before this process reads the file: closing it would end its locks (POSIX, fcntl).
+    check(asked(path, "batches")[0] == 3, "a store that a program has open isn't read")
+    # The rows are in the log alone here: a crash leaves such files.
+    check(len(bytes_of(path)) < len(bytes_of(path + "-wal")), "the rows are in the log")
+    for name in ("", "-wal"):
+        with open(other + name, "wb") as held:
+            held.write(bytes_of(path + name))
+    store.close()
+    answers(path, "a whole store")
+    answers(other, "a store with a log")
+    locked = sqlite3.connect(path, isolation_level=None)
+    locked.execute("PRAGMA locking_mode = EXCLUSIVE")
+    locked.execute("BEGIN EXCLUSIVE")
+    status, came, said = asked(path, "modems", "7")
+    check((status, came) == (3, "") and "stop it first" in said, f"a locked store: {status} {said}")
+    locked.close()
+
+
+def refusals(folder):
+    path, empty = os.path.join(folder, "office.db"), os.path.join(folder, "empty")
+    for words, part in ((("modems", "9"), "no subscriber 9"), (("free", "2"), "no pool 2"),
+                        (("lease", "02aabbccddf1"), "has no lease"),
+                        (("lease", "02aabbccddff"), "no such modem")):
+        status, came, said = asked(path, *words)
+        check((status, came) == (1, "") and part in said, f"{words}: {status} {said}")
+    with open(empty, "wb") as held:
+        held.write(b"no database, but a text that is long enough to be looked at" * 20)
+    for words in ((empty, "batches"), (os.path.join(folder, "none"), "batches"),
+                  (path, "modems"), (path, "batches", "7"), (path, "modems", "x"),
+                  (path, "modems", "-1"), (path, "pools", "1"), (path, "lease", "0x")):
+        check(asked(*words)[0] == 2, f"{words} can't be read")
+    bad = os.path.join(folder, "bad")
+    made(bad, [(b"\x09" + bytes(8), b"\x03" + bytes(20)), (b"\x08" + mac(1), ip("10.0.0.1")),
+               (b"\x07" + ip("10.0.0.1"), b"\x02")]).close()
+    for words in (("batches",), ("lease", mac(1).hex())):
+        check(asked(bad, *words)[0] == 2, f"a row of another form: {words}")
+
+
+def main():
+    with tempfile.TemporaryDirectory() as folder:
+        stores(folder)
+        refusals(folder)
+        status, came, _ = asked(os.path.join(folder, "office.db"), "free", "1")
+        lines = ["address     last modem    ended (UTC)", f"10.64.0.11  02aabbccddf0  {MOMENT}",
+                 f"10.64.0.13                {BEFORE}", "10.64.0.14"]
+        check((status, came.splitlines()) == (0, lines), f"as text: {came}")
+    print(f"acceptance: {len(failures)} failed")
+    return 1 if failures else 0
+
+
+if __name__ == "__main__":
+    sys.exit(main())
