@@ -1,0 +1,129 @@
+#!/usr/bin/env python3
+"""What `make install` puts in place: the program, its unit, its manual page and its helpers.
+
+It is installed into a folder of this script and removed again. The unit's words are tried with the
+program, and systemd judges the unit; the manual page has each status and each variable, and is laid
+out without a warning. What a tool is missing for is said and skipped.
+"""
+# needs: make
+import os
+import re
+import shutil
+import subprocess
+import sys
+import tempfile
+
+from every_word import text_of
+from time_service import PROGRAM, ROOT, check, failures, free_ports
+
+DOC = "share/doc/officed"
+INSTALLED = {
+    "bin/officed": 0o755, "bin/office-clerk": 0o755, "bin/office-counts": 0o755,
+    "bin/office-sql": 0o755, "bin/office-modem": 0o755,
+    "lib/systemd/system/officed.service": 0o644, "share/man/man8/officed.8": 0o644,
+    **{f"{DOC}/{name}": 0o644 for name in ("OPERATING.md", "MESSAGES.md", "CLERK_API.md",
+                                           "openapi.json", "nginx.conf")},
+    **{f"{DOC}/first-office/{name}": 0o644 for name in (
+        "site.json", "class-1.json", "pool-1.json", "subscriber-7.json",
+        "modem-02aabbccddee.json")},
+    f"{DOC}/first-office/set-up": 0o755,
+}
+
+
+def make(*words):
+    done = subprocess.run(["make", "-s", "-C", ROOT, *words], timeout=60,
+                          stdout=subprocess.PIPE, stderr=subprocess.STDOUT)
+    return done.returncode, done.stdout.decode()
+
+
+def files_under(folder):
+    found = {}
+    for at, _, names in os.walk(folder):
+        for name in names:
+            path = os.path.join(at, name)
+            found[os.path.relpath(path, folder)] = os.stat(path).st_mode & 0o777
+    return found
+
+
+def installs(folder):
+    """All files with their rights, under another prefix, and none behind `uninstall`."""
+    words = [f"DESTDIR={folder}", "PREFIX=/opt/office", f"OFFICED={PROGRAM}"]
+    status, said = make("install", *words)
+    root = os.path.join(folder, "opt", "office")
+    check((status, files_under(root)) == (0, INSTALLED), f"what is installed: {status} {said}")
+    with open(os.path.join(root, "lib/systemd/system/officed.service"), encoding="utf-8") as held:
+        unit = held.read()
+    check("ExecStart=/opt/office/bin/officed serve " in unit and "/usr/local" not in unit,
+          "the unit has the prefix")
+    helped = subprocess.run([os.path.join(root, "bin", "office-modem"), "--help"], timeout=30,
+                            stdout=subprocess.DEVNULL)
+    check(helped.returncode == 0, "a helper runs from there")
+    check(make("uninstall", *words)[0] == 0 and not files_under(folder), "all is removed")
+    status, said = make("install", f"DESTDIR={folder}", "OFFICED=/nowhere")
+    check(status != 0 and "make it first" in said, "without a program nothing is installed")
+    check(not files_under(folder), "and nothing is there")
+
+
+def unit_words():
+    """The unit's command, its words, with another store, other ports and no turns."""
+    words = re.search(r"(?m)^ExecStart=(.*)$", text_of("packaging", "officed.service"))[1].split()
+    names = dict(zip(words[2::2], words[3::2]))
+    check(words[:2] == ["/usr/local/bin/officed", "serve"], "the unit serves")
+    check(names.get("--turns") == "1000000000000000", "as long as can be")
+    check(names.get("--ports", "").startswith("67,37,69,"), "at the standard ports")
+    check(names.get("--store", "").startswith("%S/officed/"), "from its own folder")
+    names.update({"--store": "memory", "--turns": "0",
+                  "--ports": ",".join(map(str, free_ports()))})
+    tried = [PROGRAM, "serve", *(word for pair in names.items() for word in pair)]
+    check(subprocess.run(tried, timeout=30).returncode == 0, "the program takes such words")
+
+
+def systemd(folder):
+    if not shutil.which("systemd-analyze"):
+        print("the unit: skipped, since this machine has no systemd-analyze")
+        return
+    path = os.path.join(folder, "officed.service")
+    with open(path, "w", encoding="utf-8") as held:
+        held.write(text_of("packaging", "officed.service").replace(
+            "/usr/local/bin/officed", shutil.which("true")))
+    done = subprocess.run(["systemd-analyze", "verify", "--man=no", path], timeout=60,
+                          stdout=subprocess.PIPE, stderr=subprocess.STDOUT)
+    check((done.returncode, done.stdout) == (0, b""), f"systemd takes it: {done.stdout.decode()}")
+    done = subprocess.run(["systemd-analyze", "security", "--offline=yes", "--threshold=20", path],
+                          timeout=60, stdout=subprocess.PIPE, stderr=subprocess.DEVNULL)
+    print(done.stdout.decode().strip().splitlines()[-1])
+    check(done.returncode == 0, "its exposure is at most 2.0")
+
+
+def manual():
+    page = text_of("packaging", "officed.8")
+    statuses = page[page.index(".SH EXIT STATUS"):page.index(".SH ENVIRONMENT")]
+    told = [int(number) for number in re.findall(r"(?m)^\.B (\d+)$", statuses)]
+    check(told == list(range(12)), f"the statuses: {told}")
+    for name in re.findall(r'"(OFFICED_\w+)"', text_of("crates", "officed", "src", "addresses.rt")):
+        check(f".B {name}\n" in page, f"the manual has {name}")
+    names = re.findall(r"(?m)^(?:\.BR? )?(office\\-\w+)", page)
+    check(len(names) == 4, f"the helpers: {names}")
+    if not shutil.which("groff"):
+        print("the manual's layout: skipped, since this machine has no groff")
+        return
+    words = ["groff", "-ww", "-man", "-Tutf8", os.path.join(ROOT, "packaging", "officed.8")]
+    done = subprocess.run(words, timeout=60, stdout=subprocess.PIPE, stderr=subprocess.PIPE)
+    check((done.returncode, done.stderr) == (0, b""), f"the layout: {done.stderr.decode()}")
+
+
+def main():
+    if not os.path.exists(PROGRAM):
+        print("officed isn't built: run bin/officed once")
+        return 1
+    with tempfile.TemporaryDirectory() as folder:
+        installs(folder)
+        systemd(folder)
+    unit_words()
+    manual()
+    print(f"acceptance: {len(failures)} failed")
+    return 1 if failures else 0
+
+
+if __name__ == "__main__":
+    sys.exit(main())

@@ -1,0 +1,143 @@
+#!/usr/bin/env python3
+"""packaging/nginx.conf, a proxy with TLS and passwords, in front of an office.
+
+nginx runs the file as it stands, but for its paths and ports. Who gives no password, or a wrong
+one, is refused; a clerk with one puts, shows and removes, also by bin/office-clerk, by a chunked
+body and with a body of the greatest length. It ends what it started, and takes some seconds.
+"""
+# needs: nginx openssl curl
+import json
+import os
+import re
+import subprocess
+import sys
+import tempfile
+import time
+
+from clerk_examples import CLERK, wait_for
+from listening import stop
+from time_service import PROGRAM, ROOT, check, failures, free_ports, start
+
+ANN = {"active": True, "cpes": 2, "name": "Ann"}
+NAMES = ["access_log", "auth_basic_user_file", "ssl_certificate", "ssl_certificate_key"]
+MAIN = """daemon off;
+master_process off;
+pid %(folder)s/pid;
+error_log %(folder)s/errors;
+events {}
+http {
+    client_body_temp_path %(folder)s/body;
+    proxy_temp_path %(folder)s/proxied;
+    include %(folder)s/officed.conf;
+}
+"""
+
+
+def made(folder, port, office):
+    """The recipe with a certificate and a password of its own."""
+    with open(os.path.join(ROOT, "packaging", "nginx.conf"), encoding="utf-8") as held:
+        recipe = held.read()
+    recipe = recipe.replace("8443", str(port)).replace("127.0.0.1:8080", f"127.0.0.1:{office}")
+    for name in NAMES:
+        recipe, count = re.subn(rf"(?m)^( *{name}) /[^ ;]*/", rf"\1 {folder}/", recipe)
+        check(count == 1, f"the recipe has {name} once")
+    run = {"stdout": subprocess.PIPE, "stderr": subprocess.DEVNULL, "check": True, "timeout": 60}
+    subprocess.run(["openssl", "req", "-x509", "-newkey", "rsa:2048", "-nodes", "-days", "1",
+                    "-subj", "/CN=localhost", "-addext", "subjectAltName=DNS:localhost",
+                    "-keyout", f"{folder}/officed.key", "-out", f"{folder}/officed.crt"], **run)
+    hashed = subprocess.run(["openssl", "passwd", "-apr1", "quiet"], **run).stdout.decode()
+    for name, text in (("officed.conf", recipe), ("officed.passwords", f"ann:{hashed}"),
+                       ("main.conf", MAIN % {"folder": folder})):
+        with open(os.path.join(folder, name), "w", encoding="utf-8") as held:
+            held.write(text)
+    os.chmod(folder, 0o755)
+
+
+class Clerk:
+    """A clerk at the proxy."""
+
+    def __init__(self, folder, port):
+        self.folder, self.port = folder, port
+
+    def curl(self, *words, login="ann:quiet", given=None):
+        """The status and the answer of a request by curl."""
+        asked = ["curl", "-sS", "--cacert", f"{self.folder}/officed.crt", "-w", "\n%{http_code}",
+                 *(["-u", login] if login else []), *words[1:],
+                 f"https://localhost:{self.port}{words[0]}"]
+        done = subprocess.run(asked, input=given, stdout=subprocess.PIPE, timeout=60)
+        text, _, status = done.stdout.decode().rpartition("\n")
+        return status, text
+
+    def office_clerk(self, *words):
+        known = {**os.environ, "OFFICE_LOGIN": "ann:quiet",
+                 "OFFICE_URL": f"https://localhost:{self.port}"}
+        done = subprocess.run([sys.executable, CLERK, "--ca", f"{self.folder}/officed.crt", *words],
+                              env=known, stdout=subprocess.PIPE, stderr=subprocess.PIPE, timeout=30)
+        return done.returncode, done.stdout.decode(), done.stderr.decode()
+
+
+def asks(clerk):
+    put = ("/subscribers/7", "-X", "PUT", "--data-binary", "@-")
+    row = json.dumps(ANN).encode()
+    for login in (None, "ann:loud", "bob:quiet"):
+        check(clerk.curl(*put, login=login, given=row)[0] == "401", f"{login} is refused")
+    check(clerk.curl("/subscribers/7")[0] == "404", "and nothing was put")
+    check(clerk.curl(*put, given=row) == ("200", '{"ok":true}'), "a clerk puts a row")
+    check(json.loads(clerk.curl("/subscribers/7")[1]) == ANN, "and is shown it")
+    chunked = (*put, "-H", "Transfer-Encoding: chunked")
+    check(clerk.curl(*chunked, given=row)[0] == "200", "a chunked body is taken")
+    longest = row.ljust(1_048_576)
+    check(clerk.curl(*put, given=longest)[0] == "200", "a body of the greatest length")
+    check(clerk.curl(*put, given=longest + b" ")[0] == "413", "and one byte more")
+    refused = ("400", '{"at":"active","fault":"field"}')
+    check(clerk.curl(*put, given=b"{}") == refused, "the office's faults come through")
+    found = clerk.office_clerk("get", "subscribers/7")
+    check(found[0] == 0 and json.loads(found[1]) == ANN, f"office-clerk: {found}")
+    check(clerk.office_clerk("delete", "subscribers/7")[0] == 0, "office-clerk removes it")
+    status, _, said = clerk.office_clerk("get", "subscribers/7")
+    check(status == 1 and "no-row" in said, "and is told so")
+
+
+def waits(clerk):
+    for _ in range(100):
+        if subprocess.run(["curl", "-sk", "-o", os.devnull, f"https://localhost:{clerk.port}/"],
+                          timeout=30).returncode == 0:
+            return
+        time.sleep(0.05)
+    check(False, "nginx answers within some seconds")
+
+
+def behind_nginx(folder, office):
+    port = free_ports()[3]
+    made(folder, port, office)
+    words = ["nginx", "-p", folder, "-e", f"{folder}/errors", "-c", f"{folder}/main.conf"]
+    proxy, clerk = subprocess.Popen(words), Clerk(folder, port)
+    try:
+        waits(clerk)
+        asks(clerk)
+    finally:
+        stop(proxy)
+    with open(os.path.join(folder, "officed.log"), encoding="utf-8") as held:
+        lines = held.read().splitlines()
+    check(any(line.endswith('ann "PUT /subscribers/7 HTTP/1.1" 200') for line in lines),
+          "the proxy's log says who put what")
+
+
+def main():
+    if not os.path.exists(PROGRAM):
+        print("officed isn't built: run bin/officed once")
+        return 1
+    ports = free_ports()
+    with tempfile.TemporaryDirectory() as folder, open(os.devnull, "wb") as log:
+        program = start(ports, 10**6, log)
+        try:
+            wait_for(ports[3])
+            behind_nginx(folder, ports[3])
+        finally:
+            stop(program)
+    print(f"acceptance: {len(failures)} failed")
+    return 1 if failures else 0
+
+
+if __name__ == "__main__":
+    sys.exit(main())
