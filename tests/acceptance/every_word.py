@@ -64,8 +64,8 @@ DEFINED = {
                          ("off_import_job", "Telling", r'codes " (row) "'),
                          ("off_import_job", "Telling", r'^broken_words .*codes "([^"]*)"'),
                          ("off_clerk_rules", "Faults", r'Limit kind most\) = codes "([^"]*)"')],
-    "Faults of clerks": [("off_clerk_rules", "Faults", r'_word .*codes "([^"]*)"$'),
-                         ("off_import_rules", "Faults", r'^fault_word .*codes "([^"]*)"')],
+    "Faults of clerks": [("off_clerk_rules", "Faults", r'_word [^=]*= codes "([^"]*)"'),
+                         ("off_import_rules", "Faults", r'^fault_word [^=]*= codes "([^"]*)"')],
     "Keys of rows": [("off_defs", "KeyText", r'^key_text_of .*?codes "([^"]*)"')],
 }
 
@@ -101,7 +101,8 @@ def sections():
 def defined(name):
     found = set()
     for crate, page, form in DEFINED[name]:
-        text = text_of("crates", crate, "specs", f"{page}.antt")
+        # A definition that is laid out over several lines is read as one.
+        text = re.sub(r"\n\s+", " ", text_of("crates", crate, "specs", f"{page}.antt"))
         for words in re.findall(form, text, re.M):
             found.add(bare("".join(words)))
     return found
@@ -121,7 +122,7 @@ def compare(found, rows):
 
 def told_to_clients(rows):
     """The TFTP errors, each beside its word, are those of the definitions."""
-    text = text_of("crates", "off_transfer_rules", "specs", "Steps.antt")
+    text = " ".join(text_of("crates", "off_transfer_rules", "specs", "Steps.antt").split())
     form = r'code = (\d); text = codes "([^"]*)"; word = word\.(\w+)'
     known = {(code, said) for code, said, _ in re.findall(form, text)}
     shown = set(re.findall(r"\| (\d) `([^`]*)` \|", "\n".join(rows["TFTP"])))

@@ -1,7 +1,7 @@
 #!/usr/bin/env python3
 """bin/office-sql reads the rows of a store as the office writes them.
 
-The store is made here by Python's sqlite3, its rows by the layout of docs/OPERATING.md: a whole
+The store is made here by Python's sqlite3, its rows by the spelling of crates/off_rows: a whole
 file, one whose last commits are in the log beside it, one that a program has open, and files that
 are no store. What is expected is said by hand. The store stays as it is, to the byte.
 """
