@@ -11,9 +11,9 @@ use Rattle.off_outside.specs.declared.keeper.KeepErr.{KeepErr}
 use Rattle.off_outside.specs.declared.keeper.KeepErr.TheVariants.{Memory, Failed}
 use Rattle.off_rows.specs.KeyBytes.{key_bytes, IsRanged}
 use Rattle.off_keepsql.specs.declared.counts.Counts.{Counts}
-use Rattle.off_keepsql.specs.declared.writes.CellWrite.{CellWrite}
-use Rattle.off_keepsql.specs.CellsSeen.{Cell, CellMap, CellsSeen, cell_at, next_cell}
-use Rattle.off_keepsql.specs.CellCalls.{CellsRead, CellsWritten}
+use Rattle.off_cells.specs.declared.writes.CellWrite.{CellWrite}
+use Rattle.off_cells.specs.CellsSeen.{Cell, CellMap, CellsSeen, cell_at, next_cell}
+use Rattle.off_cells.specs.CellCalls.{CellsRead, CellsWritten}
 use Rattle.off_keepsql.specs.Stored.{PlaceRanged, MeetsBad, AllSpelled, cell_write}
 use Rattle.off_keepsql.specs.SqlSeen.{over}
 use Rattle.off_keepsql.specs.OwnCount.{asked_at, asked_behind, CountsOne, CountsBad, RowRead, EntryRead, WritesSpelled}

@@ -15,7 +15,7 @@ use Rattle.off_defs.proofs.KeyLemmas.{key_exact}
 use Rattle.off_rows.specs.KeyBytes.{key_bytes, IsRanged}
 use Rattle.off_rows.specs.RowBytes.{row_bytes, IsRowOf}
 use Rattle.off_rows.proofs.KeyOrder.{ordered_as_bytes}
-use Rattle.off_keepsql.specs.CellsSeen.{Cell, is_behind}
+use Rattle.off_cells.specs.CellsSeen.{Cell, is_behind}
 use Rattle.off_keepsql.specs.Stored.{cell_of, IsStorable, AllStorable, PlaceRanged}
 
 abbrev bytes_cmp : List ℕ → List ℕ → Ordering

@@ -10,7 +10,7 @@ use Rattle.off_defs.specs.declared.tables.Row.{Row}
 use Rattle.off_defs.specs.Keys.{key_cmp}
 use Rattle.off_defs.specs.State.{Tables}
 use Rattle.off_rows.specs.KeyBytes.{key_bytes, IsRanged}
-use Rattle.off_keepsql.specs.CellsSeen.{Cell, CellMap}
+use Rattle.off_cells.specs.CellsSeen.{Cell, CellMap}
 use Rattle.off_keepsql.specs.Stored.{cell_of, IsStorable, AllStorable, Stores}
 use Rattle.off_keepsql.specs.Laws.{IsEntry, AllAreEntries, EntriesAreTables, TablesAreEntries}
 use Rattle.off_keepsql.proofs.EntryCells.{in_order}

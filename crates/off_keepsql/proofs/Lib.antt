@@ -4,3 +4,4 @@ pub mod OverLemmas
 pub mod SpellLemmas
 pub mod CallLemmas
 pub mod LawLemmas
+pub mod BeginLemmas

@@ -9,9 +9,9 @@ use Rattle.off_outside.specs.KeeperCalls.{Still, Crash, Quiet, Reads, NotDone, C
 use Rattle.off_outside.specs.declared.keeper.KeepErr.{KeepErr}
 use Rattle.off_outside.specs.declared.keeper.KeepErr.TheVariants.{Memory, Failed}
 use Rattle.off_keepsql.specs.declared.counts.Counts.{Counts}
-use Rattle.off_keepsql.specs.CellsSeen.{CellMap, CellsSeen}
-use Rattle.off_keepsql.specs.CellCalls.{CellsRead, CellsKept, CellsWritten, CellCallCounted, OneCellCall}
-use Rattle.off_keepsql.specs.CellWritten.{write_cells}
+use Rattle.off_cells.specs.CellsSeen.{CellMap, CellsSeen}
+use Rattle.off_cells.specs.CellCalls.{CellsRead, CellsKept, CellsWritten, CellCallCounted, OneCellCall}
+use Rattle.off_cells.specs.CellWritten.{write_cells}
 use Rattle.off_keepsql.specs.Stored.{Stores, cell_write, AllSpelled}
 use Rattle.off_keepsql.specs.SqlSeen.{StoredIn, over}
 use Rattle.off_keepsql.proofs.StoredLemmas.{all_store}

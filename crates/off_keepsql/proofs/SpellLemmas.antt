@@ -6,7 +6,7 @@ use Rattle.off_base.proofs.TreeLemmas.{taken}
 use Rattle.off_defs.specs.Counts.{one_more}
 use Rattle.off_outside.specs.declared.keeper.KeepErr.{KeepErr}
 use Rattle.off_outside.specs.declared.keeper.KeepErr.TheVariants.{Memory, Failed}
-use Rattle.off_keepsql.specs.declared.writes.CellWrite.{CellWrite}
+use Rattle.off_cells.specs.declared.writes.CellWrite.{CellWrite}
 use Rattle.off_keepsql.specs.OwnCount.{WriteSpelled, WritesSpelled}
 use Rattle.off_base.specs.Tree.{Tree, AllFit}
 use Rattle.off_tlv.specs.Grammar.{in_file, Level, AllShaped, AllStand}

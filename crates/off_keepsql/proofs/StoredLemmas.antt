@@ -19,8 +19,8 @@ use Rattle.off_rows.specs.KeyBytes.{key_bytes, IsRanged}
 use Rattle.off_rows.specs.RowBytes.{row_bytes, IsRowOf}
 use Rattle.off_rows.proofs.KeyOrder.{one_key}
 use Rattle.off_rows.proofs.Rows.{one_row}
-use Rattle.off_keepsql.specs.CellsSeen.{Cell, CellMap, cell_at, next_cell, is_behind}
-use Rattle.off_keepsql.specs.CellWritten.{cell_written, write_cells}
+use Rattle.off_cells.specs.CellsSeen.{Cell, CellMap, cell_at, next_cell, is_behind}
+use Rattle.off_cells.specs.CellWritten.{cell_written, write_cells}
 use Rattle.off_keepsql.specs.Stored.{cell_of, IsStorable, AllStorable, Stores, IsBadCell, MeetsBad, cell_write, IsSpelled, AllSpelled, PlaceRanged}
 use Rattle.off_keepsql.specs.OwnCount.{asked_at, asked_behind}
 use Rattle.off_keepsql.specs.SqlLaws.{same_entry}

@@ -4,7 +4,7 @@ use Rattle.std.specs.FinMap as map
 use Rattle.off_defs.specs.declared.keys.Key.{Key}
 use Rattle.off_defs.specs.declared.tables.Row.{Row}
 use Rattle.off_defs.specs.State.{Tables}
-use Rattle.off_keepsql.specs.CellsSeen.{Cell, CellMap}
+use Rattle.off_cells.specs.CellsSeen.{Cell, CellMap}
 use Rattle.off_keepsql.specs.Stored.{IsStorable, cell_of, Stores}
 
 -- a cell that is a key and a row

@@ -1,9 +1,7 @@
-pub mod CellsSeen
-pub mod CellCalls
 pub mod Stored
 pub mod SqlSeen
 pub mod OwnCount
-pub mod CellWritten
 pub mod RowKinds
 pub mod SqlLaws
 pub mod Laws
+pub mod Begin

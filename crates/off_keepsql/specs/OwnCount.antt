@@ -9,11 +9,11 @@ use Rattle.off_rows.specs.KeyBytes.{key_bytes}
 use Rattle.off_rows.specs.RowBytes.{row_bytes, IsRowOf}
 use Rattle.off_outside.specs.declared.keeper.KeepErr.{KeepErr}
 use Rattle.off_outside.specs.declared.keeper.KeepErr.TheVariants.{Memory, Failed}
-use Rattle.off_keepsql.specs.CellsSeen.{Cell, CellMap, CellsSeen, cell_at, next_cell}
+use Rattle.off_cells.specs.CellsSeen.{Cell, CellMap, CellsSeen, cell_at, next_cell}
 use Rattle.off_keepsql.specs.Stored.{IsStorable, cell_of, IsBadCell, MeetsBad, cell_write, IsSpelled, AllSpelled}
 use Rattle.off_rows.specs.declared.faults.RowErr.{RowErr}
 use Rattle.off_rows.specs.declared.faults.RowErr.TheVariants as row_err
-use Rattle.off_keepsql.specs.declared.writes.CellWrite.{CellWrite}
+use Rattle.off_cells.specs.declared.writes.CellWrite.{CellWrite}
 
 -- the cell that `get` asks for, and the one that `next` does
 abbrev pub asked_at : Key → CellMap → Option Cell

@@ -10,7 +10,7 @@ use Rattle.off_rows.specs.KeyBytes.{key_bytes}
 use Rattle.off_rows.specs.RowBytes.{row_bytes, IsRowOf}
 use Rattle.off_rows.proofs.KeyOrder.{one_key}
 use Rattle.off_rows.proofs.Rows.{one_row}
-use Rattle.off_keepsql.specs.CellsSeen.{Cell, CellMap, CellsSeen}
+use Rattle.off_cells.specs.CellsSeen.{Cell, CellMap, CellsSeen}
 use Rattle.off_keepsql.specs.Stored.{cell_of, IsStorable, AllStorable}
 use Rattle.off_keepsql.specs.SqlSeen.{StoredIn}
 

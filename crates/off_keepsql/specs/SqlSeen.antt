@@ -2,7 +2,7 @@
 use Rattle.std.specs.Prelude.{◌≡◌, ℕ, ◌+◌}
 use Rattle.off_defs.specs.State.{Tables}
 use Rattle.off_outside.specs.KeeperSeen.{KeeperSeen}
-use Rattle.off_keepsql.specs.CellsSeen.{CellMap, CellsSeen}
+use Rattle.off_cells.specs.CellsSeen.{CellMap, CellsSeen}
 use Rattle.off_keepsql.specs.Stored.{Stores}
 use Rattle.off_keepsql.specs.declared.counts.Counts.{Counts}
 

@@ -8,9 +8,9 @@ use Rattle.off_defs.specs.declared.orders.Write.TheVariants as write
 use Rattle.off_defs.specs.State.{Tables}
 use Rattle.off_rows.specs.KeyBytes.{key_bytes, IsRanged}
 use Rattle.off_rows.specs.RowBytes.{row_bytes, IsRowOf}
-use Rattle.off_keepsql.specs.CellsSeen.{Cell, CellMap}
-use Rattle.off_keepsql.specs.declared.writes.CellWrite.{CellWrite}
-use Rattle.off_keepsql.specs.declared.writes.CellWrite.TheVariants.{Put, Drop}
+use Rattle.off_cells.specs.CellsSeen.{Cell, CellMap}
+use Rattle.off_cells.specs.declared.writes.CellWrite.{CellWrite}
+use Rattle.off_cells.specs.declared.writes.CellWrite.TheVariants.{Put, Drop}
 
 -- the cell of a key and its row
 abbrev pub cell_of : Key × Row → Cell

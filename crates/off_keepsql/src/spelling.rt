@@ -9,7 +9,7 @@ ghost use Rattle.off_keepsql.specs.OwnCount.{WriteSpelled, WritesSpelled};
 ghost use Rattle.off_keepsql.specs.RowKinds.{row_kind};
 
 use crate::counts::count_fault;
-use crate::writes::{CellWrite, CellWrites};
+use off_cells::{CellWrite, CellWrites};
 use off_base::Settings;
 use off_defs::{Key, Row, Write, Writes};
 use off_outside::KeepErr;

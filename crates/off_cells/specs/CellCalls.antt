@@ -4,9 +4,9 @@ use Rattle.off_defs.specs.Told.{Told}
 use Rattle.off_defs.specs.Counts.{Grew, one_more}
 use Rattle.off_outside.specs.KeeperCalls.{keeper_faults_in}
 use Rattle.off_outside.specs.declared.keeper.KeepErr.{KeepErr}
-use Rattle.off_keepsql.specs.CellsSeen.{CellMap, CellsSeen}
-use Rattle.off_keepsql.specs.CellWritten.{write_cells}
-use Rattle.off_keepsql.specs.declared.writes.CellWrite.{CellWrite}
+use Rattle.off_cells.specs.CellsSeen.{CellMap, CellsSeen}
+use Rattle.off_cells.specs.CellWritten.{write_cells}
+use Rattle.off_cells.specs.declared.writes.CellWrite.{CellWrite}
 
 -- the cells were read: P holds of them, and they are told still
 pub record CellsRead (P : CellMap → Type 0) (old new : CellsSeen) : Type 0 where

@@ -1,8 +1,8 @@
 ghost use Rattle.std.specs.Prelude.{◌≡◌};
 ghost use Rattle.std.specs.Option.{option_map};
 ghost use Rattle.off_defs.specs.Told.{IsOne};
-ghost use Rattle.off_keepsql.specs.CellsSeen.{CellsSeen, cell_at, next_cell};
-ghost use Rattle.off_keepsql.specs.CellCalls.{CellLooks, CellCommits, CellCallCounted};
+ghost use Rattle.off_cells.specs.CellsSeen.{CellsSeen, cell_at, next_cell};
+ghost use Rattle.off_cells.specs.CellCalls.{CellLooks, CellCommits, CellCallCounted};
 
 use crate::writes::CellWrites;
 use off_base::Bytes;

@@ -1,9 +1,9 @@
 -- What writes make of cells.
 use Rattle.std.specs.Prelude.{List, [], ◌∷◌}
 use Rattle.std.specs.FinMap as map
-use Rattle.off_keepsql.specs.CellsSeen.{CellMap}
-use Rattle.off_keepsql.specs.declared.writes.CellWrite.{CellWrite}
-use Rattle.off_keepsql.specs.declared.writes.CellWrite.TheVariants.{Put, Drop}
+use Rattle.off_cells.specs.CellsSeen.{CellMap}
+use Rattle.off_cells.specs.declared.writes.CellWrite.{CellWrite}
+use Rattle.off_cells.specs.declared.writes.CellWrite.TheVariants.{Put, Drop}
 
 -- the cells after one write
 abbrev pub cell_written : CellMap → CellWrite → CellMap

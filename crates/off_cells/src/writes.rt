@@ -24,8 +24,8 @@ pub struct CellWrites {
 impl Model for CellWrites {
     ghost use Rattle.std.specs.Prelude.{List};
     ghost use Rattle.std.specs.Coded.{codes};
-    ghost use Rattle.off_keepsql.specs.declared.writes.CellWrite.{CellWrite};
-    ghost use Rattle.off_keepsql.specs.contracts.writes.CellWrite as write;
+    ghost use Rattle.off_cells.specs.declared.writes.CellWrite.{CellWrite};
+    ghost use Rattle.off_cells.specs.contracts.writes.CellWrite as write;
 
     ghost Value = { List CellWrite };
 

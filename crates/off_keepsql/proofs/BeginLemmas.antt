@@ -1,0 +1,42 @@
+-- What a keeper tells that has just begun.
+use Rattle.std.proofs.Common.{◌≡◌, ℕ, List, [], ◌∷◌, length, subst, map as each, refl, sym, ap, ◌∙◌}
+use Rattle.std.specs.Ordering.{nat_cmp}
+use Rattle.std.specs.Cmp.Lexicographic.{slice_cmp}
+use Rattle.std.specs.FinMap as map
+use Rattle.sqlite_trees.specs.declared.store.Store.{Ghosts}
+use Rattle.sqlite.specs.Held.{Held}
+use Rattle.off_defs.specs.Keys.{key_cmp}
+use Rattle.off_defs.specs.State.{Tables}
+use Rattle.off_outside.specs.KeeperSeen.{KeeperSeen}
+use Rattle.off_cells.specs.CellsSeen.{Cell, CellMap, CellsSeen}
+use Rattle.off_sqlcells.specs.SqlCellsSeen.{HasBegun}
+use Rattle.off_keepsql.specs.Stored.{Stores, cell_of, AllStorable}
+use Rattle.off_keepsql.specs.SqlSeen.{SqlTells, StoredIn}
+use Rattle.off_keepsql.specs.Begin.{KeeperBegins}
+
+no_length : {X : Type 0} (xs : List X) → length xs ≡ 0 → xs ≡ []
+no_length [] e = refl
+no_length (x ∷ xs) e = cc
+
+none_in : (m : CellMap) → m ≡ map.empty → map.entries m ≡ []
+none_in m e = no_length (map.entries m) (sym (map.len-entries m) ∙ ap (λ (n : CellMap). map.len n) e ∙ map.len-empty (slice_cmp nat_cmp) (List ℕ))
+
+no_tables : (t : Tables) → t ≡ map.empty → map.entries t ≡ []
+no_tables t e = no_length (map.entries t) (sym (map.len-entries t) ∙ ap (λ (n : Tables). map.len n) e ∙ map.len-empty key_cmp _)
+
+none_stored : Stores map.empty map.empty
+none_stored = record {
+  cells = none_in map.empty refl ∙ sym (ap (each cell_of) (no_tables map.empty refl));
+  storable = subst AllStorable (sym (no_tables map.empty refl)) tt;
+}
+
+pub keeper_begins : {S : Type 0} (g : Ghosts S) (conn : Held S) (cells : CellsSeen) (keeper : KeeperSeen) → HasBegun g conn cells → SqlTells cells keeper → KeeperBegins g conn keeper
+keeper_begins g conn cells keeper begun tells = record {
+  made = λ steady has.
+      let it = begun.made steady has in (tells.tables map.empty (record { cells = map.empty; told = it.0; stores = none_stored }), tells.up it.1);
+  found = λ steady has m t holds stores.
+      let it = begun.found steady has m holds in (tells.tables t (record { cells = m; told = it.0; stores = stores }), tells.up it.1);
+  faults = tells.faults ∙ begun.faults;
+  calls = tells.calls;
+  commits = tells.commits;
+}

@@ -1,0 +1,22 @@
+ghost use Rattle.std.specs.Prelude.{IfOk};
+ghost use Rattle.off_keepsql.specs.Begin.{KeeperBegins};
+
+use crate::sql_keeper::SqlKeeper;
+use off_outside::{KeepErr, Keeper};
+use off_sqlcells::SqlCells;
+use sqlite::{Alter, Connection};
+use std::alloc::Global;
+
+impl<S: Alter + Drop> SqlKeeper<SqlCells<S>> {
+    /// A keeper over a database, whose table `office` is made where it isn't there. Where that is
+    /// refused, the connection is dropped.
+    pub fn begin(_alloc: Global, conn: Connection<S>) -> Result<SqlKeeper<SqlCells<S>>, KeepErr>
+        ensures { IfOk result (λ keeper. KeeperBegins S.Store conn
+            (⟦<SqlKeeper<SqlCells<S>> as Keeper>⟧.seen keeper)) }
+    {
+        match SqlCells::begin(conn) {
+            Ok(cells) => Ok(SqlKeeper::over(cells)),
+            Err(err) => Err(err),
+        }
+    }
+}

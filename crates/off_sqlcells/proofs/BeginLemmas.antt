@@ -1,0 +1,75 @@
+-- The table that is made, and the one that was there.
+use Rattle.std.proofs.Common.{◌≡◌, ℕ, List, [], ◌∷◌, Ok, Err, Result, None, IsTrue, Bool, true, false, not, refl, sym, ap, subst, ◌∙◌}
+use Rattle.std.specs.FinMap as map
+use Rattle.sqlite_value.specs.Order.{Row}
+use Rattle.sqlite_trees.specs.declared.store.Store.{Ghosts}
+use Rattle.sqlite_schema.specs.declared.command.Command.TheVariants.{CreateTable, Nothing}
+use Rattle.sqlite_schema.specs.declared.schema.Table.{Table}
+use Rattle.sqlite_catalog.specs.Change.{created, next_tree}
+use Rattle.sqlite_resolve.specs.declared.error.CompileError.{CompileError}
+use Rattle.sqlite.specs.Does.{Tally, lacks_sequence}
+use Rattle.sqlite.specs.Effect.{Database}
+use Rattle.sqlite.specs.Held.{Held, state}
+use Rattle.sqlite.specs.State.{State, Writes, Executes, IsUnchanged}
+use Rattle.sqlite.proofs.Callers.{runs_as}
+use Rattle.off_cells.specs.CellsSeen.{CellMap}
+use Rattle.off_sqlcells.specs.Office.{office, no_schema, office_schema}
+use Rattle.off_sqlcells.specs.Statements.{make_text}
+use Rattle.off_sqlcells.specs.Holds.{Holds}
+use Rattle.off_sqlcells.specs.Stands.{IsSteady, Tells, Makes}
+use Rattle.off_sqlcells.specs.SqlCellsSeen.{sql_seen, HasBegun}
+use Rattle.off_sqlcells.proofs.Texts.{make_is, make_plain, made_is, made_plain}
+use Rattle.off_sqlcells.proofs.RowLemmas.{holds_none}
+use Rattle.off_sqlcells.proofs.Content.{went, same_value}
+
+creates : (old new : State) (count : ℕ) → old.now.schema ≡ no_schema → Executes make_text [] old new (Ok count)
+    → (new.now.schema ≡ office_schema) × (new.now.trees 0 ≡ []) × IsTrue new.is_open
+creates old new count has h =
+    let w = subst (λ t. Writes old new None CreateTable t [] count) make_is.1 (runs_as make_text [] old new no_schema has CreateTable make_is.0 make_plain count h) in
+    let all = went w.changed in
+    let first = went all.1 in
+    let made = first.1 in
+    let both : ◌≡◌ {A = Result Table CompileError} (Ok made.table) (Ok office) = sym made.defined ∙ make_is.2 in
+    let same : made.table ≡ office = cc in
+    let schema : first.0.schema ≡ office_schema = made.is ∙ ap (λ s. created s made.table) has ∙ ap (created no_schema) same in
+    let plain = ap lacks_sequence schema in
+    let now : new.now ≡ first.0 = ap (λ (p : Tally × Database). p.1) (same_value all.2) ∙ same_value (rw plain at first.2) in
+    (ap (λ (d : Database). d.schema) now ∙ schema, ap (λ (d : Database). d.trees 0) now ∙ subst (λ s. first.0.trees (next_tree s) ≡ []) has made.empty, w.shown.is_open)
+
+finds : (old new : State) (count : ℕ) → old.now.schema ≡ office_schema → Executes make_text [] old new (Ok count) → (new.now ≡ old.now) × IsTrue new.is_open
+finds old new count has h =
+    let same = (runs_as make_text [] old new office_schema has Nothing made_is made_plain count h).0 in
+    (same.0.now_is, same.0.is_open)
+
+pub makes : (old new : State) (count : ℕ) → Executes make_text [] old new (Ok count) → Makes old new
+makes old new count h = record { made = λ has. creates old new count has h; found = λ has. finds old new count has h }
+
+in_none : (b : Bool) → true ≡ not b → b ≡ false
+in_none true e = cc
+in_none false e = refl
+
+pub begins : {S : Type 0} (g : Ghosts S) (old new : Held S) (idle : Bool) → (IsSteady g → Makes (state g old) (state g new)) → idle ≡ true → idle ≡ not new.in_transaction
+    → (IsTrue idle → IsTrue (state g new).is_open → (state g new).now ≡ (state g new).committed) → HasBegun g old (sql_seen g new 0 0)
+begins g old new idle makes is value settled =
+    let out : new.in_transaction ≡ false = in_none new.in_transaction (sym is ∙ value) in
+    record {
+      made = λ steady has.
+          let made = (makes steady).made has in
+          ((steady, λ up. record { schema = made.0; rows = subst (λ (t : List Row). Holds t map.empty) (sym made.1) holds_none; settled = settled is up; idle = out }), (steady, made.2));
+      found = λ steady has m h.
+          let found = (makes steady).found has in
+          (
+            (
+              steady,
+              λ up. record {
+                schema = ap (λ (d : Database). d.schema) found.0 ∙ has;
+                rows = subst (λ (d : Database). Holds (d.trees 0) m) (sym found.0) h;
+                settled = settled is up;
+                idle = out;
+              },
+            ),
+            (steady, found.1),
+          );
+      faults = refl;
+      calls = refl;
+    }

@@ -1,0 +1,10 @@
+pub mod Texts
+pub mod RowLemmas
+pub mod NextLemmas
+pub mod AnswerLemmas
+pub mod Content
+pub mod PutContent
+pub mod StateLemmas
+pub mod CallLemmas
+pub mod BeginLemmas
+pub mod SeenLemmas

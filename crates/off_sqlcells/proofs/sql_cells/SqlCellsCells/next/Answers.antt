@@ -1,0 +1,15 @@
+use Rattle.std.proofs.Common.{◌≡◌}
+use Rattle.off_cells.specs.CellsSeen.{next_cell}
+use Rattle.std.specs.Option.{option_map}
+use Rattle.off_sqlcells.proofs.SeenLemmas.{looked_read, refused_kept}
+use Rattle.off_sqlcells.proofs.sql_cells.SqlCellsCells.next.Goals as goal
+
+pub returns-in-Ok-clause-told : goal.returns-in-Ok-clause-told
+returns-in-Ok-clause-told g c = 
+    looked_read g.S.Store c.args.self.now.conn c.find_behind.new.conn (λ m. c.in-Ok.cell ≡ next_cell (option_map (λ key. key.now) c.args.after) m) c.args.self.now.faults c.args.self.now.calls c.one_more-self.result
+    c.in-Ok.ensures.found
+
+pub returns-in-Err-clause-told : goal.returns-in-Err-clause-told
+returns-in-Err-clause-told g c =
+    refused_kept g.S.Store c.args.self.now.conn c.find_behind.new.conn c.counted.new.conn c.counted.result c.args.self.now.faults c.counted.new.faults c.args.self.now.calls c.one_more-self.result
+    c.find_behind.ensures.kept c.counted.ensures.kept c.counted.ensures.counts

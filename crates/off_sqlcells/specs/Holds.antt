@@ -1,0 +1,27 @@
+-- When the rows of the table hold cells.
+use Rattle.std.specs.Prelude.{◌≡◌, ℕ, ℤ, ◌≤◌, List, length, Some}
+use Rattle.std.specs.FinMap as map
+use Rattle.sqlite_value.specs.Order.{Row, column}
+use Rattle.sqlite_trees.specs.Tree.{rowid}
+use Rattle.sqlite_rules.specs.Lists.{Has}
+use Rattle.off_cells.specs.CellsSeen.{CellMap}
+use Rattle.off_sqlcells.specs.Office.{cell_row}
+
+-- a row that is one of the cells
+pub record IsCellOf (m : CellMap) (row : Row) : Type 0 where
+  pub id : ℤ
+  pub ident : List ℕ
+  pub val : List ℕ
+  pub is : row ≡ cell_row id ident val
+  pub held : map.get m ident ≡ Some val
+
+-- Each row is a cell, and each cell a row; no two rows share a rowid or a key, and each key has 1 to
+-- 9 bytes.
+pub record Holds (table : List Row) (m : CellMap) : Type 0 where
+  pub cells : (row : Row) → Has table row → IsCellOf m row
+  pub there : (ident val : List ℕ) → map.get m ident ≡ Some val
+      → (id : ℤ) × Has table (cell_row id ident val)
+  pub short : (ident val : List ℕ) → map.get m ident ≡ Some val
+      → (1 ≤ length ident) × (length ident ≤ 9)
+  pub apart : (a b : Row) → Has table a → Has table b → rowid a ≡ rowid b → a ≡ b
+  pub single : (a b : Row) → Has table a → Has table b → column a 1 ≡ column b 1 → a ≡ b

@@ -1,0 +1,7 @@
+pub mod Office
+pub mod Holds
+pub mod Statements
+pub mod Stands
+pub mod Ends
+pub mod OneMap
+pub mod SqlCellsSeen

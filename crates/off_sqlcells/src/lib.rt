@@ -1,0 +1,16 @@
+//! The cells of a table of a database: `SqlCells`.
+//!
+//! The table `office` has a row for each cell, its key in the column `ident` and its value in
+//! `val`. `statements` reads rows, `writing` changes them in one transaction, and `sql_cells` makes
+//! cells of both. What the texts of the statements mean is proved in `proofs/Texts`, and what each
+//! makes of the cells in `proofs/Content` and `proofs/PutContent`.
+#![tactic(auto)]
+
+mod counting;
+mod making;
+mod refusals;
+mod sql_cells;
+mod statements;
+mod writing;
+
+pub use sql_cells::SqlCells;

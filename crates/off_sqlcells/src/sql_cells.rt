@@ -1,0 +1,86 @@
+ghost use Rattle.std.specs.Prelude.{◌≡◌, false, IfOk};
+ghost use Rattle.off_sqlcells.specs.SqlCellsSeen.{sql_seen, one_sql};
+
+use crate::statements::{find_behind, find_val};
+use crate::counting::counted;
+use crate::making::make_table;
+use crate::writing::commit_all;
+use off_base::Bytes;
+use off_cells::{CellWrites, Cells};
+use off_outside::{KeepErr, one_more};
+use off_rows::KeyBytes;
+use sqlite::{Alter, Connection};
+use std::alloc::Global;
+
+/// The cells of the table `office` of a database. A look at them is one statement, and a commit one
+/// transaction.
+///
+/// Over a steady store they tell the cells that the rows of the table hold. A fault is counted at
+/// each statement that is refused for another cause than memory, at each key that doesn't have 1 to
+/// 9 bytes, and at each value that isn't bytes.
+#[derive(Drop)]
+pub struct SqlCells<S: Alter> {
+    conn: Connection<S>,
+    faults: u64,
+    calls: u64,
+    ghost idle: { conn.in_transaction ≡ false },
+}
+
+impl<S: Alter + Drop> SqlCells<S> {
+    ghost use Rattle.off_sqlcells.specs.SqlCellsSeen.{HasBegun};
+
+    /// The cells of a database, whose table is made where it isn't there. Where that is refused, the
+    /// connection is dropped.
+    pub fn begin(conn: Connection<S>) -> Result<SqlCells<S>, KeepErr>
+        ensures { IfOk result
+            (λ cells. HasBegun S.Store conn (⟦<SqlCells<S> as Cells>⟧.seen cells)) }
+    {
+        let mut conn = conn;
+        make_table(&mut conn)?;
+        if !conn.is_autocommit() {
+            return Err(KeepErr::Failed);
+        }
+        Ok(SqlCells {
+            conn,
+            faults: 0,
+            calls: 0,
+        })
+    }
+}
+
+impl<S: Alter> Cells for SqlCells<S> {
+    ghost seen = { λ s. sql_seen S.Store s.conn s.faults s.calls };
+
+    #[tactic(auto, using(crate::proofs::SeenLemmas::looked_read, crate::proofs::SeenLemmas::refused_kept))]
+    fn get(&mut self, alloc: Global, key: &KeyBytes) -> Result<Option<Bytes>, KeepErr> {
+        self.calls = one_more(self.calls);
+        match find_val(&mut self.conn, alloc, key.as_slice()) {
+            Ok(val) => Ok(val),
+            Err(refused) => Err(counted(&mut self.conn, refused, &mut self.faults)),
+        }
+    }
+
+    #[tactic(auto, using(crate::proofs::SeenLemmas::looked_read, crate::proofs::SeenLemmas::refused_kept))]
+    fn next(
+        &mut self,
+        alloc: Global,
+        after: Option<&KeyBytes>,
+    ) -> Result<Option<(KeyBytes, Bytes)>, KeepErr> {
+        self.calls = one_more(self.calls);
+        match find_behind(&mut self.conn, alloc, after) {
+            Ok(cell) => Ok(cell),
+            Err(refused) => Err(counted(&mut self.conn, refused, &mut self.faults)),
+        }
+    }
+
+    #[tactic(auto, using(crate::proofs::SeenLemmas::wrote_written, crate::proofs::SeenLemmas::refused_kept))]
+    fn commit(&mut self, _alloc: Global, writes: &CellWrites) -> Result<(), KeepErr> {
+        self.calls = one_more(self.calls);
+        match commit_all(&mut self.conn, writes) {
+            Ok(()) => Ok(()),
+            Err(refused) => Err(counted(&mut self.conn, refused, &mut self.faults)),
+        }
+    }
+
+    ghost one_cells = { λ s up. one_sql up.1 };
+}
