@@ -1,5 +1,5 @@
 -- What a call of cells in memory tells.
-use Rattle.std.proofs.Common.{◌≡◌, ℕ, ◌≤◌, Result, Ok, Err, inl, List, sym, ap, subst, ◌∙◌, arith}
+use Rattle.std.proofs.Common.{◌≡◌, ◌≤◌, Result, Ok, Err, inl, List, sym, ap, subst, ◌∙◌, arith}
 use Rattle.off_defs.specs.Counts.{Grew, one_more, most_count}
 use Rattle.off_defs.proofs.ToldLemmas.{told_known}
 use Rattle.off_outside.specs.InMemory.{CallsHeld}
@@ -7,9 +7,9 @@ use Rattle.off_outside.specs.KeeperCalls.{keeper_faults_in}
 use Rattle.off_outside.specs.declared.keeper.KeepErr.{KeepErr}
 use Rattle.off_outside.specs.declared.keeper.KeepErr.TheVariants.{Memory, Failed}
 use Rattle.off_cells.specs.CellsSeen.{CellMap}
-use Rattle.off_cells.specs.CellCalls.{CellsRead, CellsKept, CellsWritten, CellLooks, CellCommits, CellCallCounted}
+use Rattle.off_cells.specs.CellCalls.{CellsKept, CellLooks, CellCommits, CellCallCounted}
 use Rattle.off_cells.specs.SortedCells.{MemCellsHeld}
-use Rattle.off_cells.specs.MemCellsSeen.{mem_seen, MemCellsRead, MemCellsWritten, MemCellsKept, MemCellLooks, MemCellCommits}
+use Rattle.off_cells.specs.MemCellsSeen.{mem_seen, MemCellsKept, MemCellLooks, MemCellCommits}
 use Rattle.off_cells.specs.declared.writes.CellWrite.{CellWrite}
 
 kept_grew : (err : KeepErr) (old new : MemCellsHeld) → MemCellsKept err old new → Grew (keeper_faults_in err) old.faults new.faults

@@ -1,5 +1,5 @@
 -- What each call on cells does to each of their meanings.
-use Rattle.std.specs.Prelude.{◌≡◌, ℕ, ◌+◌, ◌≤◌, ◌⊎◌, List, Result, MatchResult}
+use Rattle.std.specs.Prelude.{◌≡◌, ◌+◌, ◌≤◌, ◌⊎◌, List, Result, MatchResult}
 use Rattle.off_defs.specs.Told.{Told}
 use Rattle.off_defs.specs.Counts.{Grew, one_more}
 use Rattle.off_outside.specs.KeeperCalls.{keeper_faults_in}
@@ -31,11 +31,14 @@ pub record CellsWritten (writes : List CellWrite) (old new : CellsSeen) : Type 0
   pub faults : new.faults ≡ old.faults
 
 -- a call that looks at the cells, and one that commits writes, by the answer
-abbrev pub CellLooks : {A : Type 0} → Result A KeepErr → CellsSeen → CellsSeen → (A → CellMap → Type 0) → Type 0
-CellLooks result old new P = MatchResult result (λ x. CellsRead (P x) old new) (λ err. CellsKept err old new)
+abbrev pub CellLooks : {A : Type 0} → Result A KeepErr → CellsSeen → CellsSeen →
+    (A → CellMap → Type 0) → Type 0
+CellLooks result old new P =
+    MatchResult result (λ x. CellsRead (P x) old new) (λ err. CellsKept err old new)
 
 abbrev pub CellCommits : Result (Unit {0}) KeepErr → CellsSeen → CellsSeen → List CellWrite → Type 0
-CellCommits result old new writes = MatchResult result (λ _. CellsWritten writes old new) (λ err. CellsKept err old new)
+CellCommits result old new writes =
+    MatchResult result (λ _. CellsWritten writes old new) (λ err. CellsKept err old new)
 
 -- the call was counted, whatever it answered
 pub record CellCallCounted (old new : CellsSeen) : Type 0 where

@@ -1,4 +1,5 @@
--- Cells: values of bytes, each under its own key of bytes. What is read of them, and what is seen of an object that has them.
+-- Cells: values of bytes, each under its own key of bytes. What is read of them, and what is seen
+-- of an object that has them.
 use Rattle.std.specs.Prelude.{ℕ, Bool, true, Option, Some, None, List}
 use Rattle.std.specs.List.{find}
 use Rattle.std.specs.Ordering.{nat_cmp, is_lt}
@@ -26,7 +27,8 @@ is_behind (Some ident) cell = is_lt (slice_cmp nat_cmp ident cell.0)
 abbrev pub next_cell : Option (List ℕ) → CellMap → Option Cell
 next_cell place cells = find (is_behind place) (map.entries cells)
 
--- `cells` may be told or not; where the object is `up`, one value at most is told. `faults` counts the failed calls, and `calls` all calls.
+-- `cells` may be told or not; where the object is `up`, one value at most is told. `faults` counts
+-- the failed calls, and `calls` all calls.
 pub record CellsSeen : Type 1 where
   pub cells : CellMap → Type 0
   pub up : Type 0

@@ -12,7 +12,13 @@ use Rattle.off_cells.specs.declared.writes.CellWrite.{CellWrite}
 
 -- they tell their cells, and are always up
 abbrev pub mem_seen : MemCellsHeld → CellsSeen
-mem_seen m = record { cells = λ cells. cells ≡ m.cells; up = Unit {0}; faults = m.faults; calls = m.calls.made }
+mem_seen m =
+    record {
+      cells = λ cells. cells ≡ m.cells;
+      up = Unit {0};
+      faults = m.faults;
+      calls = m.calls.made;
+    }
 
 -- what is seen of them is all that they hold
 pub record MemCellsTell (m : MemCellsHeld) (seen : CellsSeen) : Type 0 where
@@ -61,8 +67,12 @@ pub record MemCellsKept (err : KeepErr) (old new : MemCellsHeld) : Type 0 where
   pub faults : new.faults ≡ cell_faults_after err old.faults
 
 -- what each call does, by the answer
-abbrev pub MemCellLooks : {A : Type 0} → Result A KeepErr → MemCellsHeld → MemCellsHeld → (A → CellMap → Type 0) → Type 0
-MemCellLooks result old new P = MatchResult result (λ x. P x old.cells × MemCellsRead old new) (λ err. MemCellsKept err old new)
+abbrev pub MemCellLooks : {A : Type 0} → Result A KeepErr → MemCellsHeld → MemCellsHeld →
+    (A → CellMap → Type 0) → Type 0
+MemCellLooks result old new P =
+    MatchResult result (λ x. P x old.cells × MemCellsRead old new) (λ err. MemCellsKept err old new)
 
-abbrev pub MemCellCommits : Result (Unit {0}) KeepErr → MemCellsHeld → MemCellsHeld → List CellWrite → Type 0
-MemCellCommits result old new writes = MatchResult result (λ _. MemCellsWritten writes old new) (λ err. MemCellsKept err old new)
+abbrev pub MemCellCommits : Result (Unit {0}) KeepErr → MemCellsHeld → MemCellsHeld →
+    List CellWrite → Type 0
+MemCellCommits result old new writes =
+    MatchResult result (λ _. MemCellsWritten writes old new) (λ err. MemCellsKept err old new)

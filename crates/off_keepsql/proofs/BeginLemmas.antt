@@ -8,10 +8,10 @@ use Rattle.sqlite.specs.Held.{Held}
 use Rattle.off_defs.specs.Keys.{key_cmp}
 use Rattle.off_defs.specs.State.{Tables}
 use Rattle.off_outside.specs.KeeperSeen.{KeeperSeen}
-use Rattle.off_cells.specs.CellsSeen.{Cell, CellMap, CellsSeen}
+use Rattle.off_cells.specs.CellsSeen.{CellMap, CellsSeen}
 use Rattle.off_sqlcells.specs.SqlCellsSeen.{HasBegun}
 use Rattle.off_keepsql.specs.Stored.{Stores, cell_of, AllStorable}
-use Rattle.off_keepsql.specs.SqlSeen.{SqlTells, StoredIn}
+use Rattle.off_keepsql.specs.SqlSeen.{SqlTells}
 use Rattle.off_keepsql.specs.Begin.{KeeperBegins}
 
 no_length : {X : Type 0} (xs : List X) → length xs ≡ 0 → xs ≡ []

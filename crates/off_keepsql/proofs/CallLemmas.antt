@@ -1,11 +1,11 @@
 -- Where the calls of a keeper over cells return.
-use Rattle.std.proofs.Common.{◌≡◌, ℕ, ◌≤◌, Option, Some, None, List, map as each, Result, Ok, Err, inl, inr, refl, sym, ap, subst, ◌∙◌, arith}
+use Rattle.std.proofs.Common.{◌≡◌, ℕ, Option, Some, None, List, Ok, Err, inl, inr, sym, ap, subst, ◌∙◌, arith}
 use Rattle.std.specs.Option.{option_map}
 use Rattle.off_defs.specs.declared.keys.Key.{Key}
 use Rattle.off_defs.specs.declared.tables.Row.{Row}
 use Rattle.off_defs.specs.declared.orders.Write.{Write}
 use Rattle.off_defs.specs.Tables.{row_at, next_entry}
-use Rattle.off_defs.specs.Counts.{one_more, most_count}
+use Rattle.off_defs.specs.Counts.{one_more}
 use Rattle.off_outside.specs.KeeperCalls.{Reads, NotDone, Committed}
 use Rattle.off_outside.specs.declared.keeper.KeepErr.{KeepErr}
 use Rattle.off_outside.specs.declared.keeper.KeepErr.TheVariants.{Memory, Failed}
@@ -14,11 +14,11 @@ use Rattle.off_keepsql.specs.declared.counts.Counts.{Counts}
 use Rattle.off_cells.specs.declared.writes.CellWrite.{CellWrite}
 use Rattle.off_cells.specs.CellsSeen.{Cell, CellMap, CellsSeen, cell_at, next_cell}
 use Rattle.off_cells.specs.CellCalls.{CellsRead, CellsWritten}
-use Rattle.off_keepsql.specs.Stored.{PlaceRanged, MeetsBad, AllSpelled, cell_write}
+use Rattle.off_keepsql.specs.Stored.{PlaceRanged, MeetsBad}
 use Rattle.off_keepsql.specs.SqlSeen.{over}
-use Rattle.off_keepsql.specs.OwnCount.{asked_at, asked_behind, CountsOne, CountsBad, RowRead, EntryRead, WritesSpelled}
-use Rattle.off_keepsql.proofs.StoredLemmas.{got_none, got_row, came_none, came_entry, bad_at, good_at, none_at, bad_behind, good_behind, none_behind}
-use Rattle.off_keepsql.proofs.OverLemmas.{Counted, OwnCounted, read_over, kept_over, wanting_over, bad_over, committed_over}
+use Rattle.off_keepsql.specs.OwnCount.{asked_at, CountsOne, CountsBad, RowRead, EntryRead, WritesSpelled}
+use Rattle.off_keepsql.proofs.StoredLemmas.{got_none, got_row, came_none, came_entry, bad_at, good_at}
+use Rattle.off_keepsql.proofs.OverLemmas.{Counted, OwnCounted, read_over, wanting_over, bad_over, committed_over}
 
 abbrev pub once_called : Counts → Counts
 once_called c = record c { calls = one_more c.calls }

@@ -8,11 +8,10 @@ use Rattle.std.specs.FinMap.Entries as list
 use Rattle.off_defs.specs.declared.keys.Key.{Key}
 use Rattle.off_defs.specs.declared.tables.Row.{Row}
 use Rattle.off_defs.specs.Keys.{key_cmp}
-use Rattle.off_defs.specs.State.{Tables}
 use Rattle.off_rows.specs.KeyBytes.{key_bytes, IsRanged}
-use Rattle.off_cells.specs.CellsSeen.{Cell, CellMap}
-use Rattle.off_keepsql.specs.Stored.{cell_of, IsStorable, AllStorable, Stores}
-use Rattle.off_keepsql.specs.Laws.{IsEntry, AllAreEntries, EntriesAreTables, TablesAreEntries}
+use Rattle.off_cells.specs.CellsSeen.{Cell}
+use Rattle.off_keepsql.specs.Stored.{cell_of, AllStorable}
+use Rattle.off_keepsql.specs.Laws.{AllAreEntries, EntriesAreTables, TablesAreEntries}
 use Rattle.off_keepsql.proofs.EntryCells.{in_order}
 
 abbrev bytes_cmp : List ℕ → List ℕ → Ordering

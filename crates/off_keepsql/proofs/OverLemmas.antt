@@ -1,17 +1,15 @@
 -- What a call of the cells is as a call of the keeper over them.
-use Rattle.std.proofs.Common.{◌≡◌, ℕ, ◌+◌, ◌≤◌, ◌⊎◌, inl, inr, List, map as each, refl, sym, ap, subst, ◌∙◌, arith}
+use Rattle.std.proofs.Common.{◌≡◌, ℕ, ◌+◌, ◌≤◌, ◌⊎◌, inl, inr, List, map as each, refl, sym, subst, arith}
 use Rattle.off_defs.specs.declared.orders.Write.{Write}
 use Rattle.off_defs.specs.State.{Tables}
 use Rattle.off_defs.specs.Tables.{write_all}
 use Rattle.off_defs.specs.Counts.{Grew, one_more, most_count}
-use Rattle.off_outside.specs.KeeperSeen.{KeeperSeen}
-use Rattle.off_outside.specs.KeeperCalls.{Still, Crash, Quiet, Reads, NotDone, Committed, NotCommitted, IsWritten, begun_by, keeper_faults_in, WasCounted}
+use Rattle.off_outside.specs.KeeperCalls.{Still, Crash, Reads, NotDone, Committed, NotCommitted, IsWritten, begun_by, keeper_faults_in, WasCounted}
 use Rattle.off_outside.specs.declared.keeper.KeepErr.{KeepErr}
 use Rattle.off_outside.specs.declared.keeper.KeepErr.TheVariants.{Memory, Failed}
 use Rattle.off_keepsql.specs.declared.counts.Counts.{Counts}
 use Rattle.off_cells.specs.CellsSeen.{CellMap, CellsSeen}
 use Rattle.off_cells.specs.CellCalls.{CellsRead, CellsKept, CellsWritten, CellCallCounted, OneCellCall}
-use Rattle.off_cells.specs.CellWritten.{write_cells}
 use Rattle.off_keepsql.specs.Stored.{Stores, cell_write, AllSpelled}
 use Rattle.off_keepsql.specs.SqlSeen.{StoredIn, over}
 use Rattle.off_keepsql.proofs.StoredLemmas.{all_store}

@@ -9,7 +9,7 @@ use Rattle.off_outside.specs.declared.keeper.KeepErr.TheVariants.{Memory, Failed
 use Rattle.off_cells.specs.declared.writes.CellWrite.{CellWrite}
 use Rattle.off_keepsql.specs.OwnCount.{WriteSpelled, WritesSpelled}
 use Rattle.off_base.specs.Tree.{Tree, AllFit}
-use Rattle.off_tlv.specs.Grammar.{in_file, Level, AllShaped, AllStand}
+use Rattle.off_tlv.specs.Grammar.{Level, AllShaped, AllStand}
 use Rattle.off_defs.specs.declared.keys.Key.{Key}
 use Rattle.off_defs.specs.declared.keys.Key.TheVariants as key
 use Rattle.off_defs.specs.declared.tables.Row.{Row}

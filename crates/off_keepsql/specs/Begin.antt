@@ -1,5 +1,5 @@
 -- What a keeper tells that has just begun over a connection to a database.
-use Rattle.std.specs.Prelude.{◌≡◌, ℕ}
+use Rattle.std.specs.Prelude.{◌≡◌}
 use Rattle.std.specs.FinMap as map
 use Rattle.sqlite_trees.specs.declared.store.Store.{Ghosts}
 use Rattle.sqlite.specs.Held.{Held, state}
@@ -13,7 +13,8 @@ use Rattle.off_keepsql.specs.Stored.{Stores}
 
 -- Over a steady store it tells empty tables, where the database had no table; and where it had the
 -- table `office`, the tables that the cells of its rows store.
-pub record KeeperBegins {S : Type 0} (g : Ghosts S) (conn : Held S) (seen : KeeperSeen) : Type 0 where
+pub record KeeperBegins {S : Type 0} (g : Ghosts S) (conn : Held S)
+    (seen : KeeperSeen) : Type 0 where
   pub made : IsSteady g → (state g conn).now.schema ≡ no_schema → seen.tables map.empty × seen.up
   pub found : IsSteady g → (state g conn).now.schema ≡ office_schema → (m : CellMap) (t : Tables)
       → Holds ((state g conn).now.trees 0) m → Stores m t → seen.tables t × seen.up

@@ -1,5 +1,5 @@
 -- What a call of a keeper over cells does to its own count of faults.
-use Rattle.std.specs.Prelude.{◌≡◌, ◌≢◌, ℕ, ◌≤◌, ◌⊎◌, Option, Some, None, List, map as each, Result, Ok, Err}
+use Rattle.std.specs.Prelude.{◌≡◌, ◌≢◌, ℕ, ◌≤◌, ◌⊎◌, Option, List, map as each, Result, Ok, Err}
 use Rattle.std.specs.Option.{option_map}
 use Rattle.off_defs.specs.declared.keys.Key.{Key}
 use Rattle.off_defs.specs.declared.tables.Row.{Row}
@@ -43,7 +43,8 @@ OwnCommitted (Err err) writes old new = (new ≡ old) ⊎ ((¬ AllSpelled writes
 -- a failed call has raised the count of the cells or the own one
 abbrev pub HasCause : KeepErr → CellsSeen → CellsSeen → ℕ → ℕ → Type 0
 HasCause Memory old new own_before own_after = Unit {0}
-HasCause Failed old new own_before own_after = Grew 1 old.faults new.faults ⊎ Grew 1 own_before own_after
+HasCause Failed old new own_before own_after =
+    Grew 1 old.faults new.faults ⊎ Grew 1 own_before own_after
 
 abbrev pub FailsByCause : {A : Type 0} → Result A KeepErr → CellsSeen → CellsSeen → ℕ → ℕ → Type 0
 FailsByCause (Ok x) old new own_before own_after = Unit {0}
@@ -53,7 +54,8 @@ FailsByCause (Err err) old new own_before own_after = HasCause err old new own_b
 abbrev pub RowRead : Result Row KeepErr → Key → List ℕ → ℕ → ℕ → Type 0
 RowRead (Ok row) key val old new = IsRowOf key row × (row_bytes row ≡ val) × (new ≡ old)
 RowRead (Err Memory) key val old new = new ≡ old
-RowRead (Err Failed) key val old new = ((row : Row) → IsRowOf key row → row_bytes row ≢ val) × CountsOne old new
+RowRead (Err Failed) key val old new =
+    ((row : Row) → IsRowOf key row → row_bytes row ≢ val) × CountsOne old new
 
 -- what is made of a cell
 abbrev pub EntryRead : Result (Key × Row) KeepErr → Cell → ℕ → ℕ → Type 0
@@ -68,11 +70,13 @@ Refuses (row_err.BadRow place) err old new = (err ≡ Failed) × CountsOne old n
 
 -- what is made of a write, and of all of them
 abbrev pub WriteSpelled : Result CellWrite KeepErr → Write → ℕ → ℕ → Type 0
-WriteSpelled (Ok spelled) write old new = IsSpelled write × (spelled ≡ cell_write write) × (new ≡ old)
+WriteSpelled (Ok spelled) write old new =
+    IsSpelled write × (spelled ≡ cell_write write) × (new ≡ old)
 WriteSpelled (Err Memory) write old new = new ≡ old
 WriteSpelled (Err Failed) write old new = (¬ IsSpelled write) × CountsOne old new
 
 abbrev pub WritesSpelled : Result (List CellWrite) KeepErr → List Write → ℕ → ℕ → Type 0
-WritesSpelled (Ok spelled) writes old new = AllSpelled writes × (spelled ≡ each cell_write writes) × (new ≡ old)
+WritesSpelled (Ok spelled) writes old new =
+    AllSpelled writes × (spelled ≡ each cell_write writes) × (new ≡ old)
 WritesSpelled (Err Memory) writes old new = new ≡ old
 WritesSpelled (Err Failed) writes old new = (¬ AllSpelled writes) × CountsOne old new

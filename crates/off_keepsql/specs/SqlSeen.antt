@@ -1,5 +1,5 @@
 -- What is seen of a keeper over cells.
-use Rattle.std.specs.Prelude.{◌≡◌, ℕ, ◌+◌}
+use Rattle.std.specs.Prelude.{◌≡◌, ◌+◌}
 use Rattle.off_defs.specs.State.{Tables}
 use Rattle.off_outside.specs.KeeperSeen.{KeeperSeen}
 use Rattle.off_cells.specs.CellsSeen.{CellMap, CellsSeen}
@@ -12,8 +12,8 @@ pub record StoredIn (seen : CellsSeen) (t : Tables) : Type 0 where
   pub told : seen.cells cells
   pub stores : Stores cells t
 
--- It tells its tables where the cells are told and each of them is a key and a row. Its faults are those of the cells and its own.
--- It says nothing of a crash.
+-- It tells its tables where the cells are told and each of them is a key and a row. Its faults are
+-- those of the cells and its own. It says nothing of a crash.
 abbrev pub over : CellsSeen → Counts → KeeperSeen
 over seen counts = record {
   tables = StoredIn seen;

@@ -1,5 +1,6 @@
--- Tables that are stored in cells: a key's bytes are the key of a cell, and its row's bytes the value.
-use Rattle.std.specs.Prelude.{◌≡◌, ◌≢◌, ℕ, Option, Some, None, List, [], ◌∷◌, map as each}
+-- Tables that are stored in cells: a key's bytes are the key of a cell, and its row's bytes the
+-- value.
+use Rattle.std.specs.Prelude.{◌≡◌, ◌≢◌, Option, Some, None, List, [], ◌∷◌, map as each}
 use Rattle.std.specs.FinMap as map
 use Rattle.off_defs.specs.declared.keys.Key.{Key}
 use Rattle.off_defs.specs.declared.tables.Row.{Row}
@@ -16,7 +17,8 @@ use Rattle.off_cells.specs.declared.writes.CellWrite.TheVariants.{Put, Drop}
 abbrev pub cell_of : Key × Row → Cell
 cell_of entry = (key_bytes entry.0, row_bytes entry.1)
 
--- a key and a row that can be stored: the row is of the key's kind, and its values and settings can be read back
+-- a key and a row that can be stored: the row is of the key's kind, and its values and settings can
+-- be read back
 pub record IsStorable (entry : Key × Row) : Type 0 where
   pub key : IsRanged entry.0
   pub row : IsRowOf entry.0 entry.1

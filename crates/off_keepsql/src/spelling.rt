@@ -9,8 +9,8 @@ ghost use Rattle.off_keepsql.specs.OwnCount.{WriteSpelled, WritesSpelled};
 ghost use Rattle.off_keepsql.specs.RowKinds.{row_kind};
 
 use crate::counts::count_fault;
-use off_cells::{CellWrite, CellWrites};
 use off_base::Settings;
+use off_cells::{CellWrite, CellWrites};
 use off_defs::{Key, Row, Write, Writes};
 use off_outside::KeepErr;
 use off_rows::{encode, encode_key};

@@ -11,10 +11,10 @@ ghost use Rattle.off_keepsql.specs.SqlLaws.{one_stored};
 ghost use Rattle.off_keepsql.specs.Stored.{PlaceRanged};
 ghost use Rattle.off_rows.specs.KeyBytes.{key_bytes};
 
-use off_cells::Cells;
 use crate::counts::Counts;
 use crate::reading::{entry_of, row_of};
 use crate::spelling::spell_all;
+use off_cells::Cells;
 use off_defs::{Key, Row, Writes};
 use off_outside::{KeepErr, Keeper};
 use off_rows::{KeyBytes, encode_key};

@@ -57,8 +57,7 @@ begins g old new idle makes is value settled =
           let made = (makes steady).made has in
           ((steady, λ up. record { schema = made.0; rows = subst (λ (t : List Row). Holds t map.empty) (sym made.1) holds_none; settled = settled is up; idle = out }), (steady, made.2));
       found = λ steady has m h.
-          let found = (makes steady).found has in
-          (
+          let found = (makes steady).found has in (
             (
               steady,
               λ up. record {

@@ -126,11 +126,11 @@ module _ (db : Trees) (after : List ℕ) (m : CellMap) (rows : List Row) (h : Ho
       let c = h.cells s.0 s.1 in
       let at : o ≡ shows (cell_row c.id c.ident c.val) = s.3 ∙ ap shows c.is in
       let passes : lies_above after (c.ident, c.val) ≡ true =
-          sym (gt_lt c.ident after) ∙ sym (above_test after c.ident c.val c.id) ∙ sym (ap (λ (r : Row). list_all (holds ((Bytes after ∷ []) ∷ r ∷ [])) above) c.is) ∙ s.2 in
+      sym (gt_lt c.ident after) ∙ sym (above_test after c.ident c.val c.id) ∙ sym (ap (λ (r : Row). list_all (holds ((Bytes after ∷ []) ∷ r ∷ [])) above) c.is) ∙ s.2 in
       let least : (e : List ℕ × List ℕ) → Has (map.entries m) e → lies_above after e ≡ true → is_lt (bytes_cmp e.0 c.ident) ≡ false = λ e has t.
-          let there = entry_shown e has t in
-          let low = first_least o os (subst (λ (l : List Output). IsSortedOutput l) is a.sorted) (shows (cell_row there.0 e.0 e.1)) (subst (λ (l : List Output). Has l (shows (cell_row there.0 e.0 e.1))) is there.1) in
-          ap is_lt (sym (value_cmp-Blob e.0 c.ident)) ∙ ap (λ (z : Output). is_lt (value_cmp (Bytes e.0) (column z.0 0))) (sym at) ∙ low in
+      let there = entry_shown e has t in
+      let low = first_least o os (subst (λ (l : List Output). IsSortedOutput l) is a.sorted) (shows (cell_row there.0 e.0 e.1)) (subst (λ (l : List Output). Has l (shows (cell_row there.0 e.0 e.1))) is there.1) in
+      ap is_lt (sym (value_cmp-Blob e.0 c.ident)) ∙ ap (λ (z : Output). is_lt (value_cmp (Bytes e.0) (column z.0 0))) (sym at) ∙ low in
       subst (NextsAbove after m) (sym cut) (
         c.ident,
         c.val,
@@ -203,9 +203,8 @@ drops old new k count m has h ran =
     let made = went asked.2 in
     let trees : done.0.trees ≡ made.0 = ap (λ (it : Written). it.trees) (same_value made.2) in
     let rows = (one_step office_schema _ db made.0 (edit_of db office (ids_of asked.0) Given 0 []) refl made.1).rows in
-    let path : new.now.trees 0 ≡ without_all (db 0) (ids_of asked.0) = ap (λ (d : Database). d.trees 0) now ∙ ap (λ (t : Trees). t 0) trees ∙ rows in
-    (
+    let path : new.now.trees 0 ≡ without_all (db 0) (ids_of asked.0) = ap (λ (d : Database). d.trees 0) now ∙ ap (λ (t : Trees). t 0) trees ∙ rows in (
       ap (λ (d : Database). d.schema) now,
       subst (λ (t : List Row). Holds t (map.remove m k)) (sym path)
-      (drop_holds (db 0) (without_all (db 0) (ids_of asked.0)) m k h (drop_rows db k m asked.0 h (asked.1.answer Null))),
+          (drop_holds (db 0) (without_all (db 0) (ids_of asked.0)) m k h (drop_rows db k m asked.0 h (asked.1.answer Null))),
     )

@@ -116,7 +116,7 @@ module _ (limit : Option ℕ) (keys : Keys) (k v : List ℕ) (db : Trees) (m : C
       let news : edit.news ≡ cell_row n k v ∷ [] = ap (λ (x : Row). x ∷ []) (cast_cell n k v) in
       let applied : Applies office_schema keys db edit made.0 = one_step office_schema keys db made.0 edit refl made.1 in
       let path : one.trees 0 ≡ put_all (db 0) (cell_row n k v ∷ []) =
-          ap (λ (t : Trees). t 0) (ap (λ (it : Written). it.trees) (same_value made.2)) ∙ applied.rows ∙ ap (put_all (db 0)) news in
+      ap (λ (t : Trees). t 0) (ap (λ (it : Written). it.trees) (same_value made.2)) ∙ applied.rows ∙ ap (put_all (db 0)) news in
       subst (λ (t : List Row). IsPut (db 0) t k v) (sym path)
       (rows_put (db 0) m k v n [] (cell_row n k v ∷ []) h (subst (λ (l : List Row). are_fresh (db 0) l ≡ true) news applied.fresh)
       (λ x has. elim has [ inl same ↦ same | inr never ↦ absurd never ]) (inl refl) (λ r has e. absurd (none r has e)) (λ i never r has e. absurd never))
@@ -147,23 +147,23 @@ module _ (limit : Option ℕ) (keys : Keys) (k v : List ℕ) (db : Trees) (m : C
       let news : edit.news ≡ written = numbered_given written _ in
       let applied : Applies office_schema keys db edit made.0 = one_step office_schema keys db made.0 edit refl made.1 in
       let path : one.trees 0 ≡ put_all (without_all (db 0) (ids_of rows)) written =
-          ap (λ (t : Trees). t 0) (ap (λ (it : Written). it.trees) (same_value made.2)) ∙ applied.rows ∙ ap (put_all (without_all (db 0) (ids_of rows))) news in
+      ap (λ (t : Trees). t 0) (ap (λ (it : Written). it.trees) (same_value made.2)) ∙ applied.rows ∙ ap (put_all (without_all (db 0) (ids_of rows))) news in
       let found : (x : Row) → Has rows x → x ≡ Int id ∷ Int id ∷ Bytes k ∷ Bytes v ∷ [] = λ x there.
-          let s = shown_sound (has_rowid_given ∷ []) (col 1 0 ∷ col 1 0 ∷ col 1 1 ∷ col 0 5 ∷ []) db (old_params (Int id)) rows a x there in
-          let c = h.cells s.0 s.1 in
-          let tied : is_eq (value_cmp (Int c.id) (Int id)) ≡ true = sym (rowid_test k v c.id id c.ident c.val (Int n ∷ Bytes k ∷ Bytes v ∷ [])) ∙ sym (ap (passes id) c.is) ∙ s.2 in
-          let same : s.0 ≡ r = h.apart s.0 r s.1 has (ap (λ (y : Row). rowid y) c.is ∙ ap (λ (z : ℤ). Int z) (tied_id c.id id tied) ∙ sym own) in
-          s.3 ∙ ap shows same ∙ (λ i. own i ∷ own i ∷ key i ∷ Bytes v ∷ []) in
+      let s = shown_sound (has_rowid_given ∷ []) (col 1 0 ∷ col 1 0 ∷ col 1 1 ∷ col 0 5 ∷ []) db (old_params (Int id)) rows a x there in
+      let c = h.cells s.0 s.1 in
+      let tied : is_eq (value_cmp (Int c.id) (Int id)) ≡ true = sym (rowid_test k v c.id id c.ident c.val (Int n ∷ Bytes k ∷ Bytes v ∷ [])) ∙ sym (ap (passes id) c.is) ∙ s.2 in
+      let same : s.0 ≡ r = h.apart s.0 r s.1 has (ap (λ (y : Row). rowid y) c.is ∙ ap (λ (z : ℤ). Int z) (tied_id c.id id tied) ∙ sym own) in
+      s.3 ∙ ap shows same ∙ (λ i. own i ∷ own i ∷ key i ∷ Bytes v ∷ []) in
       let mine : Has rows (Int id ∷ Int id ∷ Bytes k ∷ Bytes v ∷ []) =
-          let c = h.cells r has in
-          let is_id : Int c.id ≡ Int id = sym (ap (λ (y : Row). rowid y) c.is) ∙ own in
-          let passing : passes id r ≡ true =
-              ap (passes id) c.is ∙ rowid_test k v c.id id c.ident c.val (Int n ∷ Bytes k ∷ Bytes v ∷ [])
-              ∙ ap (λ (z : Value). is_eq (value_cmp z (Int id))) is_id ∙ ap is_eq (tied_itself value_cmp_total (Int id)) in
-          subst (Has rows) (λ i. own i ∷ own i ∷ key i ∷ Bytes v ∷ [])
-          (shown_complete (has_rowid_given ∷ []) (col 1 0 ∷ col 1 0 ∷ col 1 1 ∷ col 0 5 ∷ []) db (old_params (Int id)) rows a r has passing) in
+      let c = h.cells r has in
+      let is_id : Int c.id ≡ Int id = sym (ap (λ (y : Row). rowid y) c.is) ∙ own in
+      let passing : passes id r ≡ true =
+      ap (passes id) c.is ∙ rowid_test k v c.id id c.ident c.val (Int n ∷ Bytes k ∷ Bytes v ∷ [])
+      ∙ ap (λ (z : Value). is_eq (value_cmp z (Int id))) is_id ∙ ap is_eq (tied_itself value_cmp_total (Int id)) in
+      subst (Has rows) (λ i. own i ∷ own i ∷ key i ∷ Bytes v ∷ [])
+      (shown_complete (has_rowid_given ∷ []) (col 1 0 ∷ col 1 0 ∷ col 1 1 ∷ col 0 5 ∷ []) db (old_params (Int id)) rows a r has passing) in
       let only : (i : ℤ) → Has (ids_of rows) i → i ≡ id = λ i there.
-          let x = has_mapped (λ (y : Row). id_in (rowid y)) rows i there in x.2 ∙ ap (λ (y : Row). id_in (rowid y)) (found x.0 x.1) in
+      let x = has_mapped (λ (y : Row). id_in (rowid y)) rows i there in x.2 ∙ ap (λ (y : Row). id_in (rowid y)) (found x.0 x.1) in
       subst (λ (t : List Row). IsPut (db 0) t k v) (sym path)
       (rows_put (db 0) m k v id (ids_of rows) written h (subst (λ (l : List Row). are_fresh (without_all (db 0) (ids_of rows)) l ≡ true) news applied.fresh)
       (λ x there.
@@ -214,16 +214,15 @@ puts old new k v count m has h short ran =
     let task : Task = record { limit = old.step_limit; keys = keys; schema = office_schema; table = office; params = params } in
     let top : ℤ = count_of counter.0 in
     let each : TriesEach task Abort (upsert ∷ []) ((Null ∷ Bytes k ∷ Bytes v ∷ []) ∷ []) top (nothing db) (Ok tried.0) =
-        subst (λ (rows : List Row). TriesEach task Abort (upsert ∷ []) rows top (nothing db) (Ok tried.0)) given.1.1 tried.1 in
+    subst (λ (rows : List Row). TriesEach task Abort (upsert ∷ []) rows top (nothing db) (Ok tried.0)) given.1.1 tried.1 in
     let one = went each in
     let made : Tries task Abort (upsert ∷ []) (cell_row (next_rowid (db 0)) k v) db (Ok one.0) =
-        subst (λ (x : Value). Tries task Abort (upsert ∷ []) (with_rowid Chosen (db 0) (x ∷ Bytes k ∷ Bytes v ∷ [])) db (Ok one.0)) cast_null one.1 in
+    subst (λ (x : Value). Tries task Abort (upsert ∷ []) (with_rowid Chosen (db 0) (x ∷ Bytes k ∷ Bytes v ∷ [])) db (Ok one.0)) cast_null one.1 in
     let put : IsPut (db 0) (one.0.trees 0) k v = put_tried old.step_limit keys k v db m h (next_rowid (db 0)) one.0 made in
     let joined_is : tried.0.0.trees ≡ one.0.trees = ap (λ (p : Written × ℤ). p.0.trees) (same_value one.2) in
     let counted : after.0 ≡ tried.0.0.trees = same_value after.1 in
     let ended : done.0.trees ≡ after.0 = ap (λ (it : Written). it.trees) (same_value after.2) in
-    let path : new.now.trees 0 ≡ one.0.trees 0 = ap (λ (d : Database). d.trees 0) now ∙ ap (λ (t : Trees). t 0) (ended ∙ counted ∙ joined_is) in
-    (
+    let path : new.now.trees 0 ≡ one.0.trees 0 = ap (λ (d : Database). d.trees 0) now ∙ ap (λ (t : Trees). t 0) (ended ∙ counted ∙ joined_is) in (
       ap (λ (d : Database). d.schema) now,
       subst (λ (t : List Row). Holds t (map.insert m k v)) (sym path) (put_holds (db 0) (one.0.trees 0) m k v h short put),
     )

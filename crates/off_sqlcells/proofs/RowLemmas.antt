@@ -100,11 +100,11 @@ module _ (old new : List Row) (m : CellMap) (k v : List ℕ) (holds : Holds old 
   put_there : (ident val : List ℕ) → map.get (map.insert m k v) ident ≡ Some val → (id : ℤ) × Has new (cell_row id ident val)
   put_there ident val got = elim (key_cases ident k) [
     | inl same ↦
-      let value : v ≡ val = let h = got_here m k v in let g = ap (map.get (map.insert m k v)) same in cc in
-      (p.id, subst (λ (b : List ℕ). Has new (cell_row p.id b val)) (sym same) (subst (λ (b : List ℕ). Has new (cell_row p.id k b)) value p.here))
+        let value : v ≡ val = let h = got_here m k v in let g = ap (map.get (map.insert m k v)) same in cc in
+        (p.id, subst (λ (b : List ℕ). Has new (cell_row p.id b val)) (sym same) (subst (λ (b : List ℕ). Has new (cell_row p.id k b)) value p.here))
     | inr other ↦
-      let row = holds.there ident val (sym (got_other m k v ident other) ∙ got) in
-      (row.0, p.kept (cell_row row.0 ident val) row.1 (λ e. other (same_bytes ident k e)))
+        let row = holds.there ident val (sym (got_other m k v ident other) ∙ got) in
+        (row.0, p.kept (cell_row row.0 ident val) row.1 (λ e. other (same_bytes ident k e)))
   ]
 
   put_short : (ident val : List ℕ) → map.get (map.insert m k v) ident ≡ Some val → (1 ≤ length ident) × (length ident ≤ 9)
@@ -205,11 +205,13 @@ pub rows_dropped : (table : List Row) (m : CellMap) (k : List ℕ) (ids : List �
     → IsDropped table (without_all table ids) k
 rows_dropped table m k ids holds sound complete = record {
   back = λ x h.
-      let has = without_all_has ids table x h in
-      (has, λ e.
-      let c = holds.cells x has in
-      let id : rowid x ≡ Int c.id = ap (λ (r : Row). rowid r) c.is in
-      absurd (true≢false (sym (own_id x c.id id) ∙ left_not ids table x c.id h (complete x has e c.id id))));
+      let has = without_all_has ids table x h in (
+        has,
+        λ e.
+            let c = holds.cells x has in
+            let id : rowid x ≡ Int c.id = ap (λ (r : Row). rowid r) c.is in
+            absurd (true≢false (sym (own_id x c.id id) ∙ left_not ids table x c.id h (complete x has e c.id id))),
+      );
   kept = λ x h ne. left_has ids table x h (λ id k'. false_from_ne_true _ (λ t.
       let s = sound id k' in
       let same = holds.apart x s.0 h s.1 (has_id m x id (holds.cells x h) t ∙ sym s.3) in
@@ -243,9 +245,9 @@ rows_put table m k v id ids news holds fresh each some gone own =
       back = λ x h. elim (put_all_has news (without_all table ids) x h) [
         | inl is ↦ inl (each x is)
         | inr left ↦
-          let has = without_all_has ids table x left in
-          let free : rowid x ≢ Int id = λ e. absurd (true≢false (sym (own_id x id e) ∙ fresh_apart news (without_all table ids) new x fresh some left)) in
-          inr (has, (λ e. free (gone x has e).1), free)
+            let has = without_all_has ids table x left in
+            let free : rowid x ≢ Int id = λ e. absurd (true≢false (sym (own_id x id e) ∙ fresh_apart news (without_all table ids) new x fresh some left)) in
+            inr (has, (λ e. free (gone x has e).1), free)
       ];
       kept = λ x h ne. put_all_keeps news (without_all table ids) x fresh (left_has ids table x h (λ i k'. false_from_ne_true _ (λ t.
           ne (own i k' x h (has_id m x i (holds.cells x h) t)))));

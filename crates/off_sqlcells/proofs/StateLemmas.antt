@@ -94,8 +94,7 @@ looked : (sql : List ℕ) (params : Row) (old new : State) (rows : List Row) (P 
     → ((m : CellMap) → old.now.schema ≡ office_schema → Holds (old.now.trees 0) m → Shown sql params old new rows → P m) → Shown sql params old new rows → Looked old new P
 looked sql params old new rows P plain reads shown = record {
   told = λ m told.
-      let s = told (shown_open sql params old new rows shown).0 in
-      (
+      let s = told (shown_open sql params old new rows shown).0 in (
         still_tells old new m (inl (shown_same sql params old new rows (subst (λ k. IsPlain (understood k sql)) (sym s.schema) plain) shown)) told,
         reads m s.schema s.rows shown,
       );

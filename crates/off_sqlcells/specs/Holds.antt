@@ -15,8 +15,8 @@ pub record IsCellOf (m : CellMap) (row : Row) : Type 0 where
   pub is : row ≡ cell_row id ident val
   pub held : map.get m ident ≡ Some val
 
--- Each row is a cell, and each cell a row; no two rows share a rowid or a key, and each key has 1 to
--- 9 bytes.
+-- Each row is a cell, and each cell a row; no two rows share a rowid or a key, and each key has 1
+-- to 9 bytes.
 pub record Holds (table : List Row) (m : CellMap) : Type 0 where
   pub cells : (row : Row) → Has table row → IsCellOf m row
   pub there : (ident val : List ℕ) → map.get m ident ≡ Some val

@@ -12,10 +12,22 @@ abbrev pub office : Table
 office = record {
   name = codes "office";
   tree = 0;
-  columns = (record { name = codes "ident"; kind = Blob; is_strict = true; not_null = true;
-      default = Null; collation = Binary })
-      ∷ (record { name = codes "val"; kind = Blob; is_strict = true; not_null = true;
-      default = Null; collation = Binary }) ∷ [];
+  columns = (record {
+    name = codes "ident";
+    kind = Blob;
+    is_strict = true;
+    not_null = true;
+    default = Null;
+    collation = Binary;
+  })
+      ∷ (record {
+        name = codes "val";
+        kind = Blob;
+        is_strict = true;
+        not_null = true;
+        default = Null;
+        collation = Binary;
+      }) ∷ [];
   key = None;
   primary = 1 ∷ [];
   uniques = (1 ∷ []) ∷ [];

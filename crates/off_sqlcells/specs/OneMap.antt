@@ -33,14 +33,16 @@ same_key a b e = exact a b (is_equal (bytes_cmp a b) e)
 pub same_bytes : (a b : List ℕ) → ◌≡◌ {A = Value} (Bytes a) (Bytes b) → a ≡ b
 same_bytes a b e = cc
 
-pub cell_got : (table : List Row) (m : CellMap) (id : ℤ) (ident val : List ℕ) → Holds table m → Has table (cell_row id ident val) → map.get m ident ≡ Some val
+pub cell_got : (table : List Row) (m : CellMap) (id : ℤ) (ident val : List ℕ) → Holds table m →
+    Has table (cell_row id ident val) → map.get m ident ≡ Some val
 cell_got table m id ident val holds has =
     let c = holds.cells (cell_row id ident val) has in
     let same : ident ≡ c.ident = same_bytes ident c.ident (ap (λ (r : Row). column r 1) c.is) in
     let value : val ≡ c.val = same_bytes val c.val (ap (λ (r : Row). column r 2) c.is) in
     ap (map.get m) same ∙ c.held ∙ ap Some (sym value)
 
-found_same : (table : List Row) (m n : CellMap) (q : List ℕ) (a b : Option (List ℕ)) → Holds table m → Holds table n → map.get m q ≡ a → map.get n q ≡ b → a ≡ b
+found_same : (table : List Row) (m n : CellMap) (q : List ℕ) (a b : Option (List ℕ)) →
+    Holds table m → Holds table n → map.get m q ≡ a → map.get n q ≡ b → a ≡ b
 found_same table m n q None None p h x y = refl
 found_same table m n q (Some v) b p h x y =
     let row = p.there q v x in sym (cell_got table n row.0 q v h row.1) ∙ y
@@ -48,7 +50,9 @@ found_same table m n q None (Some w) p h x y =
     let row = h.there q w y in sym x ∙ cell_got table m row.0 q w p row.1
 
 pub one_map : (table : List Row) (m n : CellMap) → Holds table m → Holds table n → m ≡ n
-one_map table m n p h = map.same_map nat_list_cmp_total exact m n (λ q. found_same table m n q (map.get m q) (map.get n q) p h refl refl)
+one_map table m n p h =
+    map.same_map nat_list_cmp_total exact m n
+    (λ q. found_same table m n q (map.get m q) (map.get n q) p h refl refl)
 
 pub one_told : (s : State) (m n : CellMap) → IsTrue s.is_open → Tells s m → Tells s n → m ≡ n
 one_told s m n up p q = one_map (s.now.trees 0) m n (p up).rows (q up).rows

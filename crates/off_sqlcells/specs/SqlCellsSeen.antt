@@ -14,7 +14,8 @@ use Rattle.off_sqlcells.specs.Holds.{Holds}
 use Rattle.off_sqlcells.specs.Stands.{IsSteady, Tells}
 use Rattle.off_sqlcells.specs.OneMap.{one_told}
 
--- Over a steady store they tell the cells that the rows of the table hold. They are up as long as no fault has shut the connection.
+-- Over a steady store they tell the cells that the rows of the table hold. They are up as long as
+-- no fault has shut the connection.
 abbrev pub sql_seen : {S : Type 0} → Ghosts S → Held S → ℕ → ℕ → CellsSeen
 sql_seen g conn faults calls = record {
   cells = λ m. IsSteady g × Tells (state g conn) m;
@@ -26,13 +27,14 @@ sql_seen g conn faults calls = record {
 pub one_sql : {A : Type 0} {s : State} → IsTrue s.is_open → IsOne (λ (m : CellMap). A × Tells s m)
 one_sql {A} {s} up m n p q = one_told s m n up p.1 q.1
 
--- why a call wasn't done: want of memory over a connection that is open, or a fault, which is counted
+-- why a call wasn't done: want of memory over a connection that is open, or a fault, which is
+-- counted
 abbrev pub Counts : {S : Type 0} → Ghosts S → Held S → KeepErr → ℕ → ℕ → Type 0
 Counts g conn Memory before after = (after ≡ before) × (IsSteady g → IsTrue (state g conn).is_open)
 Counts g conn Failed before after = (after ≡ one_more before) × (before ≤ most_count)
 
--- cells that have just begun over a connection: none, where the database had no table; and where it had this table,
--- those that its rows hold
+-- cells that have just begun over a connection: none, where the database had no table; and where it
+-- had this table, those that its rows hold
 pub record HasBegun {S : Type 0} (g : Ghosts S) (conn : Held S) (seen : CellsSeen) : Type 0 where
   pub made : IsSteady g → (state g conn).now.schema ≡ no_schema → seen.cells map.empty × seen.up
   pub found : IsSteady g → (state g conn).now.schema ≡ office_schema → (m : CellMap)

@@ -21,7 +21,8 @@ pub record Stands (s : State) (m : CellMap) : Type 0 where
   pub settled : s.now ≡ s.committed
   pub idle : s.in_transaction ≡ false
 
--- A connection that a fault has shut says nothing of its table, and so tells any cells; no call of it answers `Ok` any more.
+-- A connection that a fault has shut says nothing of its table, and so tells any cells; no call of
+-- it answers `Ok` any more.
 abbrev pub Tells : State → CellMap → Type 0
 Tells s m = IsTrue s.is_open → Stands s m
 
@@ -60,7 +61,8 @@ pub record Stays (old new : State) : Type 0 where
   pub was_open : IsTrue new.is_open → IsTrue old.is_open
   pub based : (base : Database) → IsBased base old → IsBased base new
 
--- The table is there: it was made, and has no rows, where the database had no table; or nothing was done, where it had this one.
+-- The table is there: it was made, and has no rows, where the database had no table; or nothing was
+-- done, where it had this one.
 pub record Makes (old new : State) : Type 0 where
   pub made : old.now.schema ≡ no_schema
       → (new.now.schema ≡ office_schema) × (new.now.trees 0 ≡ []) × IsTrue new.is_open

@@ -1,12 +1,14 @@
 -- The statements that serve the table, and what the rows that they answer say of the cells.
-use Rattle.std.specs.Prelude.{◌≡◌, ℕ, List, [], ◌∷◌, Option, Some, None, codes}
+use Rattle.std.specs.Prelude.{◌≡◌, ℕ, List, [], ◌∷◌, ◌++◌, Option, Some, None, codes}
 use Rattle.std.specs.FinMap as map
 use Rattle.sqlite_value.specs.declared.value.Value.TheVariants.{Blob as Bytes}
 use Rattle.sqlite_value.specs.Order.{Row}
 use Rattle.off_cells.specs.CellsSeen.{CellMap, next_cell}
 
 abbrev pub make_text : List ℕ
-make_text = codes "CREATE TABLE IF NOT EXISTS office (ident BLOB PRIMARY KEY NOT NULL, val BLOB NOT NULL) STRICT"
+make_text =
+    codes "CREATE TABLE IF NOT EXISTS office "
+    ++ codes "(ident BLOB PRIMARY KEY NOT NULL, val BLOB NOT NULL) STRICT"
 
 abbrev pub get_text : List ℕ
 get_text = codes "SELECT val FROM office WHERE ident = ?1"
@@ -15,7 +17,9 @@ abbrev pub next_text : List ℕ
 next_text = codes "SELECT ident, val FROM office WHERE ident > ?1 ORDER BY ident LIMIT 1"
 
 abbrev pub put_text : List ℕ
-put_text = codes "INSERT INTO office (ident, val) VALUES (?1, ?2) ON CONFLICT (ident) DO UPDATE SET val = excluded.val"
+put_text =
+    codes "INSERT INTO office (ident, val) VALUES (?1, ?2) "
+    ++ codes "ON CONFLICT (ident) DO UPDATE SET val = excluded.val"
 
 abbrev pub drop_text : List ℕ
 drop_text = codes "DELETE FROM office WHERE ident = ?1"

@@ -9,8 +9,8 @@ use crate::writing::is_open;
 use off_outside::{KeepErr, one_more};
 use sqlite::{Alter, Connection};
 
-// Why a call wasn't done. A fault is counted, unless memory was wanted. Want of memory may come with
-// a fault that has shut the connection, so the connection is asked.
+// Why a call wasn't done. A fault is counted, unless memory was wanted. Want of memory may come
+// with a fault that has shut the connection, so the connection is asked.
 pub(crate) fn counted<S: Alter>(
     conn: &mut Connection<S>,
     refused: Refused,

@@ -12,7 +12,8 @@ pub(crate) fn make_table<S: Alter>(conn: &mut Connection<S>) -> Result<(), KeepE
         (Makes (state S.Store conn.old) (state S.Store conn.new)) }
 {
     let done = conn.execute(
-        "CREATE TABLE IF NOT EXISTS office (ident BLOB PRIMARY KEY NOT NULL, val BLOB NOT NULL) STRICT",
+        "CREATE TABLE IF NOT EXISTS office \
+            (ident BLOB PRIMARY KEY NOT NULL, val BLOB NOT NULL) STRICT",
         &[],
     );
     match done {

@@ -1,9 +1,9 @@
 ghost use Rattle.std.specs.Prelude.{◌≡◌, false, IfOk};
 ghost use Rattle.off_sqlcells.specs.SqlCellsSeen.{sql_seen, one_sql};
 
-use crate::statements::{find_behind, find_val};
 use crate::counting::counted;
 use crate::making::make_table;
+use crate::statements::{find_behind, find_val};
 use crate::writing::commit_all;
 use off_base::Bytes;
 use off_cells::{CellWrites, Cells};
@@ -29,8 +29,8 @@ pub struct SqlCells<S: Alter> {
 impl<S: Alter + Drop> SqlCells<S> {
     ghost use Rattle.off_sqlcells.specs.SqlCellsSeen.{HasBegun};
 
-    /// The cells of a database, whose table is made where it isn't there. Where that is refused, the
-    /// connection is dropped.
+    /// The cells of a database, whose table is made where it isn't there. Where that is refused,
+    /// the connection is dropped.
     pub fn begin(conn: Connection<S>) -> Result<SqlCells<S>, KeepErr>
         ensures { IfOk result
             (λ cells. HasBegun S.Store conn (⟦<SqlCells<S> as Cells>⟧.seen cells)) }
@@ -51,7 +51,6 @@ impl<S: Alter + Drop> SqlCells<S> {
 impl<S: Alter> Cells for SqlCells<S> {
     ghost seen = { λ s. sql_seen S.Store s.conn s.faults s.calls };
 
-    #[tactic(auto, using(crate::proofs::SeenLemmas::looked_read, crate::proofs::SeenLemmas::refused_kept))]
     fn get(&mut self, alloc: Global, key: &KeyBytes) -> Result<Option<Bytes>, KeepErr> {
         self.calls = one_more(self.calls);
         match find_val(&mut self.conn, alloc, key.as_slice()) {
@@ -60,7 +59,6 @@ impl<S: Alter> Cells for SqlCells<S> {
         }
     }
 
-    #[tactic(auto, using(crate::proofs::SeenLemmas::looked_read, crate::proofs::SeenLemmas::refused_kept))]
     fn next(
         &mut self,
         alloc: Global,
@@ -73,7 +71,6 @@ impl<S: Alter> Cells for SqlCells<S> {
         }
     }
 
-    #[tactic(auto, using(crate::proofs::SeenLemmas::wrote_written, crate::proofs::SeenLemmas::refused_kept))]
     fn commit(&mut self, _alloc: Global, writes: &CellWrites) -> Result<(), KeepErr> {
         self.calls = one_more(self.calls);
         match commit_all(&mut self.conn, writes) {

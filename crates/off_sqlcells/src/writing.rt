@@ -110,7 +110,8 @@ fn put_cell<S: Alter>(
         → Within base (state S.Store work.new.conn.now) (map.insert m ident.now val.now)) }
 {
     let done = work.execute(
-        "INSERT INTO office (ident, val) VALUES (?1, ?2) ON CONFLICT (ident) DO UPDATE SET val = excluded.val",
+        "INSERT INTO office (ident, val) VALUES (?1, ?2) \
+            ON CONFLICT (ident) DO UPDATE SET val = excluded.val",
         &[ValueRef::Blob(ident), ValueRef::Blob(val)],
     );
     match done {
@@ -127,7 +128,10 @@ fn drop_cell<S: Alter>(work: &mut Transaction<'_, S>, ident: &[u8]) -> Result<()
         → Within base (state S.Store work.old.conn.now) m
         → Within base (state S.Store work.new.conn.now) (map.remove m ident.now)) }
 {
-    let done = work.execute("DELETE FROM office WHERE ident = ?1", &[ValueRef::Blob(ident)]);
+    let done = work.execute(
+        "DELETE FROM office WHERE ident = ?1",
+        &[ValueRef::Blob(ident)],
+    );
     match done {
         Ok(_count) => Ok(()),
         Err(err) => Err(Refused::from(err)),

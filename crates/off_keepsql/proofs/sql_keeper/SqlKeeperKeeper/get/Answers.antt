@@ -1,6 +1,6 @@
 use Rattle.std.proofs.lemmas.Result.{err_from_is_err_and}
 use Rattle.off_keepsql.proofs.OverLemmas.{kept_over}
-use Rattle.off_keepsql.proofs.CallLemmas.{called_counted, get_none, get_some, get_unread, own_some, own_unread}
+use Rattle.off_keepsql.proofs.CallLemmas.{called_counted, get_none, get_some, get_unread, own_some}
 use Rattle.off_keepsql.proofs.sql_keeper.SqlKeeperKeeper.get.Goals as goal
 
 pub returns-in_err-val-clause-told : goal.returns-in_err-val-clause-told

@@ -1,10 +1,9 @@
 use Rattle.std.proofs.Common.{◌≡◌}
-
 use Rattle.off_sqlcells.proofs.SeenLemmas.{wrote_written, refused_kept}
 use Rattle.off_sqlcells.proofs.sql_cells.SqlCellsCells.commit.Goals as goal
 
 pub returns-in-Ok-clause-told : goal.returns-in-Ok-clause-told
-returns-in-Ok-clause-told g c = 
+returns-in-Ok-clause-told g c =
     wrote_written g.S.Store c.args.self.now.conn c.commit_all.new.conn c.args.writes.now c.args.self.now.faults c.args.self.now.calls c.one_more-self.result c.in-Ok.ensures.done
 
 pub returns-in-Err-clause-told : goal.returns-in-Err-clause-told

@@ -4,7 +4,7 @@ use Rattle.off_sqlcells.proofs.SeenLemmas.{looked_read, refused_kept}
 use Rattle.off_sqlcells.proofs.sql_cells.SqlCellsCells.get.Goals as goal
 
 pub returns-in-Ok-clause-told : goal.returns-in-Ok-clause-told
-returns-in-Ok-clause-told g c = 
+returns-in-Ok-clause-told g c =
     looked_read g.S.Store c.args.self.now.conn c.find_val.new.conn (λ m. c.in-Ok.val ≡ cell_at m c.args.key.now) c.args.self.now.faults c.args.self.now.calls c.one_more-self.result
     (rw c.as_slice.ensures.bytes at c.in-Ok.ensures.found)
 

@@ -5,7 +5,7 @@ use Rattle.off_sqlcells.proofs.SeenLemmas.{looked_read, refused_kept}
 use Rattle.off_sqlcells.proofs.sql_cells.SqlCellsCells.next.Goals as goal
 
 pub returns-in-Ok-clause-told : goal.returns-in-Ok-clause-told
-returns-in-Ok-clause-told g c = 
+returns-in-Ok-clause-told g c =
     looked_read g.S.Store c.args.self.now.conn c.find_behind.new.conn (λ m. c.in-Ok.cell ≡ next_cell (option_map (λ key. key.now) c.args.after) m) c.args.self.now.faults c.args.self.now.calls c.one_more-self.result
     c.in-Ok.ensures.found
 
