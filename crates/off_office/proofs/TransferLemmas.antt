@@ -9,6 +9,7 @@ use Rattle.off_defs.specs.declared.results.Outcome.TheVariants.{Did, Memory, Kee
 use Rattle.off_defs.specs.State.{Tables, Said, state_of, says_nothing, held_at_start}
 use Rattle.off_defs.proofs.CountLemmas.{grew_self}
 use Rattle.off_rules.specs.declared.counts.Counts.{Counts}
+use Rattle.off_rules.specs.Good.{Good}
 use Rattle.off_rules.specs.Rows.{counts_of}
 use Rattle.off_transfer_rules.specs.Transfers.{Transfers}
 use Rattle.off_transfer_rules.specs.Steps.{Given, gives}
@@ -25,7 +26,7 @@ use Rattle.off_outside.proofs.KeeperLemmas.{reads_as, reads_told, reads_forgotte
 use Rattle.off_tftp.specs.Calls.{datagram_calls}
 use Rattle.off_tftp.specs.Saying.{Answers, Ticks, says_more}
 use Rattle.off_office.specs.Desk.{Desk}
-use Rattle.off_office.specs.Conditions.{Mirrors}
+use Rattle.off_office.specs.Conditions.{Fits}
 use Rattle.off_office.specs.Acting.{Handled, DoesOn, NotStarted, effect_of}
 use Rattle.off_office.specs.Answering.{failed_said}
 use Rattle.off_office.specs.Transferring.{moved, MovesTransfers, DidPacket, FailsPacket, DidTick, MissedTick, TakesTick}
@@ -37,9 +38,10 @@ use Rattle.off_office.proofs.StepLemmas.{DoesQuietly, Says, did_says, handled_qu
 
 pub started : (q : Result Desk StartErr) (counts : Counts) (a b : KeeperSeen)
     → IfOk q (λ (office : Desk). office ≡ record { held = held_at_start; counts = counts }) → IfErr q (λ (err : StartErr). err ≡ start.Memory)
-    → Reads (λ t. counts ≡ counts_of t) a b
-    → MatchResult q (λ (office : Desk). Reads (Mirrors office) a b) (λ (err : StartErr). NotStarted err a b)
-started (Ok office) counts a b is none reads = reads_as reads (λ t same. record { counts = ap (λ (d : Desk). d.counts) is ∙ same })
+    → Reads (λ t. Good t × (counts ≡ counts_of t)) a b
+    → MatchResult q (λ (office : Desk). Reads (Fits office) a b) (λ (err : StartErr). NotStarted err a b)
+started (Ok office) counts a b is none reads =
+    reads_as reads (λ t opens. record { good = opens.0; mirrors = record { counts = ap (λ (d : Desk). d.counts) is ∙ opens.1 } })
 started (Err err) counts a b none is reads = subst (λ (e : StartErr). NotStarted e a b) (sym is) (reads_forgotten reads)
 
 pub started_empty : (q : Result Desk StartErr) (counts : Counts)

@@ -10,7 +10,7 @@ ghost use Rattle.off_office.specs.Saying.{SaysTime};
 ghost use Rattle.off_office.specs.declared.office.StartErr.TheVariants as start;
 
 use crate::connections::Connections;
-use off_accounts::{count_rows, first_bad};
+use off_accounts::{Opening, open_tables};
 use off_base::{Bytes, Moment, NoMemory, Peer};
 use off_defs::{Key, time_of_day};
 use off_outside::{Event, KeepErr, Keeper, Outcome, Replies, Sent, Service, What};
@@ -59,28 +59,18 @@ impl Office {
     /// moment 0, over tables that are good.
     ///
     /// `Bad` comes exactly where they aren't, with the least bad key. The tables stay as they are.
+    /// They are walked once.
     pub fn start<K: Keeper>(alloc: Global, keeper: &mut K) -> Result<Office, StartErr>
         ensures told { MatchResult result
             (λ office. Reads (Fits office) (K.seen keeper.old) (K.seen keeper.new))
             (λ err. NotStarted err (K.seen keeper.old) (K.seen keeper.new)) }
         ensures held { IfOk result (λ office. office.held ≡ held_at_start) }
     {
-        match first_bad(alloc, keeper) {
-            Ok(None) => Office::counted(alloc, keeper),
-            Ok(Some(key)) => Err(StartErr::Bad(key)),
-            Err(err) => Err(not_started(err)),
-        }
-    }
-
-    // An office whose counts are those of the tables.
-    fn counted<K: Keeper>(alloc: Global, keeper: &mut K) -> Result<Office, StartErr>
-        ensures told { MatchResult result
-            (λ office. Reads (Mirrors office) (K.seen keeper.old) (K.seen keeper.new))
-            (λ err. NotStarted err (K.seen keeper.old) (K.seen keeper.new)) }
-        ensures held { IfOk result (λ office. office.held ≡ held_at_start) }
-    {
-        match count_rows(alloc, keeper) {
-            Ok(counts) => Office::empty(alloc, counts),
+        match open_tables(alloc, keeper) {
+            Ok(opening) => match opening {
+                Opening::Good(counts) => Office::empty(alloc, counts),
+                Opening::Bad(key) => Err(StartErr::Bad(key)),
+            },
             Err(err) => Err(not_started(err)),
         }
     }
