@@ -1,4 +1,4 @@
-ghost use Rattle.std.specs.Prelude.{◌≡◌, ◌≤◌, ◌++◌, length, decimal, codes};
+ghost use Rattle.std.specs.Prelude.{◌≡◌, ◌≤◌, length, codes};
 ghost use Rattle.off_jobs.specs.Jobs.{Tells};
 ghost use Rattle.off_jobs.specs.Text.{refused};
 ghost use Rattle.off_import_job.specs.Telling.{ended_text, ended_status, unread_text};
@@ -15,11 +15,8 @@ use off_clerk_rules::Fault;
 use off_clerk_write::fault_word;
 use off_defs::Rule;
 use off_import::{ImportErr, fault_words};
-use off_jobs::{InputErr, tell};
+use off_jobs::{InputErr, Line, numbered_line, refused_line, tell};
 use off_outside::Sink;
-
-// Room for `refused`, a rule's word and a row.
-type Line = ArrayVec<u8, 96>;
 
 /// Tells what became of an import, and answers the status, or 4 where the sink fails.
 pub(crate) fn tell_end<W: Sink>(ended: Ended, out: &mut W) -> u8
@@ -95,33 +92,6 @@ fn row_line(row: u32, word: &[u8]) -> Line
     let _word = words.try_extend_from_slice(word);
     let _row = words.try_extend_from_slice(b" row ");
     numbered_line(words.as_slice(), u64::from(row))
-}
-
-// A refusal, by its words.
-fn refused_line(words: &[u8]) -> Line
-    requires { length words.now ≤ 64 }
-    ensures { result.items ≡ refused words.now }
-{
-    let mut line = ArrayVec::new();
-    let _refused = line.try_extend_from_slice(b"refused ");
-    let _words = line.try_extend_from_slice(words);
-    let _end = line.try_extend_from_slice(b"\n");
-    line
-}
-
-// A refusal, by its words and a number behind them.
-fn numbered_line(words: &[u8], number: u64) -> Line
-    requires { length words.now ≤ 45 }
-    ensures { result.items ≡ refused (words.now ++ decimal number) }
-{
-    let mut buffer = Buffer::new();
-    let digits = buffer.format(number);
-    let mut line = ArrayVec::new();
-    let _refused = line.try_extend_from_slice(b"refused ");
-    let _words = line.try_extend_from_slice(words);
-    let _number = line.try_extend_from_slice(digits.as_bytes());
-    let _end = line.try_extend_from_slice(b"\n");
-    line
 }
 
 // How many rows an import has.
