@@ -32,7 +32,8 @@ NAMES = {"subscribers": "subscriber,active,cpes,name", "modems": "mac,subscriber
 
 
 def wait_for(port):
-    for _ in range(100):
+    """Waits until an office answers there."""
+    for _ in range(400):
         try:
             urllib.request.urlopen(f"http://127.0.0.1:{port}/site", timeout=2).close()
         except urllib.error.HTTPError:

@@ -54,16 +54,18 @@ def may_relay():
     return True
 
 
-def run(words=(), ports=None, before=()):
+def run(words=(), ports=None, before=(), store="memory"):
     """The example's status and its lines."""
-    known = {**os.environ, "OFFICED": PROGRAM, "PORTS": ports or ",".join(map(str, free_ports()))}
+    known = {**os.environ, "OFFICED": PROGRAM, "STORE": store,
+             "PORTS": ports or ",".join(map(str, free_ports()))}
     done = subprocess.run([*before, RUN, *words], env=known, stdout=subprocess.PIPE, timeout=60)
     return done.returncode, done.stdout.decode().splitlines()
 
 
 # What differs from run to run: ports, moments, delays, numbers of events and the two checks.
 DIFFERENT = [(r"port \d+", "port P"), (r"\d{4}-\d\d-\d\d \d\d:\d\d:\d\d", "MOMENT"),
-             (r"\b\d+ s from", "S s from"), (r"\d+ ms", "M ms"), (r"^    \d+ (?=[a-z]+ )", "    N "),
+             (r"\b\d+ s from", "S s from"), (r"\d+ ms", "M ms"),
+             (r"^    \d+ (?=[a-z]+ )", "    N "),
              (r"( [0-9a-f]{2}){16}$", " CHECK")]
 
 

@@ -3,7 +3,9 @@
 
 The store is made here by Python's sqlite3, its rows by the spelling of crates/off_rows: a whole
 file, one whose last commits are in the log beside it, one that a program has open, and files that
-are no store. What is expected is said by hand. The store stays as it is, to the byte.
+are no store. What is expected is said by hand. The store stays as it is, to the byte. Where the
+program keeps a store on disk, the one of the first office is read too; while an office has it open
+it isn't.
 """
 import csv
 import io
@@ -14,7 +16,10 @@ import subprocess
 import sys
 import tempfile
 
-from time_service import ROOT, check, failures
+from clerk_examples import wait_for
+from first_office import may_relay, may_unshare, run
+from listening import stop
+from time_service import PROGRAM, ROOT, check, failures, free_ports
 
 READER = os.path.join(ROOT, "bin", "office-sql")
 TABLE = "CREATE TABLE office(ident BLOB PRIMARY KEY NOT NULL, val BLOB NOT NULL) STRICT"
@@ -158,10 +163,45 @@ def refusals(folder):
         check(asked(bad, *words)[0] == 2, f"a row of another form: {words}")
 
 
+def serving(path, turns):
+    """The program over a store, and its clerks' port."""
+    ports = free_ports()
+    words = [PROGRAM, "serve", "--store", path, "--ports", ",".join(map(str, ports)), "--turns",
+             str(turns)]
+    return subprocess.Popen(words, stdout=subprocess.DEVNULL), ports[3]
+
+
+def by_the_program(folder):
+    """The store of an office that booted a modem."""
+    path = os.path.join(folder, "first.db")
+    if not os.path.exists(PROGRAM) or serving(path, 0)[0].wait(timeout=60) == 11:
+        print("a store of the program: skipped, since it keeps none on disk")
+        return
+    if not may_relay() and not may_unshare():
+        print("a store of the program: skipped, since no modem can boot here")
+        return
+    check(run(store=path)[0] == 0, "a modem boots")
+    for words, expected in (
+            (("modems", "7"), ["02aabbccddee", "1", "SN01", "127.64.0.10", "bound"]),
+            (("lease", "02aabbccddee"), ["02aabbccddee", "127.64.0.10", "bound"])):
+        status, came, said = asked(path, "--csv", *words)
+        found = list(csv.reader(io.StringIO(came)))[1:]
+        check(status == 0 and [line[:len(expected)] for line in found] == [expected],
+              f"{words} of the program: {status} {found} {said}")
+    program, port = serving(path, 10**6)
+    try:
+        wait_for(port)
+        check(asked(path, "modems", "7")[0] == 3, "while the office has it open it isn't read")
+    finally:
+        stop(program)
+    check(asked(path, "modems", "7")[0] == 0, "and behind it it is")
+
+
 def main():
     with tempfile.TemporaryDirectory() as folder:
         stores(folder)
         refusals(folder)
+        by_the_program(folder)
         status, came, _ = asked(os.path.join(folder, "office.db"), "free", "1")
         lines = ["address     last modem    ended (UTC)", f"10.64.0.11  02aabbccddf0  {MOMENT}",
                  f"10.64.0.13                {BEFORE}", "10.64.0.14"]
