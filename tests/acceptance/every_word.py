@@ -9,6 +9,7 @@ import os
 import re
 import sys
 
+from first_office import loaded
 from time_service import ROOT, check, failures
 
 DHCP = """offer ack declined released dhcp-short dhcp-long dhcp-not-request dhcp-hardware
@@ -140,11 +141,22 @@ def statuses(rows):
     check("RestartPreventExitStatus=1 2\n" in unit, "the unit tries again but for 1 and 2")
 
 
+def helpers():
+    """The helpers know the same words."""
+    counts, clerk = loaded("office-counts"), loaded("office-clerk")
+    check([end.decode() for end in counts.ENDS] == ENDS, "office-counts knows the last lines")
+    check(set(clerk.FAULTS) == set(FAULTS), "office-clerk knows the faults")
+    text = text_of("crates", "off_book", "specs", "Step.antt")
+    services = set(re.findall(r'^service_word .*= codes "(\w+)"', text, re.M))
+    check({each.decode() for each in counts.SERVICES} == services, f"the services: {services}")
+
+
 def main():
     found, rows = sections()
     compare(found, rows)
     told_to_clients(rows)
     statuses(rows)
+    helpers()
     links = re.findall(r"\]\(#([\w-]+)\)", text_of("docs", "MESSAGES.md"))
     names = {name.lower().replace(" ", "-") for name in SECTIONS}
     check(set(links) <= names, f"links without a section: {set(links) - names}")

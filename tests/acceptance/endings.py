@@ -1,0 +1,86 @@
+#!/usr/bin/env python3
+"""How an office ends, as docs/OPERATING.md says: by signals, by its turns, by what it can't read.
+
+With `--turns 0` it tries its words, its ports and its store, and takes no event. It ends what it
+started, and takes some seconds.
+"""
+import os
+import signal
+import socket
+import subprocess
+import sys
+import tempfile
+
+from clerk_examples import wait_for
+from listening import stop
+from time_service import PROGRAM, check, failures, free_ports, start
+
+ENDING = (signal.SIGHUP, signal.SIGINT, signal.SIGQUIT, signal.SIGTERM, signal.SIGUSR1,
+          signal.SIGKILL)
+
+
+def ended(program, seconds):
+    """The status with which it ends in time, or None where it goes on."""
+    try:
+        return program.wait(timeout=seconds)
+    except subprocess.TimeoutExpired:
+        return None
+
+
+def by_signals():
+    for sent in (*ENDING, signal.SIGPIPE):
+        ports = free_ports()
+        with tempfile.TemporaryFile() as log:
+            program = start(ports, 10**6, log)
+            try:
+                wait_for(ports[3])
+                program.send_signal(sent)
+                status = ended(program, 2 if sent in ENDING else 0.3)
+                check(status == (-sent if sent in ENDING else None), f"{sent.name}: {status}")
+            finally:
+                stop(program)
+
+
+def tried(ports, store="memory", turns="0", more=()):
+    words = [PROGRAM, "serve", "--store", store, "--ports", ports, "--turns", turns, *more]
+    done = subprocess.run(words, stdout=subprocess.PIPE, timeout=60)
+    return done.returncode, done.stdout.decode()
+
+
+def without_turns(folder):
+    ports = ",".join(map(str, free_ports()))
+    nowhere = os.path.join(folder, "none", "office.db")
+    check(tried(ports) == (0, ""), "where an office could run")
+    check(tried(ports, more=["now"]) == (1, "words refused\n"), "a word too many")
+    check(tried(ports, turns="1000000000000001") == (1, "words refused\n"), "too many turns")
+    check(tried(ports, store=nowhere) == (11, ""), "a store in no folder")
+    with socket.socket(socket.AF_INET, socket.SOCK_DGRAM) as other:
+        other.bind(("0.0.0.0", int(ports.split(",")[2])))
+        check(tried(ports) == (10, ""), "a port that another has")
+    check(tried(ports, turns="1")[0] == 0, "one turn, which is a tick where nothing comes")
+
+
+def by_what_it_reads(folder):
+    """A folder can be opened, and not read."""
+    for words in (["seal", "00"], ["check", "00"], ["import", "--store", "memory", "modems", "1"]):
+        source = os.open(folder, os.O_RDONLY)
+        done = subprocess.run([PROGRAM, *words], stdin=source, stdout=subprocess.PIPE, timeout=30)
+        os.close(source)
+        found = done.returncode, done.stdout
+        check(found == (7, b"source refused\n"), f"{words[0]} of a folder: {found}")
+
+
+def main():
+    if not os.path.exists(PROGRAM):
+        print("officed isn't built: run bin/officed once")
+        return 1
+    by_signals()
+    with tempfile.TemporaryDirectory() as folder:
+        without_turns(folder)
+        by_what_it_reads(folder)
+    print(f"acceptance: {len(failures)} failed")
+    return 1 if failures else 0
+
+
+if __name__ == "__main__":
+    sys.exit(main())
