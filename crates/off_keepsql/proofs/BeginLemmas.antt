@@ -1,10 +1,14 @@
 -- What a keeper tells that has just begun.
-use Rattle.std.proofs.Common.{◌≡◌, ℕ, List, [], ◌∷◌, length, subst, map as each, refl, sym, ap, ◌∙◌}
+use Rattle.std.proofs.Common.{◌≡◌, true, Result, Ok, Err, IfOk, ℕ, List, [], ◌∷◌, length, subst, map as each, refl, sym, ap, ◌∙◌}
 use Rattle.std.specs.Ordering.{nat_cmp}
 use Rattle.std.specs.Cmp.Lexicographic.{slice_cmp}
 use Rattle.std.specs.FinMap as map
 use Rattle.sqlite_trees.specs.declared.store.Store.{Ghosts}
-use Rattle.sqlite.specs.Held.{Held}
+use Rattle.sqlite_trees.specs.declared.memory.MemStore.{MemStore}
+use Rattle.sqlite_trees.proofs.Doubt.{no_doubt}
+use Rattle.sqlite.specs.Held.{Held, state}
+use Rattle.sqlite.specs.Steps.{over_memory, IsEmpty}
+use Rattle.off_sqlcells.specs.Stands.{IsSteady}
 use Rattle.off_defs.specs.Keys.{key_cmp}
 use Rattle.off_defs.specs.State.{Tables}
 use Rattle.off_outside.specs.KeeperSeen.{KeeperSeen}
@@ -12,7 +16,7 @@ use Rattle.off_cells.specs.CellsSeen.{CellMap, CellsSeen}
 use Rattle.off_sqlcells.specs.SqlCellsSeen.{HasBegun}
 use Rattle.off_keepsql.specs.Stored.{Stores, cell_of, AllStorable}
 use Rattle.off_keepsql.specs.SqlSeen.{SqlTells}
-use Rattle.off_keepsql.specs.Begin.{KeeperBegins}
+use Rattle.off_keepsql.specs.Begin.{KeeperBegins, TellsNone}
 
 no_length : {X : Type 0} (xs : List X) → length xs ≡ 0 → xs ≡ []
 no_length [] e = refl
@@ -40,3 +44,15 @@ keeper_begins g conn cells keeper begun tells = record {
   calls = tells.calls;
   commits = tells.commits;
 }
+
+pub memory_steady : IsSteady over_memory
+memory_steady s = no_doubt true refl
+
+pub begins_empty : (conn : Held MemStore) (seen : KeeperSeen) → IsEmpty (state over_memory conn) → KeeperBegins over_memory conn seen → TellsNone seen
+begins_empty conn seen empty begun =
+    let it = begun.made memory_steady empty.2 in record { tables = it.0; up = it.1; faults = begun.faults; calls = begun.calls; commits = begun.commits }
+
+pub begun_none : {K E : Type 0} (conn : Held MemStore) (seen : K → KeeperSeen) (r : Result K E) → IsEmpty (state over_memory conn)
+    → IfOk r (λ k. KeeperBegins over_memory conn (seen k)) → IfOk r (λ k. TellsNone (seen k))
+begun_none conn seen (Ok k) empty begun = begins_empty conn (seen k) empty begun
+begun_none conn seen (Err e) empty begun = tt

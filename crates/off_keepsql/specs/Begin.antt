@@ -21,3 +21,11 @@ pub record KeeperBegins {S : Type 0} (g : Ghosts S) (conn : Held S)
   pub faults : seen.faults ≡ 0
   pub calls : seen.calls ≡ 0
   pub commits : seen.commits ≡ 0
+
+-- A keeper that has no rows, and has had no calls.
+pub record TellsNone (seen : KeeperSeen) : Type 0 where
+  pub tables : seen.tables map.empty
+  pub up : seen.up
+  pub faults : seen.faults ≡ 0
+  pub calls : seen.calls ≡ 0
+  pub commits : seen.commits ≡ 0

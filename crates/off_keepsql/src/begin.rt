@@ -1,10 +1,10 @@
 ghost use Rattle.std.specs.Prelude.{IfOk};
-ghost use Rattle.off_keepsql.specs.Begin.{KeeperBegins};
+ghost use Rattle.off_keepsql.specs.Begin.{KeeperBegins, TellsNone};
 
 use crate::sql_keeper::SqlKeeper;
 use off_outside::{KeepErr, Keeper};
 use off_sqlcells::SqlCells;
-use sqlite::{Alter, Connection};
+use sqlite::{Alter, Connection, MemStore};
 use std::alloc::Global;
 
 impl<S: Alter + Drop> SqlKeeper<SqlCells<S>> {
@@ -17,6 +17,19 @@ impl<S: Alter + Drop> SqlKeeper<SqlCells<S>> {
         match SqlCells::begin(conn) {
             Ok(cells) => Ok(SqlKeeper::over(cells)),
             Err(err) => Err(err),
+        }
+    }
+}
+
+impl SqlKeeper<SqlCells<MemStore>> {
+    /// A keeper over a new database in memory.
+    pub fn in_memory(alloc: Global) -> Result<SqlKeeper<SqlCells<MemStore>>, KeepErr>
+        ensures { IfOk result (λ keeper. TellsNone
+            (⟦<SqlKeeper<SqlCells<MemStore>> as Keeper>⟧.seen keeper)) }
+    {
+        match Connection::open_in_memory(alloc) {
+            Ok(conn) => SqlKeeper::begin(alloc, conn),
+            Err(_refused) => Err(KeepErr::Memory),
         }
     }
 }

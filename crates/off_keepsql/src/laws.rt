@@ -1,5 +1,7 @@
 //! Laws of tables in cells. What the functions do is of no use; their contracts are the laws.
+ghost use Rattle.sqlite.specs.Steps.{over_memory};
 ghost use Rattle.off_keepsql.specs.Laws.{EntriesAreTables, TablesAreEntries};
+ghost use Rattle.off_sqlcells.specs.Stands.{IsSteady};
 
 /// Cells store tables where each of them is a key and a row.
 pub fn entries_are_tables()
@@ -10,4 +12,9 @@ pub fn entries_are_tables()
 #[tactic(auto, using(crate::proofs::LawLemmas::tables_are_entries))]
 pub fn tables_are_entries()
     ensures { TablesAreEntries }
+{}
+
+/// Nobody else writes a store in memory.
+pub fn memory_is_steady()
+    ensures { IsSteady over_memory }
 {}
