@@ -11,14 +11,16 @@ mod numbers;
 mod reflecting;
 mod socket_link;
 mod standard;
+mod store;
 mod system;
 mod unsent;
 
 use crate::addresses::Addresses;
 use crate::socket_link::{OpenErr, SocketLink};
 use crate::standard::{StandardInput, StandardOutput};
+use crate::store::{StoreErr, open_store};
 use off_keepmem::MemKeeper;
-use off_outside::{Calls, Events, MemLink, Sink};
+use off_outside::{Calls, Events, Keeper, MemLink, Sink};
 use off_serve::{Wanted, place, run};
 use std::env;
 use std::io::ErrorKind;
@@ -30,7 +32,7 @@ const MEMORY: u8 = 6;
 // A status that stands for a socket that couldn't be opened.
 const NO_SOCKET: u8 = 10;
 
-// A status that stands for a store that couldn't be opened.
+// A status that stands for a store that couldn't be opened or made.
 const NO_STORE: u8 = 11;
 
 fn main(rt: HostRuntime) -> ExitCode {
@@ -61,11 +63,14 @@ fn serve(rt: &HostRuntime, words: &[String]) -> u8 {
     let mut output = StandardOutput::new(rt);
     match place(words) {
         Some(wanted) => run_wanted(rt, words, &wanted, &mut input, &mut output),
-        None => run_alone(rt, words, &mut input, &mut output),
+        None => {
+            let mut keeper = MemKeeper::new(rt.alloc(), Calls::new(rt.alloc()));
+            run_alone(rt, words, &mut keeper, &mut input, &mut output)
+        }
     }
 }
 
-// Makes the store that the words name, and sockets where events are to come.
+// Makes the store that the words name, and then what they want beside it.
 fn run_wanted(
     rt: &HostRuntime,
     words: &[String],
@@ -73,47 +78,51 @@ fn run_wanted(
     input: &mut StandardInput,
     output: &mut StandardOutput,
 ) -> u8 {
-    if wanted.store != "memory" {
-        return NO_STORE;
+    if wanted.store == "memory" {
+        let mut keeper = MemKeeper::new(rt.alloc(), Calls::new(rt.alloc()));
+        return run_over(rt, words, &wanted.ports, &mut keeper, input, output);
     }
-    let ports = wanted.ports;
-    // An import takes no events, so it has no ports.
+    match open_store(rt, wanted.store) {
+        Ok(mut keeper) => run_over(rt, words, &wanted.ports, &mut keeper, input, output),
+        Err(StoreErr::Memory) => no_memory(rt),
+        Err(StoreErr::Refused) => NO_STORE,
+    }
+}
+
+// Runs over a keeper, on sockets where events are to come. An import takes none, so it has no
+// ports.
+fn run_over<K: Keeper>(
+    rt: &HostRuntime,
+    words: &[String],
+    ports: &[u16; 4],
+    keeper: &mut K,
+    input: &mut StandardInput,
+    output: &mut StandardOutput,
+) -> u8 {
     if ports[0] == 0 {
-        return run_alone(rt, words, input, output);
+        return run_alone(rt, words, keeper, input, output);
     }
-    serve_sockets(rt, words, &ports, input, output)
+    match open_link(rt, ports) {
+        Ok(mut link) => run(rt.alloc(), words, &mut link, keeper, input, output),
+        Err(OpenErr::Memory) => no_memory(rt),
+        Err(OpenErr::Socket) => NO_SOCKET,
+    }
 }
 
 // Runs what takes no events: an import, a job over the streams, or words that fit no form. Its link
-// is empty, and in memory, as is its keeper.
-fn run_alone(
+// is empty, and in memory.
+fn run_alone<K: Keeper>(
     rt: &HostRuntime,
     words: &[String],
+    keeper: &mut K,
     input: &mut StandardInput,
     output: &mut StandardOutput,
 ) -> u8 {
     let events = Events::new(rt.alloc());
     let fails = Calls::new(rt.alloc());
-    let mut keeper = MemKeeper::new(rt.alloc(), Calls::new(rt.alloc()));
     match MemLink::new(rt.alloc(), events, 0, 0, fails) {
-        Ok(mut link) => run(rt.alloc(), words, &mut link, &mut keeper, input, output),
+        Ok(mut link) => run(rt.alloc(), words, &mut link, keeper, input, output),
         Err(_refused) => no_memory(rt),
-    }
-}
-
-// Serves on sockets.
-fn serve_sockets(
-    rt: &HostRuntime,
-    words: &[String],
-    ports: &[u16; 4],
-    input: &mut StandardInput,
-    output: &mut StandardOutput,
-) -> u8 {
-    let mut keeper = MemKeeper::new(rt.alloc(), Calls::new(rt.alloc()));
-    match open_link(rt, ports) {
-        Ok(mut link) => run(rt.alloc(), words, &mut link, &mut keeper, input, output),
-        Err(OpenErr::Memory) => no_memory(rt),
-        Err(OpenErr::Socket) => NO_SOCKET,
     }
 }
 

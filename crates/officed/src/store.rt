@@ -1,0 +1,88 @@
+//! The tables in a file, which is a database of SQLite's format.
+
+ghost use Rattle.std.specs.Prelude.{◌≡◌, ◌↔◌, IfOk};
+
+use off_keepsql::{SqlCells, SqlKeeper};
+use off_outside::KeepErr;
+use sqlite::{Connection, Error, ErrorCode, File, FileStore, Options, Unknown};
+use sqlite_std_file::{OpenError, open};
+use std::hash::{BuildHasher, RandomState};
+use std::io::ErrorKind;
+
+// How many pages of 4,096 bytes are kept in memory. A file of 800,000 rows has 16,000, and opens a
+// third sooner with all of them than with 2,000.
+const CACHED_PAGES: usize = 20_000;
+
+/// Why there is no store.
+#[derive(Clone, Copy, Debug, PartialEq, Eq)]
+pub enum StoreErr {
+    /// Memory was wanted, and refused.
+    Memory,
+    /// The file can't be opened or made, isn't such a database, or is in use.
+    Refused,
+}
+
+/// A keeper of the tables in a file.
+pub type FileKeeper = SqlKeeper<SqlCells<FileStore<File>>>;
+
+/// Opens the file at a path, or makes it, with its table.
+pub fn open_store(rt: &HostRuntime, path: &str) -> Result<FileKeeper, StoreErr> {
+    let conn = connect(rt, path)?;
+    match SqlKeeper::begin(rt.alloc(), conn) {
+        Ok(keeper) => Ok(keeper),
+        Err(KeepErr::Memory) => Err(StoreErr::Memory),
+        Err(KeepErr::Failed) => Err(StoreErr::Refused),
+    }
+}
+
+// Opens the database at a path, or makes an empty one.
+fn connect(rt: &HostRuntime, path: &str) -> Result<Connection<FileStore<File>>, StoreErr> {
+    let options = options(rt)?;
+    let files = match open(rt, path, Unknown) {
+        Ok(files) => files,
+        Err(error) => return Err(not_opened(&error)),
+    };
+    match Connection::open_files(rt.alloc(), files, options) {
+        Ok(conn) => Ok(conn),
+        Err((error, _files)) => Err(not_read(error)),
+    }
+}
+
+// How the database is held in memory. Its log is salted by a random number.
+fn options(rt: &HostRuntime) -> Result<Options, StoreErr>
+    ensures { IfOk result (λ options. options.cache_pages ≡ 20000) }
+{
+    match RandomState::new(rt) {
+        Ok(state) => {
+            let mut options = Options::new(state.hash_one(&0u8));
+            options.cache_pages = CACHED_PAGES;
+            Ok(options)
+        }
+        Err(_fault) => Err(StoreErr::Refused),
+    }
+}
+
+// Why the files at a path can't be opened or made.
+fn not_opened(error: &OpenError) -> StoreErr {
+    match error {
+        OpenError::OutOfMemory => StoreErr::Memory,
+        OpenError::Io(fault) => match fault.kind() {
+            ErrorKind::OutOfMemory => StoreErr::Memory,
+            _ => StoreErr::Refused,
+        },
+        OpenError::Busy | OpenError::HotJournal => StoreErr::Refused,
+    }
+}
+
+// Why the files of a database can't be read.
+fn not_read(error: Error) -> StoreErr
+    ensures { (result ≡ StoreErr.Memory) ↔ (error ≡ Error.SqliteFailure ErrorCode.OutOfMemory) }
+{
+    match error {
+        Error::SqliteFailure(code) => match code {
+            ErrorCode::OutOfMemory => StoreErr::Memory,
+            _ => StoreErr::Refused,
+        },
+        _ => StoreErr::Refused,
+    }
+}
