@@ -41,9 +41,9 @@ def free_ports():
     return ports
 
 
-def start(ports, turns, log, addresses=None, limits=None):
+def start(ports, turns, log, addresses=None, limits=None, store="memory"):
     """Starts the program; `addresses` are variables of its environment, and `limits` is called in it before it begins."""
-    words = ["serve", "--store", "memory", "--ports", ",".join(map(str, ports)), "--turns", str(turns)]
+    words = ["serve", "--store", store, "--ports", ",".join(map(str, ports)), "--turns", str(turns)]
     environment = {name: value for name, value in os.environ.items() if not name.startswith("OFFICED_")}
     environment.update(addresses or {})
     return subprocess.Popen([PROGRAM, *words], stdout=log, stderr=subprocess.DEVNULL, env=environment, preexec_fn=limits)
@@ -168,7 +168,7 @@ def statuses():
     check(status_of(["serve"]) == (1, b"words refused\n"), "words that fit no form: status 1")
     ports = free_ports()
     text = ",".join(map(str, ports))
-    check(status_of(["serve", "--store", "/nowhere", "--ports", text, "--turns", "0"]) == (11, b""), "another store: status 11")
+    check(status_of(["serve", "--store", "/nowhere/office.db", "--ports", text, "--turns", "0"]) == (11, b""), "a store in no folder: status 11")
     check(status_of(["serve", "--store", "memory", "--ports", text, "--turns", "0"]) == (0, b""), "no turns: status 0")
     taken = socket.socket(socket.AF_INET, socket.SOCK_DGRAM)
     taken.bind(("0.0.0.0", ports[1]))

@@ -10,8 +10,12 @@ steady rate, how long questions for the time and clerks' PUTs take.
 
 It prints figures beside goals and judges nothing. The office's log goes to a file, and its words are counted at the end. It wants bin/officed built
 (or OFFICE_PROGRAM), `cc` and `unshare -rn`. Without arguments it takes 100 modems behind 3 relays and behind 30, and 100,000 behind 30: some minutes.
+
+With a folder in OFFICE_STORES the tables are in a file there, a new one for each number of modems. The bare syncs a second of a file of its own there are
+printed before and behind each, and how long a start over the filled file takes.
 """
 import collections
+import contextlib
 import os
 import re
 import shutil
@@ -32,6 +36,7 @@ ROUNDS, MILLISECONDS = 15, 150
 AT_ONCE = (1, 16, 64)
 FLOOD, FLOOD_SECONDS = 20_000, 3
 GOAL, MANY_GOAL, TIME_GOAL, PUT_GOAL = 20_000, 1.5, 50, 1
+STORES = os.environ.get("OFFICE_STORES")
 Told = collections.namedtuple("Told", "done seconds again wrong length")
 
 
@@ -81,6 +86,44 @@ class Rows:
             put_row(f"/subscribers/{number}", {"active": True, "cpes": 2, "name": "Ann"})
             put_row(*self.modem(number))
         print(f"  tables filled in {time.perf_counter() - began:.1f} s")
+
+
+@contextlib.contextmanager
+def store():
+    """The word for the tables, with the bare syncs of its disk before and behind."""
+    if not STORES:
+        yield "memory"
+        return
+    with tempfile.TemporaryDirectory(dir=STORES) as folder:
+        print(f"  a file of its own takes {syncs(folder):.0f} syncs of 16 kB a second")
+        yield os.path.join(folder, "office.db")
+        print(f"  a file of its own takes {syncs(folder):.0f} syncs of 16 kB a second")
+
+
+def syncs(folder):
+    """How many writes of 16 kB, each with its sync, a file takes in a second."""
+    count, began = 0, time.perf_counter()
+    with open(os.path.join(folder, "syncs"), "wb", buffering=0) as each:
+        while time.perf_counter() - began < 1:
+            each.write(bytes(16_384))
+            os.fdatasync(each.fileno())
+            count += 1
+    return count / (time.perf_counter() - began)
+
+
+def start_again(path):
+    """How long a start over a filled file takes, and its memory."""
+    with open(os.devnull, "wb") as log:
+        began = time.perf_counter()
+        officed = start(office.PORTS, 10**12, log, {"OFFICED_UDP": office.SERVER}, store=path)
+        while not office.is_ready() and officed.poll() is None:
+            pass
+        # Who connects is accepted once the tables are open.
+        office.clerk("GET", "/site")
+        print(f"  a start over the file: {time.perf_counter() - began:.2f} s, {resident(officed.pid) / 1e6:.1f} MB, "
+              f"{os.path.getsize(path) / 1e6:.1f} MB of file, {processor_seconds(officed.pid):.1f} s of processor")
+        officed.send_signal(signal.SIGTERM)
+        officed.wait(timeout=30)
 
 
 def put_row(path, body):
@@ -189,8 +232,8 @@ def measure(program, modems, relays):
     """One office, from empty tables on."""
     print(f"{modems} modems behind {relays} relays")
     rows = Rows(modems, relays)
-    with tempfile.TemporaryFile() as log:
-        officed = start(office.PORTS, 10**12, log, {"OFFICED_UDP": office.SERVER})
+    with tempfile.TemporaryFile() as log, store() as path:
+        officed = start(office.PORTS, 10**12, log, {"OFFICED_UDP": office.SERVER}, store=path)
         try:
             if not office.is_ready():
                 raise SystemExit("officed doesn't answer")
@@ -205,6 +248,8 @@ def measure(program, modems, relays):
         finally:
             officed.send_signal(signal.SIGTERM)
             officed.wait(timeout=30)
+        if path != "memory":
+            start_again(path)
         log.seek(0)
         words = collections.Counter(match.group(1) for match in re.finditer(rb"^[0-9]+ ([a-z]+(?: [a-z0-9-]+)?)", log.read(), re.M))
         print("  the log: " + ", ".join(f"{word.decode()} {count}" for word, count in words.most_common()))
