@@ -28,10 +28,10 @@ class ImportPlayer:
         keys = {tuple(row.split(" ")[:2]) for row in rows}
         return [row for row in self.rows if tuple(row.split(" ")[:2]) not in keys] + list(rows)
 
-    def play(self, kind, batch, data, *outcomes, rows=(), more=(), source=None, remark="", again=False):
+    def play(self, kind, batch, data, *outcomes, rows=(), more=(), source=None, remark="", again=False, shows=True):
         lines = [] if again else ["office", *rows]
         source = source or (quoted(data) if data else None)
-        self.script.run(remark, [*lines, *more, "show tables", f"words import --store memory {kind} {batch}", *([f"source {source}"] if source else [])],
+        self.script.run(remark, [*lines, *more, *(["show tables"] if shows else []), f"words import --store memory {kind} {batch}", *([f"source {source}"] if source else [])],
                         *outcomes, again=again)
 
     def refused(self, kind, data, words, rows=(), source=None, tables=None):
@@ -109,6 +109,54 @@ def rules(player):
                    source=f"{quoted(header)} 1999* {NEW[0].hex()} {quoted(b'02aabbccdd02,8,2,SN' + bytes([10]))}")
 
 
+MANY = 100_000
+EARLIER = "00" * 16
+
+
+def full(player):
+    """Limits, told of an import as a whole or of its row. Tables of so many rows aren't shown: what is in them is asked for by requests."""
+    def ask(conn, data, batch, kind="modems"):
+        return f"t piece {conn} {quoted(request('PUT', f'/imports/{kind}/{batch}', data))}"
+
+    def run(rows, *asked):
+        """Requests one behind the other: each its line, the log's words, the status and the answer."""
+        wrote = [f"{conn} http {words}" for conn, (_, words, _, _) in enumerate(asked, 1)]
+        sent = [item for conn, (_, _, status, value) in enumerate(asked, 1) for item in answered(conn, status, value)]
+        player.script.run("", ["office", *rows, *(line(conn) for conn, (line, _, _, _) in enumerate(asked, 1))], outcome(wrote=wrote, sent=sent))
+
+    def imports(data, batch, words, status, value, kind="modems"):
+        return (lambda conn: ask(conn, data, batch, kind)), words, status, value
+
+    def shows(path, words, status, value):
+        return (lambda conn: f"t ask {conn} GET {path}"), words, status, value
+
+    header = HEADERS["modems"]
+    none = {"fault": "no-row"}
+    player.script.section("there may be 100,000 imports, and the next one puts no row", "A number that is there already is answered as before; other puts go on.")
+    run([f"repeat 1 {MANY - 1} batch # modems 5 {EARLIER}"],
+        imports(header + NEW[0], MANY, "200", 200, {"rows": 1}),
+        imports(header + b"02aabbccdd02,7,1,\n", MANY + 1, "422 limit", 422, {"at": str(MANY), "fault": "limit"}),
+        shows("/modems/02aabbccdd02", "404 no-row", 404, none),
+        imports(header + b"02aabbccdd02,8,1,\n", MANY + 1, "422 no-subscriber", 422, {"at": "1", "fault": "no-subscriber"}),
+        imports(header + NEW[0], MANY, "200", 200, {"rows": 1}),
+        imports(header + NEW[0] + b"\n", MANY, "409 batch-differs", 409, {"at": str(MANY), "fault": "batch-differs"}),
+        shows("/modems/02aabbccdd01", "200", 200, {"class": 1, "serial": "SN02", "subscriber": 7}))
+    player.play("subscribers", MANY + 1, HEADERS["subscribers"], outcome(9, ["refused limit"]), rows=[f"repeat 1 {MANY} batch # modems 5 {EARLIER}"], shows=False)
+    player.script.section("an import that reaches a limit is refused by the row that is one too many, and none of its rows is put",
+                          "There are 199,999 subscribers. A row that is there already, or that a row before it put, isn't one more.")
+    header = HEADERS["subscribers"]
+    rows = ['repeat 1000 200997 subscriber # active 2 "Ann"']
+    run(rows,
+        imports(header + ANN[0] + BOB[0] + BOB[0] + b"9,yes,2,Cid\n", 9, "422 limit", 422, {"at": "4", "fault": "limit"}, "subscribers"),
+        shows("/subscribers/8", "404 no-row", 404, none),
+        shows("/subscribers/7", "200", 200, {"active": True, "cpes": 2, "name": "Ann"}),
+        imports(header + ANN[0] + BOB[0] + BOB[0], 9, "200", 200, {"rows": 3}, "subscribers"),
+        imports(header + b"9,yes,2,Cid\n", 10, "422 limit", 422, {"at": "1", "fault": "limit"}, "subscribers"),
+        imports(header + BOB[0], 10, "200", 200, {"rows": 1}, "subscribers"),
+        shows("/subscribers/7", "200", 200, {"active": True, "cpes": 3, "name": "Ann Lee"}))
+    player.play("subscribers", 9, header + BOB[0] + b"9,yes,2,Cid\n", outcome(9, ["refused limit row 2"]), rows=rows, shows=False)
+
+
 def long_ones(player):
     player.script.section("an import has at most 1,048,576 bytes", "Empty lines are no rows. One byte more is too many, whatever the bytes say.")
     header = HEADERS["subscribers"]
@@ -155,5 +203,5 @@ def words(player):
 def sections(script, rows):
     """Writes the sections, over an office of these rows."""
     player = ImportPlayer(script, rows)
-    for write in (words, done, repeated, by_request, faults, rules, long_ones, failing):
+    for write in (words, done, repeated, by_request, faults, rules, full, long_ones, failing):
         write(player)

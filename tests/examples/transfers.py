@@ -6,7 +6,8 @@ hand too, and the packets of the worked example byte for byte; where the model s
 import hashlib
 import hmac
 
-from examples import compact, datagram, ip, outcome, quoted
+from examples import answered, compact, datagram, ip, outcome, quoted
+from examples import request as asked_over_http
 from leases import (A, HELD, MAC, MOST, OTHER, SECOND, Clerk, Disagreement, Office, Player, address, declines, discover, leased, mac, modem_row, name_of,
                     put_site, releases, remove, renews, selects)
 import leases
@@ -33,7 +34,17 @@ class Tick:
     """A Tick of the link."""
 
 
+class Import:
+    """A clerk's import: its kind, its number, and each row as the import has it and as the tables show it."""
+
+    def __init__(self, kind, batch, *rows):
+        self.path, self.rows = f"/imports/{kind}/{batch}", [row for _, row in rows]
+        self.body = "".join(f"{line}\n" for line in (IMPORTED[kind], *(text for text, _ in rows))).encode()
+        self.batch = f"batch {batch} {kind} {len(rows)} {hashlib.md5(self.body).hexdigest()}"
+
+
 TICK = Tick()
+IMPORTED = {"subscribers": "subscriber,active,cpes,name", "modems": "mac,subscriber,class,serial"}
 
 
 # ---- what modems and clerks say
@@ -74,6 +85,11 @@ def put_modem(subscriber, number=1, last=0xEE):
     return Clerk("PUT", f"/modems/{mac(last).hex()}", body, f'modem {mac(last).hex()} {subscriber} {number} ""')
 
 
+def imports_modem(batch, owner, number, last=0xEE):
+    given = mac(last).hex()
+    return Import("modems", batch, (f"{given},{owner},{number},", f'modem {given} {owner} {number} ""'))
+
+
 def put_add_on(owner, number, tree):
     body = compact({"settings": tree_json(tree_in(tree))})
     return Clerk("PUT", f"/subscribers/{owner}/addons/{number}", body, f"add-on {owner} {number} {tree}")
@@ -92,6 +108,8 @@ def line_of(turn, moment, what):
         return f"{moment} tick"
     if isinstance(what, Packet):
         return f"{moment} datagram tftp from {what.peer} {written(what.packet)}"
+    if isinstance(what, Import):
+        return f"{moment} piece {turn} {quoted(asked_over_http('PUT', what.path, what.body))}"
     return leases.line_of(turn, moment, what)
 
 
@@ -105,6 +123,9 @@ class Played(leases.Played):
         self.transfers, self.failing, self.losing, self.items = Transfers(self.office), failing, losing, []
 
     def take(self, moment, word, what):
+        if isinstance(what, Import):
+            self.imported(moment, what)
+            return
         if not isinstance(what, (Packet, Tick)):
             super().take(moment, word, what)
             return
@@ -121,6 +142,15 @@ class Played(leases.Played):
         self.sent += self.items
         if given:
             self.line(service, given)
+
+    def imported(self, moment, what):
+        """An import that no rule refuses: its rows are put, and its number is kept."""
+        self.turn += 1
+        self.office.now = max(self.office.now, leases.moment_of(moment))
+        for row in (*what.rows, what.batch):
+            self.office.put(row)
+        self.line("http", "200")
+        self.sent += answered(self.turn, 200, {"rows": len(what.rows)})
 
     def done(self, moment, what):
         """The words, and what is sent."""
@@ -234,7 +264,9 @@ def changing(player):
     player.section("a file never changes while it's read", "It is built at the read request; the next request has another.")
     changes = {"the class": [put_class(TWICE_GOLD)], "the subscriber is suspended": [put_subscriber(7, active=False)],
                "the devices": [put_subscriber(7, devices=254)], "an add-on": [put_add_on(7, 3, BOOST)],
-               "another class": [put_class(PLAIN, 2), put_modem(7, 2)]}
+               "another class": [put_class(PLAIN, 2), put_modem(7, 2)],
+               "an import gives the modem another class": [put_class(TWICE_GOLD, 2), imports_modem(9, 7, 2)],
+               "an import suspends the subscriber": [Import("subscribers", 9, ("8,yes,1,Bob", 'subscriber 8 active 1 "Bob"'), ("7,no,2,Ann", 'subscriber 7 suspended 2 "Ann"'))]}
     for remark, commands in changes.items():
         made = player.play(remark, [
             *WHOLE[:2], *(("t", "", command) for command in commands), *WHOLE[2:], ("t", "oack", reads(44)), ("t", "block 1", acks(0)),
@@ -242,7 +274,7 @@ def changing(player):
         packets = [line.split(" ")[-1] for line in made.sent if line.startswith("datagram tftp")]
         if packets[1:4] != [packet.hex() for packet in (data(1, FILE[:44]), data(2, FILE[44:]), data(3, b""))]:
             raise Disagreement(f"{remark}: the file is another")
-        if remark == "the class" and "080401312d00" not in packets[5]:
+        if remark in ("the class", "an import gives the modem another class") and "080401312d00" not in packets[5]:
             raise Disagreement(packets[5])
     player.play("the moment", [
         ("t", "oack", reads(44)), ("t+1", "block 1", acks(0)), ("t+2", "block 2", acks(1)), ("t+2", "oack", reads(45)), ("t+3", "block 1", acks(0)),
@@ -256,6 +288,7 @@ def changing(player):
     is_sent(made, -1, f"{A}:{PORT}", bytes.fromhex("00050005") + b"unknown transfer\0")
     player.play("the modem is another subscriber's, and then its own subscriber's again", [
         *WHOLE[:2], ("t", "", put_subscriber(8)), ("t", "", put_modem(8)), ("t", "", put_modem(7)), *WHOLE[2:]])
+    player.play("an import makes the modem another subscriber's", [*WHOLE[:2], ("t", "", put_subscriber(8)), ("t", "", imports_modem(9, 8, 1)), *gone])
     player.play("before the first block", [WHOLE[0], ("t", "", put_subscriber(8)), ("t", "", put_modem(8)), ("t", "agreement", acks(0))])
     player.play("the modem is deleted", [*WHOLE[:2], ("t", "", remove(f"/modems/{MAC.hex()}")), *gone, ("t+1", "agreement", reads(44))])
     player.play("the modem is deleted, and put again", [
