@@ -1,0 +1,235 @@
+-- From what was founded and exercised to what `drill` promises.
+use Rattle.std.proofs.Common.{◌≡◌, ◌≢◌, ℕ, ◌<◌, ◌≤◌, ◌⊎◌, true, false, Option, Some, None, is_some, List, [], ◌∷◌, length, refl, sym, ap, subst, ◌∙◌, inl, inr, arith}
+use Rattle.std.proofs.lemmas.List.{nil_from_length}
+use Rattle.std.proofs.lemmas.List.Elements.{All-nil}
+use Rattle.std.specs.FinMap as map
+use Rattle.std.specs.List.{find}
+use Rattle.off_defs.specs.declared.keys.Key.{Key}
+use Rattle.off_defs.specs.declared.tables.Row.{Row}
+use Rattle.off_defs.specs.declared.results.Outcome.TheVariants.{Did}
+use Rattle.off_defs.specs.Counts.{Grew, most_count}
+use Rattle.off_defs.specs.Keys.{key_cmp}
+use Rattle.off_defs.specs.State.{Tables, State, Held, state_of}
+use Rattle.off_defs.specs.Tables.{is_after, next_entry}
+use Rattle.off_defs.proofs.ToldLemmas.{told_then, told_weaker}
+use Rattle.off_defs.proofs.CountLemmas.{later_grew}
+use Rattle.off_rules.specs.Good.{IsLeastBad}
+use Rattle.off_book.specs.Run.{Turn}
+use Rattle.off_outside.specs.declared.keeper.KeepErr.{KeepErr}
+use Rattle.off_outside.specs.declared.keeper.KeepErr.TheVariants as keep
+use Rattle.off_outside.specs.KeeperSeen.{KeeperSeen}
+use Rattle.off_outside.specs.KeeperCalls.{Reads, NotDone}
+use Rattle.off_outside.specs.LinkSeen.{LinkSeen}
+use Rattle.off_outside.specs.Streams.{SinkSeen}
+use Rattle.off_outside.proofs.KeeperLemmas.{reads_as, reads_then, stays_up_then}
+use Rattle.off_jobs.specs.Jobs.{Tells}
+use Rattle.off_office.specs.Conditions.{Fits}
+use Rattle.off_office.specs.Desk.{Desk}
+use Rattle.off_office.specs.declared.office.StartErr.TheVariants as start_err
+use Rattle.off_sending.proofs.UpLemmas.{up_chain}
+use Rattle.off_drill_rules.specs.declared.tally.Tally.{Tally}
+use Rattle.off_drill_rules.specs.Rows.{peopled, drill_tables}
+use Rattle.off_drill_rules.specs.Law.{FrontDrill, held_behind, drill_state}
+use Rattle.off_drill_rules.specs.Numbers.{none_yet, tally_by, drill_tally}
+use Rattle.off_drill_laws.specs.Stages.{Waits, Along}
+use Rattle.off_drill_laws.proofs.StageLemmas.{same_tally}
+use Rattle.off_drill_laws.proofs.LawLemmas.{drill_law, drill_is_there}
+use Rattle.off_drill_laws.proofs.AlongLemmas.{whole_of, front_of}
+use Rattle.off_drill_job.specs.Founding.{Builds, Halts}
+use Rattle.off_drill_job.specs.Exercising.{Exercised, Stopped}
+use Rattle.off_drill_job.specs.Tallying.{raised_by}
+use Rattle.off_drill_job.specs.Telling.{ended_text, ended_status}
+use Rattle.off_drill_job.specs.Drilling.{FindsRows, LeavesDrill, Ends, DoneBy, BrokenBy, GoesOn, NoneFailed, Drills}
+use Rattle.off_drill_job.specs.declared.drilling.Ended.{Ended}
+use Rattle.off_drill_job.specs.declared.drilling.Ended.TheVariants.{Closed, NotEmpty, Broken, Done}
+use Rattle.off_drill_job.proofs.TurnLemmas.{link_unasked, sent_nothing}
+
+-- ---- tables without rows
+
+none_of : (es : List (Key × Row)) → find (is_after None) es ≡ None → es ≡ []
+none_of [] e = refl
+none_of (entry ∷ es) e = cc
+
+no_rows : (t : Tables) → next_entry None t ≡ None → t ≡ map.empty
+no_rows t e = map.empty_of_len t (map.len-entries t ∙ ap length (none_of (map.entries t) e))
+
+no_entries : map.entries (map.empty {K = Key} {X = Row} {R = key_cmp}) ≡ []
+no_entries = nil_from_length (map.entries map.empty) (sym (map.len-entries map.empty) ∙ map.len-empty key_cmp Row)
+
+some_rows : (t : Tables) (entry : Key × Row) → next_entry None t ≡ Some entry → t ≢ map.empty
+some_rows t entry e is =
+    let none : next_entry None t ≡ None = ap (next_entry None) is ∙ ap (find (is_after None)) no_entries in
+    let f : Some entry ≡ None = sym e ∙ none in cc
+
+pub finds : (entry : Option (Key × Row)) (a b : KeeperSeen) → Reads (λ t. entry ≡ next_entry None t) a b → FindsRows (is_some entry) a b
+finds None a b reads = reads_as reads (λ t e. no_rows t (sym e))
+finds (Some entry) a b reads = reads_as reads (λ t e. some_rows t entry (sym e))
+
+-- ---- an office that was founded
+
+founded_state : (n : ℕ) (t : Tables) (h : Held) → t ≡ peopled n → h ≡ held_behind 0 → state_of t h ≡ drill_state n 0
+unfolding drill_tables
+founded_state n t h tables held = λ j. state_of (tables j) (held j)
+
+front_none : (n : ℕ) → n ≤ 4000 → FrontDrill n []
+front_none n few = let there = drill_is_there n few in record { more = there.0; last = there.1.0; whole = there.1.1 }
+
+small : (n : ℕ) → n ≤ 4000 → raised_by none_yet (drill_tally n) ≡ drill_tally n
+small n few = same_tally (raised_by none_yet (drill_tally n)) (drill_tally n) (omega (arith, few)) (omega (arith, few)) (omega (arith, few)) (omega (arith, few)) (omega (arith, few))
+
+leaves : (n : ℕ) → n ≤ 4000 → (turns : List Turn) (tally : Tally) (s u : State) → tally ≡ raised_by none_yet (tally_by turns) → s ≡ drill_state n 0
+    → Along n (Waits 0) (Waits n) turns s u → LeavesDrill n turns tally u.tables
+leaves n few turns tally s u counts start along =
+    let whole = whole_of n turns u (subst (λ (v : State). Along n (Waits 0) (Waits n) turns v u) start along) in
+    let law = drill_law n turns u few whole in
+    record {
+      last = u;
+      whole = whole;
+      tables = ap (λ (v : State). v.tables) law.0;
+      numbers = counts ∙ ap (raised_by none_yet) law.1 ∙ small n few;
+    }
+
+pub done_by : (n : ℕ) → n ≤ 4000 → (d e f : Desk) (i j k : KeeperSeen) (l m : LinkSeen) (none tally : Tally) → none ≡ none_yet → Builds map.empty (peopled n) d e i j → e.held ≡ held_behind 0
+    → Exercised n (Waits 0) (Waits n) e f j k l m none tally → DoneBy n tally d i k l m
+done_by n few d e f i j k l m none tally nothing built held ran =
+    let counts : tally ≡ raised_by none_yet (tally_by ran.turns) = ran.counts ∙ ap (λ (v : Tally). raised_by v (tally_by ran.turns)) nothing in
+    record {
+      turns = ran.turns;
+      did = ran.did;
+      tables = told_then built.tables ran.tables (λ x y z one two fit is.
+          let half = one fit in
+          let start = founded_state n y e.held (half.1 is) held in
+          leaves n few ran.turns tally (state_of y e.held) (state_of z f.held) counts start ((two half.0).1 start));
+      up = up_chain (let q = built.faults in omega (arith, q)) (let q = ran.faults in omega (arith, q)) (λ up. inl (built.up up)) ran.up;
+      faults = ran.faults ∙ built.faults;
+      sent = ran.sent;
+      counts = counts;
+    }
+
+pub broken_by : (n : ℕ) → n ≤ 4000 → (err : KeepErr) (d e : Desk) (i j k : KeeperSeen) (l m : LinkSeen) → Builds map.empty (peopled n) d e i j → e.held ≡ held_behind 0
+    → Stopped err n (Waits 0) e j k l m → BrokenBy err n d i k l m
+broken_by n few err d e i j k l m built held stops = record {
+  turns = stops.turns;
+  did = stops.did;
+  tables = told_then built.tables stops.tables (λ x y z one two fit.
+      let half = one fit in
+      let whole = two half.0 in (
+        whole.0,
+        λ is.
+            let start = founded_state n y e.held (half.1 is) held in
+            let part = whole.1 start in
+            front_of n few part.stage stops.turns part.mid part.place (subst (λ (v : State). Along n (Waits 0) part.stage stops.turns v part.mid) start part.along),
+      ));
+  up = up_chain (let q = built.faults in omega (arith, q)) stops.faults.later (λ up. inl (built.up up)) stops.up;
+  faults = later_grew (let q = built.faults in omega (arith, q)) stops.faults;
+  sent = stops.sent;
+}
+
+pub broken_before : (n : ℕ) → n ≤ 4000 → (err : KeepErr) (d : Desk) (i j : KeeperSeen) (l : LinkSeen) → Halts err d i j → BrokenBy err n d i j l l
+broken_before n few err d i j l halts = record {
+  turns = [];
+  did = All-nil (λ (t : Turn). t.outcome ≡ Did);
+  tables = told_weaker halts.tables (λ t u good fit. (good fit, λ is. front_none n few));
+  up = halts.up;
+  faults = halts.faults;
+  sent = sent_nothing l;
+}
+
+-- ---- the tables were opened
+
+pub ends_with_rows : (n : ℕ) (d : Desk) (i j k : KeeperSeen) (l : LinkSeen) → Reads (Fits d) i j → FindsRows true j k → Ends NotEmpty n i k l l
+ends_with_rows n d i j k l opened finds = (reads_then opened finds (λ t fit differs. (fit.good, differs)), link_unasked l)
+
+pub ends_unread : (n : ℕ) → n ≤ 4000 → (err : KeepErr) (d : Desk) (i j k : KeeperSeen) (l : LinkSeen) → Reads (Fits d) i j → NotDone err j k → Ends (Broken err) n i k l l
+ends_unread n few err d i j k l opened not = record {
+  turns = [];
+  did = All-nil (λ (t : Turn). t.outcome ≡ Did);
+  tables = record {
+    each = λ t told.
+        let before = opened.tables t told in
+        record { value = t; told = not.tables t before.0; fits = (before.1.good, front_none n few) };
+  };
+  up = stays_up_then i j k opened.quiet not.up;
+  faults = later_grew (let q = opened.quiet.faults in omega (arith, q)) not.faults;
+  sent = sent_nothing l;
+}
+
+pub ends_going : (ended : Ended) (n : ℕ) (d : Desk) (i j k o : KeeperSeen) (l m : LinkSeen) → Reads (Fits d) i j → FindsRows false j k → GoesOn ended n d k o l m → Ends ended n i o l m
+ends_going (Closed err) n d i j k o l m opened finds goes = absurd goes
+ends_going NotEmpty n d i j k o l m opened finds goes = absurd goes
+ends_going (Broken err) n d i j k o l m opened finds goes =
+    let both = reads_then {R = λ t. Fits d t × (t ≡ map.empty)} opened finds (λ t fit is. (fit, is)) in
+    record {
+      turns = goes.turns;
+      did = goes.did;
+      tables = record {
+        each = λ t told.
+            let before = both.tables t told in
+            let g = goes.tables.each t before.0 in
+            let p = g.fits before.1.0 in
+            record { value = g.value; told = g.told; fits = (p.0, p.1 before.1.1) };
+      };
+      up = stays_up_then i k o both.quiet goes.up;
+      faults = later_grew (let q = both.quiet.faults in omega (arith, q)) goes.faults;
+      sent = goes.sent;
+    }
+ends_going (Done tally) n d i j k o l m opened finds goes =
+    let both = reads_then {R = λ t. Fits d t × (t ≡ map.empty)} opened finds (λ t fit is. (fit, is)) in
+    record {
+      turns = goes.turns;
+      did = goes.did;
+      tables = record {
+        each = λ t told.
+            let before = both.tables t told in
+            let g = goes.tables.each t before.0 in
+            record { value = g.value; told = g.told; fits = (before.1.1, g.fits before.1.0 before.1.1) };
+      };
+      up = stays_up_then i k o both.quiet goes.up;
+      faults = goes.faults ∙ both.quiet.faults;
+      sent = goes.sent;
+      counts = goes.counts;
+    }
+
+-- ---- the statuses
+
+stands : (a b : ℕ) → b ≡ a → a < most_count → Grew 1 a b → ⊥
+stands a b same fits grew = omega (arith, same, fits, grew.grew)
+
+told_whole : (of : ℕ) (text : List ℕ) (status : ℕ) (k k' : KeeperSeen) (s s' : SinkSeen) → Tells of text status s s' → NoneFailed k k' s s' → status ≡ of
+told_whole of text status k k' s s' (inl told) none = told.0
+told_whole of text status k k' s s' (inr cut) none = absurd (stands s.faults s'.faults none.sink_same none.sink_count cut.1.faults)
+
+abbrev FewStatuses : ℕ → Type 0
+FewStatuses status = (status ≡ 0) ⊎ ((status ≡ 2) ⊎ ((status ≡ 6) ⊎ (status ≡ 9)))
+
+few_of : (ended : Ended) (n status : ℕ) (k k' : KeeperSeen) (l m : LinkSeen) (s s' : SinkSeen) → Ends ended n k k' l m → NoneFailed k k' s s' → status ≡ ended_status ended → FewStatuses status
+few_of (Closed (start_err.Bad key)) n status k k' l m s s' ends none is = inr (inl is)
+few_of (Closed start_err.Failed) n status k k' l m s s' ends none is = absurd (stands k.faults k'.faults none.keeper_same none.keeper_count ends.0.faults)
+few_of (Closed start_err.Memory) n status k k' l m s s' ends none is = inr (inr (inl is))
+few_of NotEmpty n status k k' l m s s' ends none is = inr (inr (inr is))
+few_of (Broken keep.Failed) n status k k' l m s s' ends none is = absurd (stands k.faults k'.faults none.keeper_same none.keeper_count ends.faults)
+few_of (Broken keep.Memory) n status k k' l m s s' ends none is = inr (inr (inl is))
+few_of (Done tally) n status k k' l m s s' ends none is = inl is
+
+never_bad : (key : Key) → IsLeastBad map.empty key → ⊥
+never_bad key bad = let f : Some bad.held ≡ None = sym bad.there ∙ map.get-empty key_cmp key in cc
+
+done_of : (ended : Ended) (n status : ℕ) (k k' : KeeperSeen) (l m : LinkSeen) (s s' : SinkSeen) → Ends ended n k k' l m → k.tables map.empty → NoneFailed k k' s s' → status ≢ 6
+    → status ≡ ended_status ended → status ≡ 0
+done_of (Closed (start_err.Bad key)) n status k k' l m s s' ends told none other is = absurd (never_bad key (ends.0.tables map.empty told).1)
+done_of (Closed start_err.Failed) n status k k' l m s s' ends told none other is = absurd (stands k.faults k'.faults none.keeper_same none.keeper_count ends.0.faults)
+done_of (Closed start_err.Memory) n status k k' l m s s' ends told none other is = absurd (other is)
+done_of NotEmpty n status k k' l m s s' ends told none other is = absurd ((ends.0.tables map.empty told).1.1 refl)
+done_of (Broken keep.Failed) n status k k' l m s s' ends told none other is = absurd (stands k.faults k'.faults none.keeper_same none.keeper_count ends.faults)
+done_of (Broken keep.Memory) n status k k' l m s s' ends told none other is = absurd (other is)
+done_of (Done tally) n status k k' l m s s' ends told none other is = is
+
+pub drills_by : (ended : Ended) (n status : ℕ) (k k' : KeeperSeen) (l m : LinkSeen) (s s' : SinkSeen) → Ends ended n k k' l m → Tells (ended_status ended) (ended_text n ended) status s s'
+    → Drills n status k k' l m s s'
+drills_by ended n status k k' l m s s' ends told = record {
+  ended = ended;
+  ends = ends;
+  told = told;
+  statuses = λ none. few_of ended n status k k' l m s s' ends none (told_whole (ended_status ended) (ended_text n ended) status k k' s s' told none);
+  complete = λ empty none other. done_of ended n status k k' l m s s' ends empty none other (told_whole (ended_status ended) (ended_text n ended) status k k' s s' told none);
+}

@@ -1,0 +1,7 @@
+pub mod MessageLemmas
+pub mod CommandLemmas
+pub mod FoundingLemmas
+pub mod TallyLemmas
+pub mod TurnLemmas
+pub mod ServingLemmas
+pub mod DrillLemmas

@@ -1,0 +1,120 @@
+-- What `drill` promises. The order is: the tables are opened, they have no rows, the office is
+-- founded, and its modems boot one after another.
+use Rattle.std.specs.Prelude.{◌≡◌, ◌≢◌, ℕ, ◌<◌, ◌⊎◌, Bool, true, false, List}
+use Rattle.std.specs.FinMap as map
+use Rattle.off_defs.specs.Counts.{Grew, most_count}
+use Rattle.off_defs.specs.Told.{Told}
+use Rattle.off_defs.specs.State.{Tables, State}
+use Rattle.off_rules.specs.Good.{Good}
+use Rattle.off_book.specs.Run.{Turn}
+use Rattle.off_outside.specs.declared.keeper.KeepErr.{KeepErr}
+use Rattle.off_outside.specs.KeeperSeen.{KeeperSeen}
+use Rattle.off_outside.specs.KeeperCalls.{Reads, StaysUp, keeper_faults_in}
+use Rattle.off_outside.specs.LinkSeen.{LinkSeen}
+use Rattle.off_outside.specs.LinkCalls.{LinkUnasked}
+use Rattle.off_outside.specs.Streams.{SinkSeen}
+use Rattle.off_jobs.specs.Jobs.{Tells}
+use Rattle.off_office.specs.Acting.{NotStarted}
+use Rattle.off_office.specs.Conditions.{Fits}
+use Rattle.off_office.specs.Desk.{Desk}
+use Rattle.off_drill_rules.specs.declared.tally.Tally.{Tally}
+use Rattle.off_drill_rules.specs.Rows.{drill_tables}
+use Rattle.off_drill_rules.specs.Law.{AllDid, WholeDrill, FrontDrill}
+use Rattle.off_drill_rules.specs.Numbers.{none_yet, tally_by, drill_tally}
+use Rattle.off_drill_job.specs.Exercising.{SentTurns}
+use Rattle.off_drill_job.specs.Tallying.{raised_by}
+use Rattle.off_drill_job.specs.Telling.{ended_text, ended_status}
+use Rattle.off_drill_job.specs.declared.drilling.Ended.{Ended}
+use Rattle.off_drill_job.specs.declared.drilling.Ended.TheVariants.{Closed, NotEmpty, Broken, Done}
+
+-- whether the tables have rows
+abbrev pub FindsRows : Bool → KeeperSeen → KeeperSeen → Type 0
+FindsRows true old new = Reads (λ t. t ≢ map.empty) old new
+FindsRows false old new = Reads (λ t. t ≡ map.empty) old new
+
+-- the turns are a whole drill, whose tables and numbers these are
+pub record LeavesDrill (n : ℕ) (turns : List Turn) (tally : Tally) (u : Tables) : Type 0 where
+  pub last : State
+  pub whole : WholeDrill n turns last
+  pub tables : u ≡ drill_tables n n
+  pub numbers : tally ≡ drill_tally n
+
+-- It came to its end: over tables that are told, these had no rows, and are now the tables of the
+-- drill. What its turns said was sent, in order, but for what is counted as lost; and the tally
+-- counts what they said, whatever the tables.
+pub record CameToEnd (n : ℕ) (tally : Tally) (old new : KeeperSeen) (link link' : LinkSeen) :
+    Type 0 where
+  pub turns : List Turn
+  pub did : AllDid turns
+  pub tables :
+      Told old.tables new.tables (λ t u. (t ≡ map.empty) × LeavesDrill n turns tally u)
+  pub up : StaysUp old new
+  pub faults : new.faults ≡ old.faults
+  pub sent : SentTurns turns link link'
+  pub counts : tally ≡ raised_by none_yet (tally_by turns)
+
+-- It didn't: the tables are good, and its turns are those with which the drill begins.
+pub record BrokeOff (err : KeepErr) (n : ℕ) (old new : KeeperSeen) (link link' : LinkSeen) :
+    Type 0 where
+  pub turns : List Turn
+  pub did : AllDid turns
+  pub tables : Told old.tables new.tables (λ t u. Good u × FrontDrill n turns)
+  pub up : StaysUp old new
+  pub faults : Grew (keeper_faults_in err) old.faults new.faults
+  pub sent : SentTurns turns link link'
+
+-- What became of the tables and of the link. Nothing is sent where the tables don't open, or have
+-- rows, and they are as before then.
+abbrev pub Ends : Ended → ℕ → KeeperSeen → KeeperSeen → LinkSeen → LinkSeen → Type 0
+Ends (Closed err) n old new link link' = NotStarted err old new × LinkUnasked link link'
+Ends NotEmpty n old new link link' =
+    Reads (λ t. Good t × (t ≢ map.empty)) old new × LinkUnasked link link'
+Ends (Broken err) n old new link link' = BrokeOff err n old new link link'
+Ends (Done tally) n old new link link' = CameToEnd n tally old new link link'
+
+-- the same of an office that has opened the tables, as far as they fit it and have no rows
+pub record DoneBy (n : ℕ) (tally : Tally) (before : Desk) (old new : KeeperSeen)
+    (link link' : LinkSeen) : Type 0 where
+  pub turns : List Turn
+  pub did : AllDid turns
+  pub tables : Told old.tables new.tables (λ t u.
+      Fits before t → t ≡ map.empty → LeavesDrill n turns tally u)
+  pub up : StaysUp old new
+  pub faults : new.faults ≡ old.faults
+  pub sent : SentTurns turns link link'
+  pub counts : tally ≡ raised_by none_yet (tally_by turns)
+
+pub record BrokenBy (err : KeepErr) (n : ℕ) (before : Desk) (old new : KeeperSeen)
+    (link link' : LinkSeen) : Type 0 where
+  pub turns : List Turn
+  pub did : AllDid turns
+  pub tables : Told old.tables new.tables (λ t u.
+      Fits before t → Good u × (t ≡ map.empty → FrontDrill n turns))
+  pub up : StaysUp old new
+  pub faults : Grew (keeper_faults_in err) old.faults new.faults
+  pub sent : SentTurns turns link link'
+
+abbrev pub GoesOn : Ended → ℕ → Desk → KeeperSeen → KeeperSeen → LinkSeen → LinkSeen → Type 0
+GoesOn (Closed err) n before old new link link' = ⊥
+GoesOn NotEmpty n before old new link link' = ⊥
+GoesOn (Broken err) n before old new link link' = BrokenBy err n before old new link link'
+GoesOn (Done tally) n before old new link link' = DoneBy n tally before old new link link'
+
+-- no count of the keeper or of the sink rose, and none stood at the greatest number
+pub record NoneFailed (old new : KeeperSeen) (sink sink' : SinkSeen) : Type 0 where
+  pub keeper_same : new.faults ≡ old.faults
+  pub keeper_count : old.faults < most_count
+  pub sink_same : sink'.faults ≡ sink.faults
+  pub sink_count : sink.faults < most_count
+
+-- What `drill` did. Where the sink failed the status is 4, and a front of the text is there; else
+-- the text was written. Where no count rose and no memory was wanted, the status is 0, or 2, where
+-- the tables aren't good, or 9, where they have rows; over tables without rows it is 0.
+pub record Drills (n : ℕ) (status : ℕ) (old new : KeeperSeen) (link link' : LinkSeen)
+    (sink sink' : SinkSeen) : Type 0 where
+  pub ended : Ended
+  pub ends : Ends ended n old new link link'
+  pub told : Tells (ended_status ended) (ended_text n ended) status sink sink'
+  pub statuses : NoneFailed old new sink sink'
+      → (status ≡ 0) ⊎ ((status ≡ 2) ⊎ ((status ≡ 6) ⊎ (status ≡ 9)))
+  pub complete : old.tables map.empty → NoneFailed old new sink sink' → status ≢ 6 → status ≡ 0

@@ -1,0 +1,60 @@
+-- The commands of a drill, and what they do to the tables.
+use Rattle.std.specs.Prelude.{◌≡◌, ℕ, Result, Ok, Err}
+use Rattle.off_defs.specs.declared.orders.Command.{Command}
+use Rattle.off_defs.specs.declared.orders.Command.TheVariants.{SetSite, PutSubscriber, PutModem, PutClass, PutPool}
+use Rattle.off_defs.specs.Counts.{Grew}
+use Rattle.off_defs.specs.Told.{Told}
+use Rattle.off_defs.specs.State.{Tables}
+use Rattle.off_rules.specs.Good.{Good}
+use Rattle.off_rules.specs.Clerk.{clerk_step}
+use Rattle.off_outside.specs.declared.keeper.KeepErr.{KeepErr}
+use Rattle.off_outside.specs.declared.keeper.KeepErr.TheVariants as keep
+use Rattle.off_deciding.specs.declared.results.AccountErr.{AccountErr}
+use Rattle.off_deciding.specs.declared.results.AccountErr.TheVariants.{Refused, Failed, Memory}
+use Rattle.off_outside.specs.KeeperSeen.{KeeperSeen}
+use Rattle.off_outside.specs.KeeperCalls.{StaysUp, keeper_faults_in}
+use Rattle.off_office.specs.Conditions.{Fits}
+use Rattle.off_office.specs.Desk.{Desk}
+use Rattle.off_drill_rules.specs.Rows.{begins_at, site, class, pool, subscriber, modem, mac}
+
+abbrev pub set_site : Command
+set_site = SetSite site
+
+abbrev pub put_class : Command
+put_class = PutClass 1 class
+
+abbrev pub put_pool : Command
+put_pool = PutPool 1 pool
+
+abbrev pub put_subscriber : ℕ → Command
+put_subscriber i = PutSubscriber i (subscriber i)
+
+abbrev pub put_modem : ℕ → Command
+put_modem i = PutModem (mac i) (modem i)
+
+-- A command was given to the office at the drill's first moment: the tables are those of the book's
+-- step, which are as before where a rule refuses it.
+pub record Gave (command : Command) (before after : Desk) (old new : KeeperSeen) : Type 0 where
+  pub tables : Told old.tables new.tables (λ t u.
+      Fits before t → Fits after u × (u ≡ (clerk_step t begins_at command).tables))
+  pub up : old.up → new.up
+  pub faults : new.faults ≡ old.faults
+
+-- Commands that make these tables of those
+pub record Builds (from to : Tables) (before after : Desk) (old new : KeeperSeen) : Type 0 where
+  pub tables : Told old.tables new.tables (λ t u.
+      Fits before t → Fits after u × (t ≡ from → u ≡ to))
+  pub up : old.up → new.up
+  pub faults : new.faults ≡ old.faults
+
+-- or they couldn't all be acted on; the tables are good still
+pub record Halts (err : KeepErr) (before : Desk) (old new : KeeperSeen) : Type 0 where
+  pub tables : Told old.tables new.tables (λ t u. Fits before t → Good u)
+  pub up : StaysUp old new
+  pub faults : Grew (keeper_faults_in err) old.faults new.faults
+
+-- a rule's refusal is passed over
+abbrev pub PassesOver : AccountErr → Result (Unit {0}) KeepErr → Type 0
+PassesOver (Refused row broken) result = result ≡ Ok tt
+PassesOver Failed result = result ≡ Err keep.Failed
+PassesOver Memory result = result ≡ Err keep.Memory

@@ -1,0 +1,5 @@
+pub mod Founding
+pub mod Tallying
+pub mod Exercising
+pub mod Telling
+pub mod Drilling

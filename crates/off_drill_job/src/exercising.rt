@@ -1,0 +1,228 @@
+ghost use Rattle.std.specs.Prelude.{◌≡◌, ◌≤◌, ◌<◌, ◌+◌, MatchResult};
+ghost use Rattle.off_drill_rules.specs.Events.{asks_for_offer, asks_for_lease, asks_for_file};
+ghost use Rattle.off_drill_rules.specs.Events.{acknowledges};
+ghost use Rattle.off_drill_rules.specs.Numbers.{offer_line, ack_line, oack_line, done_line};
+ghost use Rattle.off_drill_laws.specs.Stages.{Waits, Gets};
+ghost use Rattle.off_drill_job.specs.Founding.{Halts};
+ghost use Rattle.off_drill_job.specs.Exercising.{TookTurn, LosesTurn, Exercised, Stopped};
+
+use crate::messages::{acknowledge, ask_for_file, ask_for_lease, ask_for_offer};
+use crate::tallying::count_said;
+use off_base::NoMemory;
+use off_drill_rules::Tally;
+use off_office::Office;
+use off_outside::{Event, KeepErr, Keeper, Link, Outcome, Replies};
+use off_sending::send_all;
+use std::alloc::Global;
+
+/// How many packets a modem acknowledges of one file at most.
+const MOST_ACKNOWLEDGED: u16 = 200;
+
+/// Has the office serve so many modems, one after another, and counts what it says.
+pub(crate) fn exercise<L: Link, K: Keeper>(
+    alloc: Global,
+    count: u32,
+    office: &mut Office,
+    keeper: &mut K,
+    link: &mut L,
+    tally: &mut Tally,
+) -> Result<(), KeepErr>
+    requires few { count ≤ 4000 }
+    ensures { MatchResult result
+        (λ _. Exercised count (Waits 0) (Waits count) office.old office.new
+        (K.seen keeper.old) (K.seen keeper.new) (L.seen link.old) (L.seen link.new)
+        tally.old tally.new)
+        (λ err. Stopped err count (Waits 0) office.old
+        (K.seen keeper.old) (K.seen keeper.new) (L.seen link.old) (L.seen link.new)) }
+{
+    for k in 0..count {
+        serve_modem(alloc, count, k, office, keeper, link, tally)?;
+    }
+    Ok(())
+}
+
+// Has the office serve the next modem behind `k` others: it asks for an address, and then for its
+// file. Where it isn't given what it asks for, the rest of what it would do is left out.
+fn serve_modem<L: Link, K: Keeper>(
+    alloc: Global,
+    count: u32,
+    k: u32,
+    office: &mut Office,
+    keeper: &mut K,
+    link: &mut L,
+    tally: &mut Tally,
+) -> Result<(), KeepErr>
+    requires more { k < count }
+    requires few { count ≤ 4000 }
+    ensures { MatchResult result
+        (λ _. Exercised count (Waits k) (Waits (k + 1)) office.old office.new
+        (K.seen keeper.old) (K.seen keeper.new) (L.seen link.old) (L.seen link.new)
+        tally.old tally.new)
+        (λ err. Stopped err count (Waits k) office.old
+        (K.seen keeper.old) (K.seen keeper.new) (L.seen link.old) (L.seen link.new)) }
+{
+    let offered = offer(alloc, k + 1, office, keeper, link, tally)?;
+    if !offered {
+        return Ok(());
+    }
+    let leased = lease(alloc, k + 1, office, keeper, link, tally)?;
+    if !leased {
+        return Ok(());
+    }
+    let begun = begin_file(alloc, k + 1, office, keeper, link, tally)?;
+    if !begun {
+        return Ok(());
+    }
+    get_file(alloc, count, k, office, keeper, link, tally)
+}
+
+// Has the next modem behind `k` others acknowledge the packets of its file, until it has all of it.
+fn get_file<L: Link, K: Keeper>(
+    alloc: Global,
+    count: u32,
+    k: u32,
+    office: &mut Office,
+    keeper: &mut K,
+    link: &mut L,
+    tally: &mut Tally,
+) -> Result<(), KeepErr>
+    requires more { k < count }
+    requires few { count ≤ 4000 }
+    ensures { MatchResult result
+        (λ _. Exercised count (Gets k 0) (Waits (k + 1)) office.old office.new
+        (K.seen keeper.old) (K.seen keeper.new) (L.seen link.old) (L.seen link.new)
+        tally.old tally.new)
+        (λ err. Stopped err count (Gets k 0) office.old
+        (K.seen keeper.old) (K.seen keeper.new) (L.seen link.old) (L.seen link.new)) }
+{
+    for number in 0..MOST_ACKNOWLEDGED {
+        let has_all = get_block(alloc, k + 1, number, office, keeper, link, tally)?;
+        if has_all {
+            return Ok(());
+        }
+    }
+    Ok(())
+}
+
+// Modem `i` asks for an offer, and tells whether it got one.
+fn offer<L: Link, K: Keeper>(
+    alloc: Global,
+    i: u32,
+    office: &mut Office,
+    keeper: &mut K,
+    link: &mut L,
+    tally: &mut Tally,
+) -> Result<bool, KeepErr>
+    requires { i ≤ 4000 }
+    ensures { MatchResult result
+        (λ same. TookTurn (asks_for_offer i) offer_line same office.old office.new
+        (K.seen keeper.old) (K.seen keeper.new) (L.seen link.old) (L.seen link.new)
+        tally.old tally.new)
+        (λ err. LosesTurn err office.old (K.seen keeper.old) (K.seen keeper.new)
+        (L.seen link.old) (L.seen link.new)) }
+{
+    match ask_for_offer(alloc, i) {
+        Ok(event) => take(alloc, &event, b"dhcp offer", office, keeper, link, tally),
+        Err(NoMemory) => Err(KeepErr::Memory),
+    }
+}
+
+// Modem `i` asks for the address that it was offered, and tells whether it got it.
+fn lease<L: Link, K: Keeper>(
+    alloc: Global,
+    i: u32,
+    office: &mut Office,
+    keeper: &mut K,
+    link: &mut L,
+    tally: &mut Tally,
+) -> Result<bool, KeepErr>
+    requires { i ≤ 4000 }
+    ensures { MatchResult result
+        (λ same. TookTurn (asks_for_lease i) ack_line same office.old office.new
+        (K.seen keeper.old) (K.seen keeper.new) (L.seen link.old) (L.seen link.new)
+        tally.old tally.new)
+        (λ err. LosesTurn err office.old (K.seen keeper.old) (K.seen keeper.new)
+        (L.seen link.old) (L.seen link.new)) }
+{
+    match ask_for_lease(alloc, i) {
+        Ok(event) => take(alloc, &event, b"dhcp ack", office, keeper, link, tally),
+        Err(NoMemory) => Err(KeepErr::Memory),
+    }
+}
+
+// Modem `i` asks for its file, and tells whether it is sent.
+fn begin_file<L: Link, K: Keeper>(
+    alloc: Global,
+    i: u32,
+    office: &mut Office,
+    keeper: &mut K,
+    link: &mut L,
+    tally: &mut Tally,
+) -> Result<bool, KeepErr>
+    requires { i ≤ 4000 }
+    ensures { MatchResult result
+        (λ same. TookTurn (asks_for_file i) oack_line same office.old office.new
+        (K.seen keeper.old) (K.seen keeper.new) (L.seen link.old) (L.seen link.new)
+        tally.old tally.new)
+        (λ err. LosesTurn err office.old (K.seen keeper.old) (K.seen keeper.new)
+        (L.seen link.old) (L.seen link.new)) }
+{
+    match ask_for_file(alloc, i) {
+        Ok(event) => take(alloc, &event, b"tftp oack", office, keeper, link, tally),
+        Err(NoMemory) => Err(KeepErr::Memory),
+    }
+}
+
+// Modem `i` acknowledges a packet, and tells whether it has all of its file.
+fn get_block<L: Link, K: Keeper>(
+    alloc: Global,
+    i: u32,
+    number: u16,
+    office: &mut Office,
+    keeper: &mut K,
+    link: &mut L,
+    tally: &mut Tally,
+) -> Result<bool, KeepErr>
+    requires { i ≤ 4000 }
+    ensures { MatchResult result
+        (λ same. TookTurn (acknowledges i number) done_line same office.old office.new
+        (K.seen keeper.old) (K.seen keeper.new) (L.seen link.old) (L.seen link.new)
+        tally.old tally.new)
+        (λ err. LosesTurn err office.old (K.seen keeper.old) (K.seen keeper.new)
+        (L.seen link.old) (L.seen link.new)) }
+{
+    match acknowledge(alloc, i, number) {
+        Ok(event) => take(alloc, &event, b"tftp done", office, keeper, link, tally),
+        Err(NoMemory) => Err(KeepErr::Memory),
+    }
+}
+
+// Has the office act on an event, sends what it says and counts it, and tells whether its line has
+// these words. A send that fails is passed over.
+fn take<L: Link, K: Keeper>(
+    alloc: Global,
+    event: &Event,
+    words: &[u8],
+    office: &mut Office,
+    keeper: &mut K,
+    link: &mut L,
+    tally: &mut Tally,
+) -> Result<bool, KeepErr>
+    ensures { MatchResult result
+        (λ same. TookTurn event.now words.now same office.old office.new
+        (K.seen keeper.old) (K.seen keeper.new) (L.seen link.old) (L.seen link.new)
+        tally.old tally.new)
+        (λ err. LosesTurn err office.old (K.seen keeper.old) (K.seen keeper.new)
+        (L.seen link.old) (L.seen link.new)) }
+{
+    let mut replies = Replies::new(alloc);
+    match office.step(keeper, event, &mut replies) {
+        Outcome::Did => {
+            let _all = send_all(link, &replies);
+            *tally = count_said(*tally, &replies);
+            Ok(replies.line() == words)
+        }
+        Outcome::Memory => Err(KeepErr::Memory),
+        Outcome::Keeper => Err(KeepErr::Failed),
+    }
+}

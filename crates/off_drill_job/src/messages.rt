@@ -1,0 +1,162 @@
+ghost use Rattle.std.specs.Prelude.{◌≡◌, ◌≤◌, IfOk};
+ghost use Rattle.off_drill_rules.specs.Rows.{mac, address, relay};
+ghost use Rattle.off_drill_rules.specs.Messages.{fixed_part, modem_options, discover, request};
+ghost use Rattle.off_drill_rules.specs.Messages.{read_request, acknowledgement};
+ghost use Rattle.off_drill_rules.specs.Events.{asks_for_offer, asks_for_lease, asks_for_file};
+ghost use Rattle.off_drill_rules.specs.Events.{acknowledges};
+
+use crate::rows::{RELAY, SECRET, address_of, mac_of, moment_of};
+use off_base::{Bytes, NoMemory, Peer};
+use off_outside::{Event, Service, What};
+use off_profile::file_name;
+use std::alloc::Global;
+
+// The four bytes in front of a message's options (RFC 2131, section 3).
+const COOKIE: [u8; 4] = [99, 130, 83, 99];
+
+/// Modem `i` asks for an offer.
+pub(crate) fn ask_for_offer(alloc: Global, i: u32) -> Result<Event, NoMemory>
+    requires { i ≤ 4000 }
+    ensures { IfOk result (λ event. event ≡ asks_for_offer i) }
+{
+    let bytes = discover(alloc, i)?;
+    Ok(Event {
+        at: moment_of(i),
+        what: What::Datagram {
+            service: Service::Dhcp,
+            from: Peer {
+                ip: RELAY,
+                port: 67,
+            },
+            bytes,
+        },
+    })
+}
+
+/// Modem `i` asks for the address that it was offered.
+pub(crate) fn ask_for_lease(alloc: Global, i: u32) -> Result<Event, NoMemory>
+    requires { i ≤ 4000 }
+    ensures { IfOk result (λ event. event ≡ asks_for_lease i) }
+{
+    let bytes = request(alloc, i)?;
+    Ok(Event {
+        at: moment_of(i),
+        what: What::Datagram {
+            service: Service::Dhcp,
+            from: Peer {
+                ip: RELAY,
+                port: 67,
+            },
+            bytes,
+        },
+    })
+}
+
+/// Modem `i` asks for its file.
+pub(crate) fn ask_for_file(alloc: Global, i: u32) -> Result<Event, NoMemory>
+    requires { i ≤ 4000 }
+    ensures { IfOk result (λ event. event ≡ asks_for_file i) }
+{
+    let bytes = read_request(alloc, i)?;
+    Ok(Event {
+        at: moment_of(i),
+        what: What::Datagram {
+            service: Service::Tftp,
+            from: Peer {
+                ip: address_of(i),
+                port: 5000,
+            },
+            bytes,
+        },
+    })
+}
+
+/// The packet of this number has come to modem `i`.
+pub(crate) fn acknowledge(alloc: Global, i: u32, number: u16) -> Result<Event, NoMemory>
+    requires { i ≤ 4000 }
+    ensures { IfOk result (λ event. event ≡ acknowledges i number) }
+{
+    let bytes = acknowledgement(alloc, number)?;
+    Ok(Event {
+        at: moment_of(i),
+        what: What::Datagram {
+            service: Service::Tftp,
+            from: Peer {
+                ip: address_of(i),
+                port: 5000,
+            },
+            bytes,
+        },
+    })
+}
+
+// A BOOTREQUEST with its number, its relay and its client, up to its options.
+fn fixed_part(alloc: Global, i: u32) -> Result<Bytes, NoMemory>
+    ensures { IfOk result (λ bytes. bytes ≡ fixed_part i) }
+{
+    let mac = mac_of(i);
+    let mut bytes = Bytes::new(alloc);
+    bytes.push_all(&[1, 1, 6, 0])?;
+    bytes.push_all(&i.to_be_bytes())?;
+    bytes.push_all(&[0; 16])?;
+    bytes.push_all(&RELAY.0.to_be_bytes())?;
+    bytes.push_all(&mac.0)?;
+    bytes.push_all(&[0; 202])?;
+    bytes.push_all(&COOKIE)?;
+    Ok(bytes)
+}
+
+// What a modem says of itself (option 60), and its relay of it (option 82), with the end.
+fn modem_options(i: u32) -> [u8; 23]
+    ensures { result ≡ modem_options i }
+{
+    let [a, b, c, d, e, f] = mac_of(i).0;
+    [
+        60, 10, b'd', b'o', b'c', b's', b'i', b's', b'3', b'.', b'1', b':', 82, 8, 2, 6, a, b, c,
+        d, e, f, 255,
+    ]
+}
+
+fn discover(alloc: Global, i: u32) -> Result<Bytes, NoMemory>
+    ensures { IfOk result (λ bytes. bytes ≡ discover i) }
+{
+    let mut bytes = fixed_part(alloc, i)?;
+    bytes.push_all(&[53, 1, 1])?;
+    bytes.push_all(&modem_options(i))?;
+    Ok(bytes)
+}
+
+fn request(alloc: Global, i: u32) -> Result<Bytes, NoMemory>
+    requires { i ≤ 4000 }
+    ensures { IfOk result (λ bytes. bytes ≡ request i) }
+{
+    let mut bytes = fixed_part(alloc, i)?;
+    bytes.push_all(&[53, 1, 3])?;
+    bytes.push_all(&[50, 4])?;
+    bytes.push_all(&address_of(i).0.to_be_bytes())?;
+    bytes.push_all(&[54, 4, 10, 0, 0, 2])?;
+    bytes.push_all(&modem_options(i))?;
+    Ok(bytes)
+}
+
+#[tactic(auto, unfolding(off_drill_rules::specs::Messages::read_request))]
+fn read_request(alloc: Global, i: u32) -> Result<Bytes, NoMemory>
+    requires { i ≤ 4000 }
+    ensures { IfOk result (λ bytes. bytes ≡ read_request i) }
+{
+    let mut bytes = Bytes::new(alloc);
+    bytes.push_all(&[0, 1])?;
+    bytes.push_all(&file_name(SECRET, mac_of(i), address_of(i)))?;
+    bytes.push_all(b"\0octet\0blksize\x0044\0")?;
+    Ok(bytes)
+}
+
+#[tactic(auto, unfolding(off_drill_rules::specs::Messages::acknowledgement))]
+fn acknowledgement(alloc: Global, number: u16) -> Result<Bytes, NoMemory>
+    ensures { IfOk result (λ bytes. bytes ≡ acknowledgement number) }
+{
+    let mut bytes = Bytes::new(alloc);
+    bytes.push_all(&[0, 4])?;
+    bytes.push_all(&number.to_be_bytes())?;
+    Ok(bytes)
+}

@@ -1,0 +1,2 @@
+pub mod UpLemmas
+pub mod SendLemmas
