@@ -3,13 +3,15 @@
 
     python3 tests/bench/starts.py [MODEMS ..]
 
-Python's sqlite3 makes a file of so many modems with their subscribers, all of them with a lease in pools of 4,096 addresses: four rows each. Then officed is
+Python's sqlite3 makes a file of so many modems with their subscribers, all of them with a lease in pools of 4,096 addresses: four rows each, put in a mixed
+order, as they come over the years. Then officed is
 started on it, and ends behind no turns, with status 0 where the tables are good. The time, the processor's and the most memory are printed, of the first start
 and of the least of three, and judged nowhere. It wants bin/officed built (or OFFICE_PROGRAM); the files go to the folder of OFFICE_STORES, or to the system's
 for such files. Without arguments it takes 1,000, 20,000 and 200,000 modems.
 """
 import contextlib
 import os
+import random
 import sqlite3
 import struct
 import subprocess
@@ -28,28 +30,29 @@ FLOWS = bytes.fromhex("180701020001060107190701020002060107")
 
 
 def rows(modems):
-    """The rows in the order of their keys, as docs/OPERATING.md says how they are spelled."""
+    """The rows, spelled as docs/OPERATING.md says."""
     def word(number):
         return struct.pack(">I", number)
 
     def mac(number):
         return b"\2" + struct.pack(">IB", number * 2_654_435_761 % 2**32, 0)
-    macs = sorted((mac(number), number) for number in range(modems))
     yield b"\1", word(0x0A000002) + b"\6secret" + word(3600) + word(86_400) + word(0)
     yield from ((b"\2" + word(number), b"\1\2\3Ann") for number in range(modems))
-    yield from ((b"\4" + each, word(number) + word(1) + b"\4SN01") for each, number in macs)
+    yield from ((b"\4" + mac(number), word(number) + word(1) + b"\4SN01") for number in range(modems))
     yield b"\5" + word(1), b"\4gold" + struct.pack(">H", len(FLOWS)) + FLOWS
     for pool in range(-(-modems // POOL)):
         low = FIRST + pool * POOL
         yield b"\6" + word(pool), word(low) + word(low + POOL - 1) + b"\x14" + word(0x0A000001) + word(pool + 1)
     yield from ((b"\7" + word(FIRST + number), b"\2" + mac(number) + struct.pack(">Q", 2_000_000_000)) for number in range(modems))
-    yield from ((b"\x08" + each, word(FIRST + number)) for each, number in macs)
+    yield from ((b"\x08" + mac(number), word(FIRST + number)) for number in range(modems))
 
 
 def make(store, modems):
     with contextlib.closing(sqlite3.connect(store)) as conn, conn:
         conn.execute(TABLE)
-        conn.executemany("INSERT INTO office VALUES (?, ?)", rows(modems))
+        mixed = list(rows(modems))
+        random.Random(1).shuffle(mixed)
+        conn.executemany("INSERT INTO office VALUES (?, ?)", mixed)
         return conn.execute("SELECT count(*) FROM office").fetchone()[0]
 
 
