@@ -3,6 +3,8 @@ use Rattle.std.proofs.Common.{◌≡◌, true, Result, Ok, Err, IfOk, ℕ, List,
 use Rattle.std.specs.Ordering.{nat_cmp}
 use Rattle.std.specs.Cmp.Lexicographic.{slice_cmp}
 use Rattle.std.specs.FinMap as map
+use Rattle.std.proofs.lemmas.Bool.{and_from}
+use Rattle.sqlite_disk.specs.declared.Disk as disk
 use Rattle.sqlite_trees.specs.declared.store.Store.{Ghosts}
 use Rattle.sqlite_trees.specs.declared.memory.MemStore.{MemStore}
 use Rattle.sqlite_trees.proofs.Doubt.{no_doubt}
@@ -16,7 +18,7 @@ use Rattle.off_cells.specs.CellsSeen.{CellMap, CellsSeen}
 use Rattle.off_sqlcells.specs.SqlCellsSeen.{HasBegun}
 use Rattle.off_keepsql.specs.Stored.{Stores, cell_of, AllStorable}
 use Rattle.off_keepsql.specs.SqlSeen.{SqlTells}
-use Rattle.off_keepsql.specs.Begin.{KeeperBegins, TellsNone}
+use Rattle.off_keepsql.specs.Begin.{KeeperBegins, TellsNone, HonestFilesAreSteady}
 
 no_length : {X : Type 0} (xs : List X) → length xs ≡ 0 → xs ≡ []
 no_length [] e = refl
@@ -56,3 +58,7 @@ pub begun_none : {K E : Type 0} (conn : Held MemStore) (seen : K → KeeperSeen)
     → IfOk r (λ k. KeeperBegins over_memory conn (seen k)) → IfOk r (λ k. TellsNone (seen k))
 begun_none conn seen (Ok k) empty begun = begins_empty conn (seen k) empty begun
 begun_none conn seen (Err e) empty begun = tt
+
+pub honest_steady : {D : Type 0} (g : disk.Ghosts D) → HonestFilesAreSteady g
+unfolding Rattle.sqlite_pool.specs.Pool.state
+honest_steady g honest it = no_doubt _ (and_from _ _ (honest _) (honest _))

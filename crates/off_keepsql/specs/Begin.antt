@@ -1,7 +1,9 @@
 -- What a keeper tells that has just begun over a connection to a database.
-use Rattle.std.specs.Prelude.{◌≡◌}
+use Rattle.std.specs.Prelude.{◌≡◌, IsTrue}
 use Rattle.std.specs.FinMap as map
+use Rattle.sqlite_disk.specs.declared.Disk as disk
 use Rattle.sqlite_trees.specs.declared.store.Store.{Ghosts}
+use Rattle.sqlite.specs.Files.{over_files}
 use Rattle.sqlite.specs.Held.{Held, state}
 use Rattle.off_defs.specs.State.{Tables}
 use Rattle.off_outside.specs.KeeperSeen.{KeeperSeen}
@@ -29,3 +31,7 @@ pub record TellsNone (seen : KeeperSeen) : Type 0 where
   pub faults : seen.faults ≡ 0
   pub calls : seen.calls ≡ 0
   pub commits : seen.commits ≡ 0
+
+-- a store of files is steady over a disk that returns what was written, over each call
+abbrev pub HonestFilesAreSteady : {D : Type 0} → disk.Ghosts D → Type 0
+HonestFilesAreSteady {D} g = ((d : D) → IsTrue (g.is_clean d)) → IsSteady (over_files {D = D} {g = g})

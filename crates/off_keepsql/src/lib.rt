@@ -13,7 +13,7 @@ mod spelling;
 mod sql_keeper;
 
 pub use counts::Counts;
-pub use laws::{entries_are_tables, memory_is_steady, tables_are_entries};
+pub use laws::{entries_are_tables, honest_files_are_steady, memory_is_steady, tables_are_entries};
 pub use off_cells::{CellWrite, CellWrites, Cells, MemCells};
 pub use off_sqlcells::SqlCells;
 pub use sql_keeper::SqlKeeper;
