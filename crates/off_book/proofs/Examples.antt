@@ -4,7 +4,7 @@ use Rattle.off_base.specs.Number.{number_read}
 use Rattle.off_defs.specs.Clock.{time_bytes}
 use Rattle.hex.proofs.OnLiterals.{hex_on_literals}
 use Rattle.off_defs.specs.declared.tables.ImportKind.TheVariants.{Modems}
-use Rattle.off_book.specs.Words.{serve_of, import_of, secret_of, job_of, to_import, to_seal}
+use Rattle.off_book.specs.Words.{serve_of, import_of, drill_of, secret_of, job_of, to_import, to_drill, to_seal}
 
 -- 1 January 1970: 2,208,988,800 seconds
 time_at_zero : time_bytes 0 ≡ 0x83 ∷ 0xaa ∷ 0x7e ∷ 0x80 ∷ []
@@ -35,10 +35,22 @@ import_words : job_of (codes "import" ∷ codes "--store" ∷ codes "memory" ∷
 unfolding serve_of import_of number_read
 import_words = refl
 
+drill_words : job_of (codes "drill" ∷ codes "4000" ∷ []) ≡ Some (to_drill 4000)
+unfolding serve_of import_of drill_of number_read
+drill_words = refl
+
+no_drill_of_none : job_of (codes "drill" ∷ codes "0" ∷ []) ≡ None
+unfolding serve_of import_of drill_of number_read
+no_drill_of_none = refl
+
+no_drill_of_more : job_of (codes "drill" ∷ codes "4001" ∷ []) ≡ None
+unfolding serve_of import_of drill_of number_read
+no_drill_of_more = refl
+
 seal_words : job_of (codes "seal" ∷ codes "73aBFf" ∷ []) ≡ Some (to_seal (0x73 ∷ 0xab ∷ 0xff ∷ []))
-unfolding serve_of import_of secret_of hex_on_literals
+unfolding serve_of import_of drill_of secret_of hex_on_literals
 seal_words = refl
 
 odd_secret : job_of (codes "check" ∷ codes "73a" ∷ []) ≡ None
-unfolding serve_of import_of secret_of hex_on_literals
+unfolding serve_of import_of drill_of secret_of hex_on_literals
 odd_secret = refl

@@ -1,11 +1,12 @@
 -- The words of the command line behind the program's name:
 --     serve --store STORE --ports DHCP,TIME,TFTP,HTTP --turns N
 --     import --store STORE KIND BATCH
+--     drill MODEMS
 --     seal HEX
 --     check HEX
 -- STORE is `memory` or a path that isn't empty and doesn't begin with `-`. Ports are numbers from 1
--- to 65535. N is 0 to 10^15. KIND is `subscribers` or `modems`, BATCH a number of 64 bits. HEX is a
--- secret of 1 to 64 bytes in hexadecimal pairs of either case.
+-- to 65535. N is 0 to 10^15. KIND is `subscribers` or `modems`, BATCH a number of 64 bits. MODEMS is
+-- 1 to 4,000. HEX is a secret of 1 to 64 bytes in hexadecimal pairs of either case.
 use Rattle.std.specs.Prelude.{ℕ, ◌==◌, Bool, not, ◌&&◌, nat_lt, List, [], ◌∷◌, length, map, codes, slice_index, Option, Some, None, option_and_then, option_map, nat_le, if◌then◌else◌}
 use Rattle.std.specs.Option.{option_or}
 use Rattle.std.specs.List.{slice_split}
@@ -89,6 +90,21 @@ import_of (command ∷ store_flag ∷ store ∷ kind ∷ batch ∷ []) =
     then import_by store (kind_of kind) (number_read greatest_u64 batch) else None
 import_of words = None
 
+-- the greatest number of modems that `drill` boots
+abbrev pub most_drilled : ℕ
+most_drilled = 4000
+
+-- how many modems, from 1 to 4,000
+abbrev pub drilled_of : List ℕ → Option ℕ
+drilled_of text =
+    option_and_then (λ n. if n == 0 then None else Some n) (number_read most_drilled text)
+
+-- the one form of `drill`, or None for every other list of words
+unfoldable pub drill_of : List (List ℕ) → Option ℕ
+drill_of (command ∷ modems ∷ []) =
+    if bytes_eq command (codes "drill") then drilled_of modems else None
+drill_of words = None
+
 -- a secret of 1 to 64 bytes, in hexadecimal pairs
 unfoldable pub secret_of : List ℕ → Option (List ℕ)
 secret_of text =
@@ -99,6 +115,7 @@ secret_of text =
 pub data Job : Type 0 where
   to_serve : Serve → Job
   to_import : Import → Job
+  to_drill : ℕ → Job
   to_seal : List ℕ → Job
   to_check : List ℕ → Job
 
@@ -113,4 +130,5 @@ abbrev pub job_of : List (List ℕ) → Option Job
 job_of words =
     option_or (option_map to_serve (serve_of words))
     (option_or (option_map to_import (import_of words))
-    (option_or (keyed_of (codes "seal") to_seal words) (keyed_of (codes "check") to_check words)))
+    (option_or (option_map to_drill (drill_of words))
+    (option_or (keyed_of (codes "seal") to_seal words) (keyed_of (codes "check") to_check words))))
