@@ -30,7 +30,7 @@ use Rattle.off_serve.specs.Serving.{World, world_of}
 use Rattle.off_import_job.specs.Opening.{closed_status, closed_line}
 use Rattle.off_serve.specs.Headline.{WroteText, CutText, LastsIn, RanTurns, KeeperRan, RanFrom, RanOffice, Stops, Served, OwnLine, OwnWritten, Ended, Ends, NoFault, AllUp, Completed, ServesAsOffice, own_writes, memory_refused, link_refused}
 use Rattle.off_serve.proofs.ServeLemmas.{wrote_more, wrote_same, wrote_none, cut_more, cut_same}
-use Rattle.off_serve.proofs.UpLemmas.{up_chain}
+use Rattle.off_sending.proofs.UpLemmas.{up_chain}
 
 own_line : (of : ℕ) (own text : List ℕ) (status : ℕ) (a b c : SinkSeen) → WroteText text a b → OwnWritten of own status b c → OwnLine of own text status a c
 own_line of own text status a b c wrote (inl w) = inl (w.0, wrote_more wrote w.1)

@@ -1,8 +1,6 @@
 mod WordLemmas
 mod ImportWordLemmas
 mod SecretLemmas
-pub mod UpLemmas
-pub mod SendLemmas
 pub mod TakeLemmas
 pub mod TurnLemmas
 pub mod ServeLemmas

@@ -22,9 +22,10 @@ use Rattle.off_office.specs.Conditions.{Under, StaysFit}
 use Rattle.off_office.specs.Acting.{NotStarted}
 use Rattle.off_office.specs.declared.office.StartErr.{StartErr}
 use Rattle.off_outside.specs.Streams.{SourceSeen, SourceUnasked, SinkSeen, SinkUnasked, SinkStaysUp, HasFront, Wrote, NotWritten}
-use Rattle.off_book.specs.Words.{Job, to_serve, to_import, to_seal, to_check}
+use Rattle.off_book.specs.Words.{Job, to_serve, to_import, to_drill, to_seal, to_check}
 use Rattle.off_import_job.specs.Opening.{closed_status, closed_line}
 use Rattle.off_import_job.specs.Importing.{Imports}
+use Rattle.off_drill_job.specs.Drilling.{Drills}
 use Rattle.off_jobs.specs.Jobs.{SealsInput, ChecksInput}
 use Rattle.off_serve.specs.Serving.{World, world_of, most_missed}
 use Rattle.off_serve.specs.declared.serving.Stop.{Stop}
@@ -317,8 +318,8 @@ pub record OfficeSame (old new : Outside) : Type 0 where
   pub link : LinkUnasked old.link new.link
   pub keeper : Unasked old.keeper new.keeper
 
--- What a job does. Only `serve` takes events and sends, and every other job takes bytes of the
--- source. `seal` and `check` don't open the tables.
+-- What a job does. Only `serve` takes events, only `serve` and `drill` send, and `import`, `seal` and
+-- `check` take bytes of the source. `seal` and `check` don't open the tables.
 abbrev pub DoesJob : Job → Outside → Outside → ℕ → Type 0
 DoesJob (to_serve serve) old new status =
     ServesAsOffice serve.turns (world_in old) (world_in new) status
@@ -327,6 +328,9 @@ DoesJob (to_import import) old new status =
     Imports import.kind import.batch status old.keeper new.keeper old.source new.source
     old.sink new.sink
     × LinkUnasked old.link new.link
+DoesJob (to_drill modems) old new status =
+    Drills modems status old.keeper new.keeper old.link new.link old.sink new.sink
+    × SourceUnasked old.source new.source
 DoesJob (to_seal secret) old new status =
     SealsInput secret status old.source new.source old.sink new.sink × OfficeSame old new
 DoesJob (to_check secret) old new status =

@@ -1,10 +1,10 @@
 -- The words that were read, as the book has them.
 use Rattle.std.specs.Result.{result_ok}
 use Rattle.hex.specs.Hex.{decode_of}
-use Rattle.std.specs.Prelude.{◌≡◌, true, false, Ok, ℕ, Bool, ◌&&◌, List, [], codes, slice_index_or, Option, None, option_map, if◌then◌else◌, ◌∷◌}
+use Rattle.std.specs.Prelude.{◌≡◌, ◌≤◌, true, false, Ok, ℕ, Bool, ◌&&◌, List, [], codes, slice_index_or, Option, None, option_map, if◌then◌else◌, ◌∷◌}
 use Rattle.std.specs.Option.{option_or}
 use Rattle.std.specs.Str.{bytes_eq}
-use Rattle.off_book.specs.Words.{Serve, Import, Job, to_serve, to_import, to_seal, to_check, secret_of, serve_of, import_of}
+use Rattle.off_book.specs.Words.{Serve, Import, Job, to_serve, to_import, to_drill, to_seal, to_check, secret_of, serve_of, import_of, drill_of}
 use Rattle.off_serve.specs.declared.import_words.ImportForm.{ImportForm}
 use Rattle.off_serve.specs.declared.jobs.Asked.{Asked}
 use Rattle.off_serve.specs.declared.jobs.Asked.TheVariants as asked
@@ -32,9 +32,15 @@ import_form_of form = record { store = form.store.now; kind = form.kind; batch =
 abbrev pub import_places : Import → Places
 import_places import = record { store = import.store; ports = 0 ∷ 0 ∷ 0 ∷ 0 ∷ [] }
 
+-- a drill has its tables in memory, and no events
+abbrev pub drill_places : ℕ → Places
+drill_places modems = record { store = codes "memory"; ports = 0 ∷ 0 ∷ 0 ∷ 0 ∷ [] }
+
 abbrev pub places_wanted : List (List ℕ) → Option Places
 places_wanted words =
-    option_or (option_map places_in (serve_of words)) (option_map import_places (import_of words))
+    option_or (option_map places_in (serve_of words))
+    (option_or (option_map import_places (import_of words))
+    (option_map drill_places (drill_of words)))
 
 -- the words that are the same in each command stand in their places
 abbrev pub flags_stand : List (List ℕ) → Bool
@@ -53,8 +59,14 @@ import_flags_stand words =
 abbrev pub asked_for : Asked → Job
 asked_for (asked.Serve form) = to_serve (form_of form)
 asked_for (asked.Import form) = to_import (import_form_of form)
+asked_for (asked.Drill modems) = to_drill modems
 asked_for (asked.Seal secret) = to_seal secret
 asked_for (asked.Check secret) = to_check secret
+
+-- a drill that was read has 4,000 modems at most
+abbrev pub DrillsFew : Asked → Type 0
+DrillsFew (asked.Drill modems) = modems ≤ 4000
+DrillsFew asked = true ≡ true
 
 -- the secret behind a command
 abbrev pub keyed_secret : List ℕ → List (List ℕ) → Option (List ℕ)

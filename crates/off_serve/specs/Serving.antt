@@ -25,24 +25,6 @@ use Rattle.off_serve.specs.declared.turning.Turned.TheVariants as turned
 abbrev pub most_missed : ℕ
 most_missed = 16
 
--- an item was sent, or it wasn't and is counted
-abbrev pub SentOne : Sent → Bool → LinkSeen → LinkSeen → Type 0
-SentOne item true old new = WasSent item old new
-SentOne item false old new = NotSent old new
-
--- the items were handed to the link in order: those that are marked were sent, the others are
--- counted
-pub record SentAll (items : List Sent) (all : Bool) (old new : LinkSeen) : Type 0 where
-  pub marks : List Bool
-  pub each : length items ≡ length marks
-  pub all_is : all ≡ all_went marks
-  pub left : Stays old.left new.left
-  pub sent : Told old.sent new.sent (λ before after. after ≡ before ++ marked items marks)
-  pub up : old.up → new.up ⊎ Grew 1 old.unsent new.unsent
-  pub missed : new.missed ≡ old.missed
-  pub faults : new.faults ≡ old.faults
-  pub unsent : Tallied (count_by not marks) old.unsent new.unsent
-
 -- `n` calls of `next` failed in a row, and there was no other call
 pub record Missed (n : ℕ) (old new : LinkSeen) : Type 0 where
   pub left : Stays old.left new.left

@@ -1,7 +1,8 @@
-ghost use Rattle.std.specs.Prelude.{◌≡◌, ◌/◌, length, map, string_bytes, option_map};
+ghost use Rattle.std.specs.Prelude.{◌≡◌, ◌/◌, length, map, string_bytes, option_map, IfSome};
 ghost use Rattle.off_book.specs.Words.{job_of, secret_of};
-ghost use Rattle.off_serve.specs.Reading.{asked_for, keyed_secret, IsDecoded};
+ghost use Rattle.off_serve.specs.Reading.{asked_for, DrillsFew, keyed_secret, IsDecoded};
 
+use crate::drill_words::read_drill_form;
 use crate::import_words::{ImportForm, read_import_form};
 use crate::words::{Form, read_form};
 use off_base::Secret;
@@ -11,6 +12,8 @@ use off_base::Secret;
 pub enum Asked<'a> {
     Serve(Form<'a>),
     Import(ImportForm<'a>),
+    /// To boot so many modems.
+    Drill(u32),
     Seal(Secret),
     Check(Secret),
 }
@@ -18,13 +21,17 @@ pub enum Asked<'a> {
 /// Reads the words, which stand behind the program's name. `None` comes exactly where they fit no
 /// form.
 pub fn read_words(words: &[String]) -> Option<Asked<'_>>
-    ensures { option_map asked_for result ≡ job_of (map string_bytes words.now) }
+    ensures job { option_map asked_for result ≡ job_of (map string_bytes words.now) }
+    ensures few { IfSome result DrillsFew }
 {
     if let Some(form) = read_form(words) {
         return Some(Asked::Serve(form));
     }
     if let Some(form) = read_import_form(words) {
         return Some(Asked::Import(form));
+    }
+    if let Some(modems) = read_drill_form(words) {
+        return Some(Asked::Drill(modems));
     }
     if let Some(secret) = read_keyed(words, "seal") {
         return Some(Asked::Seal(secret));

@@ -1,10 +1,9 @@
-ghost use Rattle.std.specs.Prelude.{◌≡◌};
 ghost use Rattle.off_defs.specs.declared.results.Sent.TheVariants as sent;
 ghost use Rattle.off_book.specs.Step.{added_items};
 ghost use Rattle.off_book.specs.Http.{answer_and_close, no_memory_reply, no_keeper_reply};
-ghost use Rattle.off_serve.specs.Serving.{SentOne, SentAll};
+ghost use Rattle.off_sending.specs.Sending.{SentOne, SentAll};
 
-use off_outside::{Link, Outcome, Replies, Sent, What};
+use off_outside::{Link, Outcome, What};
 
 // What a clerk is answered where memory was wanted, and where the keeper of the tables failed (RFC
 // 9110, section 15.6).
@@ -13,31 +12,6 @@ const NO_MEMORY: &[u8] =
 
 const NO_KEEPER: &[u8] =
     b"HTTP/1.1 500 Internal Server Error\r\nContent-Length: 0\r\nConnection: close\r\n\r\n";
-
-// Hands one item to the link, and tells whether it went out.
-fn send_one<L: Link>(link: &mut L, item: &Sent) -> bool
-    ensures { SentOne item.now result (L.seen link.old) (L.seen link.new) }
-{
-    let went = match item {
-        Sent::Datagram { service, to, bytes } => link.send(*service, *to, bytes.as_slice()),
-        Sent::Answer { conn, bytes } => link.answer(*conn, bytes.as_slice()),
-        Sent::Close { conn } => link.close(*conn),
-    };
-    went.is_ok()
-}
-
-/// Hands each thing to send to the link, in order, and tells whether all went out. One that doesn't
-/// is passed over.
-pub fn send_all<L: Link>(link: &mut L, replies: &Replies) -> bool
-    ensures { SentAll replies.now.items result (L.seen link.old) (L.seen link.new) }
-{
-    let mut all = true;
-    for i in 0..replies.len() {
-        let went = send_one(link, replies.get(i));
-        all &= went;
-    }
-    all
-}
 
 /// Hands to the link what stands behind the items of an event: of a piece that the office couldn't
 /// act on the answer, which is the same bytes each time, and the end of the connection. It takes no

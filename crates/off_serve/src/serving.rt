@@ -1,12 +1,13 @@
 ghost use Rattle.std.specs.Prelude.{◌≡◌, ◌++◌, ◌≤◌, length, map, string_bytes, MatchOption};
 ghost use Rattle.off_book.specs.Words.{job_of};
-ghost use Rattle.off_serve.specs.Reading.{asked_for};
+ghost use Rattle.off_serve.specs.Reading.{asked_for, DrillsFew};
 ghost use Rattle.off_serve.specs.Headline.{Served, Ended, OwnWritten, ServesAsOffice, RefusesAll};
 ghost use Rattle.off_serve.specs.Headline.{DoesJob, outside_of};
 ghost use Rattle.off_serve.specs.Serving.{world_of};
 
 use crate::jobs::{Asked, read_words};
 use crate::turning::{Turned, take_turn};
+use off_drill_job::drill;
 use off_import_job::{import_input, stay_closed};
 use off_jobs::{check_input, seal_input};
 use off_office::Office;
@@ -31,15 +32,16 @@ pub enum Stop {
 /// `serve --store STORE --ports DHCP,TIME,TFTP,HTTP --turns N` opens the keeper's tables, takes
 /// events from the link until an End, N of them at most, sends what the office says of each and
 /// writes its line. `import --store STORE KIND BATCH` does the import that the source holds, in one
-/// step, and writes its number of rows. `seal HEX` seals the configuration file that the source
+/// step, and writes its number of rows. `drill MODEMS` founds an office over tables without rows, has
+/// so many modems boot, and writes what came of it. `seal HEX` seals the configuration file that the source
 /// holds under the secret HEX and writes it; `check HEX` verifies one. Other words are refused.
 ///
 /// Status 0: an End was read, or N events were taken, or the job is done (for `check`: both values
 /// are good). 1: the words fit no form. 2: the tables aren't good, and the line names their least
-/// bad key. 3: the keeper failed when the tables were opened, or in the step of `import`. 4: the
-/// sink failed in the last write. 5: the link failed sixteen times in a row. 6: memory was wanted
+/// bad key. 3: the keeper failed when the tables were opened, or in the steps of `import` or `drill`.
+/// 4: the sink failed in the last write. 5: the link failed sixteen times in a row. 6: memory was wanted
 /// outside of an event. 7: the source failed. 8: `check` finds a bad value or refuses the file. 9:
-/// `seal` refuses the file, or the import is refused.
+/// `seal` refuses the file, the import is refused, or `drill` finds rows.
 pub fn run<L: Link, K: Keeper, S: Source, W: Sink>(
     alloc: Global,
     words: &[String],
@@ -71,7 +73,8 @@ fn do_job<L: Link, K: Keeper, S: Source, W: Sink>(
     source: &mut S,
     out: &mut W,
 ) -> u8
-    requires { (L.seen link.old).missed ≡ 0 }
+    requires missed { (L.seen link.old).missed ≡ 0 }
+    requires few { DrillsFew asked.now }
     ensures { DoesJob (asked_for asked.now)
         (outside_of (L.seen link.old) (K.seen keeper.old) (S.seen source.old) (W.seen out.old))
         (outside_of (L.seen link.new) (K.seen keeper.new) (S.seen source.new) (W.seen out.new))
@@ -80,6 +83,7 @@ fn do_job<L: Link, K: Keeper, S: Source, W: Sink>(
     match asked {
         Asked::Serve(form) => serve(alloc, form.turns, link, keeper, out),
         Asked::Import(form) => { import_input(alloc, form.kind, form.batch, keeper, source, out) }
+        Asked::Drill(modems) => drill(alloc, *modems, link, keeper, out),
         Asked::Seal(secret) => seal_input(alloc, secret.as_slice(), source, out),
         Asked::Check(secret) => check_input(alloc, secret.as_slice(), source, out),
     }

@@ -5,6 +5,7 @@ ghost use Rattle.off_book.specs.Words.{serve_of, between_commas, four_ports, por
 ghost use Rattle.off_book.specs.Words.{is_store};
 ghost use Rattle.off_serve.specs.Reading.{form_of, places_of, places_wanted, flags_stand};
 
+use crate::drill_words::read_drill_form;
 use crate::import_words::read_import_form;
 use off_base::read_number;
 
@@ -29,9 +30,10 @@ pub struct Form<'a> {
 
 /// What main is to make for these words, which stand behind the program's name.
 ///
-/// `None` comes exactly where the words are neither of the form
-/// `serve --store STORE --ports DHCP,TIME,TFTP,HTTP --turns N` nor
-/// `import --store STORE KIND BATCH`. The ports of `import` are 0, since it takes no events.
+/// `None` comes exactly where the words are none of the forms
+/// `serve --store STORE --ports DHCP,TIME,TFTP,HTTP --turns N`, `import --store STORE KIND BATCH` and
+/// `drill MODEMS`. The ports of the last two are 0, since they take no events, and the store of
+/// `drill` is `memory`.
 pub fn place(words: &[String]) -> Option<Wanted<'_>>
     ensures { option_map places_of result ≡ places_wanted (map string_bytes words.now) }
 {
@@ -41,9 +43,15 @@ pub fn place(words: &[String]) -> Option<Wanted<'_>>
             ports: form.ports,
         });
     }
-    match read_import_form(words) {
-        Some(form) => Some(Wanted {
+    if let Some(form) = read_import_form(words) {
+        return Some(Wanted {
             store: form.store,
+            ports: [0; 4],
+        });
+    }
+    match read_drill_form(words) {
+        Some(_modems) => Some(Wanted {
+            store: "memory",
             ports: [0; 4],
         }),
         None => None,

@@ -26,6 +26,11 @@ use std::env;
 use std::io::ErrorKind;
 use std::process::ExitCode;
 
+// Room for what an office sends to 4,000 modems of a drill: 23,600 items of 2,861,600 bytes.
+const DRILLED_ITEMS: usize = 24_000;
+
+const DRILLED_OCTETS: usize = 3_200_000;
+
 // A status that stands for want of memory outside of an event.
 const MEMORY: u8 = 6;
 
@@ -89,8 +94,8 @@ fn run_wanted(
     }
 }
 
-// Runs over a keeper, on sockets where events are to come. An import takes none, so it has no
-// ports.
+// Runs over a keeper, on sockets where events are to come. An import and a drill take none, so they
+// have no ports.
 fn run_over<K: Keeper>(
     rt: &HostRuntime,
     words: &[String],
@@ -109,8 +114,8 @@ fn run_over<K: Keeper>(
     }
 }
 
-// Runs what takes no events: an import, a job over the streams, or words that fit no form. Its link
-// is empty, and in memory.
+// Runs what takes no events: an import, a drill, a job over the streams, or words that fit no form.
+// Its link is in memory, and has no events.
 fn run_alone<K: Keeper>(
     rt: &HostRuntime,
     words: &[String],
@@ -120,9 +125,18 @@ fn run_alone<K: Keeper>(
 ) -> u8 {
     let events = Events::new(rt.alloc());
     let fails = Calls::new(rt.alloc());
-    match MemLink::new(rt.alloc(), events, 0, 0, fails) {
+    let (items, octets) = room_for(words);
+    match MemLink::new(rt.alloc(), events, items, octets, fails) {
         Ok(mut link) => run(rt.alloc(), words, &mut link, keeper, input, output),
         Err(_refused) => no_memory(rt),
+    }
+}
+
+// How many items, and of how many bytes in all, are kept of what is sent. Only a drill sends.
+fn room_for(words: &[String]) -> (usize, usize) {
+    match words.first() {
+        Some(command) if command.as_str() == "drill" => (DRILLED_ITEMS, DRILLED_OCTETS),
+        _ => (0, 0),
     }
 }
 
