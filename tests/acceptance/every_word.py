@@ -25,7 +25,7 @@ TOLD = ["illegal operation", "access violation", "octet only", "no lease", "no l
         "file not found", "too many transfers", "unknown transfer"]
 ENDS = [f"{word} refused" for word in ("words", "tables", "keeper", "link", "memory", "source")]
 REFUSED = """too-long cut no-end after-end early-pad no-mic twice-mic mic-length header width field
-too-many batch-differs limit""".split() + ["row"]
+too-many batch-differs limit not-empty""".split() + ["row"]
 KEYS = "site subscriber add-on modem class pool lease held batch".split()
 STATUSES = [str(status) for status in range(12)] + ["70", "129", "130", "131", "137", "143"]
 ANSWERS = ['{"ok":true}', '{"rows":}', '{"fault":}', '{"at":,"fault":}', '"state":"offered"',
@@ -35,7 +35,8 @@ SECTIONS = {
     "DHCP": DHCP, "Time": ["sent"], "TFTP": TFTP, "Ticks": ["again closed"],
     "Clerks in the log": ["wait", "200", "busy", "closed", ""],
     "Each service": ["memory", "keeper", "link"], "The last line": ENDS, "Statuses": STATUSES,
-    "What jobs write": ["cm good", "cm bad", "cmts good", "cmts bad", "rows"],
+    "What jobs write": ["cm good", "cm bad", "cmts good", "cmts bad", "rows",
+                        "drill offers acks files blocks octets"],
     "What jobs refuse": REFUSED, "What clerks are answered": ANSWERS,
     "Faults of clerks": FAULTS, "Keys of rows": KEYS,
 }
@@ -56,13 +57,17 @@ DEFINED = {
                       ("off_import_job", "Opening", r'codes "([^"]* refused) ?"')],
     "What jobs write": [("off_jobs", "Text", r'codes "(cmt?s? \w+)\\n'),
                         ("off_jobs", "Text", r'\\n(cmt?s? \w+)\\n"'),
-                        ("off_import_job", "Telling", r'codes "(rows) "')],
+                        ("off_import_job", "Telling", r'codes "(rows) "'),
+                        ("off_drill_rules", "Numbers",
+                         r'codes "(drill )" .*codes "( offers )" .*codes "( acks )"'
+                         r' .*codes "( files )" .*codes "( blocks )" .*codes "( octets )"')],
     "What jobs refuse": [("off_jobs", "Text", r'^read_fault_words .*codes "([^"]*)"'),
                          ("off_jobs", "Text", r'^mic_fault_words .*codes "([^"]*)"'),
                          ("off_jobs", "Text", r'refused \(codes "([^"]*)"\)'),
                          ("off_import_rules", "Faults", r'^fault_words \w+ = codes "([^"]*)"'),
                          ("off_import_rules", "Faults", r'^fault_words \(.*?codes "([^"]*)"'),
                          ("off_import_job", "Telling", r'codes " (row) "'),
+                         ("off_drill_job", "Telling", r'refused \(codes "([^"]*)"\)'),
                          ("off_import_job", "Telling", r'^broken_words .*codes "([^"]*)"'),
                          ("off_clerk_rules", "Faults", r'Limit kind most\) = codes "([^"]*)"')],
     "Faults of clerks": [("off_clerk_rules", "Faults", r'_word [^=]*= codes "([^"]*)"'),

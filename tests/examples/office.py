@@ -3,11 +3,12 @@
 
 The office of the worked examples is a site, class 1, subscriber 7, a modem and a pool. What is expected is said here by hand, from the rules
 in docs/, or computed by Python's hashlib, hmac and json and the readers of examples.py, which are written from the standards. The sections on
-DHCP are those of leases.py, those on TFTP of transfers.py, and those on imports
-of import_job.py. With the word `check` it compares the two files with what it would write.
+DHCP are those of leases.py, those on TFTP of transfers.py, those on imports
+of import_job.py, and those on drills of drills.py. With the word `check` it compares the two files with what it would write.
 """
 import sys
 
+import drills
 import import_job
 import leases
 import transfers
@@ -287,7 +288,6 @@ serve --store memory --ports 67,37,69,80 --turns _
 serve --store memory --ports 67,37,69,80 --turns 1000000000000001
 serve --store memory --ports 67,37,69,80 --turns 18446744073709551616
 serve --store memory --ports 67,37,69,80 --turns 000000000000000000005
-drill 5
 --help
 --version"""
 
@@ -678,6 +678,7 @@ def main():
     leases.sections(script, OFFICE)
     transfers.sections(script, OFFICE)
     import_job.sections(script, OFFICE)
+    drills.sections(script, OFFICE)
     return script.write("office_script")
 
 

@@ -1,20 +1,13 @@
 //! Runs examples that are data: each section of the script on standard input is served by
-//! `off_serve::run` over objects in memory, and what comes of it is printed.
+//! `off_serve::run` over objects in memory, the tables too, and what comes of it is printed.
 //!
 //! `tests/examples/README.md` says how a script is written. The text that is expected is the file
 //! `stdout`, which comes from worked examples, public vectors and `tests/examples/office.py`, and
 //! never from this program.
 #![tactic(auto)]
 
-mod comparing;
-mod events;
-mod making;
-mod outside;
-mod results;
-mod scene;
-mod stage;
-
-use crate::stage::Stage;
+use off_keepmem::MemKeeper;
+use office_stage::Stage;
 use script_words::Unread;
 use std::alloc::Global;
 use std::io;
@@ -24,7 +17,7 @@ use std::process::ExitCode;
 // Plays the script's lines, and prints what comes of each.
 fn play(rt: &HostRuntime, script: &[u8]) -> Result<(), Unread> {
     let alloc: Global = rt.alloc();
-    let mut stage = Stage::new(alloc)?;
+    let mut stage: Stage<'_, MemKeeper> = Stage::new(alloc)?;
     for line in script.split(|byte| *byte == b'\n') {
         let taken = stage.take(alloc, line);
         let printed = io::writer(rt).write_all(stage.printed());

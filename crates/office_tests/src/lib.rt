@@ -1,6 +1,6 @@
 //! What no script can say of the office: a keeper that tells nothing and whose entries don't rise,
-//! impossible rows behind the opening test, `Office::command` by itself, and
-//! a commit for which memory is refused.
+//! impossible rows behind the opening test, drills over a keeper that forgets, `Office::command` by
+//! itself, and a commit for which memory is refused.
 //!
 //! There is nothing here but tests. All other examples are data: `office_script`, `format_script`,
 //! `clerk_script`.
@@ -10,6 +10,8 @@
 mod commands;
 #[cfg(test)]
 mod desk;
+#[cfg(test)]
+mod forgetting;
 #[cfg(test)]
 mod kept;
 #[cfg(test)]

@@ -1,19 +1,19 @@
+use crate::kept::Kept;
 use crate::outside::Outside;
 use crate::scene::Scene;
 use off_base::{NoMemory, Peer};
-use off_keepmem::MemKeeper;
-use off_outside::{Keeper, MemLink, SentRef, Service};
+use off_outside::{MemLink, SentRef, Service};
 use off_serve::place;
 use script_words::{Page, Unread, show_row};
 use std::alloc::Global;
 
 /// Prints the status of a run, what was written and sent, and what else the scene shows.
-pub fn show_run(
+pub fn show_run<K: Kept>(
     alloc: Global,
     page: &mut Page,
     scene: &Scene<'_>,
     status: u8,
-    outside: &mut Outside,
+    outside: &mut Outside<K>,
 ) -> Result<(), Unread> {
     page.text("status ")?;
     page.number(u64::from(status))?;
@@ -103,14 +103,14 @@ fn show_datagram(
     page.end_line()
 }
 
-fn show_calls(page: &mut Page, keeper: &MemKeeper) -> Result<(), NoMemory> {
+fn show_calls<K: Kept>(page: &mut Page, keeper: &K) -> Result<(), NoMemory> {
     page.text("calls of the keeper ")?;
     page.number(keeper.calls())?;
     page.end_line()
 }
 
 // The rows in the order of their keys. A call that is listed to fail is made again.
-fn show_tables(alloc: Global, page: &mut Page, keeper: &mut MemKeeper) -> Result<(), Unread> {
+fn show_tables<K: Kept>(alloc: Global, page: &mut Page, keeper: &mut K) -> Result<(), Unread> {
     let mut last = None;
     for _ in 0..u64::MAX {
         let Ok(entry) = keeper.next(alloc, last.as_ref()) else {

@@ -1,3 +1,4 @@
+use crate::kept::Kept;
 use crate::making::{More, NO_MORE, open, played};
 use crate::outside::Outside;
 use crate::results::show_run;
@@ -12,11 +13,11 @@ const IN_A_ROW: u64 = 16;
 const MOST_CALLS: u64 = 10_000;
 
 // What comes of a scene, from its opening rows on, where more calls fail.
-fn outcome(
+fn outcome<K: Kept + Drop>(
     alloc: Global,
     scene: &Scene<'_>,
     more: More,
-    outside: &mut Outside,
+    outside: &mut Outside<K>,
 ) -> Result<Page, Unread> {
     open(alloc, scene, more, outside)?;
     let status = played(alloc, scene, more, outside)?;
@@ -28,12 +29,12 @@ fn outcome(
 /// Prints what comes of a scene, and then what comes of it where one call of an object fails: the
 /// first, the second, and so on until there is no such call. What comes of a call is printed where
 /// it isn't as what came of the call before.
-pub fn show_each(
+pub fn show_each<K: Kept + Drop>(
     alloc: Global,
     page: &mut Page,
     scene: &Scene<'_>,
     part: Part,
-    outside: &mut Outside,
+    outside: &mut Outside<K>,
 ) -> Result<(), Unread> {
     let whole = outcome(alloc, scene, NO_MORE, outside)?;
     page.raw(whole.as_slice())?;
@@ -63,12 +64,12 @@ struct Each {
 }
 
 impl Each {
-    fn outcome(
+    fn outcome<K: Kept + Drop>(
         &self,
         alloc: Global,
         scene: &Scene<'_>,
         calls: (u64, u64),
-        outside: &mut Outside,
+        outside: &mut Outside<K>,
     ) -> Result<Page, Unread> {
         let more = More {
             part: self.part,
@@ -79,24 +80,24 @@ impl Each {
     }
 
     // Whether there is no such call.
-    fn ended(
+    fn ended<K: Kept + Drop>(
         &self,
         alloc: Global,
         scene: &Scene<'_>,
         from: u64,
-        outside: &mut Outside,
+        outside: &mut Outside<K>,
     ) -> Result<bool, Unread> {
         let page = self.outcome(alloc, scene, (from, IN_A_ROW), outside)?;
         Ok(page.as_slice() == self.whole.as_slice())
     }
 
-    fn show(
+    fn show<K: Kept + Drop>(
         &mut self,
         alloc: Global,
         page: &mut Page,
         scene: &Scene<'_>,
         from: u64,
-        outside: &mut Outside,
+        outside: &mut Outside<K>,
     ) -> Result<(), Unread> {
         let now = self.outcome(alloc, scene, (from, 1), outside)?;
         if now.as_slice() != self.last.as_slice() {

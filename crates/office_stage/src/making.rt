@@ -1,12 +1,13 @@
 ghost use Rattle.std.specs.Prelude.{◌≡◌, IfOk, OnOk};
 
 use crate::events::push_event;
+use crate::kept::Kept;
 use crate::outside::{Outside, runs};
 use crate::scene::{Part, Scene};
 use off_base::{Bytes, NoMemory, read_number};
 use off_defs::Writes;
-use off_keepmem::MemKeeper;
 use off_outside::{Calls, Events, Keeper, Link, MemLink, MemSink, MemSource};
+use off_rows::KeyBytes;
 use script_words::{Line, Page, Unread, read_write};
 use std::alloc::Global;
 use std::str;
@@ -78,15 +79,48 @@ fn sink_of(alloc: Global, scene: &Scene<'_>, more: More) -> Result<MemSink, Unre
     Ok(MemSink::new(alloc, scene.rooms.sink, fails)?)
 }
 
-// A keeper of the opening rows, which are put by its first call.
-fn keeper_of(alloc: Global, scene: &Scene<'_>, more: More) -> Result<MemKeeper, Unread> {
+// A keeper of the opening cells, and of the opening rows, which are put by its first call.
+fn keeper_of<K: Kept + Drop>(alloc: Global, scene: &Scene<'_>, more: More) -> Result<K, Unread> {
     let fails = calls(alloc, scene.fails.keeper, Part::Keeper, more)?;
-    let mut keeper = MemKeeper::new(alloc, fails);
+    let empty: K = K::made(alloc, fails)?;
+    let mut keeper = with_cells(alloc, empty, scene.cells.as_slice())?;
     put_rows(alloc, &mut keeper, scene.rows.as_slice())?;
     Ok(keeper)
 }
 
-fn put_rows(alloc: Global, keeper: &mut MemKeeper, lines: &[&[u8]]) -> Result<(), Unread> {
+// `cell 0802 0a`, the bytes of a key and those under it.
+fn with_cells<K: Kept + Drop>(alloc: Global, empty: K, lines: &[&[u8]]) -> Result<K, Unread> {
+    let mut keeper = empty;
+    for text in lines {
+        let mut line = Line::over(text);
+        let ident = key_of(part(alloc, &mut line)?.as_slice())?;
+        let val = part(alloc, &mut line)?;
+        keeper = keeper.with_cell(alloc, ident, val)?;
+    }
+    Ok(keeper)
+}
+
+fn part(alloc: Global, line: &mut Line<'_>) -> Result<Bytes, Unread> {
+    let mut bytes = Bytes::new(alloc);
+    line.hex(alloc, &mut bytes)?;
+    Ok(bytes)
+}
+
+// A key of 1 to 9 bytes.
+fn key_of(ident: &[u8]) -> Result<KeyBytes, Unread> {
+    let mut bytes = [0; 9];
+    let len = ident.len();
+    if len == 0 || 9 < len {
+        return Err(Unread::Words);
+    }
+    bytes[..len].copy_from_slice(ident);
+    Ok(KeyBytes {
+        bytes,
+        len: len as u8,
+    })
+}
+
+fn put_rows<K: Kept>(alloc: Global, keeper: &mut K, lines: &[&[u8]]) -> Result<(), Unread> {
     let mut writes = Writes::new(alloc);
     for line in lines {
         push_row(alloc, &mut writes, line)?;
@@ -159,18 +193,23 @@ pub fn read_words(alloc: Global, text: &[u8]) -> Result<Vec<String>, Unread> {
 }
 
 /// Begins with the scene's opening rows.
-pub fn open(
+pub fn open<K: Kept + Drop>(
     alloc: Global,
     scene: &Scene<'_>,
     more: More,
-    outside: &mut Outside,
+    outside: &mut Outside<K>,
 ) -> Result<(), Unread> {
     outside.keeper = keeper_of(alloc, scene, more)?;
     Ok(())
 }
 
 // Gives the scene's events, its bytes and its room.
-fn renew(alloc: Global, scene: &Scene<'_>, more: More, outside: &mut Outside) -> Result<(), Unread>
+fn renew<K: Kept>(
+    alloc: Global,
+    scene: &Scene<'_>,
+    more: More,
+    outside: &mut Outside<K>,
+) -> Result<(), Unread>
     ensures { OnOk result ((⟦<MemLink as Link>⟧.seen outside.new.link).missed ≡ 0) }
 {
     outside.source = source_of(alloc, scene, more)?;
@@ -180,11 +219,11 @@ fn renew(alloc: Global, scene: &Scene<'_>, more: More, outside: &mut Outside) ->
 }
 
 /// Runs the scene over the tables that the keeper has, and gives the status.
-pub fn played(
+pub fn played<K: Kept>(
     alloc: Global,
     scene: &Scene<'_>,
     more: More,
-    outside: &mut Outside,
+    outside: &mut Outside<K>,
 ) -> Result<u8, Unread> {
     let words = words_of(alloc, scene.words)?;
     renew(alloc, scene, more, outside)?;

@@ -31,6 +31,7 @@ pub struct Fails<'a> {
 #[derive(Drop)]
 pub struct Scene<'a> {
     pub words: &'a [u8],
+    pub cells: Vec<&'a [u8]>,
     pub rows: Vec<&'a [u8]>,
     pub events: Vec<&'a [u8]>,
     pub source: &'a [u8],
@@ -81,6 +82,7 @@ impl<'a> Scene<'a> {
     pub fn new(alloc: Global) -> Scene<'a> {
         Scene {
             words: WORDS,
+            cells: Vec::new(alloc),
             rows: Vec::new(alloc),
             events: Vec::new(alloc),
             source: b"",
@@ -106,6 +108,7 @@ impl<'a> Scene<'a> {
                 Ok(())
             }
             b"room" => self.take_room(line),
+            b"cell" => push(&mut self.cells, line.rest()),
             b"fails" => self.take_fails(line),
             b"show" => self.take_show(line),
             _ => self.take_row(text),

@@ -1,4 +1,5 @@
 use crate::comparing::show_each;
+use crate::kept::Kept;
 use crate::making::{NO_MORE, open, played, read_words};
 use crate::outside::Outside;
 use crate::results::{show_place, show_run};
@@ -10,16 +11,16 @@ use std::alloc::Global;
 /// Where the script is played: the scene that its lines have said so far, the rows that sections
 /// share, what the last run left, and what is to be printed.
 #[derive(Drop)]
-pub struct Stage<'a> {
+pub struct Stage<'a, K> {
     scene: Scene<'a>,
     common: Vec<&'a [u8]>,
-    outside: Outside,
+    outside: Outside<K>,
     page: Page,
 }
 
-impl<'a> Stage<'a> {
+impl<'a, K: Kept + Drop> Stage<'a, K> {
     /// An empty one.
-    pub fn new(alloc: Global) -> Result<Stage<'a>, NoMemory> {
+    pub fn new(alloc: Global) -> Result<Stage<'a, K>, Unread> {
         Ok(Stage {
             scene: Scene::new(alloc),
             common: Vec::new(alloc),

@@ -1,0 +1,87 @@
+"""The sections of office.py on the command `drill`.
+
+What the office sends to the modems of a drill, and the tables that it leaves, is computed by the models of leases and of transfers in leases.py
+and tftp.py, to which the drill's messages are given as RFC 2131 and RFC 1350 have them. The numbers are those of the rules: a file of 88 bytes has
+3 blocks of 44 bytes, of which the last is empty, and that of a suspended modem, which each tenth is, has 76 bytes in 2.
+"""
+import ipaddress
+
+from examples import outcome
+from leases import name_of
+from transfers import played, sends
+
+SECRET = b"drill"
+GOLD = "24{ 1=0001 6=07 8=00989680 } 25{ 1=0002 6=07 8=05f5e100 }"
+FOUNDED = [f"site 10.0.0.2 {SECRET.hex()} 0 86400 0.0.0.0", f'class 1 "gold" {GOLD}', "pool 1 10.64.16.0 10.64.31.255 20 10.64.0.1 10.64.0.1"]
+FIRST = ipaddress.IPv4Address("10.64.16.0")
+
+
+def mac(i):
+    return b"\x02\0\0" + i.to_bytes(3, "big")
+
+
+def address(i):
+    return FIRST + (i - 1)
+
+
+def option(code, data):
+    return bytes([code, len(data)]) + data
+
+
+def message(i, kind, more=b""):
+    """A message of modem i through its relay: without option 43, with the remote identifier alone in option 82."""
+    fixed = bytes([1, 1, 6, 0]) + i.to_bytes(4, "big") + bytes(16) + ipaddress.IPv4Address("10.64.0.1").packed + mac(i) + bytes(202) + bytes.fromhex("63825363")
+    return fixed + option(53, bytes([kind])) + more + option(60, b"docsis3.1:") + option(82, option(2, mac(i))) + b"\xff"
+
+
+def rows(count):
+    people = [(f'subscriber {i} {"active" if i % 10 else "suspended"} 2 "drill"', f'modem {mac(i).hex()} {i} 1 ""') for i in range(1, count + 1)]
+    return FOUNDED + [row for pair in people for row in pair]
+
+
+def events(count):
+    for i in range(1, count + 1):
+        moment, held = f"t+{i}", str(address(i))
+        yield moment, "offer", message(i, 1)
+        yield moment, "ack", message(i, 3, option(50, address(i).packed) + option(54, ipaddress.IPv4Address("10.0.0.2").packed))
+        asked = b"\0\1" + name_of(SECRET, mac(i), address(i).packed) + b"\0octet\0blksize\0" + b"44\0"
+        yield moment, "oack", sends(asked, held, 5000)
+        last = 3 if i % 10 else 2
+        for number in range(last + 1):
+            word = "done" if number == last else f"block {number + 1}"
+            yield moment, word, sends(b"\0\4" + number.to_bytes(2, "big"), held, 5000)
+
+
+def summary(count):
+    suspended = count // 10
+    active = count - suspended
+    return f"drill {count} offers {count} acks {count} files {count} blocks {3 * active + 2 * suspended} octets {88 * active + 76 * suspended}"
+
+
+def sections(script, office):
+    """Writes the sections; `office` are rows of another office."""
+    section, run = script.section, script.run
+    section("a drill founds an office, boots its modems, and tells their numbers", "By the models of leases and of transfers.")
+    for count in (1, 10, 100):
+        made = played(rows(count), events(count))
+        run("", ["show tables", f"words drill {count}"], outcome(wrote=[summary(count)], sent=made.sent, tables=made.office.rows()))
+    section("what fails in a drill", "Each call of the keeper fails in turn: status 3, and what was sent by then; a lost item is passed over; each call of the sink.")
+    sent = played(rows(1), events(1)).sent
+    run("", ["words drill 1", "fails each keeper"], outcome(wrote=[summary(1)], sent=sent),
+        *(outcome(3, ["keeper refused"], sent=sent[:count]) for count in range(len(sent))))
+    run("", ["words drill 1", "fails each link"], outcome(wrote=[summary(1)], sent=sent),
+        *(outcome(wrote=[summary(1)], sent=sent[:lost] + sent[lost + 1:]) for lost in range(len(sent))))
+    run("the link has room for three items", ["words drill 1", "room link 3 3000"], outcome(wrote=[summary(1)], sent=sent[:3]))
+    run("", ["words drill 1", "fails each sink"], outcome(wrote=[summary(1)], sent=sent), outcome(4, sent=sent))
+    section("a drill takes tables without rows alone", "By hand.")
+    run("tables with rows", ["office", "show tables", "words drill 1"], outcome(9, ["refused not-empty"], tables=office))
+    made = played(rows(1), events(1))
+    run("", ["words drill 1"], outcome(wrote=[summary(1)], sent=made.sent))
+    run("behind a drill", ["show tables", "words drill 1"], outcome(9, ["refused not-empty"], tables=made.office.rows()), again=True)
+    bad = [*office, 'modem 02aabbccdd99 99 1 ""']
+    run("a bad row", ["office", bad[-1], "show tables", "words drill 1"], outcome(2, ["tables refused modem 02aabbccdd99"], tables=bad))
+    section("the words of a drill", "By hand, from the forms of words.")
+    for words in ("drill", "drill 0", "drill 4001", "drill x", "drill 1 2", "drill _"):
+        run(words, [f"words {words}"], outcome(1, ["words refused"]))
+    script.line("place drill 4000")
+    script.expected.append("place memory 0 0 0 0")
