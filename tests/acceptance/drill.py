@@ -26,7 +26,7 @@ def summary(count):
 
 
 def main():
-    for count in (1, 9, 10, 11, 100, 1000):
+    for count in (1, 9, 10, 11, 100, 1000, 4000):
         done, seconds = drilled(str(count))
         check(done.returncode == 0, f"drill {count}: status {done.returncode}")
         check(done.stdout.decode() == summary(count), f"drill {count}: {done.stdout}")
