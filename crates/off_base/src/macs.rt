@@ -9,7 +9,7 @@ ghost use Rattle.off_base.specs.AddressText.{fours};
 use arrayvec::ArrayVec;
 
 /// A hardware address of six bytes (IEEE 802, EUI-48), as RFC 2131's `chaddr` has for Ethernet.
-#[derive(Clone, Copy, Debug, PartialEq, Eq, PartialOrd, Ord)]
+#[derive(Clone, Copy, Debug, PartialEq, Eq, PartialOrd, Ord, Hash)]
 pub struct Mac(pub [u8; 6]);
 
 /// A text that is none of a hardware address.

@@ -4,9 +4,9 @@
 --     drill MODEMS
 --     seal HEX
 --     check HEX
--- STORE is `memory` or a path that isn't empty and doesn't begin with `-`. Ports are numbers from 1
--- to 65535. N is 0 to 10^15. KIND is `subscribers` or `modems`, BATCH a number of 64 bits. MODEMS is
--- 1 to 4,000. HEX is a secret of 1 to 64 bytes in hexadecimal pairs of either case.
+-- STORE is `memory` or a path that isn't empty and doesn't begin with `-`. Ports are numbers from
+-- 1 to 65535. N is 0 to 10^15. KIND is `subscribers` or `modems`, BATCH a number of 64 bits. MODEMS
+-- is 1 to 4,000. HEX is a secret of 1 to 64 bytes in hexadecimal pairs of either case.
 use Rattle.std.specs.Prelude.{ℕ, ◌==◌, Bool, not, ◌&&◌, nat_lt, List, [], ◌∷◌, length, map, codes, slice_index, Option, Some, None, option_and_then, option_map, nat_le, if◌then◌else◌}
 use Rattle.std.specs.Option.{option_or}
 use Rattle.std.specs.List.{slice_split}

@@ -34,4 +34,5 @@ pub record TellsNone (seen : KeeperSeen) : Type 0 where
 
 -- a store of files is steady over a disk that returns what was written, over each call
 abbrev pub HonestFilesAreSteady : {D : Type 0} → disk.Ghosts D → Type 0
-HonestFilesAreSteady {D} g = ((d : D) → IsTrue (g.is_clean d)) → IsSteady (over_files {D = D} {g = g})
+HonestFilesAreSteady {D} g =
+  ((d : D) → IsTrue (g.is_clean d)) → IsSteady (over_files {D = D} {g = g})

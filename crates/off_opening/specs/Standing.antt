@@ -16,11 +16,14 @@ use Rattle.off_opening.specs.declared.opening.Opening.TheVariants as opening
 
 -- a modem has its subscriber and its class
 abbrev pub modem_tied : Tables → ℕ → ℕ → Bool
-modem_tied tables subscriber class = is_there tables (key.Subscriber subscriber) && is_there tables (key.Class class)
+modem_tied tables subscriber class =
+    is_there tables (key.Subscriber subscriber) && is_there tables (key.Class class)
 
 -- a lease has its site and its one pool, and its owner holds its address
 abbrev pub lease_tied : Tables → Ip4 → Option Mac → Bool
-lease_tied tables address owner = is_there tables key.Site && ((pools_around tables address == 1) && owner_holds tables address owner)
+lease_tied tables address owner =
+    is_there tables key.Site
+    && ((pools_around tables address == 1) && owner_holds tables address owner)
 
 -- a row stands in the right relations to the other rows, by what is compared with them
 abbrev pub tie_stands : Tables → Key → Tie → Bool
@@ -42,7 +45,8 @@ tie_stands tables (key.Batch n) held = true
 abbrev pub is_kept : Tables → Mark → Bool
 is_kept tables mark = mark.fits && tie_stands tables mark.key mark.tie
 
--- what an opening says of the tables: this is their least bad key; or they are good, and these are their counts
+-- what an opening says of the tables: this is their least bad key; or they are good, and these are
+-- their counts
 abbrev pub Opens : Tables → Opening → Type 0
 Opens tables (opening.Bad key) = IsLeastBad tables key
 Opens tables (opening.Good counts) = Good tables × (counts ≡ counts_of tables)

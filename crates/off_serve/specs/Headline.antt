@@ -318,8 +318,8 @@ pub record OfficeSame (old new : Outside) : Type 0 where
   pub link : LinkUnasked old.link new.link
   pub keeper : Unasked old.keeper new.keeper
 
--- What a job does. Only `serve` takes events, only `serve` and `drill` send, and `import`, `seal` and
--- `check` take bytes of the source. `seal` and `check` don't open the tables.
+-- What a job does. Only `serve` takes events, only `serve` and `drill` send, and `import`, `seal`
+-- and `check` take bytes of the source. `seal` and `check` don't open the tables.
 abbrev pub DoesJob : Job → Outside → Outside → ℕ → Type 0
 DoesJob (to_serve serve) old new status =
     ServesAsOffice serve.turns (world_in old) (world_in new) status

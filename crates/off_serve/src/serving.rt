@@ -32,16 +32,17 @@ pub enum Stop {
 /// `serve --store STORE --ports DHCP,TIME,TFTP,HTTP --turns N` opens the keeper's tables, takes
 /// events from the link until an End, N of them at most, sends what the office says of each and
 /// writes its line. `import --store STORE KIND BATCH` does the import that the source holds, in one
-/// step, and writes its number of rows. `drill MODEMS` founds an office over tables without rows, has
-/// so many modems boot, and writes what came of it. `seal HEX` seals the configuration file that the source
-/// holds under the secret HEX and writes it; `check HEX` verifies one. Other words are refused.
+/// step, and writes its number of rows. `drill MODEMS` founds an office over tables without rows,
+/// has so many modems boot, and writes what came of it. `seal HEX` seals the configuration file
+/// that the source holds under the secret HEX and writes it; `check HEX` verifies one. Other words
+/// are refused.
 ///
 /// Status 0: an End was read, or N events were taken, or the job is done (for `check`: both values
 /// are good). 1: the words fit no form. 2: the tables aren't good, and the line names their least
-/// bad key. 3: the keeper failed when the tables were opened, or in the steps of `import` or `drill`.
-/// 4: the sink failed in the last write. 5: the link failed sixteen times in a row. 6: memory was wanted
-/// outside of an event. 7: the source failed. 8: `check` finds a bad value or refuses the file. 9:
-/// `seal` refuses the file, the import is refused, or `drill` finds rows.
+/// bad key. 3: the keeper failed when the tables were opened, or in the steps of `import` or
+/// `drill`. 4: the sink failed in the last write. 5: the link failed sixteen times in a row. 6:
+/// memory was wanted outside of an event. 7: the source failed. 8: `check` finds a bad value or
+/// refuses the file. 9: `seal` refuses the file, the import is refused, or `drill` finds rows.
 pub fn run<L: Link, K: Keeper, S: Source, W: Sink>(
     alloc: Global,
     words: &[String],

@@ -31,8 +31,8 @@ pub struct Form<'a> {
 /// What main is to make for these words, which stand behind the program's name.
 ///
 /// `None` comes exactly where the words are none of the forms
-/// `serve --store STORE --ports DHCP,TIME,TFTP,HTTP --turns N`, `import --store STORE KIND BATCH` and
-/// `drill MODEMS`. The ports of the last two are 0, since they take no events, and the store of
+/// `serve --store STORE --ports DHCP,TIME,TFTP,HTTP --turns N`, `import --store STORE KIND BATCH`
+/// and `drill MODEMS`. The ports of the last two are 0, since they take no events, and the store of
 /// `drill` is `memory`.
 pub fn place(words: &[String]) -> Option<Wanted<'_>>
     ensures { option_map places_of result ≡ places_wanted (map string_bytes words.now) }

@@ -9,8 +9,8 @@ use off_outside::{Calls, Events, KeepErr, Keeper, MemLink, MemSink, one_more};
 use std::alloc::Global;
 use std::test::Fail;
 
-// A keeper that tells nothing. It keeps the first commits alone, and behind them it finds a lease so
-// many times more.
+// A keeper that tells nothing. It keeps the first commits alone, and behind them it finds a lease
+// so many times more.
 #[derive(Drop)]
 struct Forgetful {
     kept: MemKeeper,
@@ -93,7 +93,8 @@ fn drilled(
 }
 
 // Of a keeper that keeps nothing the command for the modem is refused, since there is no
-// subscriber, and goes by; no DISCOVER has an offer, and the rest of its modem's steps are left out.
+// subscriber, and goes by; no DISCOVER has an offer, and the rest of its modem's steps are left
+// out.
 #[test]
 fn a_drill_goes_by_what_is_refused(rt: HostRuntime) -> Result<(), Fail> {
     let line = "drill 2 offers 0 acks 0 files 0 blocks 0 octets 0\n";
