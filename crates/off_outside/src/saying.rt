@@ -7,6 +7,7 @@ ghost use Rattle.std.specs.Prelude.{
   ◌∷◌,
   ◌++◌,
   length,
+  take,
   OnOk,
   OnErr,
   slice_get,
@@ -79,6 +80,13 @@ impl Replies {
         ensures { result ≡ (length self.now.items == 0) }
     {
         self.items.is_empty()
+    }
+
+    /// Keeps the first things to send, so many at most, and takes back those behind them.
+    pub fn truncate(&mut self, most: usize)
+        ensures { self.new ≡ record self.old { items = take most self.old.items } }
+    {
+        self.items.truncate(most);
     }
 
     /// Says nothing from now on.
