@@ -98,7 +98,7 @@ fn offer_of(kind: u8, m: &Message<'_>, site: &Site, pool: Pool, address: Ip4) ->
     Offer {
         kind,
         yiaddr: address,
-        site: copy_site(site),
+        site: site.copy(),
         pool,
         name: file_name(site.secret.as_slice(), client(m), address),
     }
@@ -118,17 +118,5 @@ fn destination(m: &Message<'_>, direct: Ip4) -> Peer
             ip: relay,
             port: SERVER_PORT,
         }
-    }
-}
-
-fn copy_site(site: &Site) -> Site
-    ensures { result ≡ site.now }
-{
-    Site {
-        server: site.server,
-        secret: site.secret.copy(),
-        offset: site.offset,
-        lease: site.lease,
-        log: site.log,
     }
 }
