@@ -1,4 +1,5 @@
 pub mod CaseLemmas
+pub mod Chain
 pub mod ChoiceLemmas
 pub mod SpanLemmas
 pub mod StageLemmas

@@ -6,7 +6,7 @@ use Rattle.off_outside.specs.KeeperSeen.{KeeperSeen}
 use Rattle.off_outside.specs.KeeperCalls.{Looks, Reads, NotDone}
 use Rattle.off_outside.specs.declared.keeper.KeepErr.{KeepErr}
 use Rattle.off_outside.specs.declared.keeper.KeepErr.TheVariants.{Memory}
-use Rattle.off_outside.proofs.KeeperLemmas.{reads_then, reads_as, reads_none, reads_forgotten, failed_then, spent_none, spent_one, spent_then, spent_within}
+use Rattle.off_outside.proofs.KeeperLemmas.{reads_then, reads_as, reads_none, reads_forgotten, failed_then}
 use Rattle.off_lease_rules.specs.declared.results.LeaseStep.{LeaseStep}
 
 pub looks_settled : {P : Tables → Type 0} {a b : KeeperSeen} (step : Result LeaseStep NoMemory) (kept : Result LeaseStep KeepErr) (Q : LeaseStep → Tables → Type 0) (made : LeaseStep)
@@ -20,6 +20,3 @@ pub looks_then : {P : Tables → Type 0} {a b : KeeperSeen} (c : KeeperSeen) (re
     → ((s : LeaseStep) (t : Tables) → P t → Q s t → R s t) → Looks result a c R
 looks_then c (Ok s) Q R p q join = reads_then p q (join s)
 looks_then c (Err err) Q R p q join = failed_then p q
-
--- calls of a keeper in a row, and how many there are
-pub ruleset readings = (reads_then, reads_as, reads_none, reads_forgotten, failed_then, spent_none, spent_one, spent_then, spent_within)

@@ -29,7 +29,7 @@ use std::alloc::Global;
 ///
 /// A message that is refused by what it says itself makes one call of the keeper at most, and one
 /// that gives an address back two.
-#[tactic(auto, using(crate::proofs::StageLemmas::readings))]
+#[tactic(auto, using(crate::proofs::Chain::rows))]
 pub fn answer<K: Keeper>(
     alloc: Global,
     keeper: &mut K,
@@ -49,7 +49,7 @@ pub fn answer<K: Keeper>(
 }
 
 // What becomes of a message that is neither refused by what it says itself, nor for want of a site.
-#[tactic(auto, using(crate::proofs::StageLemmas::readings))]
+#[tactic(auto, using(crate::proofs::Chain::rows))]
 fn answer_by_rows<K: Keeper>(
     alloc: Global,
     keeper: &mut K,
@@ -70,7 +70,7 @@ fn answer_by_rows<K: Keeper>(
 }
 
 // What becomes of a message of which no early rule is broken.
-#[tactic(auto, using(crate::proofs::StageLemmas::readings))]
+#[tactic(auto, using(crate::proofs::Chain::rows))]
 fn answer_case<K: Keeper>(
     alloc: Global,
     keeper: &mut K,

@@ -18,7 +18,7 @@ use off_readers::{has_address, read_lease};
 use std::alloc::Global;
 
 /// The address that the message is about: for a DISCOVER it is chosen. Otherwise it's no call.
-#[tactic(auto, using(crate::proofs::StageLemmas::readings))]
+#[tactic(auto, using(crate::proofs::Chain::rows))]
 pub(crate) fn choose<K: Keeper>(
     alloc: Global,
     keeper: &mut K,
@@ -45,7 +45,7 @@ pub(crate) fn choose<K: Keeper>(
 
 // The client's own address, or else the one that it asks for, where that is free, or else the least
 // that is free.
-#[tactic(auto, using(crate::proofs::StageLemmas::readings))]
+#[tactic(auto, using(crate::proofs::Chain::rows))]
 fn choice<K: Keeper>(
     alloc: Global,
     keeper: &mut K,
@@ -63,7 +63,7 @@ fn choice<K: Keeper>(
     }
 }
 
-#[tactic(auto, using(crate::proofs::StageLemmas::readings))]
+#[tactic(auto, using(crate::proofs::Chain::rows))]
 fn choice_of_free<K: Keeper>(
     alloc: Global,
     keeper: &mut K,
@@ -95,7 +95,7 @@ fn only_within(pool: &Pool, address: Option<Ip4>) -> Option<Ip4>
 }
 
 // The address, where it's one of the pool's that is free.
-#[tactic(auto, using(crate::proofs::StageLemmas::readings))]
+#[tactic(auto, using(crate::proofs::Chain::rows))]
 fn only_free<K: Keeper>(
     alloc: Global,
     keeper: &mut K,
@@ -121,7 +121,7 @@ fn if_so(holds: bool, address: Ip4) -> Option<Ip4>
 }
 
 /// The lease of the address that is offered. For other messages it doesn't matter, and is no call.
-#[tactic(auto, using(crate::proofs::StageLemmas::readings))]
+#[tactic(auto, using(crate::proofs::Chain::rows))]
 pub(crate) fn lease_of<K: Keeper>(
     alloc: Global,
     keeper: &mut K,

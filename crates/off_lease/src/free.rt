@@ -31,7 +31,7 @@ pub(crate) fn least_free<K: Keeper>(
 }
 
 /// Whether the pool has the address, and it's free: it has no lease, or one that has ended.
-#[tactic(auto, using(crate::proofs::StageLemmas::readings))]
+#[tactic(auto, using(crate::proofs::Chain::rows))]
 pub(crate) fn is_free<K: Keeper>(
     alloc: Global,
     keeper: &mut K,

@@ -16,7 +16,7 @@ use std::alloc::Global;
 
 /// The rows by which the message is judged, the site among them. Where the client asks for nothing
 /// it's one call.
-#[tactic(auto, using(crate::proofs::StageLemmas::readings))]
+#[tactic(auto, using(crate::proofs::Chain::rows))]
 pub(crate) fn gather<K: Keeper>(
     alloc: Global,
     keeper: &mut K,
@@ -37,7 +37,7 @@ pub(crate) fn gather<K: Keeper>(
 }
 
 // The rows by which a client is judged that asks for an address.
-#[tactic(auto, using(crate::proofs::StageLemmas::readings), unfolding(off_lease_rules::specs::Free::case_of))]
+#[tactic(auto, using(crate::proofs::Chain::rows), unfolding(off_lease_rules::specs::Free::case_of))]
 fn gather_all<K: Keeper>(
     alloc: Global,
     keeper: &mut K,
@@ -61,7 +61,7 @@ fn gather_all<K: Keeper>(
 }
 
 // Those by which a client is judged that gives one back.
-#[tactic(auto, using(crate::proofs::StageLemmas::readings))]
+#[tactic(auto, using(crate::proofs::Chain::rows))]
 fn gather_held<K: Keeper>(
     alloc: Global,
     keeper: &mut K,
