@@ -13,16 +13,14 @@ import hmac
 import os
 import re
 import selectors
-import shutil
 import socket
 import struct
-import subprocess
 import sys
 import tempfile
 import time
 
 import leases_over_sockets as office
-from listening import forge_from, stop
+from listening import forge_from, only_alone, stop
 from time_service import PROGRAM, SECONDS_BEFORE_1970, check, failures, start
 
 sys.dont_write_bytecode = True
@@ -40,17 +38,7 @@ SIZES = (b"1428", b"512", None, b"44", b"65464", b"88", b"8", b"1427")
 PATIENCE, WAVE = 1.0, 64
 
 
-def extensions(length):
-    """Vendor's settings of so many bytes."""
-    parts = []
-    while length > 0:
-        taken = min(length, 256)
-        parts.append(f"43{{ 8=000000 1={'07' * (taken - 9)} }}")
-        length -= taken
-    return " ".join(parts)
-
-
-LARGEST, LARGE_BOOST = f"{GOLD} {extensions(2048 - len(tftp.spelled_tree(tftp.tree_in(GOLD))))}", f"{BOOST} {extensions(512 - 18)}"
+LARGEST, LARGE_BOOST = f"{GOLD} {tftp.extensions(2048 - len(tftp.spelled_tree(tftp.tree_in(GOLD))))}", f"{BOOST} {tftp.extensions(512 - 18)}"
 
 
 def owner_of(number):
@@ -463,13 +451,7 @@ def main():
         return 1
     if sys.argv[1:] == ["booting"]:
         return booting()
-    if not shutil.which("unshare") or subprocess.run(["unshare", "-rn", "true"], stderr=subprocess.DEVNULL).returncode != 0:
-        print("skipped, since `unshare -rn` gives no network of its own here")
-        return 0
-    done = subprocess.run(["unshare", "-rn", sys.executable, os.path.abspath(__file__), "booting"], timeout=240)
-    check(done.returncode == 0, "modems have their files")
-    print(f"acceptance: {len(failures)} failed")
-    return 1 if failures else 0
+    return only_alone(__file__, "booting", 240, "modems have their files")
 
 
 if __name__ == "__main__":

@@ -15,17 +15,10 @@ import tempfile
 
 sys.path.insert(0, os.path.dirname(os.path.abspath(__file__)))
 from listening import stop  # noqa: E402
-from time_service import PROGRAM, start, wait_until_ready  # noqa: E402
+from time_service import PROGRAM, check, failures, start, wait_until_ready  # noqa: E402
 
 PORTS = [6767, 3737, 6969, 8080]
 MOST = 1_048_576
-failures = []
-
-
-def check(holds, what):
-    if not holds:
-        failures.append(what)
-        print("FAILED", what)
 
 
 def table(kind, rows, end="\n"):

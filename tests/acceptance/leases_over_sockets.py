@@ -9,16 +9,14 @@ import fcntl
 import json
 import os
 import re
-import shutil
 import socket
 import struct
-import subprocess
 import sys
 import tempfile
 import time
 
 from clerk_connections import read_to_end, request
-from listening import stop
+from listening import only_alone, stop
 from time_service import PROGRAM, ROOT, check, failures, start
 
 sys.dont_write_bytecode = True
@@ -245,13 +243,7 @@ def main():
         return 1
     if sys.argv[1:] == ["booting"]:
         return booting()
-    if not shutil.which("unshare") or subprocess.run(["unshare", "-rn", "true"], stderr=subprocess.DEVNULL).returncode != 0:
-        print("skipped, since `unshare -rn` gives no network of its own here")
-        return 0
-    done = subprocess.run(["unshare", "-rn", sys.executable, os.path.abspath(__file__), "booting"], timeout=60)
-    check(done.returncode == 0, "modems have leases")
-    print(f"acceptance: {len(failures)} failed")
-    return 1 if failures else 0
+    return only_alone(__file__, "booting", 60, "modems have leases")
 
 
 if __name__ == "__main__":

@@ -25,6 +25,27 @@ def stop(program):
     program.wait(timeout=10)
 
 
+def may_be_alone():
+    """Whether a network of its own can be had here."""
+    return bool(shutil.which("unshare")) and subprocess.run(["unshare", "-rn", "true"], stderr=subprocess.DEVNULL).returncode == 0
+
+
+def alone(script, word, seconds, what):
+    """Runs a script with this word in a network of its own, where what it tries holds if it ends with status 0."""
+    done = subprocess.run(["unshare", "-rn", sys.executable, os.path.abspath(script), word], timeout=seconds)
+    check(done.returncode == 0, what)
+
+
+def only_alone(script, word, seconds, what):
+    """The whole of a script that needs such a network: its status."""
+    if not may_be_alone():
+        print("skipped, since `unshare -rn` gives no network of its own here")
+        return 0
+    alone(script, word, seconds, what)
+    print(f"acceptance: {len(failures)} failed")
+    return 1 if failures else 0
+
+
 def is_heard(address, port):
     try:
         socket.create_connection((address, port), timeout=2).close()
@@ -173,9 +194,8 @@ def main():
     if sys.argv[1:] == ["loops"]:
         return loops()
     addresses()
-    if shutil.which("unshare") and subprocess.run(["unshare", "-rn", "true"], stderr=subprocess.DEVNULL).returncode == 0:
-        done = subprocess.run(["unshare", "-rn", sys.executable, os.path.abspath(__file__), "loops"], timeout=60)
-        check(done.returncode == 0, "no loop")
+    if may_be_alone():
+        alone(__file__, "loops", 60, "no loop")
     else:
         print("loops: skipped, since `unshare -rn` gives no network of its own here")
     print(f"acceptance: {len(failures)} failed")

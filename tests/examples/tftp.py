@@ -95,6 +95,16 @@ def spelled_tree(tree):
     return spelled([(code, value if isinstance(value, bytes) else spelled_tree(value)) for code, value in tree])
 
 
+def extensions(length):
+    """Vendor's settings of so many bytes, as text."""
+    parts = []
+    while length > 0:
+        taken = min(length, 256)
+        parts.append(f"43{{ 8=000000 1={'07' * (taken - 9)} }}")
+        length -= taken
+    return " ".join(parts)
+
+
 def plus(value, number):
     return (int.from_bytes(value, "big") + number).to_bytes(len(value), "big")
 

@@ -11,7 +11,7 @@ from examples import request as asked_over_http
 from leases import (A, HELD, MAC, MOST, OTHER, SECOND, Clerk, Disagreement, Office, Player, address, declines, discover, leased, mac, modem_row, name_of,
                     put_site, releases, remove, renews, selects)
 import leases
-from tftp import ERROR, OPTIONS, WRITE, Transfers, acknowledgement, data, error, headed, options, request, tree_in, tree_json
+from tftp import ERROR, OPTIONS, WRITE, Transfers, acknowledgement, data, error, extensions, headed, options, request, tree_in, tree_json
 
 MODEL = "By the model of transfers in tests/examples/tftp.py, from RFC 1350, 2347 and 2348, and the office's rules."
 PORT = 5000
@@ -511,13 +511,6 @@ def refusing(player):
 
 def largest():
     """Rows of the largest class and add-ons."""
-    def extensions(length):
-        parts = []
-        while length > 0:
-            taken = min(length, 256)
-            parts.append(f"43{{ 8=000000 1={'07' * (taken - 9)} }}")
-            length -= taken
-        return " ".join(parts)
     return [f'class 1 "gold" {PLAIN} {extensions(2048 - 18)}', *(f"add-on 7 {number} {BOOST} {extensions(512 - 18)}" for number in range(8))]
 
 
