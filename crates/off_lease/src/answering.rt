@@ -92,8 +92,5 @@ fn answer_case<K: Keeper>(
 fn kept(step: Result<LeaseStep, NoMemory>) -> Result<LeaseStep, KeepErr>
     ensures { MatchResult result (λ kept. step ≡ Ok kept) (λ err. err ≡ Memory) }
 {
-    match step {
-        Ok(step) => Ok(step),
-        Err(NoMemory) => Err(KeepErr::Memory),
-    }
+    Ok(step?)
 }

@@ -5,6 +5,7 @@ ghost use Rattle.off_defs.specs.Tables.{row_at, next_entry};
 ghost use Rattle.off_outside.specs.KeeperSeen.{KeeperSeen, Rests};
 ghost use Rattle.off_outside.specs.KeeperCalls.{Looks, Commits, WasCounted};
 
+use off_base::NoMemory;
 use off_defs::{Key, Row, Writes};
 use std::alloc::Global;
 
@@ -15,6 +16,17 @@ pub enum KeepErr {
     Memory,
     /// The keeper failed, and counted a fault.
     Failed,
+}
+
+impl From<NoMemory> for KeepErr {
+    ghost use Rattle.std.specs.Prelude.{◌≡◌};
+    ghost use Rattle.off_outside.specs.declared.keeper.KeepErr.TheVariants.{Memory};
+
+    ghost from_gives = { λ refused err. err ≡ Memory };
+
+    fn from(_refused: NoMemory) -> KeepErr {
+        KeepErr::Memory
+    }
 }
 
 /// Where the office's tables stand. After an error the tables are as before, and `Failed` has
