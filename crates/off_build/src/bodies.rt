@@ -5,19 +5,21 @@ use off_base::{Bytes, NoMemory, Settings};
 use off_tlv::write_settings;
 use std::alloc::Global;
 use std::marker::Model;
+use std::rc::RcSlice;
 
-/// The spelling of a profile. Contracts see its bytes.
+/// The spelling of a profile, which several owners share. Contracts see its bytes.
 #[derive(Drop)]
 pub struct Body {
-    spelling: Bytes,
+    spelling: RcSlice<u8>,
 }
 
 impl Model for Body {
     ghost use Rattle.std.specs.Prelude.{List, ℕ};
+    ghost use Rattle.std.specs.Rc.{rc_slice_items};
 
     ghost Value = { List ℕ };
 
-    ghost view = { λ b. b.spelling };
+    ghost view = { λ b. rc_slice_items b.spelling };
 }
 
 impl Body {
@@ -27,8 +29,17 @@ impl Body {
         requires { AllFit profile.now }
         ensures { IfOk result (λ body. body ≡ spelling profile.now) }
     {
-        let mut spelling = Bytes::new(alloc);
-        write_settings(profile, &mut spelling)?;
+        let mut bytes = Bytes::new(alloc);
+        write_settings(profile, &mut bytes)?;
+        let spelling = RcSlice::from_slice(alloc, bytes.as_slice())?;
+        Ok(Body { spelling })
+    }
+
+    /// One more owner of the same bytes, which are not copied.
+    pub fn share(&self) -> Result<Body, NoMemory>
+        ensures { IfOk result (λ body. body ≡ self.now) }
+    {
+        let spelling = self.spelling.clone()?;
         Ok(Body { spelling })
     }
 
@@ -43,7 +54,7 @@ impl Body {
     pub fn is_empty(&self) -> bool
         ensures { result ≡ (length self.now == 0) }
     {
-        self.spelling.is_empty()
+        self.spelling.len() == 0
     }
 
     // The bytes.
