@@ -1,0 +1,4 @@
+mod ListLemmas
+mod PutLemmas
+mod TurnLemmas
+mod SameLemmas

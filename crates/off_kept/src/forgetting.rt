@@ -1,0 +1,81 @@
+//! One turn round the cache, from its last entry to its first: each entry is taken out or goes to
+//! the front, so that the order of those that stay comes back by itself.
+ghost use Rattle.std.specs.Prelude.{◌≡◌, [], ◌∷◌, ◌++◌, option_map, if◌then◌else◌};
+ghost use Rattle.lru.specs.LruCache.{last_entry};
+ghost use Rattle.off_kept.specs.Entries.{Entry, Entries, stands_in, key_of, is_written};
+ghost use Rattle.off_kept.specs.Entries.{without_written};
+
+use crate::bodies::KeptBody;
+use lru::LruCache;
+use off_base::Mac;
+use off_defs::{Key, Write, Writes};
+
+/// Takes out the entries of which these writes change a row.
+pub(crate) fn forget_written(cache: &mut LruCache<Mac, KeptBody>, writes: &Writes)
+    ensures entries { cache.new.entries ≡ without_written writes.now cache.old.entries }
+    ensures cap { cache.new.cap ≡ cache.old.cap }
+{
+    for _passed in 0..cache.len() {
+        turn(cache, writes);
+    }
+}
+
+// Takes out the last entry where the writes change a row of it, and puts it first where not.
+fn turn(cache: &mut LruCache<Mac, KeptBody>, writes: &Writes)
+    ensures turns { (front : Entries) (last : Entry) → cache.old.entries ≡ front ++ last ∷ []
+        → cache.new.entries ≡ (if is_written writes.now last then front else last ∷ front) }
+    ensures cap { cache.new.cap ≡ cache.old.cap }
+{
+    let _len = cache.len();
+    let Some((modem, is_gone)) = last_written(cache, writes) else {
+        return;
+    };
+    if is_gone {
+        let _gone = cache.pop_lru();
+    } else {
+        let _is_there = cache.promote(&modem);
+    }
+}
+
+// The modem of the last entry, and whether the writes change a row of it.
+fn last_written(cache: &LruCache<Mac, KeptBody>, writes: &Writes) -> Option<(Mac, bool)>
+    ensures { result ≡ option_map (λ entry. (entry.0, is_written writes.now entry))
+        (last_entry cache.now.entries) }
+{
+    let (modem, kept) = cache.peek_lru()?;
+    Some((*modem, is_written(writes, *modem, kept)))
+}
+
+// Whether the writes change a row of a modem's entry.
+fn is_written(writes: &Writes, modem: Mac, kept: &KeptBody) -> bool
+    ensures { result ≡ is_written writes.now (modem, kept.now) }
+{
+    for i in 0..writes.len() {
+        if stands_in(key_of(writes.get(i)), modem, kept) {
+            return true;
+        }
+    }
+    false
+}
+
+// The key that a write changes.
+fn key_of(write: &Write) -> Key
+    ensures { result ≡ key_of write.now }
+{
+    match write {
+        Write::Put(key, _) => *key,
+        Write::Drop(key) => *key,
+    }
+}
+
+// Whether a row of this key stands in the file of a modem's entry.
+fn stands_in(key: Key, modem: Mac, kept: &KeptBody) -> bool
+    ensures { result ≡ stands_in key (modem, kept.now) }
+{
+    match key {
+        Key::Modem(mac) => mac == modem,
+        Key::Subscriber(number) | Key::AddOn(number, _) => number == kept.subscriber,
+        Key::Class(number) => number == kept.class,
+        Key::Site | Key::Pool(_) | Key::Lease(_) | Key::Held(_) | Key::Batch(_) => false,
+    }
+}
