@@ -1,4 +1,5 @@
 mod ListLemmas
 mod PutLemmas
-mod TurnLemmas
+pub mod RightLemmas
 mod SameLemmas
+mod TurnLemmas

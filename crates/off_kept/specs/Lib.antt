@@ -1,3 +1,4 @@
 pub mod Same
 pub mod Entries
 pub mod Right
+pub mod Laws
