@@ -67,10 +67,11 @@ impl Kept {
         ensures err { OnErr result (self.new ≡ self.old) }
     {
         let _len = self.cache.len();
-        match self.cache.put(modem, kept) {
-            Ok(_former) => Ok(()),
-            Err(_refused) => Err(NoMemory),
+        let is_put = self.cache.put(modem, kept).is_ok();
+        if is_put {
+            return Ok(());
         }
+        Err(NoMemory)
     }
 
     /// Forgets the bodies of which these writes change a row. The others keep their order. It takes
