@@ -3,3 +3,4 @@ mod PutLemmas
 pub mod RightLemmas
 mod SameLemmas
 mod TurnLemmas
+pub mod WriteLemmas

@@ -1,5 +1,5 @@
 -- What is kept is right by the tables, whatever they are: at the start, behind a put, behind writes; and what a right entry gives to its modem.
-use Rattle.std.proofs.Common.{◌≡◌, ℕ, ◌==◌, Bool, true, false, cond, not, ◌||◌, List, [], ◌∷◌, Option, Some, None, option_map, refl, sym, ap, ◌∙◌, subst}
+use Rattle.std.proofs.Common.{◌≡◌, ℕ, ◌==◌, Bool, true, false, cond, not, List, [], ◌∷◌, Option, Some, None, option_map, refl, sym, ap, ◌∙◌, subst}
 use Rattle.std.specs.List.{filter, filter_map}
 use Rattle.std.specs.Option.{option_and_then}
 use Rattle.std.specs.Ordering.{eq_by_cmp}
@@ -28,6 +28,7 @@ use Rattle.off_kept.specs.Same.{is_same_mac}
 use Rattle.off_kept.specs.Entries.{Entry, Entries, kept_of, with_first, stands_in, key_of, is_written, without_written}
 use Rattle.off_kept.specs.Right.{IsRight, AllRight}
 use Rattle.off_kept.proofs.SameLemmas.{is_same_mac-Decides}
+use Rattle.off_kept.proofs.WriteLemmas.{neither, all_stay}
 
 -- ---- rows that aren't written stay
 
@@ -44,10 +45,6 @@ row_behind t write e q stands apart =
       | false ↦ λ same. refl
     ]) refl in
     row_left t write q other
-
-neither : (a b : Bool) → (a || b) ≡ false → (a ≡ false) × (b ≡ false)
-neither true b e = cc
-neither false b e = (refl, e)
 
 row_stays : (e : Entry) (q : Key) → stands_in q e ≡ true → (writes : List Write) (t : Tables) → is_written writes e ≡ false → row_at (write_all t writes) q ≡ row_at t q
 row_stays e q stands [] t none = refl
@@ -116,8 +113,7 @@ kept_stays_right t writes (e ∷ es) right =
 
 -- where nothing is written all stay
 pub nothing_written : (es : Entries) → without_written [] es ≡ es
-nothing_written [] = refl
-nothing_written (e ∷ es) = ap (λ (rest : Entries). e ∷ rest) (nothing_written es)
+nothing_written es = all_stay [] es refl
 
 -- ---- the other calls
 

@@ -1,6 +1,6 @@
 -- What is kept: for each modem that asked for its file the body that was built, the modem that
 -- asked last first, and so many modems at most.
-use Rattle.std.specs.Prelude.{ℕ, ◌==◌, Bool, false, not, List, ◌∷◌, take, Option, refl}
+use Rattle.std.specs.Prelude.{ℕ, ◌==◌, Bool, true, false, not, List, ◌∷◌, take, Option, refl}
 use Rattle.std.specs.List.{filter, list_any}
 use Rattle.std.specs.Map.{lookup}
 use Rattle.std.specs.Coded.{Coded, code_by, coded×, coded_ℕ, coded_list}
@@ -46,10 +46,26 @@ stands_in (Lease address) entry = false
 stands_in (Held mac) entry = false
 stands_in (Batch number) entry = false
 
+-- rows of this key stand in some files
+abbrev pub is_of_files : Key → Bool
+is_of_files (Modem mac) = true
+is_of_files (Subscriber number) = true
+is_of_files (AddOn subscriber number) = true
+is_of_files (Class number) = true
+is_of_files Site = false
+is_of_files (Pool number) = false
+is_of_files (Lease address) = false
+is_of_files (Held mac) = false
+is_of_files (Batch number) = false
+
 -- the key that a write changes
 abbrev pub key_of : Write → Key
 key_of (Put key row) = key
 key_of (Drop key) = key
+
+-- one of the writes changes a row of some files
+abbrev pub changes_files : List Write → Bool
+changes_files writes = list_any (λ write. is_of_files (key_of write)) writes
 
 -- one of the writes changes a row of the entry's file
 abbrev pub is_written : List Write → Entry → Bool

@@ -3,7 +3,7 @@
 ghost use Rattle.std.specs.Prelude.{◌≡◌, [], ◌∷◌, ◌++◌, option_map, if◌then◌else◌};
 ghost use Rattle.lru.specs.LruCache.{last_entry};
 ghost use Rattle.off_kept.specs.Entries.{Entry, Entries, stands_in, key_of, is_written};
-ghost use Rattle.off_kept.specs.Entries.{without_written};
+ghost use Rattle.off_kept.specs.Entries.{is_of_files, changes_files, without_written};
 
 use crate::bodies::KeptBody;
 use lru::LruCache;
@@ -15,8 +15,34 @@ pub(crate) fn forget_written(cache: &mut LruCache<Mac, KeptBody>, writes: &Write
     ensures entries { cache.new.entries ≡ without_written writes.now cache.old.entries }
     ensures cap { cache.new.cap ≡ cache.old.cap }
 {
+    let is_of_files = changes_files(writes);
+    if !is_of_files {
+        return;
+    }
     for _passed in 0..cache.len() {
         turn(cache, writes);
+    }
+}
+
+// Whether the writes change a row that stands in some files. Leases don't, which are written most.
+fn changes_files(writes: &Writes) -> bool
+    ensures { result ≡ changes_files writes.now }
+{
+    for place in 0..writes.len() {
+        if is_of_files(key_of(writes.get(place))) {
+            return true;
+        }
+    }
+    false
+}
+
+// Whether rows of this key stand in some files.
+fn is_of_files(key: Key) -> bool
+    ensures { result ≡ is_of_files key }
+{
+    match key {
+        Key::Modem(_) | Key::Subscriber(_) | Key::AddOn(_, _) | Key::Class(_) => true,
+        Key::Site | Key::Pool(_) | Key::Lease(_) | Key::Held(_) | Key::Batch(_) => false,
     }
 }
 

@@ -1,6 +1,7 @@
-use Rattle.std.proofs.Common.{rules, refl, ◌∙◌}
+use Rattle.std.proofs.Common.{rules, refl, sym, ◌∙◌}
 use Rattle.off_kept.specs.Entries.{is_written}
 use Rattle.off_kept.proofs.TurnLemmas.{passed_none, passed_more, passed_all}
+use Rattle.off_kept.proofs.WriteLemmas.{all_stay}
 use Rattle.off_kept.proofs.forgetting.forget_written.Goals as goal
 
 pub loop-passed-init : goal.loop-passed-init
@@ -17,3 +18,6 @@ loop-passed-preserved c = (
 pub returns-clause-entries : goal.returns-clause-entries
 returns-clause-entries c =
     passed_all (is_written c.args.writes.now) c.args.cache.now.entries c.loop-passed.cache.entries c.loop-passed._passed c.loop-passed.invariant.0 (search rules)
+
+pub returns-then-not-is_of_files-clause-entries : goal.returns-then-not-is_of_files-clause-entries
+returns-then-not-is_of_files-clause-entries c = sym (all_stay c.args.writes.now c.args.cache.now.entries (sym c.changes_files-is_of_files.ensures ∙ search rules))
