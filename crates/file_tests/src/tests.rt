@@ -1,7 +1,8 @@
 use md5::{Digest, Md5};
 use off_base::{Bytes, Ip4, Mac, Moment, NoMemory, Settings, Short};
 use off_build::{Body, FileTail, block, tail};
-use off_defs::Subscriber;
+use off_defs::{Key, Subscriber, Write, Writes};
+use off_kept::{Kept, KeptBody};
 use off_mic::verify;
 use off_profile::{AddOns, file_name, profile_of};
 use off_tlv::{read_settings, spelled_len};
@@ -245,4 +246,62 @@ fn the_largest_file_has_6200_bytes(rt: HostRuntime) -> Result<(), Fail> {
 fn a_name_is_of_its_modem_and_address(rt: HostRuntime) {
     let name = file_name(SECRET, Mac([0x02, 0xaa, 0xbb, 0xcc, 0xdd, 0xee]), ADDRESS);
     assert_eq!(rt; name, *b"02aabbccddee-82d91cd0f5ff2dc7.cm");
+}
+
+const FIRST: Mac = Mac([0x02, 0, 0, 0, 0, 1]);
+
+const SECOND: Mac = Mac([0x02, 0, 0, 0, 0, 2]);
+
+fn keep(kept: &mut Kept, modem: Mac, subscriber: u32, body: &Body) -> Result<(), NoMemory> {
+    let body = body.share()?;
+    kept.put_first(
+        modem,
+        KeptBody {
+            subscriber,
+            class: 1,
+            body,
+        },
+    )
+}
+
+fn made_body(alloc: Global) -> Result<Body, NoMemory> {
+    let made = gold(alloc, true, false)?;
+    body_of(alloc, &made)
+}
+
+// One body, kept for two modems of two subscribers.
+fn two_kept(alloc: Global) -> Result<Kept, NoMemory> {
+    let body = made_body(alloc)?;
+    let mut kept = Kept::new(alloc)?;
+    keep(&mut kept, FIRST, 7, &body)?;
+    keep(&mut kept, SECOND, 8, &body)?;
+    Ok(kept)
+}
+
+fn drop_row(alloc: Global, kept: &mut Kept, key: Key) -> Result<(), NoMemory> {
+    let mut writes = Writes::new(alloc);
+    writes.push(Write::Drop(key))?;
+    kept.forget(&writes);
+    Ok(())
+}
+
+// The length of the body that is kept of a modem.
+fn found_len(kept: &Kept, modem: Mac) -> Result<Option<usize>, NoMemory> {
+    match kept.find(modem)? {
+        Some(found) => Ok(Some(found.body.len())),
+        None => Ok(None),
+    }
+}
+
+#[test]
+fn a_body_is_kept_until_its_rows_are_written(rt: HostRuntime) -> Result<(), Fail> {
+    let mut kept = two_kept(rt.alloc())?;
+    drop_row(rt.alloc(), &mut kept, Key::Lease(ADDRESS))?;
+    assert_eq!(rt; found_len(&kept, FIRST)?, Some(36));
+    drop_row(rt.alloc(), &mut kept, Key::AddOn(7, 0))?;
+    assert_eq!(rt; found_len(&kept, FIRST)?, None);
+    assert_eq!(rt; found_len(&kept, SECOND)?, Some(36));
+    drop_row(rt.alloc(), &mut kept, Key::Class(1))?;
+    assert_eq!(rt; found_len(&kept, SECOND)?, None);
+    Ok(())
 }
