@@ -1,10 +1,12 @@
 -- What a keeper tells that has just begun.
-use Rattle.std.proofs.Common.{◌≡◌, true, Result, Ok, Err, IfOk, ℕ, List, [], ◌∷◌, length, subst, map as each, refl, sym, ap, ◌∙◌}
+use Rattle.std.proofs.Common.{◌≡◌, ℕ, ◌≤◌, true, Result, Ok, Err, IfOk, List, [], ◌∷◌, length, subst, map as each, refl, sym, ap, ◌∙◌, arith, inl, inr}
 use Rattle.std.specs.Ordering.{nat_cmp}
 use Rattle.std.specs.Cmp.Lexicographic.{slice_cmp}
 use Rattle.std.specs.FinMap as map
 use Rattle.std.proofs.lemmas.Bool.{and_from}
 use Rattle.sqlite_disk.specs.declared.Disk as disk
+use Rattle.sqlite_value.specs.Order.{Row as Entry}
+use Rattle.sqlite_rules.specs.Lists.{Has}
 use Rattle.sqlite_trees.specs.declared.store.Store.{Ghosts}
 use Rattle.sqlite_trees.specs.declared.memory.MemStore.{MemStore}
 use Rattle.sqlite_trees.proofs.Doubt.{no_doubt}
@@ -13,12 +15,18 @@ use Rattle.sqlite.specs.Steps.{over_memory, IsEmpty}
 use Rattle.off_sqlcells.specs.Stands.{IsSteady}
 use Rattle.off_defs.specs.Keys.{key_cmp}
 use Rattle.off_defs.specs.State.{Tables}
+use Rattle.off_defs.specs.declared.keys.Key.{Key}
+use Rattle.off_defs.specs.declared.keys.Key.TheVariants.{Site, Subscriber, AddOn, Modem, Class, Pool, Lease, Held as Reserved, Batch}
+use Rattle.off_defs.specs.declared.tables.Row.{Row}
+use Rattle.off_rows.specs.KeyBytes.{key_bytes, IsRanged}
 use Rattle.off_outside.specs.KeeperSeen.{KeeperSeen}
-use Rattle.off_cells.specs.CellsSeen.{CellMap, CellsSeen}
-use Rattle.off_sqlcells.specs.SqlCellsSeen.{HasBegun}
+use Rattle.off_cells.specs.CellsSeen.{Cell, CellMap, CellsSeen}
+use Rattle.off_sqlcells.specs.SqlCellsSeen.{Found, HasBegun}
+use Rattle.off_sqlcells.specs.Holds.{AreShort}
+use Rattle.off_sqlcells.proofs.NextLemmas.{entry_has}
 use Rattle.off_keepsql.specs.Stored.{Stores, cell_of, AllStorable}
 use Rattle.off_keepsql.specs.SqlSeen.{SqlTells}
-use Rattle.off_keepsql.specs.Begin.{KeeperBegins, TellsNone, HonestFilesAreSteady}
+use Rattle.off_keepsql.specs.Begin.{FoundTables, KeeperBegins, TellsNone, HonestFilesAreSteady}
 
 no_length : {X : Type 0} (xs : List X) → length xs ≡ 0 → xs ≡ []
 no_length [] e = refl
@@ -36,12 +44,41 @@ none_stored = record {
   storable = subst AllStorable (sym (no_tables map.empty refl)) tt;
 }
 
+-- ---- the keys of tables are short
+
+short_key : (key : Key) → IsRanged key → (1 ≤ length (key_bytes key)) × (length (key_bytes key) ≤ 9)
+short_key Site ranged = (omega arith, omega arith)
+short_key (Subscriber number) ranged = (omega arith, omega arith)
+short_key (AddOn subscriber number) ranged = (omega arith, omega arith)
+short_key (Modem mac) ranged = (omega arith, omega (arith, ranged))
+short_key (Class number) ranged = (omega arith, omega arith)
+short_key (Pool number) ranged = (omega arith, omega arith)
+short_key (Lease address) ranged = (omega arith, omega arith)
+short_key (Reserved mac) ranged = (omega arith, omega (arith, ranged))
+short_key (Batch number) ranged = (omega arith, omega arith)
+
+short_in : (es : List (Key × Row)) (c : Cell) → AllStorable es → Has (each cell_of es) c → (1 ≤ length c.0) × (length c.0 ≤ 9)
+short_in [] c all has = absurd has
+short_in (e ∷ es) c all (inl same) = subst (λ (d : Cell). (1 ≤ length d.0) × (length d.0 ≤ 9)) (sym same) (short_key e.0 all.0.key)
+short_in (e ∷ es) c all (inr later) = short_in es c all.1 later
+
+stored_short : (m : CellMap) (t : Tables) → Stores m t → AreShort m
+stored_short m t stores ident val got =
+    short_in (map.entries t) (ident, val) stores.storable (subst (λ (es : List Cell). Has es (ident, val)) stores.cells (entry_has m ident val got))
+
+found_tables : (table : List Entry) (cells : CellsSeen) (keeper : KeeperSeen) → Found table cells → SqlTells cells keeper → FoundTables table keeper
+found_tables table cells keeper found tells = record {
+  cells = found.cells;
+  are = found.are;
+  told = λ t stores. tells.tables t (record { cells = found.cells; told = found.told (stored_short found.cells t stores); stores = stores });
+  up = tells.up found.up;
+}
+
 pub keeper_begins : {S : Type 0} (g : Ghosts S) (conn : Held S) (cells : CellsSeen) (keeper : KeeperSeen) → HasBegun g conn cells → SqlTells cells keeper → KeeperBegins g conn keeper
 keeper_begins g conn cells keeper begun tells = record {
   made = λ steady has.
       let it = begun.made steady has in (tells.tables map.empty (record { cells = map.empty; told = it.0; stores = none_stored }), tells.up it.1);
-  found = λ steady has m t holds stores.
-      let it = begun.found steady has m holds in (tells.tables t (record { cells = m; told = it.0; stores = stores }), tells.up it.1);
+  found = λ steady has. found_tables _ cells keeper (begun.found steady has) tells;
   faults = tells.faults ∙ begun.faults;
   calls = tells.calls;
   commits = tells.commits;

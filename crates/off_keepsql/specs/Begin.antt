@@ -1,7 +1,8 @@
 -- What a keeper tells that has just begun over a connection to a database.
-use Rattle.std.specs.Prelude.{◌≡◌, IsTrue}
+use Rattle.std.specs.Prelude.{◌≡◌, List, IsTrue}
 use Rattle.std.specs.FinMap as map
 use Rattle.sqlite_disk.specs.declared.Disk as disk
+use Rattle.sqlite_value.specs.Order.{Row}
 use Rattle.sqlite_trees.specs.declared.store.Store.{Ghosts}
 use Rattle.sqlite.specs.Files.{over_files}
 use Rattle.sqlite.specs.Held.{Held, state}
@@ -9,17 +10,25 @@ use Rattle.off_defs.specs.State.{Tables}
 use Rattle.off_outside.specs.KeeperSeen.{KeeperSeen}
 use Rattle.off_cells.specs.CellsSeen.{CellMap}
 use Rattle.off_sqlcells.specs.Office.{no_schema, office_schema}
-use Rattle.off_sqlcells.specs.Holds.{Holds}
+use Rattle.off_sqlcells.specs.Holds.{AreCells}
 use Rattle.off_sqlcells.specs.Stands.{IsSteady}
 use Rattle.off_keepsql.specs.Stored.{Stores}
 
+-- The tables of a table that was there: those that the cells of its rows store. There are none where
+-- a row isn't a key and a row of the office.
+pub record FoundTables (table : List Row) (seen : KeeperSeen) : Type 0 where
+  pub cells : CellMap
+  pub are : AreCells table cells
+  pub told : (t : Tables) → Stores cells t → seen.tables t
+  pub up : seen.up
+
 -- Over a steady store it tells empty tables, where the database had no table; and where it had the
--- table `office`, the tables that the cells of its rows store.
+-- table `office`, the tables that its rows store.
 pub record KeeperBegins {S : Type 0} (g : Ghosts S) (conn : Held S)
     (seen : KeeperSeen) : Type 0 where
   pub made : IsSteady g → (state g conn).now.schema ≡ no_schema → seen.tables map.empty × seen.up
-  pub found : IsSteady g → (state g conn).now.schema ≡ office_schema → (m : CellMap) (t : Tables)
-      → Holds ((state g conn).now.trees 0) m → Stores m t → seen.tables t × seen.up
+  pub found : IsSteady g → (state g conn).now.schema ≡ office_schema
+      → FoundTables ((state g conn).now.trees 0) seen
   pub faults : seen.faults ≡ 0
   pub calls : seen.calls ≡ 0
   pub commits : seen.commits ≡ 0
@@ -35,4 +44,4 @@ pub record TellsNone (seen : KeeperSeen) : Type 0 where
 -- a store of files is steady over a disk that returns what was written, over each call
 abbrev pub HonestFilesAreSteady : {D : Type 0} → disk.Ghosts D → Type 0
 HonestFilesAreSteady {D} g =
-  ((d : D) → IsTrue (g.is_clean d)) → IsSteady (over_files {D = D} {g = g})
+    ((d : D) → IsTrue (g.is_clean d)) → IsSteady (over_files {D = D} {g = g})

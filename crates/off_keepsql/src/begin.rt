@@ -3,11 +3,11 @@ ghost use Rattle.off_keepsql.specs.Begin.{KeeperBegins, TellsNone};
 
 use crate::sql_keeper::SqlKeeper;
 use off_outside::{KeepErr, Keeper};
-use off_sqlcells::SqlCells;
-use sqlite::{Alter, Connection, MemStore};
+use off_sqlcells::{Ordered, SqlCells};
+use sqlite::{Connection, MemStore};
 use std::alloc::Global;
 
-impl<S: Alter + Drop> SqlKeeper<SqlCells<S>> {
+impl<S: Ordered + Drop> SqlKeeper<SqlCells<S>> {
     /// A keeper over a database, whose table `office` is made where it isn't there. Where that is
     /// refused, the connection is dropped.
     pub fn begin(_alloc: Global, conn: Connection<S>) -> Result<SqlKeeper<SqlCells<S>>, KeepErr>

@@ -1,26 +1,29 @@
 -- The table that is made, and the one that was there.
-use Rattle.std.proofs.Common.{◌≡◌, ℕ, List, [], ◌∷◌, Ok, Err, Result, None, IsTrue, Bool, true, false, not, refl, sym, ap, subst, ◌∙◌}
+use Rattle.std.proofs.Common.{◌≡◌, ℕ, List, [], Ok, Result, None, IsTrue, Bool, true, false, not, refl, sym, ap, subst, ◌∙◌}
 use Rattle.std.specs.FinMap as map
 use Rattle.sqlite_value.specs.Order.{Row}
+use Rattle.sqlite_trees.specs.Tree.{Trees}
 use Rattle.sqlite_trees.specs.declared.store.Store.{Ghosts}
 use Rattle.sqlite_schema.specs.declared.command.Command.TheVariants.{CreateTable, Nothing}
 use Rattle.sqlite_schema.specs.declared.schema.Table.{Table}
 use Rattle.sqlite_catalog.specs.Change.{created, next_tree}
+use Rattle.sqlite_catalog.specs.Listing.{IsSound}
 use Rattle.sqlite_resolve.specs.declared.error.CompileError.{CompileError}
 use Rattle.sqlite.specs.Does.{Tally, lacks_sequence}
 use Rattle.sqlite.specs.Effect.{Database}
 use Rattle.sqlite.specs.Held.{Held, state}
-use Rattle.sqlite.specs.State.{State, Writes, Executes, IsUnchanged}
+use Rattle.sqlite.specs.State.{State, Writes, Executes, IsLive}
 use Rattle.sqlite.proofs.Callers.{runs_as}
-use Rattle.off_cells.specs.CellsSeen.{CellMap}
 use Rattle.off_sqlcells.specs.Office.{office, no_schema, office_schema}
 use Rattle.off_sqlcells.specs.Statements.{make_text}
-use Rattle.off_sqlcells.specs.Holds.{Holds}
-use Rattle.off_sqlcells.specs.Stands.{IsSteady, Tells, Makes}
-use Rattle.off_sqlcells.specs.SqlCellsSeen.{sql_seen, HasBegun}
+use Rattle.off_sqlcells.specs.Holds.{Holds, AreShort}
+use Rattle.off_sqlcells.specs.InOrder.{IsInOrder, KeepsOrder}
+use Rattle.off_sqlcells.specs.Stands.{IsSteady, Makes}
+use Rattle.off_sqlcells.specs.SqlCellsSeen.{sql_seen, Found, HasBegun}
 use Rattle.off_sqlcells.proofs.Texts.{make_is, make_plain, made_is, made_plain}
 use Rattle.off_sqlcells.proofs.RowLemmas.{holds_none}
 use Rattle.off_sqlcells.proofs.Content.{went, same_value}
+use Rattle.off_sqlcells.proofs.FoundRows.{AreSound, cells_of, are_cells, sound_hold, committed_sound}
 
 creates : (old new : State) (count : ℕ) → old.now.schema ≡ no_schema → Executes make_text [] old new (Ok count)
     → (new.now.schema ≡ office_schema) × (new.now.trees 0 ≡ []) × IsTrue new.is_open
@@ -48,27 +51,37 @@ in_none : (b : Bool) → true ≡ not b → b ≡ false
 in_none true e = cc
 in_none false e = refl
 
-pub begins : {S : Type 0} (g : Ghosts S) (old new : Held S) (idle : Bool) → (IsSteady g → Makes (state g old) (state g new)) → idle ≡ true → idle ≡ not new.in_transaction
+-- the table that the connection shows is the committed one, whose rows are cells
+shown_sound : {S : Type 0} (g : Ghosts S) (new : Held S) → IsInOrder (g.view new.store) → IsLive (state g new) → IsTrue (state g new).is_open
+    → (state g new).now ≡ (state g new).committed → (state g new).now.schema ≡ office_schema → AreSound ((state g new).now.trees 0)
+shown_sound g new order live up settled schema =
+    let sound : IsSound office_schema (state g new).now.trees = subst (λ s. IsSound s (state g new).now.trees) schema (live up).0 in
+    let same : (state g new).now.trees ≡ (state g new).committed.trees = ap (λ (d : Database). d.trees) settled in
+    subst (λ (t : Trees). AreSound (t 0)) (sym same) (committed_sound (g.view new.store) order (subst (IsSound office_schema) same sound))
+
+module _ {S : Type 0} (g : Ghosts S) (old new : Held S) (orders : KeepsOrder g) (out : new.in_transaction ≡ false) (live : IsLive (state g new))
+    (settled : IsTrue (state g new).is_open → (state g new).now ≡ (state g new).committed) where
+  begun_found : IsSteady g → Makes (state g old) (state g new) → (state g old).now.schema ≡ office_schema → Found ((state g old).now.trees 0) (sql_seen g new 0 0)
+  begun_found steady makes has =
+      let found = makes.found has in
+      let up = found.1 in
+      let schema : (state g new).now.schema ≡ office_schema = ap (λ (d : Database). d.schema) found.0 ∙ has in
+      let rows = (state g new).now.trees 0 in
+      let sound = shown_sound g new (orders new.store up) live up (settled up) schema in
+      let told : AreShort (cells_of rows) → (sql_seen g new 0 0).cells (cells_of rows) =
+      λ short. (steady, λ _. record { schema = schema; rows = sound_hold rows sound short; settled = settled up; idle = out }) in
+      subst (λ (d : Database). Found (d.trees 0) (sql_seen g new 0 0)) found.0
+      (record { cells = cells_of rows; are = are_cells rows sound; told = told; up = (steady, up) })
+
+pub begins : {S : Type 0} (g : Ghosts S) (old new : Held S) (idle : Bool) → KeepsOrder g → IsLive (state g new) → (IsSteady g → Makes (state g old) (state g new)) → idle ≡ true → idle ≡ not new.in_transaction
     → (IsTrue idle → IsTrue (state g new).is_open → (state g new).now ≡ (state g new).committed) → HasBegun g old (sql_seen g new 0 0)
-begins g old new idle makes is value settled =
+begins g old new idle orders live makes is value settled =
     let out : new.in_transaction ≡ false = in_none new.in_transaction (sym is ∙ value) in
     record {
       made = λ steady has.
           let made = (makes steady).made has in
           ((steady, λ up. record { schema = made.0; rows = subst (λ (t : List Row). Holds t map.empty) (sym made.1) holds_none; settled = settled is up; idle = out }), (steady, made.2));
-      found = λ steady has m h.
-          let found = (makes steady).found has in (
-            (
-              steady,
-              λ up. record {
-                schema = ap (λ (d : Database). d.schema) found.0 ∙ has;
-                rows = subst (λ (d : Database). Holds (d.trees 0) m) (sym found.0) h;
-                settled = settled is up;
-                idle = out;
-              },
-            ),
-            (steady, found.1),
-          );
+      found = λ steady has. begun_found g old new orders out live (settled is) steady (makes steady) has;
       faults = refl;
       calls = refl;
     }

@@ -1,20 +1,16 @@
 -- What the functions of the statements do, from the clauses of the calls that they make.
-use Rattle.std.proofs.Common.{◌≡◌, ◌≢◌, ℕ, zero, suc, ◌≤◌, length, take, arith, Bool, true, false, List, [], ◌∷◌, ◌++◌, Option, Some, None, Ok, Err, Result, IsTrue, IfOk, OnOk, OnErr, refl, sym, ap, subst, ◌∙◌, inl, inr}
-use Rattle.std.specs.FinMap as map
-use Rattle.sqlite_value.specs.declared.value.Value.TheVariants.{Blob as Octets}
-use Rattle.sqlite_value.specs.Order.{Row, column}
+use Rattle.std.proofs.Common.{◌≡◌, ℕ, zero, suc, ◌≤◌, length, take, arith, Bool, true, false, List, [], ◌∷◌, ◌++◌, Ok, Err, Result, IsTrue, IfOk, OnOk, OnErr, refl, sym, ap, subst}
+use Rattle.sqlite_value.specs.Order.{Row}
 use Rattle.sqlite_trees.specs.declared.store.Store.{Ghosts}
 use Rattle.sqlite.specs.declared.error.Error.{Error}
 use Rattle.sqlite.specs.Effect.{Database}
 use Rattle.sqlite.specs.Held.{Held, state}
-use Rattle.sqlite.specs.State.{State, HasCleanDisk, Shows, IsRolledBack, ExecutesInside}
-use Rattle.sqlite.specs.Steps.{FailsToCommit}
-use Rattle.off_cells.specs.CellsSeen.{CellMap, cell_at, next_cell}
+use Rattle.sqlite.specs.State.{State, IsRolledBack, ExecutesInside}
+use Rattle.off_cells.specs.CellsSeen.{CellMap}
 use Rattle.off_cells.specs.CellWritten.{cell_written, write_cells}
 use Rattle.off_cells.specs.declared.writes.CellWrite.{CellWrite}
 use Rattle.off_sqlcells.specs.declared.refusals.Refused.{Refused}
-use Rattle.off_sqlcells.specs.Statements.{Gets, Nexts}
-use Rattle.off_sqlcells.specs.Stands.{IsSteady, Tells, StillTells, Looked, Wrote, Stays, Within, IsBased}
+use Rattle.off_sqlcells.specs.Stands.{Tells, StillTells, Looked, Wrote, Stays, Within}
 use Rattle.off_sqlcells.specs.Ends.{Ends, Finishes}
 use Rattle.off_sqlcells.proofs.StateLemmas.{LeftAlone, was_open, still_based, inside_fails, committed_tells, rolled_tells}
 

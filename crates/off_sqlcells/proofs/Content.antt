@@ -1,37 +1,29 @@
 -- What each statement makes of the cells that the rows of the table hold.
-use Rattle.std.proofs.Common.{◌≡◌, ◌≢◌, ◌⊎◌, ℕ, ℤ, pos, negsuc, ◌≤◌, Bool, true, false, cond, not, ◌&&◌, List, [], ◌∷◌, ◌++◌, length, map, take, codes, Option, Some, None, Ok, Err, Result, refl, sym, ap, subst, ◌∙◌, inl, inr, arith}
+use Rattle.std.proofs.Common.{◌≡◌, ◌⊎◌, ℕ, ℤ, ◌≤◌, Bool, true, false, List, [], ◌∷◌, length, map, take, codes, Option, Some, None, Ok, Err, Result, refl, sym, ap, subst, ◌∙◌, inl, inr, arith}
 use Rattle.std.specs.List.{list_all, find as first_of_all}
-use Rattle.std.specs.Ordering.{nat_cmp, is_eq, is_lt, is_gt, eq_by_cmp, ordering_reverse}
+use Rattle.std.specs.Ordering.{nat_cmp, is_lt, is_gt, eq_by_cmp, ordering_reverse}
 use Rattle.std.specs.Cmp.Lexicographic.{slice_cmp, nat_list_cmp_total}
 use Rattle.std.specs.declared.cmp.Ordering.{Ordering}
 use Rattle.std.specs.declared.cmp.Ordering.TheVariants.{Less, Equal, Greater}
 use Rattle.std.specs.FinMap as map
-use Rattle.std.proofs.lemmas.Bool.{true≢false, false_from_ne_true}
-use Rattle.sqlite_value.specs.declared.value.Value.{Value}
+use Rattle.std.proofs.lemmas.Bool.{false_from_ne_true}
 use Rattle.sqlite_value.specs.declared.value.Value.TheVariants.{Null, Int, Blob as Bytes}
 use Rattle.sqlite_value.specs.Order.{Row, column, value_cmp}
 use Rattle.sqlite_value.proofs.OrderLemmas.{value_cmp-Blob}
-use Rattle.sqlite_value.proofs.KeyLemmas.{first_key-plain}
-use Rattle.sqlite_trees.specs.Tree.{Trees, rowid, put_row}
-use Rattle.sqlite_sql.specs.Ops.{binary, unary}
-use Rattle.sqlite_sql.specs.Term.{Term, holds, col, eval_all}
+use Rattle.sqlite_trees.specs.Tree.{Trees, rowid}
+use Rattle.sqlite_sql.specs.Term.{Term, holds, col}
 use Rattle.std.specs.List.Sorted.{IsSortedBy}
-use Rattle.sqlite_sql.specs.Query.{Query, IsAnswer, Output, output, output_cmp}
+use Rattle.sqlite_sql.specs.Query.{IsAnswer, Output, output, output_cmp}
 use Rattle.sqlite_sql.specs.Program.{overlay}
-use Rattle.sqlite_schema.specs.declared.schema.Kind.TheVariants.{Integer}
-use Rattle.sqlite_schema.specs.declared.command.Command.TheVariants.{Select, InsertOr, Delete}
-use Rattle.sqlite_schema.specs.declared.command.Conflict.TheVariants.{Abort}
-use Rattle.sqlite_schema.specs.declared.command.Source.TheVariants.{Values}
+use Rattle.sqlite_schema.specs.declared.command.Command.TheVariants.{Select, Delete}
 use Rattle.sqlite_rules.specs.Lists.{Has}
 use Rattle.sqlite_rules.specs.Calls.{ids_of}
-use Rattle.sqlite_rules.specs.Cast.{cast, cast_row}
-use Rattle.sqlite_rules.specs.Keys.{conflicts, AreConflicts}
-use Rattle.sqlite_rules.specs.Edit.{Edit, edit_of, edited, id_in, next_rowid, without_all, put_all, are_fresh, numbered}
+use Rattle.sqlite_rules.specs.Edit.{edit_of, id_in, without_all}
 use Rattle.sqlite_rules.specs.declared.error.Rowids.TheVariants.{Given}
 use Rattle.sqlite_rules.proofs.ProbeLemmas.{has_mapped, mapped_has}
 use Rattle.sqlite.specs.Effect.{Database}
 use Rattle.sqlite.specs.Does.{Tally, Does}
-use Rattle.sqlite.specs.Rows.{Written, shown}
+use Rattle.sqlite.specs.Rows.{Written}
 use Rattle.sqlite.specs.State.{State, mode_of, Executes, Shown}
 use Rattle.sqlite.proofs.Callers.{statement_of, runs_as, reads_as, one_step}
 use Rattle.sqlite.specs.Listing.{understood}
@@ -39,10 +31,10 @@ use Rattle.off_sqlcells.specs.Office.{office, office_schema, cell_row}
 use Rattle.off_cells.specs.CellsSeen.{CellMap, is_behind, next_cell}
 use Rattle.off_sqlcells.specs.Statements.{get_text, next_text, drop_text, Gets, bytes_behind, Nexts}
 use Rattle.off_sqlcells.specs.Holds.{IsCellOf, Holds}
-use Rattle.off_sqlcells.proofs.Texts.{table_query, unlimited, has_ident, is_above, has_rowid_given, by_ident, get_query, next_query, put_query, drop_query, put_terms, upsert, alone, get_is, get_plain, next_is, next_plain, put_is, put_plain, drop_is, drop_plain}
+use Rattle.off_sqlcells.proofs.Texts.{has_ident, is_above, by_ident, get_query, next_query, drop_query, alone, get_is, get_plain, next_is, next_plain, drop_is, drop_plain}
 use Rattle.off_sqlcells.specs.OneMap.{same_key, same_bytes}
-use Rattle.off_sqlcells.proofs.RowLemmas.{own_key, put_holds, drop_holds, rows_dropped, rows_put, IsPut, IsDropped}
-use Rattle.off_sqlcells.proofs.AnswerLemmas.{ordered_sound, ordered_complete, shown_sound, shown_complete, ident_test, above_test, rowid_test, first_least}
+use Rattle.off_sqlcells.proofs.RowLemmas.{own_key, drop_holds, rows_dropped, IsDropped}
+use Rattle.off_sqlcells.proofs.AnswerLemmas.{ordered_sound, ordered_complete, shown_sound, shown_complete, ident_test, above_test, first_least}
 use Rattle.off_sqlcells.proofs.NextLemmas.{first_is, none_is, same_first, entry_has, entry_got}
 
 abbrev bytes_cmp : List ℕ → List ℕ → Ordering
@@ -72,11 +64,11 @@ get_none k m (Some v) is never = absurd (never v is)
 
 get_rows : (db : Trees) (k : List ℕ) (m : CellMap) (rows : List Row) → Holds (db 0) m → IsAnswer get_query (overlay db []) (Bytes k ∷ []) rows → Gets k m rows
 get_rows db k m [] h a = get_none k m (map.get m k) refl (λ v got.
-    let row = h.there k v got in
+    let row = h.are.there k v got in
     shown_complete (has_ident ∷ []) (col 1 2 ∷ []) db (Bytes k ∷ []) [] a (cell_row row.0 k v) row.1 (ident_test k k v row.0 [] ∙ own_key k))
 get_rows db k m (x ∷ more) h a =
     let s = shown_sound (has_ident ∷ []) (col 1 2 ∷ []) db (Bytes k ∷ []) (x ∷ more) a x (inl refl) in
-    let c = h.cells s.0 s.1 in
+    let c = h.are.cells s.0 s.1 in
     (c.val, s.3 ∙ ap (λ (r : Row). (output get_query ((Bytes k ∷ []) ∷ r ∷ [])).1) c.is, ap (λ (b : List ℕ). map.get m b) (sym (passing_key m k [] s.0 c s.2)) ∙ c.held)
 
 pub gets : (old new : State) (k : List ℕ) (rows : List Row) (m : CellMap) → old.now.schema ≡ office_schema → Holds (old.now.trees 0) m
@@ -114,7 +106,7 @@ module _ (db : Trees) (after : List ℕ) (m : CellMap) (rows : List Row) (h : Ho
 
   entry_shown : (c : List ℕ × List ℕ) → Has (map.entries m) c → lies_above after c ≡ true → (id : ℤ) × Has a.ordered (shows (cell_row id c.0 c.1))
   entry_shown c has t =
-      let row = h.there c.0 c.1 (entry_got m c has) in
+      let row = h.are.there c.0 c.1 (entry_got m c has) in
       (row.0, ordered_complete above (col 1 1 ∷ col 1 2 ∷ []) by_ident next_query.limit db (Bytes after ∷ []) rows a (cell_row row.0 c.0 c.1) row.1 (above_test after c.0 c.1 row.0 ∙ gt_lt c.0 after ∙ t))
 
   next_by : (ordered : List Output) → a.ordered ≡ ordered → rows ≡ take 1 (map (λ (o : Output). o.1) ordered) → NextsAbove after m rows
@@ -123,7 +115,7 @@ module _ (db : Trees) (after : List ℕ) (m : CellMap) (rows : List Row) (h : Ho
       let s = entry_shown c has t in subst (λ (l : List Output). Has l (shows (cell_row s.0 c.0 c.1))) is s.1)))
   next_by (o ∷ os) is cut =
       let s = sound o (subst (λ (l : List Output). Has l o) (sym is) (inl refl)) in
-      let c = h.cells s.0 s.1 in
+      let c = h.are.cells s.0 s.1 in
       let at : o ≡ shows (cell_row c.id c.ident c.val) = s.3 ∙ ap shows c.is in
       let passes : lies_above after (c.ident, c.val) ≡ true =
       sym (gt_lt c.ident after) ∙ sym (above_test after c.ident c.val c.id) ∙ sym (ap (λ (r : Row). list_all (holds ((Bytes after ∷ []) ∷ r ∷ [])) above) c.is) ∙ s.2 in
@@ -181,12 +173,12 @@ drop_rows db k m rows h a =
     (λ id has.
     let x = has_mapped (λ (r : Row). id_in (rowid r)) rows id has in
     let s = shown_sound (has_ident ∷ []) (col 1 0 ∷ []) db (Bytes k ∷ []) rows a x.0 x.1 in
-    let c = h.cells s.0 s.1 in
+    let c = h.are.cells s.0 s.1 in
     let own : rowid s.0 ≡ Int c.id = ap (λ (r : Row). rowid r) c.is in
     let same : id ≡ c.id = x.2 ∙ ap (λ (r : Row). id_in (rowid r)) s.3 ∙ ap id_in own in
     (s.0, s.1, ap (λ (r : Row). column r 1) c.is ∙ ap (λ (b : List ℕ). Bytes b) (passing_key m k [] s.0 c s.2), own ∙ ap (λ (n : ℤ). Int n) (sym same)))
     (λ r has e id own.
-    let there = shown_complete (has_ident ∷ []) (col 1 0 ∷ []) db (Bytes k ∷ []) rows a r has (key_passes m k [] r (h.cells r has) e) in
+    let there = shown_complete (has_ident ∷ []) (col 1 0 ∷ []) db (Bytes k ∷ []) rows a r has (key_passes m k [] r (h.are.cells r has) e) in
     subst (λ (n : ℤ). Has (ids_of rows) n) (ap id_in own) (mapped_has (λ (x : Row). id_in (rowid x)) rows (rowid r ∷ []) there))
 
 pub drops : (old new : State) (k : List ℕ) (count : ℕ) (m : CellMap) → old.now.schema ≡ office_schema → Holds (old.now.trees 0) m

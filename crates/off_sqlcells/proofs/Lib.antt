@@ -4,6 +4,7 @@ pub mod NextLemmas
 pub mod AnswerLemmas
 pub mod Content
 pub mod PutContent
+pub mod FoundRows
 pub mod StateLemmas
 pub mod CallLemmas
 pub mod BeginLemmas

@@ -1,6 +1,6 @@
 -- What the insertion makes of the cells that the rows of the table hold.
-use Rattle.std.proofs.Common.{◌≡◌, ◌≢◌, ◌⊎◌, ℕ, ℤ, ◌≤◌, Bool, true, false, not, cond, ◌&&◌, ◌||◌, List, [], ◌∷◌, ◌++◌, length, map, drop, Option, Some, None, Ok, Err, Result, refl, sym, ap, subst, ◌∙◌, inl, inr}
-use Rattle.std.specs.List.{list_all, list_any}
+use Rattle.std.proofs.Common.{◌≡◌, ◌≢◌, ℕ, ℤ, ◌≤◌, Bool, true, false, cond, ◌&&◌, ◌||◌, List, [], ◌∷◌, length, map, drop, Option, Some, None, Ok, Err, Result, refl, sym, ap, subst, ◌∙◌, inl, inr}
+use Rattle.std.specs.List.{list_all}
 use Rattle.std.specs.Ordering.{nat_cmp, is_eq, eq_by_cmp}
 use Rattle.std.specs.Cmp.{tied_itself}
 use Rattle.std.specs.Cmp.Lexicographic.{slice_cmp}
@@ -15,9 +15,6 @@ use Rattle.sqlite_value.proofs.KeyLemmas.{first_key-plain}
 use Rattle.sqlite_trees.specs.Tree.{Trees, rowid}
 use Rattle.sqlite_sql.specs.Ops.{binary, unary, is_true, from_truth}
 use Rattle.sqlite_sql.specs.Term.{holds, col}
-use Rattle.sqlite_sql.specs.Query.{IsAnswer}
-use Rattle.sqlite_sql.specs.Program.{overlay}
-use Rattle.sqlite_schema.specs.declared.schema.Schema.{Schema}
 use Rattle.sqlite_schema.specs.declared.schema.Keys.{Keys}
 use Rattle.sqlite_schema.specs.declared.schema.Kind.TheVariants.{Integer}
 use Rattle.sqlite_schema.specs.declared.command.Command.TheVariants.{InsertOr}
@@ -28,15 +25,13 @@ use Rattle.sqlite_rules.specs.Lists.{Has}
 use Rattle.sqlite_rules.specs.Calls.{ids_of}
 use Rattle.sqlite_rules.specs.Cast.{cast, cast_row}
 use Rattle.sqlite_rules.specs.Keys.{conflicts, AreConflicts}
-use Rattle.sqlite_rules.specs.Steps.{IsJudged}
-use Rattle.sqlite_rules.specs.Edit.{Edit, edit_of, edited, id_in, next_rowid, with_rowid, without_all, put_all, are_fresh, numbered, Applies}
-use Rattle.sqlite_rules.specs.Action.{Writes}
+use Rattle.sqlite_rules.specs.Edit.{Edit, edit_of, id_in, next_rowid, with_rowid, without_all, put_all, are_fresh, numbered, Applies}
 use Rattle.sqlite_rules.specs.declared.error.Rowids.TheVariants.{Given, Chosen}
 use Rattle.sqlite_rules.specs.declared.error.Refusal.{Refusal}
 use Rattle.sqlite_rules.proofs.ProbeLemmas.{has_mapped, mapped_has}
-use Rattle.sqlite.specs.Effect.{Database, Answers}
+use Rattle.sqlite.specs.Effect.{Database}
 use Rattle.sqlite.specs.Does.{Tally, Does}
-use Rattle.sqlite.specs.Rows.{TriesEach, nothing, count_of, Written, Task, Part, Then, Edited, Puts, Clears, Resolves, Meets, Upserts, Judged, Tries, Updates}
+use Rattle.sqlite.specs.Rows.{TriesEach, nothing, count_of, Written, Task, Puts, Clears, Meets, Upserts, Judged, Tries, Updates}
 use Rattle.sqlite.specs.State.{State, mode_of, Executes}
 use Rattle.sqlite.specs.Listing.{understood}
 use Rattle.sqlite.proofs.Callers.{statement_of, runs_as, one_step}
@@ -80,7 +75,7 @@ some_alone : (b : Bool) → (false || (b || false)) ≡ b
 some_alone true = refl
 some_alone false = refl
 
-bytes_equal : (i k : List ℕ) → (equal Binary (Bytes i) (Bytes k) && true) ≡ eq_by_cmp bytes_cmp i k
+pub bytes_equal : (i k : List ℕ) → (equal Binary (Bytes i) (Bytes k) && true) ≡ eq_by_cmp bytes_cmp i k
 unfolding binary
 bytes_equal i k = alone_true (is_eq (value_cmp (Bytes i) (Bytes k))) ∙ ap is_eq (value_cmp-Blob i k)
 
@@ -150,12 +145,12 @@ module _ (limit : Option ℕ) (keys : Keys) (k v : List ℕ) (db : Trees) (m : C
       ap (λ (t : Trees). t 0) (ap (λ (it : Written). it.trees) (same_value made.2)) ∙ applied.rows ∙ ap (put_all (without_all (db 0) (ids_of rows))) news in
       let found : (x : Row) → Has rows x → x ≡ Int id ∷ Int id ∷ Bytes k ∷ Bytes v ∷ [] = λ x there.
       let s = shown_sound (has_rowid_given ∷ []) (col 1 0 ∷ col 1 0 ∷ col 1 1 ∷ col 0 5 ∷ []) db (old_params (Int id)) rows a x there in
-      let c = h.cells s.0 s.1 in
+      let c = h.are.cells s.0 s.1 in
       let tied : is_eq (value_cmp (Int c.id) (Int id)) ≡ true = sym (rowid_test k v c.id id c.ident c.val (Int n ∷ Bytes k ∷ Bytes v ∷ [])) ∙ sym (ap (passes id) c.is) ∙ s.2 in
       let same : s.0 ≡ r = h.apart s.0 r s.1 has (ap (λ (y : Row). rowid y) c.is ∙ ap (λ (z : ℤ). Int z) (tied_id c.id id tied) ∙ sym own) in
       s.3 ∙ ap shows same ∙ (λ i. own i ∷ own i ∷ key i ∷ Bytes v ∷ []) in
       let mine : Has rows (Int id ∷ Int id ∷ Bytes k ∷ Bytes v ∷ []) =
-      let c = h.cells r has in
+      let c = h.are.cells r has in
       let is_id : Int c.id ≡ Int id = sym (ap (λ (y : Row). rowid y) c.is) ∙ own in
       let passing : passes id r ≡ true =
       ap (passes id) c.is ∙ rowid_test k v c.id id c.ident c.val (Int n ∷ Bytes k ∷ Bytes v ∷ [])
@@ -179,10 +174,10 @@ module _ (limit : Option ℕ) (keys : Keys) (k v : List ℕ) (db : Trees) (m : C
 
   put_met : (one : Written) (found : List Row) → AreConflicts (Some (1 ∷ [])) office_schema.indexes office (db 0) (cell_row n k v) found
       → Meets task (Upserts task Abort (cell_row n k v) db []) (cell_row n k v) db upsert found (Ok one) → IsPut (db 0) (one.trees 0) k v
-  put_met one [] are meets = put_cleared one meets.0 (λ r has e. are.complete r has (never_conflicts n k v m r (h.cells r has) e)) meets.2
+  put_met one [] are meets = put_cleared one meets.0 (λ r has e. are.complete r has (never_conflicts n k v m r (h.are.cells r has) e)) meets.2
   put_met one (there ∷ more) are meets =
       let s = are.sound there (inl refl) in
-      let c = h.cells s.0 s.1 in
+      let c = h.are.cells s.0 s.1 in
       let own : rowid s.0 ≡ Int c.id = ap (λ (y : Row). rowid y) c.is in
       let id : rowid there ≡ Int c.id = ap (λ (y : Row). rowid y) s.3 ∙ own in
       put_there one c.id s.0 s.1 (ap (λ (y : Row). column y 1) c.is ∙ ap (λ (b : List ℕ). Bytes b) (conflict_key n k v m s.0 c s.2)) own

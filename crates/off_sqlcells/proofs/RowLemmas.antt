@@ -1,11 +1,9 @@
 -- What writes of rows make of the cells that the rows hold.
-use Rattle.std.proofs.Common.{◌≡◌, ◌≢◌, ◌⊎◌, inl, inr, ℕ, ℤ, ◌≤◌, Bool, true, false, cond, not, ◌&&◌, List, [], ◌∷◌, length, Option, Some, None, refl, sym, ap, subst, ◌∙◌}
-use Rattle.std.specs.List.{list_any}
+use Rattle.std.proofs.Common.{◌≡◌, ◌≢◌, ◌⊎◌, inl, inr, ℕ, ℤ, ◌≤◌, Bool, true, false, cond, not, ◌&&◌, List, [], ◌∷◌, length, Some, None, refl, sym, ap, subst, ◌∙◌}
 use Rattle.std.specs.Ordering.{nat_cmp, int_cmp, is_eq, eq_by_cmp}
 use Rattle.std.specs.Cmp.{eq_by_cmp_equiv, tied_itself}
 use Rattle.std.specs.Cmp.Lexicographic.{slice_cmp, nat_list_cmp_total}
 use Rattle.std.specs.declared.cmp.Ordering.{Ordering}
-use Rattle.std.specs.declared.cmp.Ordering.TheVariants.{Less, Equal, Greater}
 use Rattle.std.specs.FinMap as map
 use Rattle.std.proofs.lemmas.Bool.{and_parts, true≢false, false_from_ne_true}
 use Rattle.sqlite_value.specs.declared.value.Value.{Value}
@@ -19,8 +17,8 @@ use Rattle.sqlite_rules.proofs.ListLemmas.{has_filtered, has_kept, some_from}
 use Rattle.sqlite_rules.proofs.TableLemmas.{put_all_has, put_all_keeps, put_all_adds, without_all_has}
 use Rattle.off_sqlcells.specs.Office.{cell_row}
 use Rattle.off_cells.specs.CellsSeen.{CellMap}
-use Rattle.off_sqlcells.specs.OneMap.{is_equal, same_key, same_bytes, cell_got}
-use Rattle.off_sqlcells.specs.Holds.{IsCellOf, Holds}
+use Rattle.off_sqlcells.specs.OneMap.{is_equal, same_key, same_bytes}
+use Rattle.off_sqlcells.specs.Holds.{IsCellOf, AreCells, Holds}
 
 abbrev bytes_cmp : List ℕ → List ℕ → Ordering
 bytes_cmp = slice_cmp nat_cmp
@@ -65,10 +63,12 @@ no_cells = map.empty
 never_got : (q v : List ℕ) → map.get no_cells q ≡ Some v → ⊥
 never_got q v got = let none : map.get no_cells q ≡ None = map.get-empty bytes_cmp q in cc
 
+pub none_are : AreCells [] no_cells
+none_are = record { cells = λ row h. absurd h; there = λ ident val got. absurd (never_got ident val got) }
+
 pub holds_none : Holds [] no_cells
 holds_none = record {
-  cells = λ row h. absurd h;
-  there = λ ident val got. absurd (never_got ident val got);
+  are = none_are;
   short = λ ident val got. absurd (never_got ident val got);
   apart = λ a b h k e. absurd h;
   single = λ a b h k e. absurd h;
@@ -90,11 +90,11 @@ pub record IsDropped (old new : List Row) (k : List ℕ) : Type 0 where
 keyed_other : (m : CellMap) (x : Row) (k : List ℕ) (c : IsCellOf m x) → column x 1 ≢ Bytes k → c.ident ≢ k
 keyed_other m x k c ne e = ne (ap (λ (r : Row). column r 1) c.is ∙ ap (λ (b : List ℕ). Bytes b) e)
 
-module _ (old new : List Row) (m : CellMap) (k v : List ℕ) (holds : Holds old m) (short : (1 ≤ length k) × (length k ≤ 9)) (p : IsPut old new k v) where
+module _ (old new : List Row) (m : CellMap) (k v : List ℕ) (are : AreCells old m) (p : IsPut old new k v) where
   put_cell : (x : Row) → Has new x → IsCellOf (map.insert m k v) x
   put_cell x h = elim (p.back x h) [
     | inl same ↦ record { id = p.id; ident = k; val = v; is = same; held = got_here m k v }
-    | inr before ↦ let c = holds.cells x before.0 in record { id = c.id; ident = c.ident; val = c.val; is = c.is; held = got_other m k v c.ident (keyed_other m x k c before.1) ∙ c.held }
+    | inr before ↦ let c = are.cells x before.0 in record { id = c.id; ident = c.ident; val = c.val; is = c.is; held = got_other m k v c.ident (keyed_other m x k c before.1) ∙ c.held }
   ]
 
   put_there : (ident val : List ℕ) → map.get (map.insert m k v) ident ≡ Some val → (id : ℤ) × Has new (cell_row id ident val)
@@ -103,10 +103,14 @@ module _ (old new : List Row) (m : CellMap) (k v : List ℕ) (holds : Holds old 
         let value : v ≡ val = let h = got_here m k v in let g = ap (map.get (map.insert m k v)) same in cc in
         (p.id, subst (λ (b : List ℕ). Has new (cell_row p.id b val)) (sym same) (subst (λ (b : List ℕ). Has new (cell_row p.id k b)) value p.here))
     | inr other ↦
-        let row = holds.there ident val (sym (got_other m k v ident other) ∙ got) in
+        let row = are.there ident val (sym (got_other m k v ident other) ∙ got) in
         (row.0, p.kept (cell_row row.0 ident val) row.1 (λ e. other (same_bytes ident k e)))
   ]
 
+  pub put_are : AreCells new (map.insert m k v)
+  put_are = record { cells = put_cell; there = put_there }
+
+module _ (old new : List Row) (m : CellMap) (k v : List ℕ) (holds : Holds old m) (short : (1 ≤ length k) × (length k ≤ 9)) (p : IsPut old new k v) where
   put_short : (ident val : List ℕ) → map.get (map.insert m k v) ident ≡ Some val → (1 ≤ length ident) × (length ident ≤ 9)
   put_short ident val got = elim (key_cases ident k) [
     | inl same ↦ subst (λ (b : List ℕ). (1 ≤ length b) × (length b ≤ 9)) (sym same) short
@@ -138,13 +142,13 @@ module _ (old new : List Row) (m : CellMap) (k v : List ℕ) (holds : Holds old 
   ]
 
   pub put_holds : Holds new (map.insert m k v)
-  put_holds = record { cells = put_cell; there = put_there; short = put_short; apart = put_apart; single = put_single }
+  put_holds = record { are = put_are old new m k v holds.are p; short = put_short; apart = put_apart; single = put_single }
 
 module _ (old new : List Row) (m : CellMap) (k : List ℕ) (holds : Holds old m) (p : IsDropped old new k) where
   drop_cell : (x : Row) → Has new x → IsCellOf (map.remove m k) x
   drop_cell x h =
       let before = p.back x h in
-      let c = holds.cells x before.0 in
+      let c = holds.are.cells x before.0 in
       record { id = c.id; ident = c.ident; val = c.val; is = c.is; held = left_other m k c.ident (keyed_other m x k c before.1) ∙ c.held }
 
   drop_got : (ident val : List ℕ) → map.get (map.remove m k) ident ≡ Some val → (ident ≢ k) × (map.get m ident ≡ Some val)
@@ -156,13 +160,12 @@ module _ (old new : List Row) (m : CellMap) (k : List ℕ) (holds : Holds old m)
   drop_there : (ident val : List ℕ) → map.get (map.remove m k) ident ≡ Some val → (id : ℤ) × Has new (cell_row id ident val)
   drop_there ident val got =
       let was = drop_got ident val got in
-      let row = holds.there ident val was.1 in
+      let row = holds.are.there ident val was.1 in
       (row.0, p.kept (cell_row row.0 ident val) row.1 (λ e. was.0 (same_bytes ident k e)))
 
   pub drop_holds : Holds new (map.remove m k)
   drop_holds = record {
-    cells = drop_cell;
-    there = drop_there;
+    are = record { cells = drop_cell; there = drop_there };
     short = λ ident val got. holds.short ident val (drop_got ident val got).1;
     apart = λ a b ha hb e. holds.apart a b (p.back a ha).0 (p.back b hb).0 e;
     single = λ a b ha hb e. holds.single a b (p.back a ha).0 (p.back b hb).0 e;
@@ -208,13 +211,13 @@ rows_dropped table m k ids holds sound complete = record {
       let has = without_all_has ids table x h in (
         has,
         λ e.
-            let c = holds.cells x has in
+            let c = holds.are.cells x has in
             let id : rowid x ≡ Int c.id = ap (λ (r : Row). rowid r) c.is in
             absurd (true≢false (sym (own_id x c.id id) ∙ left_not ids table x c.id h (complete x has e c.id id))),
       );
   kept = λ x h ne. left_has ids table x h (λ id k'. false_from_ne_true _ (λ t.
       let s = sound id k' in
-      let same = holds.apart x s.0 h s.1 (has_id m x id (holds.cells x h) t ∙ sym s.3) in
+      let same = holds.apart x s.0 h s.1 (has_id m x id (holds.are.cells x h) t ∙ sym s.3) in
       ne (ap (λ (r : Row). column r 1) same ∙ s.2)));
 }
 
@@ -250,5 +253,5 @@ rows_put table m k v id ids news holds fresh each some gone own =
             inr (has, (λ e. free (gone x has e).1), free)
       ];
       kept = λ x h ne. put_all_keeps news (without_all table ids) x fresh (left_has ids table x h (λ i k'. false_from_ne_true _ (λ t.
-          ne (own i k' x h (has_id m x i (holds.cells x h) t)))));
+          ne (own i k' x h (has_id m x i (holds.are.cells x h) t)))));
     }

@@ -1,11 +1,10 @@
 -- What is seen of the cells after each call.
-use Rattle.std.proofs.Common.{◌≡◌, ℕ, ◌≤◌, List, IsTrue, inl, inr, refl, sym, ap, subst, ◌∙◌, arith}
+use Rattle.std.proofs.Common.{ℕ, List, inl, inr, refl, arith}
 use Rattle.sqlite_trees.specs.declared.store.Store.{Ghosts}
 use Rattle.sqlite.specs.Held.{Held, state}
-use Rattle.off_defs.specs.Counts.{Grew, one_more, most_count}
 use Rattle.off_outside.specs.declared.keeper.KeepErr.{KeepErr}
 use Rattle.off_outside.specs.declared.keeper.KeepErr.TheVariants.{Memory, Failed}
-use Rattle.off_cells.specs.CellsSeen.{CellMap, CellsSeen}
+use Rattle.off_cells.specs.CellsSeen.{CellMap}
 use Rattle.off_cells.specs.CellCalls.{CellsRead, CellsKept, CellsWritten}
 use Rattle.off_cells.specs.CellWritten.{write_cells}
 use Rattle.off_cells.specs.declared.writes.CellWrite.{CellWrite}

@@ -1,25 +1,22 @@
 -- What a connection tells after each call.
-use Rattle.std.proofs.Common.{◌≡◌, ◌≢◌, ◌⊎◌, ℕ, ◌≤◌, Bool, true, false, cond, List, [], ◌∷◌, length, Option, Some, None, Ok, Err, Result, IsTrue, refl, sym, ap, subst, ◌∙◌, inl, inr}
+use Rattle.std.proofs.Common.{◌≡◌, ◌⊎◌, ℕ, ◌≤◌, false, List, [], ◌∷◌, length, Option, Some, None, Ok, Err, IsTrue, sym, ap, subst, ◌∙◌, inl, inr}
 use Rattle.std.specs.FinMap as map
 use Rattle.std.proofs.lemmas.Bool.{true≢false}
 use Rattle.sqlite_value.specs.declared.value.Value.TheVariants.{Blob as Bytes}
 use Rattle.sqlite_value.specs.Order.{Row}
-use Rattle.sqlite_trees.specs.Tree.{Trees}
 use Rattle.sqlite_schema.specs.declared.command.Returning.{Returning}
-use Rattle.sqlite_schema.specs.declared.command.Command.TheVariants.{Nothing, CreateTable}
 use Rattle.sqlite_resolve.specs.declared.compiled.Compiled.{Compiled}
-use Rattle.sqlite_resolve.specs.declared.error.CompileError.{CompileError}
 use Rattle.sqlite.specs.declared.error.Error.{Error}
 use Rattle.sqlite.specs.Effect.{Database}
 use Rattle.sqlite.specs.Clock.{timed}
 use Rattle.sqlite.specs.Listing.{understood}
-use Rattle.sqlite.specs.State.{State, IsUnchanged, IsRolledBack, Fails, IsNotRun, FailsToQuery, FailsToShow, RunsCommand, Shown, ShowsRows, Executes, ExecutesIn, ExecutesInside, Shows, text_of}
+use Rattle.sqlite.specs.State.{State, IsUnchanged, IsRolledBack, IsNotRun, FailsToQuery, FailsToShow, RunsCommand, Shown, ShowsRows, ExecutesInside, Shows}
 use Rattle.sqlite.specs.Steps.{FailsToCommit}
 use Rattle.sqlite.proofs.Callers.{IsPlain}
 use Rattle.off_cells.specs.CellsSeen.{CellMap}
 use Rattle.off_sqlcells.specs.Office.{office_schema}
 use Rattle.off_sqlcells.specs.Holds.{Holds}
-use Rattle.off_sqlcells.specs.Stands.{Stands, Tells, Inside, Within, IsBased, Looked, Stays}
+use Rattle.off_sqlcells.specs.Stands.{Tells, Within, IsBased, Looked}
 use Rattle.off_sqlcells.proofs.Texts.{get_plain, next_plain}
 use Rattle.off_sqlcells.specs.Statements.{get_text, next_text, put_text, drop_text, Gets, bytes_behind, Nexts}
 use Rattle.off_sqlcells.proofs.Content.{gets, nexts, drops}

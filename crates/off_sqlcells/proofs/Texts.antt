@@ -1,5 +1,5 @@
 -- What the texts of the statements mean.
-use Rattle.std.proofs.Common.{◌≡◌, ◌∷◌, [], List, ℕ, pos, negsuc, codes, Bool, true, false, Some, None, Ok, refl}
+use Rattle.std.proofs.Common.{◌≡◌, ◌∷◌, [], List, pos, negsuc, codes, false, Some, None, Ok, refl}
 use Rattle.sqlite_value.specs.declared.keys.Collation.TheVariants.{Binary}
 use Rattle.sqlite_value.specs.declared.value.Value.TheVariants.{Null, Int}
 use Rattle.sqlite_value.specs.declared.keys.Key.{Key}

@@ -1,5 +1,6 @@
 pub mod Office
 pub mod Holds
+pub mod InOrder
 pub mod Statements
 pub mod Stands
 pub mod Ends

@@ -1,6 +1,7 @@
 -- What is seen of the cells of a table.
-use Rattle.std.specs.Prelude.{◌≡◌, ℕ, ◌≤◌, IsTrue}
+use Rattle.std.specs.Prelude.{◌≡◌, ℕ, ◌≤◌, List, IsTrue}
 use Rattle.std.specs.FinMap as map
+use Rattle.sqlite_value.specs.Order.{Row}
 use Rattle.sqlite_trees.specs.declared.store.Store.{Ghosts}
 use Rattle.sqlite.specs.Held.{Held, state}
 use Rattle.sqlite.specs.State.{State}
@@ -10,7 +11,7 @@ use Rattle.off_outside.specs.declared.keeper.KeepErr.{KeepErr}
 use Rattle.off_outside.specs.declared.keeper.KeepErr.TheVariants.{Memory, Failed}
 use Rattle.off_cells.specs.CellsSeen.{CellMap, CellsSeen}
 use Rattle.off_sqlcells.specs.Office.{no_schema, office_schema}
-use Rattle.off_sqlcells.specs.Holds.{Holds}
+use Rattle.off_sqlcells.specs.Holds.{AreCells, AreShort}
 use Rattle.off_sqlcells.specs.Stands.{IsSteady, Tells}
 use Rattle.off_sqlcells.specs.OneMap.{one_told}
 
@@ -33,11 +34,19 @@ abbrev pub Counts : {S : Type 0} → Ghosts S → Held S → KeepErr → ℕ →
 Counts g conn Memory before after = (after ≡ before) × (IsSteady g → IsTrue (state g conn).is_open)
 Counts g conn Failed before after = (after ≡ one_more before) × (before ≤ most_count)
 
+-- The cells of a table that was there: those that its rows are. They are told where each key has 1
+-- to 9 bytes.
+pub record Found (table : List Row) (seen : CellsSeen) : Type 0 where
+  pub cells : CellMap
+  pub are : AreCells table cells
+  pub told : AreShort cells → seen.cells cells
+  pub up : seen.up
+
 -- cells that have just begun over a connection: none, where the database had no table; and where it
--- had this table, those that its rows hold
+-- had this table, those that its rows are
 pub record HasBegun {S : Type 0} (g : Ghosts S) (conn : Held S) (seen : CellsSeen) : Type 0 where
   pub made : IsSteady g → (state g conn).now.schema ≡ no_schema → seen.cells map.empty × seen.up
-  pub found : IsSteady g → (state g conn).now.schema ≡ office_schema → (m : CellMap)
-      → Holds ((state g conn).now.trees 0) m → seen.cells m × seen.up
+  pub found : IsSteady g → (state g conn).now.schema ≡ office_schema
+      → Found ((state g conn).now.trees 0) seen
   pub faults : seen.faults ≡ 0
   pub calls : seen.calls ≡ 0

@@ -1,5 +1,5 @@
 -- When a connection tells cells.
-use Rattle.std.specs.Prelude.{◌≡◌, ℕ, false, List, [], IsTrue}
+use Rattle.std.specs.Prelude.{◌≡◌, false, List, [], IsTrue}
 use Rattle.sqlite_trees.specs.declared.store.Store.{Ghosts}
 use Rattle.sqlite_trees.specs.View.{IsClean}
 use Rattle.sqlite.specs.Effect.{Database}

@@ -8,9 +8,11 @@
 
 mod counting;
 mod making;
+mod ordered;
 mod refusals;
 mod sql_cells;
 mod statements;
 mod writing;
 
+pub use ordered::Ordered;
 pub use sql_cells::SqlCells;

@@ -3,6 +3,7 @@ ghost use Rattle.off_sqlcells.specs.SqlCellsSeen.{sql_seen, one_sql};
 
 use crate::counting::counted;
 use crate::making::make_table;
+use crate::ordered::Ordered;
 use crate::statements::{find_behind, find_val};
 use crate::writing::commit_all;
 use off_base::Bytes;
@@ -26,7 +27,7 @@ pub struct SqlCells<S: Alter> {
     ghost idle: { conn.in_transaction ≡ false },
 }
 
-impl<S: Alter + Drop> SqlCells<S> {
+impl<S: Ordered + Drop> SqlCells<S> {
     ghost use Rattle.off_sqlcells.specs.SqlCellsSeen.{HasBegun};
 
     /// The cells of a database, whose table is made where it isn't there. Where that is refused,
@@ -37,6 +38,7 @@ impl<S: Alter + Drop> SqlCells<S> {
     {
         let mut conn = conn;
         make_table(&mut conn)?;
+        let _schema = conn.schema();
         if !conn.is_autocommit() {
             return Err(KeepErr::Failed);
         }

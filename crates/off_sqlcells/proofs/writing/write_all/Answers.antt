@@ -3,7 +3,6 @@ use Rattle.sqlite.specs.Held.{state}
 use Rattle.off_base.proofs.TreeLemmas.{taken}
 use Rattle.off_cells.specs.CellsSeen.{CellMap}
 use Rattle.off_cells.specs.CellWritten.{write_cells}
-use Rattle.off_cells.specs.declared.writes.CellWrite.{CellWrite}
 use Rattle.off_sqlcells.specs.Stands.{Within}
 use Rattle.off_sqlcells.proofs.CallLemmas.{one_more_write, whole_taken, stays_then}
 use Rattle.off_sqlcells.proofs.writing.write_all.Goals as goal

@@ -1,4 +1,3 @@
-use Rattle.std.proofs.Common.{◌≡◌}
 use Rattle.off_sqlcells.proofs.SeenLemmas.{wrote_written, refused_kept}
 use Rattle.off_sqlcells.proofs.sql_cells.SqlCellsCells.commit.Goals as goal
 
