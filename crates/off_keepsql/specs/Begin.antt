@@ -14,8 +14,8 @@ use Rattle.off_sqlcells.specs.Holds.{AreCells}
 use Rattle.off_sqlcells.specs.Stands.{IsSteady}
 use Rattle.off_keepsql.specs.Stored.{Stores}
 
--- The tables of a table that was there: those that the cells of its rows store. There are none where
--- a row isn't a key and a row of the office.
+-- What is told of a table that was there: its rows are cells, and the tables that these store are
+-- told, if they store any.
 pub record FoundTables (table : List Row) (seen : KeeperSeen) : Type 0 where
   pub cells : CellMap
   pub are : AreCells table cells

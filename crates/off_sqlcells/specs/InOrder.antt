@@ -1,5 +1,5 @@
 -- Stores whose committed trees are in order, whatever has become of a transaction on them.
-use Rattle.std.proofs.Common.{zero, suc, true, false, List, [], ◌∷◌, if◌then◌else◌, ◌==◌, map, IsTrue, refl}
+use Rattle.std.specs.Prelude.{zero, suc, true, false, List, [], ◌∷◌, if◌then◌else◌, ◌==◌, map, IsTrue, refl}
 use Rattle.std.proofs.Math.Logic.{∥∥₁_elim}
 use Rattle.sqlite_disk.specs.declared.Disk as disk
 use Rattle.sqlite_wal.proofs.StateLemmas.{clean_of}
@@ -8,7 +8,8 @@ use Rattle.sqlite_trees.specs.declared.memory.MemStore.{MemStore}
 use Rattle.sqlite_trees.specs.declared.store.Shape.TheVariants.{Table}
 use Rattle.sqlite_trees.specs.declared.store.Store.{Ghosts}
 use Rattle.sqlite_trees.specs.Listing.{objects_are_ordered, objects_are_listed}
-use Rattle.sqlite_trees.specs.Memory.{memory_view, heading, rows_of, shape_of, shapes, forest, objects_of}
+use Rattle.sqlite_trees.specs.Memory.{memory_view, heading, rows_of, objects_of}
+use Rattle.sqlite_trees.specs.Memory.{shape_of, shapes, forest}
 use Rattle.sqlite_trees.specs.Objects.{catalog_tree, version_tree, version_rows, IsListed}
 use Rattle.sqlite_trees.specs.Props.{IsShaped-prop, IsOrdered-prop}
 use Rattle.sqlite_trees.specs.View.{View, IsShaped, IsOrdered}
