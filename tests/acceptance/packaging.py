@@ -100,7 +100,7 @@ def manual():
     statuses = page[page.index(".SH EXIT STATUS"):page.index(".SH ENVIRONMENT")]
     told = [int(number) for number in re.findall(r"(?m)^\.B (\d+)$", statuses)]
     check(told == list(range(12)), f"the statuses: {told}")
-    for name in re.findall(r'"(OFFICED_\w+)"', text_of("crates", "officed", "src", "addresses.rt")):
+    for name in re.findall(r'"(OFFICED_\w+)"', text_of("crates", "off_host", "src", "addresses.rt")):
         check(f".B {name}\n" in page, f"the manual has {name}")
     names = re.findall(r"(?m)^(?:\.BR? )?(office\\-\w+)", page)
     check(len(names) == 4, f"the helpers: {names}")

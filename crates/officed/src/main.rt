@@ -1,27 +1,14 @@
-//! `officed`: real sockets, the standard streams, and main. No rule of the office stands here.
+//! `officed`: main, which makes the outside that its words ask for. No rule of the office stands
+//! here.
 #![tactic(auto)]
 
 ghost use Rattle.std.specs.Prelude.{◌≡◌, IfOk};
 
-mod addresses;
-mod clerks;
-mod connection;
-mod datagrams;
-mod numbers;
-mod reflecting;
-mod socket_link;
-mod standard;
-mod store;
-mod system;
-mod unsent;
-
-use crate::addresses::Addresses;
-use crate::socket_link::{OpenErr, SocketLink};
-use crate::standard::{StandardInput, StandardOutput};
-use crate::store::{StoreErr, open_store};
+use off_host::{Addresses, OpenErr, SocketLink, StandardInput, StandardOutput};
 use off_keepmem::MemKeeper;
-use off_outside::{Calls, Events, Keeper, MemLink, Sink};
+use off_outside::{Calls, Events, Keeper, Link, MemLink, Sink};
 use off_serve::{Wanted, place, run};
+use off_store::{StoreErr, open_store};
 use std::env;
 use std::io::ErrorKind;
 use std::process::ExitCode;
@@ -142,7 +129,7 @@ fn room_for(words: &[String]) -> (usize, usize) {
 
 // Opens the sockets on the addresses that the environment names.
 fn open_link(rt: &HostRuntime, ports: &[u16; 4]) -> Result<SocketLink, OpenErr>
-    ensures { IfOk result (λ link. link.missed ≡ 0) }
+    ensures { IfOk result (λ link. (⟦<SocketLink as Link>⟧.seen link).missed ≡ 0) }
 {
     let addresses = Addresses::wanted(rt)?;
     SocketLink::open(rt, addresses, ports)

@@ -1,8 +1,8 @@
 use Rattle.std.proofs.Common.{rules, ◌+◌, ap}
-use Rattle.officed.specs.UnsentHeld.{UnsentHeld}
-use Rattle.officed.proofs.Fronts.{sent_front, sent_all}
-use Rattle.officed.proofs.unsent.Unsent.send.Goals as goal
-use Rattle.officed.proofs.unsent.Unsent.send.Goals.{then-self-len-2, else-self-len-2}
+use Rattle.off_peers.specs.UnsentHeld.{UnsentHeld}
+use Rattle.off_peers.proofs.Fronts.{sent_front, sent_all}
+use Rattle.off_peers.proofs.unsent.Unsent.send.Goals as goal
+use Rattle.off_peers.proofs.unsent.Unsent.send.Goals.{then-self-len-2, else-self-len-2}
 
 pub returns-after-self-len-2 : goal.returns-after-self-len-2
 returns-after-self-len-2 c =

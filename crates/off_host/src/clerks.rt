@@ -1,15 +1,13 @@
 ghost use Rattle.std.specs.Prelude.{◌≡◌, ◌<◌, IfSome, vec_len};
 
-use crate::connection::{Connection, Heard};
 use crate::datagrams::{Asked, socket_address};
-use crate::numbers::Numbers;
 use crate::system::is_readable;
-use crate::unsent::Unsent;
 use mio::event::Event;
 use mio::net::{TcpListener, TcpStream};
 use mio::{Interest, Registry, Token};
 use off_base::{Ip4, NoMemory};
 use off_outside::{Failed, What};
+use off_peers::{Connection, Heard, Numbers, Unsent};
 use std::alloc::Global;
 use std::io::{self, ErrorKind};
 use std::os::fd::AsRawFd;

@@ -1,7 +1,7 @@
 -- What a connection gives.
 use Rattle.std.specs.Prelude.{◌≡◌, ℕ, ◌+◌, ◌-◌, ◌^◌, ◌<◌, List, Bool, true, min}
-use Rattle.officed.specs.declared.connection.Heard.{Heard}
-use Rattle.officed.specs.declared.connection.Heard.TheVariants.{Piece, Quiet, Dropped, Over}
+use Rattle.off_peers.specs.declared.connection.Heard.{Heard}
+use Rattle.off_peers.specs.declared.connection.Heard.TheVariants.{Piece, Quiet, Dropped, Over}
 
 -- none of its bytes is given to the office
 abbrev pub GivesNothing : Heard → Type 0

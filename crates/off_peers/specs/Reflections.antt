@@ -3,7 +3,7 @@ use Rattle.std.specs.Prelude.{◌≡◌, ℕ, ◌*◌, ◌^◌, ◌<◌, ◌≤�
 use Rattle.off_base.specs.declared.addresses.Peer.{Peer}
 use Rattle.off_defs.specs.declared.events.Service.{Service}
 use Rattle.off_defs.specs.declared.events.Service.TheVariants.{Dhcp, Time, Tftp}
-use Rattle.officed.specs.declared.reflecting.OwnPorts.{OwnPorts}
+use Rattle.off_peers.specs.declared.reflecting.OwnPorts.{OwnPorts}
 
 -- port 0, which nobody has, and the ports of services that answer whatever comes: echo (RFC 862),
 -- active users (RFC 866), daytime (RFC 867), quote of the day (RFC 865), chargen (RFC 864) and time

@@ -1,10 +1,10 @@
 use crate::addresses::Addresses;
-use crate::reflecting::{OwnPorts, is_acknowledgement, is_reflection, is_time_answer};
 use crate::system::ask_for_room;
 use mio::net::UdpSocket;
 use mio::{Interest, Registry, Token};
 use off_base::{Bytes, Ip4, Moment, NoMemory, Peer};
 use off_outside::{Failed, Service, What};
+use off_peers::{OwnPorts, is_acknowledgement, is_reflection, is_time_answer};
 use std::alloc::Global;
 use std::io::{self, ErrorKind};
 use std::net::{Ipv4Addr, SocketAddr, SocketAddrV4};

@@ -1,5 +1,5 @@
 ghost use Rattle.std.specs.Prelude.{◌≡◌, [], ◌==◌, length, IfOk, MatchBool};
-ghost use Rattle.officed.specs.UnsentHeld.{Put, DoesNotFit, Sends};
+ghost use Rattle.off_peers.specs.UnsentHeld.{Put, DoesNotFit, Sends};
 
 use mio::net::TcpStream;
 use off_base::NoMemory;
@@ -39,7 +39,7 @@ pub struct Unsent {
 impl Model for Unsent {
     ghost use Rattle.std.specs.Prelude.{◌+◌, ◌≤◌, drop, vec_len};
     ghost use Rattle.std.specs.Vec.{vec_capacity};
-    ghost use Rattle.officed.specs.UnsentHeld.{UnsentHeld};
+    ghost use Rattle.off_peers.specs.UnsentHeld.{UnsentHeld};
 
     ghost Value = { UnsentHeld };
 

@@ -1,14 +1,14 @@
 ghost use Rattle.std.specs.Prelude.{◌≡◌, IfOk};
 ghost use Rattle.off_defs.specs.Told.{one_none};
-ghost use Rattle.officed.specs.Untold.{link_counts};
+ghost use Rattle.off_host.specs.Untold.{link_counts};
 
 use crate::addresses::Addresses;
 use crate::clerks::Clerks;
 use crate::datagrams::{Asked, Datagrams};
-use crate::reflecting::OwnPorts;
 use mio::{Events, Poll};
 use off_base::{Moment, Peer};
 use off_outside::{Event, Failed, Link, LinkErr, Service, What};
+use off_peers::OwnPorts;
 use std::alloc::Global;
 use std::io;
 use std::time::{Duration, Instant, SystemTime};
@@ -49,7 +49,7 @@ impl SocketLink {
         addresses: Addresses,
         ports: &[u16; 4],
     ) -> Result<SocketLink, OpenErr>
-        ensures none_missed { IfOk result (λ link. link.missed ≡ 0) }
+        ensures none_missed { IfOk result (λ link. (⟦<SocketLink as Link>⟧.seen link).missed ≡ 0) }
         ensures up { IfOk result (λ link. (⟦<SocketLink as Link>⟧.seen link).up) }
     {
         let Ok(ready) = Events::with_capacity(rt.alloc(), MOST_READY) else {

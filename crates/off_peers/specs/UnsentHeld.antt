@@ -1,7 +1,7 @@
 -- What a connection has still to be sent.
 use Rattle.std.specs.Prelude.{◌≡◌, ◌≢◌, ℕ, ◌-◌, ◌<◌, ◌≤◌, List, [], ◌++◌, drop, length}
-use Rattle.officed.specs.declared.unsent.Sending.{Sending}
-use Rattle.officed.specs.declared.unsent.Sending.TheVariants.{Whole, Rest, Broken}
+use Rattle.off_peers.specs.declared.unsent.Sending.{Sending}
+use Rattle.off_peers.specs.declared.unsent.Sending.TheVariants.{Whole, Rest, Broken}
 
 -- the bytes, and how many more there is room for
 pub record UnsentHeld : Type 0 where

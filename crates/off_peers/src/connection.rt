@@ -1,7 +1,7 @@
 ghost use Rattle.std.specs.Prelude.{◌≡◌, ◌≢◌, ◌<◌, ◌≤◌, ◌↔◌, ◌⊎◌, length, IsTrue, true, false};
-ghost use Rattle.officed.specs.Connections.{GivesNothing, IsInTime, IsPieceOf, IsSpoken, later};
-ghost use Rattle.officed.specs.declared.connection.Heard.TheVariants as heard;
-ghost use Rattle.officed.specs.declared.connection.Stage.TheVariants as stage;
+ghost use Rattle.off_peers.specs.Connections.{GivesNothing, IsInTime, IsPieceOf, IsSpoken, later};
+ghost use Rattle.off_peers.specs.declared.connection.Heard.TheVariants as heard;
+ghost use Rattle.off_peers.specs.declared.connection.Stage.TheVariants as stage;
 
 use crate::unsent::{Sending, Unsent};
 use mio::event::Event;

@@ -1,7 +1,7 @@
 -- What is left of bytes behind a front that was sent.
 use Rattle.std.proofs.Common.{◌≡◌, ◌≢◌, ℕ, ◌+◌, ◌-◌, ◌<◌, ◌≤◌, List, [], drop, length, sym, ◌∙◌, ap, subst, refl, arith}
 use Rattle.std.proofs.lemmas.List.{drop-drop, drop_all, length-drop}
-use Rattle.officed.specs.UnsentHeld.{UnsentHeld, SentFront, SentAll}
+use Rattle.off_peers.specs.UnsentHeld.{UnsentHeld, SentFront, SentAll}
 
 some_left : (bytes : List ℕ) (at : ℕ) → at < length bytes → drop at bytes ≢ []
 some_left bytes at within none =

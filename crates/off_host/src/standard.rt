@@ -1,6 +1,6 @@
 ghost use Rattle.std.specs.Prelude.{◌≡◌, ◌≤◌, length, IfSome};
 ghost use Rattle.off_defs.specs.Told.{one_none};
-ghost use Rattle.officed.specs.Untold.{source_counts, sink_counts};
+ghost use Rattle.off_host.specs.Untold.{source_counts, sink_counts};
 
 use crate::system::{is_writable_within, may_wait};
 use off_outside::{Failed, Sink, Source, ends_after, one_more};

@@ -1,6 +1,6 @@
 ghost use Rattle.std.specs.Prelude.{◌↔◌, [], ◌∷◌, Contains, IsTrue};
 ghost use Rattle.off_defs.specs.declared.events.Service.TheVariants as service;
-ghost use Rattle.officed.specs.Reflections.{IsReflection, AnswersByItself, IsNoClient};
+ghost use Rattle.off_peers.specs.Reflections.{IsReflection, AnswersByItself, IsNoClient};
 
 use off_base::{Moment, Peer};
 use off_outside::Service;

@@ -1,4 +1,3 @@
-pub mod Untold
 pub mod UnsentHeld
 pub mod Connections
 pub mod Reflections

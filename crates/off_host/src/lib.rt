@@ -1,0 +1,14 @@
+//! The outside on a real machine: the link over its sockets, and its standard streams as a source
+//! and a sink. No rule of the office stands here.
+#![tactic(auto)]
+
+mod addresses;
+mod clerks;
+mod datagrams;
+mod socket_link;
+mod standard;
+mod system;
+
+pub use addresses::Addresses;
+pub use socket_link::{OpenErr, SocketLink};
+pub use standard::{StandardInput, StandardOutput};

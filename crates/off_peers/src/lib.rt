@@ -1,0 +1,13 @@
+//! Who speaks to the link: from where no client's datagram comes, and a clerk's connection from its
+//! accept to its end, with its number and what it has still to be sent.
+#![tactic(auto)]
+
+mod connection;
+mod numbers;
+mod reflecting;
+mod unsent;
+
+pub use connection::{Connection, Heard};
+pub use numbers::Numbers;
+pub use reflecting::{OwnPorts, is_acknowledgement, is_reflection, is_time_answer};
+pub use unsent::{ANSWER_ROOM, Sending, Unsent};
