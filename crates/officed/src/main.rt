@@ -4,6 +4,9 @@
 
 ghost use Rattle.std.specs.Prelude.{◌≡◌, IfOk};
 
+#[cfg(test)]
+mod hearing;
+
 use off_host::{Addresses, OpenErr, SocketLink, StandardInput, StandardOutput};
 use off_keepmem::MemKeeper;
 use off_outside::{Calls, Events, Keeper, Link, MemLink, Sink};
