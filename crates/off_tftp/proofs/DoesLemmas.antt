@@ -29,8 +29,13 @@ use Rattle.off_transfer_rules.specs.declared.words.TftpWord.{TftpWord}
 use Rattle.off_transfer_rules.specs.declared.words.TftpWord.TheVariants as word
 use Rattle.off_tftp.specs.declared.acknowledging.Stage.TheVariants as stage
 use Rattle.off_tftp.specs.Built.{CanBuild}
+use Rattle.off_kept.specs.Entries.{Entries}
+use Rattle.off_kept.specs.Right.{AllRight}
 use Rattle.off_tftp.specs.Saying.{says_more, Does, Answers}
-use Rattle.off_tftp.specs.Seen.{without_profile, names_file, seen_for, CanServe}
+use Rattle.off_tftp.specs.declared.gathering.Seen.{Seen}
+use Rattle.off_tftp.specs.Keeping.{entry_for, kept_by, Serves, AnswersKeeping}
+use Rattle.off_tftp.specs.Seen.{view_of, view_with, without_profile, names_file, seen_for, CanServe, Shows}
+use Rattle.off_tftp.proofs.BodyLemmas.{repeat_keeps, after_right}
 use Rattle.off_tftp.specs.Stages.{repeats, lacks_room_by, stage_of}
 
 -- ---- by the answer
@@ -51,6 +56,11 @@ looks_as a b (Err err) Q R looks join = looks
 pub if_ok_as : (step : Result TftpWord NoMemory) (Q R : TftpWord → Type 0) → IfOk step Q → ((w : TftpWord) → Q w → R w) → IfOk step R
 if_ok_as (Ok w) Q R q join = join w q
 if_ok_as (Err err) Q R q join = q
+
+-- a premise that doesn't depend on the answer
+pub if_ok_under : (step : Result TftpWord NoMemory) {A : Type 0} (Q : TftpWord → Type 0) → (A → IfOk step Q) → IfOk step (λ w. A → Q w)
+if_ok_under (Ok w) Q under = under
+if_ok_under (Err err) Q under = tt
 
 -- ---- tables have a file where they have a profile
 
@@ -172,25 +182,68 @@ module _ (now : ℕ) (old new : Transfers) (from : Peer) (bytes : List ℕ) (sai
   unnamed_holder v ip no_room name asked None answered wrong d = denies_as v no_lease answered d
   unnamed_holder v ip no_room name asked (Some mac) answered wrong d = unnamed_modem v ip no_room name asked mac v.modem answered wrong d
 
-  -- what is seen for a file, the whole or all but the profile
-  abbrev AnewDone : View → Ip4 → Bool → List ℕ → Option ℕ → Result TftpWord NoMemory → Type 0
-  AnewDone u ip no_room name asked step = CanServe u now ip → IfOk step (λ w. DoesSo u (way_anew u now ip no_room name asked) w)
+  -- ---- a request, and what is kept behind it
 
-  seen_does : (v : View) (ip : Ip4) (no_room : Bool) (name : List ℕ) (asked : Option ℕ) (step : Result TftpWord NoMemory) (right : Bool) → names_file now ip name v ≡ right
-      → CanServe v now ip → AnewDone (cond right v (without_profile v)) ip no_room name asked step → IfOk step (λ w. DoesSo v (way_anew v now ip no_room name asked) w)
-  seen_does v ip no_room name asked step true is serves done = done serves
-  seen_does v ip no_room name asked step false is serves done =
-      if_ok_as step _ (λ w. DoesSo v (way_anew v now ip no_room name asked) w) (done (λ site profile s p. cc)) (λ w d. unnamed_holder v ip no_room name asked (holder now v) w is d)
+  module _ (kept keeps : Entries) where
+    abbrev ServesSo : View → Way → TftpWord → Type 0
+    ServesSo v w answered = Serves v now old new from bytes w said after kept keeps answered
 
-  pub open_does : (v seen : View) (ip : Ip4) (full : Bool) (name : List ℕ) (asked : Option ℕ) (live : Option Transfer) (step : Result TftpWord NoMemory) → repeats bytes live ≡ false
-      → seen ≡ seen_for now ip name v → CanServe v now ip
-      → (CanServe seen now ip → IfOk step (λ w. Does seen now old new from bytes (way_anew seen now ip (lacks_room_by full live) name asked) said after w))
-      → IfOk step (λ w. Does v now old new from bytes (way_of_request v now ip full bytes name asked live) said after w)
-  open_does v seen ip full name asked live step is e serves done =
-      if_ok_as step _ (λ w. DoesSo v (way_of_request v now ip full bytes name asked live) w)
-      (seen_does v ip (lacks_room_by full live) name asked step (names_file now ip name v) refl serves
-      (subst (λ (u : View). AnewDone u ip (lacks_room_by full live) name asked step) e done))
-      (λ w d. does_as v (way_anew v now ip (lacks_room_by full live) name asked) (way_of_request v now ip full bytes name asked live) w (anew_is v ip full name asked live is) d)
+    pub repeat_serves : (v : View) (ip : Ip4) (full : Bool) (name : List ℕ) (asked : Option ℕ) (live : Option Transfer) (step : Result TftpWord NoMemory) → repeats bytes live ≡ true
+        → keeps ≡ kept → IfOk step (λ w. IfSome live (λ x. Does v now old new from bytes (Repeats x) said after w))
+        → IfOk step (λ w. Serves v now old new from bytes (way_of_request v now ip full bytes name asked live) said after kept keeps w)
+    repeat_serves v ip full name asked live step is same done =
+        if_ok_as step _ (λ w. ServesSo v (way_of_request v now ip full bytes name asked live) w) (repeat_does v ip full name asked live step is done)
+        (λ w d. record { does = d; keeps_is = same ∙ repeat_keeps v kept now ip full bytes name asked live is })
+
+    -- a request with a wrong name leaves what is kept
+    refused_modem : (u v : View) (ip : Ip4) (no_room : Bool) (name : List ℕ) (asked : Option ℕ) (mac : Mac) (m : Option Modem) → passes (is_own_name name mac ip) v.site ≡ false
+        → kept_by u (way_for_modem v ip no_room name asked mac m) kept ≡ kept
+    refused_modem u v ip no_room name asked mac None wrong = refl
+    refused_modem u v ip no_room name asked mac (Some modem) wrong =
+        ap (λ b. kept_by u (cond (not (b && is_some v.profile)) (Denies file_not_found) (cond no_room (Denies too_many_transfers) (Accepts mac modem.subscriber name asked))) kept) wrong
+
+    refused_holder : (u v : View) (ip : Ip4) (no_room : Bool) (name : List ℕ) (asked : Option ℕ) (h : Option Mac) → passes (λ mac. passes (is_own_name name mac ip) v.site) h ≡ false
+        → kept_by u (way_for_holder v ip no_room name asked h) kept ≡ kept
+    refused_holder u v ip no_room name asked None wrong = refl
+    refused_holder u v ip no_room name asked (Some mac) wrong = refused_modem u v ip no_room name asked mac v.modem wrong
+
+    -- what is seen for a file, the whole or all but the profile
+    abbrev AnewDone : View → Ip4 → Bool → List ℕ → Option ℕ → Result TftpWord NoMemory → Type 0
+    AnewDone u ip no_room name asked step = CanServe u now ip → IfOk step (λ w. ServesSo u (way_anew u now ip no_room name asked) w)
+
+    seen_does : (v : View) (ip : Ip4) (no_room : Bool) (name : List ℕ) (asked : Option ℕ) (step : Result TftpWord NoMemory) (right : Bool) → names_file now ip name v ≡ right
+        → CanServe v now ip → AnewDone (cond right v (without_profile v)) ip no_room name asked step → IfOk step (λ w. ServesSo v (way_anew v now ip no_room name asked) w)
+    seen_does v ip no_room name asked step true is serves done = done serves
+    seen_does v ip no_room name asked step false is serves done =
+        if_ok_as step _ (λ w. ServesSo v (way_anew v now ip no_room name asked) w) (done (λ site profile s p. cc))
+        (λ w d. record {
+          does = unnamed_holder v ip no_room name asked (holder now v) w is d.does;
+          keeps_is = d.keeps_is ∙ (refused_holder (without_profile v) (without_profile v) ip no_room name asked (holder now v) is ∙ sym (refused_holder v v ip no_room name asked (holder now v) is));
+        })
+
+    serves_as : (v : View) (w u : Way) (answered : TftpWord) → w ≡ u → ServesSo v w answered → ServesSo v u answered
+    serves_as v w u answered e d = subst (λ x. ServesSo v x answered) e d
+
+    -- with its profile what is seen is the view
+    shown : (seen : Seen) (u : View) → view_of seen ≡ without_profile u → view_with seen u.profile ≡ u
+    shown seen u is = ap (λ (w : View). record w { profile = u.profile }) is
+
+    shown_done : (seen : Seen) (u : View) (ip : Ip4) (no_room : Bool) (name : List ℕ) (asked : Option ℕ) (step : Result TftpWord NoMemory) → Shows seen u
+        → ((profile : Option (List Tree)) → seen.body ≡ entry_for seen.modem profile → AnewDone (view_with seen profile) ip no_room name asked step) → AnewDone u ip no_room name asked step
+    shown_done seen u ip no_room name asked step shows done =
+        subst (λ (w : View). AnewDone w ip no_room name asked step) (shown seen u shows.rest)
+        (done u.profile (shows.entry ∙ ap (λ (w : View). entry_for w.modem u.profile) (sym shows.rest)))
+
+    pub open_does : (v : View) (seen : Seen) (ip : Ip4) (full : Bool) (name : List ℕ) (asked : Option ℕ) (live : Option Transfer) (step : Result TftpWord NoMemory) → repeats bytes live ≡ false
+        → Shows seen (seen_for now ip name v) → CanServe v now ip
+        → ((profile : Option (List Tree)) → seen.body ≡ entry_for seen.modem profile → CanServe (view_with seen profile) now ip
+        → IfOk step (Serves (view_with seen profile) now old new from bytes (way_anew (view_with seen profile) now ip (lacks_room_by full live) name asked) said after kept keeps))
+        → IfOk step (λ w. Serves v now old new from bytes (way_of_request v now ip full bytes name asked live) said after kept keeps w)
+    open_does v seen ip full name asked live step is shows serves done =
+        if_ok_as step _ (λ w. ServesSo v (way_of_request v now ip full bytes name asked live) w)
+        (seen_does v ip (lacks_room_by full live) name asked step (names_file now ip name v) refl serves
+        (shown_done seen (seen_for now ip name v) ip (lacks_room_by full live) name asked step shows done))
+        (λ w d. serves_as v (way_anew v now ip (lacks_room_by full live) name asked) (way_of_request v now ip full bytes name asked live) w (anew_is v ip full name asked live is) d)
 
   -- ---- the whole
 
@@ -231,3 +284,24 @@ module _ (now : ℕ) (old new : Transfers) (from : Peer) (bytes : List ℕ) (sai
         gave = ap (λ (m : Transfers). gives m [] word.PeerError) left;
         says = same ∙ ap (λ (l : List Sent). record said { items = l }) (sym (append-nil said.items));
       })
+
+  -- and what is kept
+
+  pub keeping : (t : Tables) (kept keeps : Entries) (meant : Result Meant PacketFault) (answered : TftpWord) → packet_of bytes ≡ meant
+      → keeps ≡ kept_by (view t from.ip) (way_of (view t from.ip) now from.ip (has_no_room old) bytes (map.get old from) meant) kept
+      → AllRight t kept → Answers t now old new from bytes said after answered → AnswersKeeping t now old new from bytes said after kept keeps answered
+  unfolding way
+  keeping t kept keeps meant answered is kept_is right answers =
+      let all_is = kept_is ∙ ap (λ (m : Result Meant PacketFault). kept_by (view t from.ip) (way_of (view t from.ip) now from.ip (has_no_room old) bytes (map.get old from) m) kept) (sym is) in
+      record {
+        answers = answers;
+        keeps_is = all_is;
+        right = subst (AllRight t) (sym all_is) (after_right t now old from bytes kept right);
+      }
+
+  pub request_answers : (t : Tables) (kept keeps : Entries) (meant : Result Meant PacketFault) (answered : TftpWord) → packet_of bytes ≡ meant
+      → (AllRight t kept → Serves (view t from.ip) now old new from bytes (way_of (view t from.ip) now from.ip (has_no_room old) bytes (map.get old from) meant) said after kept keeps answered)
+      → AllRight t kept → AnswersKeeping t now old new from bytes said after kept keeps answered
+  request_answers t kept keeps meant answered is serves right =
+      let served = serves right in
+      keeping t kept keeps meant answered is served.keeps_is right (answers_by t meant answered is served.does)

@@ -14,10 +14,14 @@ use Rattle.off_rules.specs.Rows.{site_in, modem_in, lease_in, add_on_in}
 use Rattle.off_file_rules.specs.Profile.{numbered_add_on, profile_in}
 use Rattle.off_transfer_rules.specs.View.{View, view, owner_by}
 use Rattle.off_tftp.specs.Listed.{with_add_on}
-use Rattle.off_tftp.specs.Seen.{without_profile, names_file, seen_for, IsNamed, profile_for}
+use Rattle.off_tftp.specs.declared.gathering.Seen.{Seen}
+use Rattle.off_tftp.specs.Keeping.{is_kept, entry_for, FewWhereKept}
+use Rattle.off_tftp.specs.Seen.{view_of, without_profile, names_file, seen_for, Shows}
+use Rattle.off_kept.specs.declared.bodies.KeptBody.{KeptBody}
+use Rattle.off_kept.specs.Entries.{Entries}
 use Rattle.off_defs.specs.State.{Tables}
 use Rattle.off_outside.specs.KeeperSeen.{KeeperSeen}
-use Rattle.off_outside.specs.KeeperCalls.{Looks, Reads, NotDone}
+use Rattle.off_outside.specs.KeeperCalls.{Looks, Reads, NotDone, Spent}
 use Rattle.off_outside.specs.declared.keeper.KeepErr.{KeepErr}
 use Rattle.off_outside.specs.declared.keeper.KeepErr.TheVariants.{Memory}
 use Rattle.off_outside.proofs.KeeperLemmas.{reads_then, reads_as, reads_none, reads_forgotten, failed_then, spent_none, spent_one, spent_then, spent_within}
@@ -62,6 +66,10 @@ add_one tables subscriber k add_ons new settings small so_far is made =
 
 -- ---- what is seen
 
+no_entry : (modem : Option Modem) → None ≡ entry_for modem None
+no_entry None = refl
+no_entry (Some modem) = refl
+
 abbrev seen_by : Option Site → Option Lease → Option Modem → Option (List Tree) → View
 seen_by site lease modem profile = record { site = site; lease = lease; modem = modem; profile = profile }
 
@@ -73,34 +81,45 @@ look_is t ip site lease owner modem s l o m =
     ∙ ap (λ (x : Option Modem). seen_by (site_in t) lease x None) (m ∙ ap (option_and_then (modem_in t)) o)
     ∙ ap (λ (x : Option Lease). seen_by (site_in t) x (option_and_then (modem_in t) (owner_by x)) None) l
 
-profile_by_owner : (t : Tables) (owner : Option Mac) → profile_for t (option_and_then (modem_in t) owner) ≡ option_and_then (profile_in t) owner
-unfolding profile_in
-profile_by_owner t None = refl
-profile_by_owner t (Some mac) = refl
+-- what a request for a file needs of it, by whether the name is right
+pub shows_unnamed : (seen : Seen) (v : View) (now : ℕ) (ip : Ip4) (name : List ℕ) → seen.body ≡ None → view_of seen ≡ without_profile v → names_file now ip name (view_of seen) ≡ false
+    → Shows seen (seen_for now ip name v)
+shows_unnamed seen v now ip name bare is wrong =
+    let without : without_profile v ≡ seen_for now ip name v = sym (ap (λ b. cond b v (without_profile v)) (ap (names_file now ip name) (sym is) ∙ wrong)) in
+    subst (Shows seen) without (record { rest = is; entry = bare ∙ no_entry v.modem })
 
-profile_seen : (t : Tables) (ip : Ip4) → profile_for t (view t ip).modem ≡ (view t ip).profile
+shows_named : (seen : Seen) (v : View) (now : ℕ) (ip : Ip4) (name : List ℕ) → view_of seen ≡ without_profile v → names_file now ip name (view_of seen) ≡ true
+    → seen.body ≡ entry_for v.modem v.profile → Shows seen (seen_for now ip name v)
+shows_named seen v now ip name is right entry =
+    let whole : v ≡ seen_for now ip name v = sym (ap (λ b. cond b v (without_profile v)) (ap (names_file now ip name) (sym is) ∙ right)) in
+    subst (Shows seen) whole (record { rest = is; entry = entry })
+
+-- the same seen with a body
+abbrev pub seen_with : Seen → Option KeptBody → Seen
+seen_with seen body = record seen { body = body }
+
+pub shows_body : (t : Tables) (ip : Ip4) (seen : Seen) (owner : Option Mac) (body : Option KeptBody) (now : ℕ) (name : List ℕ) → owner ≡ owner_by seen.lease
+    → view_of seen ≡ without_profile (view t ip) → names_file now ip name (view_of seen) ≡ true
+    → (seen.modem ≡ option_and_then (modem_in t) owner → body ≡ entry_for seen.modem (option_and_then (profile_in t) owner))
+    → Shows (seen_with seen body) (seen_for now ip name (view t ip))
 unfolding view
-profile_seen t ip = profile_by_owner t (owner_by (lease_in t ip))
+shows_body t ip seen owner body now name owned is right made =
+    let lease : seen.lease ≡ lease_in t ip = ap (λ (v : View). v.lease) is in
+    let modem : seen.modem ≡ option_and_then (modem_in t) (owner_by (lease_in t ip)) = ap (λ (v : View). v.modem) is in
+    let owns : owner ≡ owner_by (lease_in t ip) = owned ∙ ap (λ (l : Option Lease). owner_by l) lease in
+    shows_named (seen_with seen body) (view t ip) now ip name is right
+    (made (modem ∙ ap (option_and_then (modem_in t)) (sym owns))
+    ∙ (ap (λ (o : Option Mac). entry_for seen.modem (option_and_then (profile_in t) o)) owns
+    ∙ ap (λ (m : Option Modem). entry_for m (option_and_then (profile_in t) (owner_by (lease_in t ip)))) modem))
 
-pub all_is : (t : Tables) (ip : Ip4) (site : Option Site) (lease : Option Lease) (modem : Option Modem) (old profile : Option (List Tree)) → seen_by site lease modem old ≡ without_profile (view t ip)
-    → profile ≡ profile_for t modem → seen_by site lease modem profile ≡ view t ip
-all_is t ip site lease modem old profile seen is =
-    ap (λ (v : View). seen_by v.site v.lease v.modem profile) seen
-    ∙ ap (λ (p : Option (List Tree)). seen_by (view t ip).site (view t ip).lease (view t ip).modem p)
-    (is ∙ ap (λ (v : View). profile_for t v.modem) seen ∙ profile_seen t ip)
+-- ---- few calls, where the body is kept
 
--- what a read request needs of it, by whether the name is right
-pub named_is : (t : Tables) (ip : Ip4) (now : ℕ) (name : List ℕ) (site : Option Site) (lease : Option Lease) (modem : Option Modem) (old profile : Option (List Tree))
-    → seen_by site lease modem old ≡ without_profile (view t ip) → names_file now ip name (seen_by site lease modem old) ≡ true
-    → profile ≡ profile_for t modem → seen_by site lease modem profile ≡ seen_for now ip name (view t ip)
-named_is t ip now name site lease modem old profile seen right is =
-    all_is t ip site lease modem old profile seen is
-    ∙ sym (ap (λ b. cond b (view t ip) (without_profile (view t ip))) (ap (names_file now ip name) (sym seen) ∙ right))
+pub few_always : {a b : KeeperSeen} (ip : Ip4) (entries : Entries) → Spent 3 a b → FewWhereKept ip entries a b
+few_always ip entries spent = λ t told is. spent
 
-pub unnamed_is : (v seen : View) (ip : Ip4) (now : ℕ) (name : List ℕ) → seen ≡ without_profile v → names_file now ip name seen ≡ false → seen ≡ seen_for now ip name v
-unnamed_is v seen ip now name is wrong =
-    is ∙ sym (ap (λ b. cond b v (without_profile v)) (ap (names_file now ip name) (sym is) ∙ wrong))
-
-pub named_with : (now : ℕ) (ip : Ip4) (name : List ℕ) (site : Option Site) (lease : Option Lease) (modem : Option Modem) (old profile : Option (List Tree))
-    → names_file now ip name (seen_by site lease modem old) ≡ true → IsNamed now ip name (seen_by site lease modem profile)
-named_with now ip name site lease modem old profile right = λ there. right
+pub few_behind : {a b c : KeeperSeen} (ip : Ip4) (entries : Entries) (seen : Seen) (owner : Option Mac) → owner ≡ owner_by seen.lease
+    → Reads (λ t. view_of seen ≡ without_profile (view t ip)) a b → Spent 3 a b → (is_kept owner entries ≡ true → Spent 0 b c) → FewWhereKept ip entries a c
+unfolding view
+few_behind ip entries seen owner owned reads spent more = λ t told is.
+    let lease : seen.lease ≡ lease_in t ip = ap (λ (v : View). v.lease) (reads.tables t told).1 in
+    spent_then spent (more (ap (λ (o : Option Mac). is_kept o entries) (owned ∙ ap (λ (l : Option Lease). owner_by l) lease) ∙ is))

@@ -2,6 +2,7 @@ pub mod Pieces
 pub mod Built
 pub mod Kept
 pub mod Saying
+pub mod Keeping
 pub mod Seen
 pub mod Calls
 pub mod Listed

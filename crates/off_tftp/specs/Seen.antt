@@ -6,19 +6,23 @@ use Rattle.off_base.specs.declared.macs.Mac.{Mac}
 use Rattle.off_defs.specs.declared.tables.Site.{Site}
 use Rattle.off_defs.specs.declared.tables.Subscriber.{Subscriber}
 use Rattle.off_defs.specs.declared.tables.Class.{Class}
-use Rattle.off_defs.specs.declared.tables.Modem.{Modem}
 use Rattle.off_defs.specs.declared.tables.Lease.{Lease}
-use Rattle.off_defs.specs.State.{Tables}
 use Rattle.off_rules.specs.Rows.{passes}
 use Rattle.off_lease_rules.specs.Free.{has_ended}
-use Rattle.off_file_rules.specs.Profile.{profile_of, profile_at}
+use Rattle.off_file_rules.specs.Profile.{profile_of}
 use Rattle.off_transfer_rules.specs.View.{View, bound_to, holder, is_own_name}
 use Rattle.off_tftp.specs.Built.{CanBuild}
+use Rattle.off_tftp.specs.Keeping.{entry_for}
 use Rattle.off_tftp.specs.declared.gathering.Seen.{Seen}
 
+-- all of it but the profile: of that the spelling is seen, which may have been kept
 abbrev pub view_of : Seen → View
 view_of seen =
-    record { site = seen.site; lease = seen.lease; modem = seen.modem; profile = seen.profile }
+    record { site = seen.site; lease = seen.lease; modem = seen.modem; profile = None }
+
+abbrev pub view_with : Seen → Option (List Tree) → View
+view_with seen profile =
+    record { site = seen.site; lease = seen.lease; modem = seen.modem; profile = profile }
 
 -- all of it but the profile, which an acknowledgement doesn't need
 abbrev pub without_profile : View → View
@@ -32,13 +36,14 @@ names_file now ip name v = passes (λ mac. passes (is_own_name name mac ip) v.si
 abbrev pub seen_for : ℕ → Ip4 → List ℕ → View → View
 seen_for now ip name v = if names_file now ip name v then v else without_profile v
 
--- where a profile was read, the name is right
-abbrev pub IsNamed : ℕ → Ip4 → List ℕ → View → Type 0
-IsNamed now ip name v = is_some v.profile ≡ true → names_file now ip name v ≡ true
+-- where there is a body, the name is right
+abbrev pub IsNamed : ℕ → Ip4 → List ℕ → Seen → Type 0
+IsNamed now ip name seen = is_some seen.body ≡ true → names_file now ip name (view_of seen) ≡ true
 
--- where a profile was read, the name is that of the modem's file
-abbrev pub HasName : Ip4 → List ℕ → Mac → View → Type 0
-HasName ip name mac v = is_some v.profile ≡ true → passes (is_own_name name mac ip) v.site ≡ true
+-- where there is a body, the name is that of the modem's file
+abbrev pub HasName : Ip4 → List ℕ → Mac → Seen → Type 0
+HasName ip name mac seen =
+    is_some seen.body ≡ true → passes (is_own_name name mac ip) seen.site ≡ true
 
 -- the modem to which a lease binds at a moment
 abbrev pub held_by : ℕ → Option Lease → Option Mac
@@ -52,10 +57,10 @@ profile_from who class add_ons =
     option_and_then
     (λ who. option_map (λ row. profile_of who.active who.cpes row.settings add_ons) class) who
 
--- the profile of a modem's row
-abbrev pub profile_for : Tables → Option Modem → Option (List Tree)
-profile_for tables modem =
-    option_and_then (λ modem. profile_at tables modem.subscriber modem.class) modem
+-- what is seen is what a view has: its profile by the modem's entry
+pub record Shows (seen : Seen) (v : View) : Type 0 where
+  pub rest : view_of seen ≡ without_profile v
+  pub entry : seen.body ≡ entry_for v.modem v.profile
 
 -- what is seen has a file that can be built; what is read of tables has
 abbrev pub CanServe : View → ℕ → Ip4 → Type 0

@@ -8,10 +8,12 @@ ghost use Rattle.off_transfer_rules.specs.Steps.{way_of_acknowledgement, error_t
 ghost use Rattle.off_transfer_rules.specs.Steps.{illegal_operation};
 ghost use Rattle.off_transfer_rules.specs.Transfers.{has_no_room, is_at_last};
 ghost use Rattle.off_transfer_rules.specs.View.{view};
+ghost use Rattle.off_kept.specs.Right.{AllRight};
 ghost use Rattle.off_outside.specs.declared.keeper.KeepErr.TheVariants.{Memory};
 ghost use Rattle.off_outside.specs.KeeperCalls.{Looks, Spent};
 ghost use Rattle.off_tftp.specs.Calls.{datagram_calls, reading_calls, acknowledgement_calls};
-ghost use Rattle.off_tftp.specs.Saying.{says_more, Answers, Does};
+ghost use Rattle.off_tftp.specs.Keeping.{FewWhereKept, Serves, AnswersKeeping};
+ghost use Rattle.off_tftp.specs.Saying.{says_more, Does};
 
 use crate::acknowledging::Stage;
 use crate::gathering::{look, look_for_file};
@@ -19,6 +21,7 @@ use crate::packets::read_packet;
 use crate::saying::deny;
 use crate::transfers::Transfers;
 use off_base::{Moment, NoMemory, Peer};
+use off_kept::Kept;
 use off_outside::{KeepErr, Keeper, Replies};
 use off_transfer_rules::{Packet, PacketFault, TftpWord};
 use std::alloc::Global;
@@ -26,29 +29,36 @@ use std::alloc::Global;
 impl Transfers {
     /// What a peer's datagram does at a moment, and the word with which the log has it.
     ///
-    /// The tables needn't be good: an impossible row is taken as one that isn't there. `Failed`
-    /// comes only where the keeper counted a fault. After an error the transfers and `out` are as
-    /// before.
+    /// The tables needn't be good: an impossible row is taken as one that isn't there. What is kept
+    /// of them is to be right. A request that is accepted puts its modem's body first in `kept`, and
+    /// no other does; where a modem's body is kept already, its rows aren't read for it.
+    ///
+    /// `Failed` comes only where the keeper counted a fault. After an error the transfers, `kept`
+    /// and `out` are as before.
     #[tactic(auto, using(crate::proofs::ReadLemmas::readings))]
     pub fn on_datagram<K: Keeper>(
         &mut self,
         alloc: Global,
         keeper: &mut K,
+        kept: &mut Kept,
         now: Moment,
         from: Peer,
         bytes: &[u8],
         out: &mut Replies,
     ) -> Result<TftpWord, KeepErr>
         ensures told { Looks result (K.seen keeper.old) (K.seen keeper.new)
-            (λ word t. Answers t now.0 self.old self.new from bytes.now out.old out.new word) }
+            (λ word t. AllRight t kept.old → AnswersKeeping t now.0 self.old self.new from
+            bytes.now out.old out.new kept.old kept.new word) }
         ensures spent { Spent (datagram_calls self.old from bytes.now)
             (K.seen keeper.old) (K.seen keeper.new) }
+        ensures few { FewWhereKept from.ip kept.old (K.seen keeper.old) (K.seen keeper.new) }
         ensures kept { OnErr result (self.new ≡ self.old) }
+        ensures unkept { OnErr result (kept.new ≡ kept.old) }
         ensures unsaid { OnErr result (out.new ≡ out.old) }
     {
         match read_packet(bytes) {
             Ok(Packet::Read { name, size }) => {
-                self.on_request(alloc, keeper, now, from, bytes, name, size, out)
+                self.on_request(alloc, keeper, kept, now, from, bytes, name, size, out)
             }
             Ok(Packet::Ack(number)) => {
                 self.on_acknowledgement(alloc, keeper, now, from, bytes, number, out)
@@ -75,6 +85,7 @@ impl Transfers {
         &mut self,
         alloc: Global,
         keeper: &mut K,
+        kept: &mut Kept,
         now: Moment,
         from: Peer,
         bytes: &[u8],
@@ -84,19 +95,22 @@ impl Transfers {
     ) -> Result<TftpWord, KeepErr>
         requires { IfSome size (λ size. 8 ≤ size) }
         ensures told { Looks result (K.seen keeper.old) (K.seen keeper.new)
-            (λ word t. Does (view t from.ip) now.0 self.old self.new from bytes.now
+            (λ word t. AllRight t kept.old
+            → Serves (view t from.ip) now.0 self.old self.new from bytes.now
             (way_of_request (view t from.ip) now.0 from.ip (has_no_room self.old) bytes.now
-            name.now size (map.get self.old from)) out.old out.new word) }
+            name.now size (map.get self.old from)) out.old out.new kept.old kept.new word) }
         ensures spent { Spent (reading_calls bytes.now (map.get self.old from))
             (K.seen keeper.old) (K.seen keeper.new) }
+        ensures few { FewWhereKept from.ip kept.old (K.seen keeper.old) (K.seen keeper.new) }
         ensures kept { OnErr result (self.new ≡ self.old) }
+        ensures unkept { OnErr result (kept.new ≡ kept.old) }
         ensures unsaid { OnErr result (out.new ≡ out.old) }
     {
         if self.repeats(from, bytes) {
             return settled(self.repeat(alloc, now, from, out));
         }
-        let seen = look_for_file(alloc, keeper, now, from.ip, name)?;
-        settled(self.open(alloc, &seen, now, from, bytes, name, size, out))
+        let seen = look_for_file(alloc, keeper, kept, now, from.ip, name)?;
+        settled(self.open(alloc, kept, &seen, now, from, bytes, name, size, out))
     }
 
     // What an acknowledgement does.

@@ -1,13 +1,12 @@
-ghost use Rattle.std.specs.Prelude.{◌≡◌, ◌+◌, ◌++◌, ◌≤◌, ◌<◌, length, IfOk, IfSome, MatchOption};
+ghost use Rattle.std.specs.Prelude.{◌≡◌, ◌+◌, ◌++◌, ◌≤◌, ◌<◌, List, length, IfSome, MatchOption};
+ghost use Rattle.off_base.specs.Tree.{Tree, spelling};
 ghost use Rattle.off_file_rules.specs.Block.{block};
 ghost use Rattle.off_file_rules.specs.File.{IsBuilt};
 ghost use Rattle.off_build.specs.Written.{StandsInFront};
 ghost use Rattle.off_tftp.specs.Built.{CanBuild};
 
-use off_base::{Ip4, Moment, NoMemory, Settings};
+use off_base::{Ip4, Moment};
 use off_build::{Body, FileTail, block, tail};
-use off_tlv::spelled_len;
-use std::alloc::Global;
 use std::marker::Model;
 
 // A file has at most so many bytes.
@@ -31,26 +30,18 @@ impl Model for File {
 }
 
 impl File {
-    /// The file of a profile for an address at a moment, under the site's secret.
+    /// The file of a profile's body for an address at a moment, under the site's secret. It takes
+    /// no memory.
     ///
-    /// `None` comes only for a profile that no tables have.
-    pub(crate) fn build(
-        alloc: Global,
-        profile: &Settings,
-        now: Moment,
-        ip: Ip4,
-        secret: &[u8],
-    ) -> Result<Option<File>, NoMemory>
-        ensures built { CanBuild secret.now profile.now now.0 ip → IfOk result
-            (λ made. MatchOption made ⊥ (λ file. IsBuilt secret.now profile.now now.0 ip file)) }
-        ensures few { IfOk result (λ made. IfSome made (λ file. length file ≤ 6200)) }
+    /// `None` comes only for a body that no tables have.
+    pub(crate) fn signed(body: Body, now: Moment, ip: Ip4, secret: &[u8]) -> Option<File>
+        ensures built { (profile : List Tree) → body ≡ spelling profile
+            → CanBuild secret.now profile now.0 ip
+            → MatchOption result ⊥ (λ file. IsBuilt secret.now profile now.0 ip file) }
+        ensures few { IfSome result (λ file. length file ≤ 6200) }
     {
-        if spelled_len(profile).is_none() {
-            return Ok(None);
-        }
-        let body = Body::spell(alloc, profile)?;
         let tail = tail(&body, now, ip, secret);
-        Ok(short_file(body, tail))
+        short_file(body, tail)
     }
 
     /// How many bytes the file has.

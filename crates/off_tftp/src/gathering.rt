@@ -1,19 +1,24 @@
 //! What is read of the tables for a peer.
 
 ghost use Rattle.std.specs.Prelude.{◌≡◌, ◌++◌, ◌∷◌, [], None, Ok, option_and_then, IfOk};
-ghost use Rattle.std.specs.Prelude.{MatchResult};
+ghost use Rattle.std.specs.Prelude.{true, option_map, MatchResult};
+ghost use Rattle.off_defs.specs.declared.tables.Modem.{Modem as ModemSeen};
 ghost use Rattle.off_rules.specs.Rows.{modem_in};
-ghost use Rattle.off_file_rules.specs.Profile.{profile_at, add_ons_in};
+ghost use Rattle.off_file_rules.specs.Profile.{profile_at, profile_in, add_ons_in};
 ghost use Rattle.off_transfer_rules.specs.View.{view, owner_by};
-ghost use Rattle.off_tftp.specs.Seen.{view_of, without_profile, seen_for, IsNamed};
-ghost use Rattle.off_tftp.specs.Seen.{profile_from, profile_for};
+ghost use Rattle.off_kept.specs.Right.{AllRight};
+ghost use Rattle.off_tftp.specs.Seen.{view_of, without_profile, seen_for, IsNamed, Shows};
+ghost use Rattle.off_tftp.specs.Seen.{profile_from};
+ghost use Rattle.off_tftp.specs.Keeping.{FewWhereKept, is_kept, entry_for};
 ghost use Rattle.off_tftp.specs.Listed.{with_add_on};
 ghost use Rattle.off_outside.specs.declared.keeper.KeepErr.TheVariants.{Memory};
 ghost use Rattle.off_outside.specs.KeeperCalls.{Looks, Spent};
 
+use crate::bodies::kept_or_built;
 use crate::judging::names_file;
 use off_base::{Ip4, Mac, Moment, NoMemory, Settings};
 use off_defs::{Class, Lease, Modem, Site, Subscriber};
+use off_kept::{Kept, KeptBody};
 use off_outside::{KeepErr, Keeper};
 use off_profile::{AddOns, profile_of};
 use off_readers::{
@@ -24,22 +29,22 @@ use std::alloc::Global;
 // How many add-ons a subscriber may have.
 const ADD_ONS: u8 = 8;
 
-/// The site, the lease of the peer's address, and of the modem that owns it the row and the
-/// profile.
+/// The site, the lease of the peer's address, of the modem that owns it the row, and the body of
+/// its file with the row's numbers.
 #[derive(Drop)]
 pub(crate) struct Seen {
     pub(crate) site: Option<Site>,
     pub(crate) lease: Option<Lease>,
     pub(crate) modem: Option<Modem>,
-    pub(crate) profile: Option<Settings>,
+    pub(crate) body: Option<KeptBody>,
 }
 
-/// All of it but the profile. It's three calls.
+/// All of it but the body. It's three calls.
 #[tactic(auto, using(crate::proofs::ReadLemmas::readings))]
 pub(crate) fn look<K: Keeper>(alloc: Global, keeper: &mut K, ip: Ip4) -> Result<Seen, KeepErr>
     ensures told { Looks result (K.seen keeper.old) (K.seen keeper.new)
         (λ seen t. view_of seen ≡ without_profile (view t ip)) }
-    ensures bare { IfOk result (λ seen. seen.profile ≡ None) }
+    ensures bare { IfOk result (λ seen. seen.body ≡ None) }
     ensures spent { Spent 3 (K.seen keeper.old) (K.seen keeper.new) }
 {
     let site = read_site(alloc, keeper)?;
@@ -49,31 +54,33 @@ pub(crate) fn look<K: Keeper>(alloc: Global, keeper: &mut K, ip: Ip4) -> Result<
         site,
         lease,
         modem,
-        profile: None,
+        body: None,
     })
 }
 
-/// What a request for a file needs of it. It's three calls, and ten more for the profile, which is
-/// read only where the name is right: a wrong one costs little.
+/// What a request for a file needs of it. It's three calls, and ten more for a body that isn't
+/// kept; a body is looked for only where the name is right, so that a wrong one costs little.
 #[tactic(auto, using(crate::proofs::ReadLemmas::readings))]
 pub(crate) fn look_for_file<K: Keeper>(
     alloc: Global,
     keeper: &mut K,
+    kept: &Kept,
     now: Moment,
     ip: Ip4,
     name: &[u8],
 ) -> Result<Seen, KeepErr>
     ensures told { Looks result (K.seen keeper.old) (K.seen keeper.new)
-        (λ seen t. view_of seen ≡ seen_for now.0 ip name.now (view t ip)) }
-    ensures named { IfOk result (λ seen. IsNamed now.0 ip name.now (view_of seen)) }
+        (λ seen t. AllRight t kept.now → Shows seen (seen_for now.0 ip name.now (view t ip))) }
+    ensures named { IfOk result (λ seen. IsNamed now.0 ip name.now seen) }
     ensures spent { Spent 13 (K.seen keeper.old) (K.seen keeper.new) }
+    ensures few { FewWhereKept ip kept.now (K.seen keeper.old) (K.seen keeper.new) }
 {
     let mut seen = look(alloc, keeper, ip)?;
     if !names_file(&seen, now, ip, name) {
         return Ok(seen);
     }
-    let profile = read_profile(alloc, keeper, &seen.modem)?;
-    seen.profile = profile;
+    let body = body_for(alloc, keeper, kept, owner_by(seen.lease), &seen.modem)?;
+    seen.body = body;
     Ok(seen)
 }
 
@@ -102,25 +109,31 @@ fn read_owner<K: Keeper>(
     }
 }
 
-// The profile of a modem, where its subscriber and its class are there. It's ten calls.
+// The body of a modem's file, where its row, its subscriber and its class are there. It's ten
+// calls, and none where the body is kept.
 #[tactic(auto, using(crate::proofs::ReadLemmas::readings))]
-fn read_profile<K: Keeper>(
+fn body_for<K: Keeper>(
     alloc: Global,
     keeper: &mut K,
+    kept: &Kept,
+    owner: Option<Mac>,
     modem: &Option<Modem>,
-) -> Result<Option<Settings>, KeepErr>
+) -> Result<Option<KeptBody>, KeepErr>
     ensures told { Looks result (K.seen keeper.old) (K.seen keeper.new)
-        (λ profile t. profile ≡ profile_for t modem.now) }
+        (λ body t. AllRight t kept.now → modem.now ≡ option_and_then (modem_in t) owner
+        → body ≡ entry_for modem.now (option_and_then (profile_in t) owner)) }
     ensures spent { Spent 10 (K.seen keeper.old) (K.seen keeper.new) }
+    ensures few { is_kept owner kept.now ≡ true
+        → Spent 0 (K.seen keeper.old) (K.seen keeper.new) }
 {
-    match modem {
-        Some(modem) => read_profile_at(alloc, keeper, modem.subscriber, modem.class),
-        None => Ok(None),
-    }
+    let Some(mac) = owner else { return Ok(None) };
+    let Some(modem) = modem else { return Ok(None) };
+    kept_or_built(alloc, keeper, kept, mac, modem)
 }
 
+/// The profile of a subscriber and a class, where both are there. It's ten calls.
 #[tactic(auto, using(crate::proofs::ReadLemmas::readings))]
-fn read_profile_at<K: Keeper>(
+pub(crate) fn read_profile<K: Keeper>(
     alloc: Global,
     keeper: &mut K,
     subscriber: u32,

@@ -1,14 +1,19 @@
 //! A read request that didn't come before.
 
-ghost use Rattle.std.specs.Prelude.{◌≡◌, ◌≤◌, length, Some, option_map, IfOk, IfSome, OnOk, OnErr};
+ghost use Rattle.std.specs.Prelude.{◌≡◌, ◌≤◌, ◌∷◌, [], List, Option, Some, length, option_map};
+ghost use Rattle.std.specs.Prelude.{IfOk, IfSome, OnOk, OnErr};
 ghost use Rattle.std.specs.FinMap as map;
+ghost use Rattle.off_base.specs.Tree.{Tree, spelling};
 ghost use Rattle.off_defs.specs.declared.tables.Modem.{Modem as ModemSeen};
+ghost use Rattle.off_transfer_rules.specs.View.{View};
 ghost use Rattle.off_transfer_rules.specs.Steps.{way_anew, way_for_modem, last_to};
-ghost use Rattle.off_transfer_rules.specs.Transfers.{begun, first_word};
+ghost use Rattle.off_transfer_rules.specs.Transfers.{begun, first_word, packet_to};
+ghost use Rattle.off_kept.specs.Entries.{with_first};
+ghost use Rattle.off_tftp.specs.Keeping.{entry_of, entry_for, Serves};
 ghost use Rattle.off_tftp.specs.Kept.{HasPlaceFor};
 ghost use Rattle.off_tftp.specs.Opened.{IsBegun};
-ghost use Rattle.off_tftp.specs.Saying.{says_more, Does};
-ghost use Rattle.off_tftp.specs.Seen.{view_of, IsNamed, HasName, CanServe};
+ghost use Rattle.off_tftp.specs.Saying.{says_more};
+ghost use Rattle.off_tftp.specs.Seen.{view_with, IsNamed, HasName, CanServe};
 ghost use Rattle.off_tftp.specs.Stages.{lacks_room};
 
 use crate::files::File;
@@ -17,16 +22,20 @@ use crate::judging::holder;
 use crate::live::Live;
 use crate::saying::{deny, packet_to};
 use crate::transfers::Transfers;
-use off_base::{Ip4, Mac, Moment, NoMemory, Peer};
+use off_base::{Bytes, Ip4, Mac, Moment, NoMemory, Peer};
+use off_build::Body;
+use off_defs::Site;
+use off_kept::{Kept, KeptBody};
 use off_outside::Replies;
 use off_transfer_rules::TftpWord;
 use std::alloc::Global;
 
 impl Transfers {
-    /// Opens the file that is asked for, or refuses.
+    /// Opens the file that is asked for, or refuses. Where it opens it, its body is kept.
     pub(crate) fn open(
         &mut self,
         alloc: Global,
+        kept: &mut Kept,
         seen: &Seen,
         now: Moment,
         from: Peer,
@@ -36,12 +45,15 @@ impl Transfers {
         out: &mut Replies,
     ) -> Result<TftpWord, NoMemory>
         requires least { IfSome size (λ size. 8 ≤ size) }
-        requires named { IsNamed now.0 from.ip name.now (view_of seen.now) }
-        ensures done { CanServe (view_of seen.now) now.0 from.ip → IfOk result
-            (Does (view_of seen.now) now.0 self.old self.new from bytes.now
-            (way_anew (view_of seen.now) now.0 from.ip (lacks_room self.old from) name.now size)
-            out.old out.new) }
+        requires named { IsNamed now.0 from.ip name.now seen.now }
+        ensures done { (profile : Option (List Tree))
+            → seen.now.body ≡ entry_for seen.now.modem profile
+            → CanServe (view_with seen.now profile) now.0 from.ip → IfOk result
+            (Serves (view_with seen.now profile) now.0 self.old self.new from bytes.now
+            (way_anew (view_with seen.now profile) now.0 from.ip (lacks_room self.old from)
+            name.now size) out.old out.new kept.old kept.new) }
         ensures kept { OnErr result (self.new ≡ self.old) }
+        ensures unkept { OnErr result (kept.new ≡ kept.old) }
         ensures unsaid { OnErr result (out.new ≡ out.old) }
     {
         let Some(mac) = holder(now, seen.lease) else {
@@ -59,7 +71,7 @@ impl Transfers {
         };
         let subscriber = modem.subscriber;
         self.open_for(
-            alloc, seen, now, from, bytes, mac, subscriber, name, size, out,
+            alloc, kept, seen, now, from, bytes, mac, subscriber, name, size, out,
         )
     }
 
@@ -67,6 +79,7 @@ impl Transfers {
     fn open_for(
         &mut self,
         alloc: Global,
+        kept: &mut Kept,
         seen: &Seen,
         now: Moment,
         from: Peer,
@@ -78,24 +91,28 @@ impl Transfers {
         out: &mut Replies,
     ) -> Result<TftpWord, NoMemory>
         requires least { IfSome size (λ size. 8 ≤ size) }
-        requires named { HasName from.ip name.now mac (view_of seen.now) }
-        ensures done { (modem : ModemSeen) → modem.subscriber ≡ subscriber
-            → CanServe (view_of seen.now) now.0 from.ip → IfOk result
-            (Does (view_of seen.now) now.0 self.old self.new from bytes.now
-            (way_for_modem (view_of seen.now) from.ip (lacks_room self.old from) name.now size mac
-            (Some modem)) out.old out.new) }
+        requires named { HasName from.ip name.now mac seen.now }
+        ensures done { (modem : ModemSeen) (profile : Option (List Tree))
+            → modem.subscriber ≡ subscriber → seen.now.modem ≡ Some modem
+            → seen.now.body ≡ option_map (entry_of modem) profile
+            → CanServe (view_with seen.now profile) now.0 from.ip → IfOk result
+            (Serves (view_with seen.now profile) now.0 self.old self.new from bytes.now
+            (way_for_modem (view_with seen.now profile) from.ip (lacks_room self.old from)
+            name.now size mac (Some modem)) out.old out.new kept.old kept.new) }
         ensures kept { OnErr result (self.new ≡ self.old) }
+        ensures unkept { OnErr result (kept.new ≡ kept.old) }
         ensures unsaid { OnErr result (out.new ≡ out.old) }
     {
-        if seen.profile.is_none() {
+        let Some(found) = &seen.body else {
             return deny(alloc, from, 1, b"file not found", TftpWord::Name, out);
-        }
+        };
         if self.lacks_room(from) {
             return deny(alloc, from, 0, b"too many transfers", TftpWord::Full, out);
         }
-        let file = file_for(alloc, seen, now, from.ip)?;
+        let entry = shared(found)?;
+        let file = file_for(&seen.site, found.body.share()?, now, from.ip);
         let begun = begin(alloc, now, bytes, mac, subscriber, name, size, file)?;
-        self.start(alloc, from, begun, size, out)
+        self.start(alloc, kept, from, mac, entry, begun, size, out)
     }
 
     // Whether a transfer for the peer has neither room nor another one to replace.
@@ -105,11 +122,14 @@ impl Transfers {
         self.get(peer).is_none() && self.is_full()
     }
 
-    // Sends the first packet of a transfer that has begun.
+    // Sends the first packet of a transfer that has begun, and keeps the body of its file.
     fn start(
         &mut self,
         alloc: Global,
+        kept: &mut Kept,
         from: Peer,
+        mac: Mac,
+        entry: KeptBody,
         begun: Option<Live>,
         size: Option<u16>,
         out: &mut Replies,
@@ -120,32 +140,64 @@ impl Transfers {
             (λ live. self.new ≡ map.insert self.old from live)) }
         ensures says { OnOk result (IfSome begun
             (λ live. out.new ≡ says_more out.old (last_to from live))) }
+        ensures keeps { OnOk result (IfSome begun
+            (λ _. kept.new ≡ with_first mac entry kept.old)) }
         ensures kept { OnErr result (self.new ≡ self.old) }
+        ensures unkept { OnErr result (kept.new ≡ kept.old) }
         ensures unsaid { OnErr result (out.new ≡ out.old) }
     {
         let Some(live) = begun else {
             return deny(alloc, from, 1, b"file not found", TftpWord::Name, out);
         };
         let packet = live.last_packet(alloc)?;
-        out.push(packet_to(from, packet))?;
+        say_and_keep(from, packet, kept, mac, entry, out)?;
         self.put(from, live);
         Ok(first_word(size))
     }
 }
 
-// The file of what was read.
-fn file_for(alloc: Global, seen: &Seen, now: Moment, ip: Ip4) -> Result<Option<File>, NoMemory>
-    ensures built { CanServe (view_of seen.now) now.0 ip → IfOk result
-        (IsBegun (view_of seen.now) now.0 ip) }
-    ensures few { IfOk result (λ made. IfSome made (λ file. length file ≤ 6200)) }
+// Says a packet and keeps a body: both, or neither.
+fn say_and_keep(
+    from: Peer,
+    packet: Bytes,
+    kept: &mut Kept,
+    mac: Mac,
+    entry: KeptBody,
+    out: &mut Replies,
+) -> Result<(), NoMemory>
+    ensures says { OnOk result (out.new ≡ says_more out.old (packet_to from packet ∷ [])) }
+    ensures keeps { OnOk result (kept.new ≡ with_first mac entry kept.old) }
+    ensures unkept { OnErr result (kept.new ≡ kept.old) }
+    ensures unsaid { OnErr result (out.new ≡ out.old) }
 {
-    let Some(site) = &seen.site else {
-        return Ok(None);
-    };
-    let Some(profile) = &seen.profile else {
-        return Ok(None);
-    };
-    File::build(alloc, profile, now, ip, site.secret.as_slice())
+    let said = out.len();
+    out.push(packet_to(from, packet))?;
+    if kept.put_first(mac, entry).is_ok() {
+        return Ok(());
+    }
+    out.truncate(said);
+    Err(NoMemory)
+}
+
+// One more owner of what is kept of a modem.
+fn shared(found: &KeptBody) -> Result<KeptBody, NoMemory>
+    ensures { IfOk result (λ entry. entry ≡ found.now) }
+{
+    Ok(KeptBody {
+        subscriber: found.subscriber,
+        class: found.class,
+        body: found.body.share()?,
+    })
+}
+
+// The file of a body, where there is a site.
+fn file_for(site: &Option<Site>, body: Body, now: Moment, ip: Ip4) -> Option<File>
+    ensures built { (v : View) → v.site ≡ site.now → option_map spelling v.profile ≡ Some body
+        → CanServe v now.0 ip → IsBegun v now.0 ip result }
+    ensures few { IfSome result (λ file. length file ≤ 6200) }
+{
+    let Some(site) = site else { return None };
+    File::signed(body, now, ip, site.secret.as_slice())
 }
 
 // A transfer of the file, if there is one.

@@ -1,17 +1,24 @@
 use Rattle.std.proofs.Common.{◌∙◌, sym}
 use Rattle.off_outside.proofs.KeeperLemmas.{reads_then, reads_as}
 use Rattle.off_transfer_rules.specs.View.{view}
-use Rattle.off_tftp.specs.Seen.{view_of}
-use Rattle.off_tftp.proofs.ReadLemmas.{named_is, unnamed_is}
+use Rattle.off_tftp.proofs.ReadLemmas.{shows_unnamed, shows_body, few_behind}
 use Rattle.off_tftp.proofs.gathering.look_for_file.Goals as goal
 
 pub returns-then-not-names_file-clause-told : goal.returns-then-not-names_file-clause-told
 returns-then-not-names_file-clause-told g c =
     reads_as c.in_ok-seen.ensures.told
-    (λ t seen. unnamed_is (view t c.args.ip) (view_of c.in_ok-seen.seen) c.args.ip c.args.now.0 c.args.name.now seen (sym c.names_file.ensures ∙ c.if-not-names_file.true))
+    (λ t seen right. shows_unnamed c.in_ok-seen.seen (view t c.args.ip) c.args.now.0 c.args.ip c.args.name.now c.in_ok-seen.ensures.bare seen (sym c.names_file.ensures ∙ c.if-not-names_file.true))
 
 pub returns-clause-told : goal.returns-clause-told
 returns-clause-told g c =
-    reads_then c.in_ok-seen.ensures.told c.in_ok-profile.ensures.told
-    (λ t seen is. named_is t c.args.ip c.args.now.0 c.args.name.now c.in_ok-seen.seen.site c.in_ok-seen.seen.lease c.in_ok-seen.seen.modem c.in_ok-seen.seen.profile c.in_ok-profile.profile seen
-    (sym c.names_file.ensures ∙ c.if-not-names_file.false) is)
+    reads_then c.in_ok-seen.ensures.told c.in_ok-body.ensures.told
+    (λ t seen made right. shows_body t c.args.ip c.in_ok-seen.seen c.owner_by.result c.in_ok-body.body c.args.now.0 c.args.name.now c.owner_by.ensures seen
+    (sym c.names_file.ensures ∙ c.if-not-names_file.false) (made right))
+
+pub returns-in_err-body-clause-few : goal.returns-in_err-body-clause-few
+returns-in_err-body-clause-few g c =
+    few_behind c.args.ip c.args.kept.now c.in_ok-seen.seen c.owner_by.result c.owner_by.ensures c.in_ok-seen.ensures.told c.look.ensures.spent c.body_for.ensures.few
+
+pub returns-clause-few : goal.returns-clause-few
+returns-clause-few g c =
+    few_behind c.args.ip c.args.kept.now c.in_ok-seen.seen c.owner_by.result c.owner_by.ensures c.in_ok-seen.ensures.told c.look.ensures.spent c.body_for.ensures.few

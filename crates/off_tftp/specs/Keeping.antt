@@ -1,0 +1,68 @@
+-- Bodies that were built, as they are kept: what a request finds, and what it leaves.
+use Rattle.std.specs.Prelude.{◌≡◌, ℕ, Bool, true, false, List, Option, Some, None, is_some, option_map, option_and_then}
+use Rattle.off_base.specs.Tree.{Tree, spelling}
+use Rattle.off_base.specs.declared.addresses.Ip4.{Ip4}
+use Rattle.off_base.specs.declared.addresses.Peer.{Peer}
+use Rattle.off_base.specs.declared.macs.Mac.{Mac}
+use Rattle.off_defs.specs.declared.tables.Modem.{Modem}
+use Rattle.off_defs.specs.State.{Tables, Said}
+use Rattle.off_rules.specs.Rows.{lease_in}
+use Rattle.off_kept.specs.Entries.{Entries, kept_of, with_first}
+use Rattle.off_kept.specs.Right.{AllRight}
+use Rattle.off_kept.specs.declared.bodies.KeptBody.{KeptBody}
+use Rattle.off_outside.specs.KeeperSeen.{KeeperSeen}
+use Rattle.off_outside.specs.KeeperCalls.{Spent}
+use Rattle.off_transfer_rules.specs.Transfers.{Transfers}
+use Rattle.off_transfer_rules.specs.View.{View, view, owner_by}
+use Rattle.off_transfer_rules.specs.Steps.{Way, Accepts, way}
+use Rattle.off_transfer_rules.specs.declared.words.TftpWord.{TftpWord}
+use Rattle.off_tftp.specs.Saying.{Answers, Does}
+
+-- whether the entry of a modem is kept
+abbrev pub is_kept : Option Mac → Entries → Bool
+is_kept None entries = false
+is_kept (Some mac) entries = is_some (kept_of mac entries)
+
+-- Where the entry is kept of the modem that owns the address in the tables, its file is read from
+-- there: the lease of the address, the modem and the site are all that is asked for.
+abbrev pub FewWhereKept : Ip4 → Entries → KeeperSeen → KeeperSeen → Type 0
+FewWhereKept ip entries old new =
+    (t : Tables) → old.tables t → is_kept (owner_by (lease_in t ip)) entries ≡ true →
+    Spent 3 old new
+
+-- the entry of a modem: the numbers of its row, and the spelling of its profile
+abbrev pub entry_of : Modem → List Tree → KeptBody
+entry_of modem profile =
+    record { subscriber = modem.subscriber; class = modem.class; body = spelling profile }
+
+abbrev pub entry_for : Option Modem → Option (List Tree) → Option KeptBody
+entry_for modem profile = option_and_then (λ modem. option_map (entry_of modem) profile) modem
+
+-- a modem's entry is put first, where it has one
+abbrev pub kept_with : Mac → Option KeptBody → Entries → Entries
+kept_with mac None entries = entries
+kept_with mac (Some entry) entries = with_first mac entry entries
+
+-- where a transfer begins, its modem's entry is put first; nothing else changes what is kept
+abbrev pub kept_by : View → Way → Entries → Entries
+kept_by v (Accepts mac subscriber name asked) entries =
+    kept_with mac (entry_for v.modem v.profile) entries
+kept_by v other entries = entries
+
+-- what is kept after a datagram
+abbrev pub kept_after : Tables → ℕ → Transfers → Peer → List ℕ → Entries → Entries
+kept_after tables now transfers from bytes entries =
+    kept_by (view tables from.ip) (way (view tables from.ip) now transfers from bytes) entries
+
+-- what is done in one way, and what is kept then
+pub record Serves (v : View) (now : ℕ) (old new : Transfers) (from : Peer) (bytes : List ℕ)
+    (way : Way) (said after : Said) (kept keeps : Entries) (word : TftpWord) : Type 0 where
+  pub does : Does v now old new from bytes way said after word
+  pub keeps_is : keeps ≡ kept_by v way kept
+
+-- a datagram is answered over the tables, and what is kept is right by them again
+pub record AnswersKeeping (tables : Tables) (now : ℕ) (old new : Transfers) (from : Peer)
+    (bytes : List ℕ) (said after : Said) (kept keeps : Entries) (word : TftpWord) : Type 0 where
+  pub answers : Answers tables now old new from bytes said after word
+  pub keeps_is : keeps ≡ kept_after tables now old from bytes kept
+  pub right : AllRight tables keeps

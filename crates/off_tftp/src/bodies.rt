@@ -1,0 +1,99 @@
+//! The body of a modem's file: as it was kept, or built of the modem's profile.
+
+ghost use Rattle.std.specs.Prelude.{◌≡◌, true, is_some, option_map, IfOk, IfErr, IfSome};
+ghost use Rattle.std.specs.Prelude.{Some, MatchResult};
+ghost use Rattle.off_kept.specs.Entries.{kept_of};
+ghost use Rattle.off_base.specs.Tree.{AllFit};
+ghost use Rattle.off_base.specs.declared.macs.Mac.{Mac as MacSeen};
+ghost use Rattle.off_rules.specs.Rows.{modem_in};
+ghost use Rattle.off_file_rules.specs.Profile.{profile_in};
+ghost use Rattle.off_kept.specs.Right.{AllRight};
+ghost use Rattle.off_outside.specs.declared.keeper.KeepErr.TheVariants.{Memory};
+ghost use Rattle.off_outside.specs.KeeperCalls.{Looks, Spent};
+ghost use Rattle.off_tftp.specs.Keeping.{entry_of};
+
+use crate::gathering::read_profile;
+use off_base::{Mac, NoMemory, Settings};
+use off_build::Body;
+use off_defs::Modem;
+use off_kept::{Kept, KeptBody};
+use off_outside::{KeepErr, Keeper};
+use off_tlv::spelled_len;
+use std::alloc::Global;
+
+/// The body of a modem by its row, with the row's numbers. It's ten calls, and none where the body
+/// is kept.
+#[tactic(auto, using(crate::proofs::ReadLemmas::readings))]
+pub(crate) fn kept_or_built<K: Keeper>(
+    alloc: Global,
+    keeper: &mut K,
+    kept: &Kept,
+    mac: Mac,
+    modem: &Modem,
+) -> Result<Option<KeptBody>, KeepErr>
+    ensures told { Looks result (K.seen keeper.old) (K.seen keeper.new)
+        (λ body t. AllRight t kept.now → modem_in t mac ≡ Some modem.now
+        → body ≡ option_map (entry_of modem.now) (profile_in t mac)) }
+    ensures spent { Spent 10 (K.seen keeper.old) (K.seen keeper.new) }
+    ensures few { is_some (kept_of mac kept.now) ≡ true
+        → Spent 0 (K.seen keeper.old) (K.seen keeper.new) }
+{
+    let found = found_in(kept, mac)?;
+    if found.is_some() {
+        return Ok(found);
+    }
+    built(alloc, keeper, modem)
+}
+
+// What is kept of a modem.
+fn found_in(kept: &Kept, mac: Mac) -> Result<Option<KeptBody>, KeepErr>
+    ensures { MatchResult result (λ found. found ≡ kept_of mac kept.now)
+        (λ err. err ≡ Memory) }
+{
+    match kept.find(mac) {
+        Ok(found) => Ok(found),
+        Err(NoMemory) => Err(KeepErr::Memory),
+    }
+}
+
+// The body of a modem, built of the rows of the tables.
+#[tactic(auto, using(crate::proofs::ReadLemmas::readings))]
+fn built<K: Keeper>(
+    alloc: Global,
+    keeper: &mut K,
+    modem: &Modem,
+) -> Result<Option<KeptBody>, KeepErr>
+    ensures told { (mac : MacSeen) → Looks result (K.seen keeper.old) (K.seen keeper.new)
+        (λ body t. modem_in t mac ≡ Some modem.now
+        → body ≡ option_map (entry_of modem.now) (profile_in t mac)) }
+    ensures spent { Spent 10 (K.seen keeper.old) (K.seen keeper.new) }
+{
+    let profile = read_profile(alloc, keeper, modem.subscriber, modem.class)?;
+    spelled(alloc, modem, &profile)
+}
+
+// The body of a profile, where there is one. A profile of the tables has one.
+fn spelled(
+    alloc: Global,
+    modem: &Modem,
+    profile: &Option<Settings>,
+) -> Result<Option<KeptBody>, KeepErr>
+    ensures spelled { IfSome profile.now AllFit → IfOk result
+        (λ body. body ≡ option_map (entry_of modem.now) profile.now) }
+    ensures err { IfErr result (λ err. err ≡ Memory) }
+{
+    let Some(profile) = profile else {
+        return Ok(None);
+    };
+    if spelled_len(profile).is_none() {
+        return Ok(None);
+    }
+    match Body::spell(alloc, profile) {
+        Ok(body) => Ok(Some(KeptBody {
+            subscriber: modem.subscriber,
+            class: modem.class,
+            body,
+        })),
+        Err(NoMemory) => Err(KeepErr::Memory),
+    }
+}
