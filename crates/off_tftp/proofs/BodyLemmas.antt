@@ -20,17 +20,19 @@ use Rattle.off_kept.specs.Entries.{Entries, kept_of}
 use Rattle.off_kept.specs.Right.{IsRight, AllRight}
 use Rattle.off_kept.proofs.RightLemmas.{first_right, found_right, right_profile, right_by}
 use Rattle.off_outside.specs.KeeperSeen.{KeeperSeen}
-use Rattle.off_outside.specs.KeeperCalls.{Looks, Reads, NotDone}
+use Rattle.off_outside.specs.KeeperCalls.{Looks, Reads, NotDone, Spent}
 use Rattle.off_outside.specs.declared.keeper.KeepErr.{KeepErr}
 use Rattle.off_outside.specs.declared.keeper.KeepErr.TheVariants.{Memory}
-use Rattle.off_outside.proofs.KeeperLemmas.{reads_as, reads_forgotten}
+use Rattle.off_outside.proofs.KeeperLemmas.{reads_then, reads_as, reads_none, reads_forgotten, failed_then, spent_none, spent_one, spent_then, spent_within}
 use Rattle.off_transfer_rules.specs.Packets.{Meant, Reads as Asks, Writes, Acknowledges, GivesUp, IsOther, packet_of}
 use Rattle.off_transfer_rules.specs.Transfers.{Transfers, has_no_room, is_at_last}
 use Rattle.off_transfer_rules.specs.View.{View, view, owner_by, bound_to, holder, agrees}
 use Rattle.off_transfer_rules.specs.Steps.{Way, Denies, Repeats, Accepts, Ignores, Finishes, GoesOn, BreaksOff, way, way_of, way_anew, way_for_modem, way_for_holder, way_of_request, way_of_acknowledgement, has_file, is_repeated, file_not_found, too_many_transfers}
 use Rattle.off_transfer_rules.specs.declared.faults.PacketFault.{PacketFault}
 use Rattle.off_transfer_rules.specs.declared.faults.PacketFault.TheVariants as fault
-use Rattle.off_tftp.specs.Keeping.{entry_of, entry_for, kept_with, kept_by, kept_after}
+use Rattle.off_transfer_rules.proofs.PeerLemmas.{peer_total, own_peer}
+use Rattle.off_tftp.specs.Seen.{held_by}
+use Rattle.off_tftp.specs.Keeping.{BeginsFor, is_kept, entry_of, entry_for, kept_with, kept_by, kept_after}
 use Rattle.off_tftp.specs.Stages.{repeats}
 
 -- ---- what is kept of a modem
@@ -200,3 +202,41 @@ unfolding way
 after_right t now old from bytes entries right =
     meant_right t (view t from.ip) entries now from.ip (has_no_room old) bytes (map.get old from) (packet_of bytes) right
     (λ mac is. view_right t from.ip mac entries (holder_owns now (view t from.ip) mac is) right)
+
+-- ---- whose a transfer is that begins
+
+-- no transfer has begun with a request that wasn't repeated, where they are as they were
+pub nothing_begins : (holder : Option Mac) (bytes : List ℕ) (live : Option Transfer) → repeats bytes live ≡ false → BeginsFor holder bytes live
+nothing_begins holder bytes None new = tt
+nothing_begins holder bytes (Some x) new = λ again. cc
+
+pub put_begins : (mac : Mac) (bytes : List ℕ) (transfers : Transfers) (from : Peer) (x : Transfer) → x.modem ≡ mac → BeginsFor (Some mac) bytes (map.get (map.insert transfers from x) from)
+put_begins mac bytes transfers from x is =
+    subst (BeginsFor (Some mac) bytes) (sym (map.get-insert peer_total transfers from x from ∙ ap (λ b. cond b (Some x) (map.get transfers from)) (own_peer from)))
+    (λ again. ap Some (sym is))
+
+pub begins_as : (holder other : Option Mac) (bytes : List ℕ) (live : Option Transfer) → other ≡ holder → BeginsFor holder bytes live → BeginsFor other bytes live
+begins_as holder other bytes live is begins = subst (λ (h : Option Mac). BeginsFor h bytes live) (sym is) begins
+
+pub ruleset beginnings = (nothing_begins, put_begins, begins_as)
+
+-- few calls, where the body of its modem is kept
+pub few_any : {a b : KeeperSeen} (bytes : List ℕ) (entries : Entries) (live : Option Transfer) → Spent 3 a b
+    → IfSome live (λ x. is_repeated bytes x ≡ true → is_kept (Some x.modem) entries ≡ true → Spent 3 a b)
+few_any bytes entries None spent = tt
+few_any bytes entries (Some x) spent = λ again is. spent
+
+pub few_begun : {a b : KeeperSeen} (bytes : List ℕ) (entries : Entries) (now : ℕ) (lease : Option Lease) (live : Option Transfer)
+    → BeginsFor (held_by now lease) bytes live → (is_kept (owner_by lease) entries ≡ true → Spent 3 a b)
+    → IfSome live (λ x. is_repeated bytes x ≡ true → is_kept (Some x.modem) entries ≡ true → Spent 3 a b)
+few_begun bytes entries now lease None begins spent = tt
+few_begun bytes entries now lease (Some x) begins spent = λ again is.
+    spent (ap (λ (o : Option Mac). is_kept o entries) (held_owns (has_ended now lease) lease x.modem (begins again)) ∙ is)
+
+-- a request that wasn't done begins nothing
+pub few_undone : (a b : KeeperSeen) (bytes : List ℕ) (entries : Entries) (live : Option Transfer) → repeats bytes live ≡ false
+    → IfSome live (λ x. is_repeated bytes x ≡ true → is_kept (Some x.modem) entries ≡ true → Spent 3 a b)
+few_undone a b bytes entries None new = tt
+few_undone a b bytes entries (Some x) new = λ again is. cc
+
+pub ruleset askings = (reads_then, reads_as, reads_none, reads_forgotten, failed_then, spent_none, spent_one, spent_then, spent_within, few_any, few_undone)

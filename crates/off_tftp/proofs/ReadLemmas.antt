@@ -123,3 +123,7 @@ unfolding view
 few_behind ip entries seen owner owned reads spent more = λ t told is.
     let lease : seen.lease ≡ lease_in t ip = ap (λ (v : View). v.lease) (reads.tables t told).1 in
     spent_then spent (more (ap (λ (o : Option Mac). is_kept o entries) (owned ∙ ap (λ (l : Option Lease). owner_by l) lease) ∙ is))
+
+pub few_seen_behind : {a b c : KeeperSeen} (entries : Entries) (seen : Seen) (owner : Option Mac) → owner ≡ owner_by seen.lease
+    → Spent 3 a b → (is_kept owner entries ≡ true → Spent 0 b c) → is_kept (owner_by seen.lease) entries ≡ true → Spent 3 a c
+few_seen_behind entries seen owner owned spent more is = spent_then spent (more (ap (λ (o : Option Mac). is_kept o entries) owned ∙ is))

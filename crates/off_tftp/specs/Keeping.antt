@@ -1,11 +1,12 @@
 -- Bodies that were built, as they are kept: what a request finds, and what it leaves.
-use Rattle.std.specs.Prelude.{◌≡◌, ℕ, Bool, true, false, List, Option, Some, None, is_some, option_map, option_and_then}
+use Rattle.std.specs.Prelude.{◌≡◌, ℕ, Bool, true, false, List, Option, Some, None, is_some, IfSome, option_map, option_and_then}
+use Rattle.std.specs.FinMap as map
 use Rattle.off_base.specs.Tree.{Tree, spelling}
 use Rattle.off_base.specs.declared.addresses.Ip4.{Ip4}
 use Rattle.off_base.specs.declared.addresses.Peer.{Peer}
 use Rattle.off_base.specs.declared.macs.Mac.{Mac}
 use Rattle.off_defs.specs.declared.tables.Modem.{Modem}
-use Rattle.off_defs.specs.State.{Tables, Said}
+use Rattle.off_defs.specs.State.{Tables, Said, Transfer}
 use Rattle.off_rules.specs.Rows.{lease_in}
 use Rattle.off_kept.specs.Entries.{Entries, kept_of, with_first}
 use Rattle.off_kept.specs.Right.{AllRight}
@@ -14,7 +15,7 @@ use Rattle.off_outside.specs.KeeperSeen.{KeeperSeen}
 use Rattle.off_outside.specs.KeeperCalls.{Spent}
 use Rattle.off_transfer_rules.specs.Transfers.{Transfers}
 use Rattle.off_transfer_rules.specs.View.{View, view, owner_by}
-use Rattle.off_transfer_rules.specs.Steps.{Way, Accepts, way}
+use Rattle.off_transfer_rules.specs.Steps.{Way, Accepts, way, is_repeated}
 use Rattle.off_transfer_rules.specs.declared.words.TftpWord.{TftpWord}
 use Rattle.off_tftp.specs.Saying.{Answers, Does}
 
@@ -29,6 +30,17 @@ abbrev pub FewWhereKept : Ip4 → Entries → KeeperSeen → KeeperSeen → Type
 FewWhereKept ip entries old new =
     (t : Tables) → old.tables t → is_kept (owner_by (lease_in t ip)) entries ≡ true →
     Spent 3 old new
+
+-- the peer's transfer, where it began with this request, is of the modem that holds its address
+abbrev pub BeginsFor : Option Mac → List ℕ → Option Transfer → Type 0
+BeginsFor holder bytes live = IfSome live (λ x. is_repeated bytes x ≡ true → holder ≡ Some x.modem)
+
+-- A request with which a transfer begins asks no more either, where its modem's entry was kept.
+-- That needs no tables that are told.
+abbrev pub FewWhereBegun : Peer → List ℕ → Transfers → Entries → KeeperSeen → KeeperSeen → Type 0
+FewWhereBegun from bytes transfers entries old new =
+    IfSome (map.get transfers from) (λ x.
+    is_repeated bytes x ≡ true → is_kept (Some x.modem) entries ≡ true → Spent 3 old new)
 
 -- the entry of a modem: the numbers of its row, and the spelling of its profile
 abbrev pub entry_of : Modem → List Tree → KeptBody

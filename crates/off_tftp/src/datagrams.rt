@@ -12,7 +12,7 @@ ghost use Rattle.off_kept.specs.Right.{AllRight};
 ghost use Rattle.off_outside.specs.declared.keeper.KeepErr.TheVariants.{Memory};
 ghost use Rattle.off_outside.specs.KeeperCalls.{Looks, Spent};
 ghost use Rattle.off_tftp.specs.Calls.{datagram_calls, reading_calls, acknowledgement_calls};
-ghost use Rattle.off_tftp.specs.Keeping.{FewWhereKept, Serves, AnswersKeeping};
+ghost use Rattle.off_tftp.specs.Keeping.{FewWhereKept, FewWhereBegun, Serves, AnswersKeeping};
 ghost use Rattle.off_tftp.specs.Saying.{says_more, Does};
 
 use crate::acknowledging::Stage;
@@ -29,13 +29,14 @@ use std::alloc::Global;
 impl Transfers {
     /// What a peer's datagram does at a moment, and the word with which the log has it.
     ///
-    /// The tables needn't be good: an impossible row is taken as one that isn't there. What is kept
-    /// of them is to be right. A request that is accepted puts its modem's body first in `kept`, and
-    /// no other does; where a modem's body is kept already, its rows aren't read for it.
+    /// The tables needn't be good: an impossible row is taken as one that isn't there. The bodies
+    /// in `kept` are to be right by them, and are so again. A request that is accepted puts its
+    /// modem's first, and nothing else changes `kept`. The rows of which a body is made are read
+    /// only where it isn't kept.
     ///
     /// `Failed` comes only where the keeper counted a fault. After an error the transfers, `kept`
     /// and `out` are as before.
-    #[tactic(auto, using(crate::proofs::ReadLemmas::readings))]
+    #[tactic(auto, using(crate::proofs::BodyLemmas::askings))]
     pub fn on_datagram<K: Keeper>(
         &mut self,
         alloc: Global,
@@ -52,6 +53,8 @@ impl Transfers {
         ensures spent { Spent (datagram_calls self.old from bytes.now)
             (K.seen keeper.old) (K.seen keeper.new) }
         ensures few { FewWhereKept from.ip kept.old (K.seen keeper.old) (K.seen keeper.new) }
+        ensures few_begun { FewWhereBegun from bytes.now self.new kept.old
+            (K.seen keeper.old) (K.seen keeper.new) }
         ensures kept { OnErr result (self.new ≡ self.old) }
         ensures unkept { OnErr result (kept.new ≡ kept.old) }
         ensures unsaid { OnErr result (out.new ≡ out.old) }
@@ -80,7 +83,7 @@ impl Transfers {
     }
 
     // What a read request does.
-    #[tactic(auto, using(crate::proofs::ReadLemmas::readings))]
+    #[tactic(auto, using(crate::proofs::BodyLemmas::askings))]
     fn on_request<K: Keeper>(
         &mut self,
         alloc: Global,
@@ -102,6 +105,8 @@ impl Transfers {
         ensures spent { Spent (reading_calls bytes.now (map.get self.old from))
             (K.seen keeper.old) (K.seen keeper.new) }
         ensures few { FewWhereKept from.ip kept.old (K.seen keeper.old) (K.seen keeper.new) }
+        ensures few_begun { FewWhereBegun from bytes.now self.new kept.old
+            (K.seen keeper.old) (K.seen keeper.new) }
         ensures kept { OnErr result (self.new ≡ self.old) }
         ensures unkept { OnErr result (kept.new ≡ kept.old) }
         ensures unsaid { OnErr result (out.new ≡ out.old) }

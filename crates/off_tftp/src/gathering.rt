@@ -74,6 +74,8 @@ pub(crate) fn look_for_file<K: Keeper>(
     ensures named { IfOk result (λ seen. IsNamed now.0 ip name.now seen) }
     ensures spent { Spent 13 (K.seen keeper.old) (K.seen keeper.new) }
     ensures few { FewWhereKept ip kept.now (K.seen keeper.old) (K.seen keeper.new) }
+    ensures few_seen { IfOk result (λ seen. is_kept (owner_by seen.lease) kept.now ≡ true
+        → Spent 3 (K.seen keeper.old) (K.seen keeper.new)) }
 {
     let mut seen = look(alloc, keeper, ip)?;
     if !names_file(&seen, now, ip, name) {

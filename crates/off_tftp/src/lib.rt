@@ -1,11 +1,11 @@
 //! Files to modems (RFC 1350): what a modem's datagram does to transfers, and what becomes of them
 //! as time passes.
 //!
-//! `Transfers` has what is live, each with its own file (`transfers`, `live`, `files`), of which the
-//! body may be shared with other files of the modem and with what is kept (`bodies`). A datagram is
-//! read (`packets`), by the peer's transfer it's told what is to be read of the tables
-//! (`acknowledging`, `gathering`), and what was read judges it (`judging`, `opening`). All that may
-//! fail comes before the first change that can't be taken back.
+//! `Transfers` has what is live, each with its own file (`transfers`, `live`, `files`), whose body
+//! may be shared with other files of the modem and with what is kept (`bodies`). A datagram is read
+//! (`packets`), by the peer's transfer it's told what is to be read of the tables (`acknowledging`,
+//! `gathering`), and what was read judges it (`judging`, `opening`). All that may fail comes before
+//! the first change that can't be taken back.
 #![tactic(auto)]
 
 mod acknowledging;

@@ -1,7 +1,7 @@
 //! A read request that didn't come before.
 
 ghost use Rattle.std.specs.Prelude.{◌≡◌, ◌≤◌, ◌∷◌, [], List, Option, Some, length, option_map};
-ghost use Rattle.std.specs.Prelude.{IfOk, IfSome, OnOk, OnErr};
+ghost use Rattle.std.specs.Prelude.{ℕ, false, IfOk, IfSome, OnOk, OnErr};
 ghost use Rattle.std.specs.FinMap as map;
 ghost use Rattle.off_base.specs.Tree.{Tree, spelling};
 ghost use Rattle.off_defs.specs.declared.tables.Modem.{Modem as ModemSeen};
@@ -9,12 +9,12 @@ ghost use Rattle.off_transfer_rules.specs.View.{View};
 ghost use Rattle.off_transfer_rules.specs.Steps.{way_anew, way_for_modem, last_to};
 ghost use Rattle.off_transfer_rules.specs.Transfers.{begun, first_word, packet_to};
 ghost use Rattle.off_kept.specs.Entries.{with_first};
-ghost use Rattle.off_tftp.specs.Keeping.{entry_of, entry_for, Serves};
+ghost use Rattle.off_tftp.specs.Keeping.{entry_of, entry_for, Serves, BeginsFor};
 ghost use Rattle.off_tftp.specs.Kept.{HasPlaceFor};
 ghost use Rattle.off_tftp.specs.Opened.{IsBegun};
 ghost use Rattle.off_tftp.specs.Saying.{says_more};
-ghost use Rattle.off_tftp.specs.Seen.{view_with, IsNamed, HasName, CanServe};
-ghost use Rattle.off_tftp.specs.Stages.{lacks_room};
+ghost use Rattle.off_tftp.specs.Seen.{view_with, held_by, IsNamed, HasName, CanServe};
+ghost use Rattle.off_tftp.specs.Stages.{lacks_room, repeats};
 
 use crate::files::File;
 use crate::gathering::Seen;
@@ -32,6 +32,7 @@ use std::alloc::Global;
 
 impl Transfers {
     /// Opens the file that is asked for, or refuses. Where it opens it, its body is kept.
+    #[tactic(auto, using(crate::proofs::BodyLemmas::beginnings))]
     pub(crate) fn open(
         &mut self,
         alloc: Global,
@@ -52,6 +53,8 @@ impl Transfers {
             (Serves (view_with seen.now profile) now.0 self.old self.new from bytes.now
             (way_anew (view_with seen.now profile) now.0 from.ip (lacks_room self.old from)
             name.now size) out.old out.new kept.old kept.new) }
+        ensures begins { repeats bytes.now (map.get self.old from) ≡ false
+            → BeginsFor (held_by now.0 seen.now.lease) bytes.now (map.get self.new from) }
         ensures kept { OnErr result (self.new ≡ self.old) }
         ensures unkept { OnErr result (kept.new ≡ kept.old) }
         ensures unsaid { OnErr result (out.new ≡ out.old) }
@@ -76,6 +79,7 @@ impl Transfers {
     }
 
     // Opens the file of a modem, if it's the one that is asked for and there is room.
+    #[tactic(auto, using(crate::proofs::BodyLemmas::beginnings))]
     fn open_for(
         &mut self,
         alloc: Global,
@@ -99,6 +103,8 @@ impl Transfers {
             (Serves (view_with seen.now profile) now.0 self.old self.new from bytes.now
             (way_for_modem (view_with seen.now profile) from.ip (lacks_room self.old from)
             name.now size mac (Some modem)) out.old out.new kept.old kept.new) }
+        ensures begins { repeats bytes.now (map.get self.old from) ≡ false
+            → BeginsFor (Some mac) bytes.now (map.get self.new from) }
         ensures kept { OnErr result (self.new ≡ self.old) }
         ensures unkept { OnErr result (kept.new ≡ kept.old) }
         ensures unsaid { OnErr result (out.new ≡ out.old) }
@@ -123,6 +129,7 @@ impl Transfers {
     }
 
     // Sends the first packet of a transfer that has begun, and keeps the body of its file.
+    #[tactic(auto, using(crate::proofs::BodyLemmas::beginnings))]
     fn start(
         &mut self,
         alloc: Global,
@@ -134,7 +141,8 @@ impl Transfers {
         size: Option<u16>,
         out: &mut Replies,
     ) -> Result<TftpWord, NoMemory>
-        requires { HasPlaceFor self.old from }
+        requires room { HasPlaceFor self.old from }
+        requires whose { IfSome begun (λ live. live.modem ≡ mac) }
         ensures word { IfOk result (λ word. IfSome begun (λ _. word ≡ first_word size)) }
         ensures put { OnOk result (IfSome begun
             (λ live. self.new ≡ map.insert self.old from live)) }
@@ -142,6 +150,8 @@ impl Transfers {
             (λ live. out.new ≡ says_more out.old (last_to from live))) }
         ensures keeps { OnOk result (IfSome begun
             (λ _. kept.new ≡ with_first mac entry kept.old)) }
+        ensures begins { (bytes : List ℕ) → repeats bytes (map.get self.old from) ≡ false
+            → BeginsFor (Some mac) bytes (map.get self.new from) }
         ensures kept { OnErr result (self.new ≡ self.old) }
         ensures unkept { OnErr result (kept.new ≡ kept.old) }
         ensures unsaid { OnErr result (out.new ≡ out.old) }
@@ -213,8 +223,9 @@ fn begin(
 ) -> Result<Option<Live>, NoMemory>
     requires least { IfSome size (λ size. 8 ≤ size) }
     requires few { IfSome file (λ file. length file ≤ 6200) }
-    ensures { IfOk result (λ live. live
+    ensures begun { IfOk result (λ live. live
         ≡ option_map (begun now.0 request.now modem subscriber name.now size) file) }
+    ensures whose { IfOk result (λ live. IfSome live (λ x. x.modem ≡ modem)) }
 {
     let Some(file) = file else {
         return Ok(None);

@@ -1,7 +1,7 @@
 use Rattle.std.proofs.Common.{◌∙◌, sym}
 use Rattle.off_outside.proofs.KeeperLemmas.{reads_then, reads_as}
 use Rattle.off_transfer_rules.specs.View.{view}
-use Rattle.off_tftp.proofs.ReadLemmas.{shows_unnamed, shows_body, few_behind}
+use Rattle.off_tftp.proofs.ReadLemmas.{shows_unnamed, shows_body, few_behind, few_seen_behind}
 use Rattle.off_tftp.proofs.gathering.look_for_file.Goals as goal
 
 pub returns-then-not-names_file-clause-told : goal.returns-then-not-names_file-clause-told
@@ -22,3 +22,7 @@ returns-in_err-body-clause-few g c =
 pub returns-clause-few : goal.returns-clause-few
 returns-clause-few g c =
     few_behind c.args.ip c.args.kept.now c.in_ok-seen.seen c.owner_by.result c.owner_by.ensures c.in_ok-seen.ensures.told c.look.ensures.spent c.body_for.ensures.few
+
+pub returns-clause-few_seen : goal.returns-clause-few_seen
+returns-clause-few_seen g c =
+    few_seen_behind c.args.kept.now c.in_ok-seen.seen c.owner_by.result c.owner_by.ensures c.look.ensures.spent c.body_for.ensures.few

@@ -3,6 +3,7 @@ use Rattle.std.specs.FinMap as map
 use Rattle.off_transfer_rules.specs.Transfers.{has_no_room}
 use Rattle.off_transfer_rules.specs.View.{view}
 use Rattle.off_tftp.proofs.DoesLemmas.{looks_settled, looks_at_once, if_ok_as, if_ok_under, repeat_serves, open_does, can_serve}
+use Rattle.off_tftp.proofs.BodyLemmas.{few_begun}
 use Rattle.off_tftp.proofs.transfers.Transfers.on_request.Goals as goal
 
 pub returns-then-repeats-clause-told : goal.returns-then-repeats-clause-told
@@ -18,3 +19,7 @@ returns-clause-told g c =
     looks_settled c.open.result c.settled-2.result _ c.settled-2.ensures c.in_ok-seen.ensures.told
     (λ t shows. if_ok_under c.open.result _ (λ right. open_does c.args.now.0 c.args.self.now c.open.new.self c.args.from c.args.bytes.now c.args.out.now c.open.new.out c.args.kept.now c.open.new.kept (view t c.args.from.ip) c.in_ok-seen.seen c.args.from.ip (has_no_room c.args.self.now)
     c.args.name.now c.args.size (map.get c.args.self.now c.args.from) c.open.result (sym c.repeats.ensures ∙ c.if-repeats.false) (shows right) (can_serve t c.args.now.0 c.args.from.ip) c.open.ensures.done))
+
+pub returns-clause-few_begun : goal.returns-clause-few_begun
+returns-clause-few_begun g c =
+    few_begun c.args.bytes.now c.args.kept.now c.args.now.0 c.in_ok-seen.seen.lease (map.get c.open.new.self c.args.from) (c.open.ensures.begins (sym c.repeats.ensures ∙ c.if-repeats.false)) c.in_ok-seen.ensures.few_seen
