@@ -1,4 +1,4 @@
--- What tests say of the first elements of a list, and the last element of one.
+-- What a test says of the elements of a list, one more at a time.
 use Rattle.std.proofs.Common.{◌≡◌, ℕ, ◌+◌, Bool, true, false, ◌||◌, List, take, Some, ap, ◌∙◌, get_or}
 use Rattle.std.specs.List.{list_any, slice_get}
 use Rattle.std.proofs.lemmas.List.Folds.{list_any_more, list_any_at}
