@@ -19,6 +19,7 @@ use Rattle.off_deciding.specs.declared.results.AccountErr.TheVariants.{Refused, 
 use Rattle.off_office.specs.Desk.{Desk}
 use Rattle.off_office.specs.Conditions.{Mirrors}
 use Rattle.off_office.proofs.CommandLemmas.{mirrors_behind}
+use Rattle.off_office.proofs.StepLemmas.{kept_unwritten}
 use Rattle.off_office.specs.Answering.{said_to, fault_said, reply_said, desk_behind, IsPlanned, NotPlanned, AnsweredBy, NotAnswered, AnswerBegins, IsAnswered, CarriedOut, NotCarriedOut, Refuses, answer_to}
 
 -- what was planned was answered and done
@@ -47,6 +48,7 @@ carried_done command planned conn said before after a b c rests reads did = reco
         };
   };
   held = ap (λ (d : Desk). d.held) did.counts;
+  kept = ap (λ (d : Desk). d.kept) did.counts;
   settled = settled_then rests reads did.done;
 }
 
@@ -97,6 +99,7 @@ answered_refused command now desk row rule conn said a b rests reads is = record
     );
   });
   held = refl;
+  kept = kept_unwritten desk desk refl;
   settled = settled_then rests reads (settled_none [] b refl);
 }
 

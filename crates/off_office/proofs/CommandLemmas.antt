@@ -17,6 +17,8 @@ use Rattle.off_deciding.specs.declared.results.AccountErr.{AccountErr}
 use Rattle.off_deciding.specs.declared.results.AccountErr.TheVariants.{Refused, Failed, Memory}
 use Rattle.off_deciding.specs.Deciding.{IsDecided, NotDecided, AnswersCommand, not_kept}
 use Rattle.off_import_deciding.specs.Deciding.{AnswersImport}
+use Rattle.off_kept.specs.Entries.{without_written}
+use Rattle.off_kept.proofs.RightLemmas.{kept_stays_right}
 use Rattle.off_office.specs.Desk.{Desk}
 use Rattle.off_office.specs.Acting.{desk_at}
 use Rattle.off_office.specs.Conditions.{Mirrors}
@@ -42,15 +44,14 @@ pub is_planned : (planned : Planned) (desk : Desk) (command : Command) (a b : Ke
 is_planned planned desk command a b reads = reads_as reads (λ t says. record {
   holds = λ mirrors.
       let is = says mirrors.counts in
-      (accepted_step t desk.held.now command (accepted planned.writes planned.reply) is.accepted, record { counts = is.counted });
+      (accepted_step t desk.held.now command (accepted planned.writes planned.reply) is.accepted, record { counts = is.counted; kept = kept_stays_right t planned.writes desk.kept mirrors.kept });
 })
 
 -- the office that has done what was planned mirrors the tables that were written
 pub mirrors_behind : (before after : Desk) (planned : Planned) (t u : Tables) → after ≡ desk_behind before planned → u ≡ write_all t planned.writes
     → Mirrors (desk_behind before planned) (write_all t planned.writes) → Mirrors after u
-mirrors_behind before after planned t u is written mirrors = record {
-  counts = ap (λ (d : Desk). d.counts) is ∙ (mirrors.counts ∙ ap counts_of (sym written));
-}
+mirrors_behind before after planned t u is written mirrors =
+    subst (λ (d : Desk). Mirrors d u) (sym is) (subst (Mirrors (desk_behind before planned)) (sym written) mirrors)
 
 -- what a commit answers
 pub settled_by : (r : Result (Unit {0}) KeepErr) (writes : List Write) (a b : KeeperSeen) → (length writes ≡ 0 → ⊥) → Commits r a b writes
@@ -60,7 +61,8 @@ settled_by (Err err) writes a b some not = not
 
 -- an office that has come to a moment mirrors what it did
 came_mirrors : (before mid : Desk) (at : ℕ) (t : Tables) → mid ≡ desk_at before at → Mirrors before t → Mirrors mid t
-came_mirrors before mid at t came mirrors = record { counts = ap (λ (d : Desk). d.counts) came ∙ mirrors.counts }
+came_mirrors before mid at t came mirrors =
+    subst (λ (d : Desk). Mirrors d t) (sym came) (record { counts = mirrors.counts; kept = mirrors.kept })
 
 -- what was planned was done
 commanded : (command : Command) (planned : Planned) (at now : ℕ) (before mid after : Desk) (a b c : KeeperSeen) → mid ≡ desk_at before at → mid.held.now ≡ now → Rests a
@@ -82,6 +84,7 @@ commanded command planned at now before mid after a b c came is_now rests reads 
           };
         };
   };
+  kept = ap (λ (d : Desk). d.kept) is ∙ ap (λ (d : Desk). without_written planned.writes d.kept) came;
   settled = settled_then rests reads done;
 })
 

@@ -17,13 +17,15 @@ use Rattle.off_defs.specs.State.{Tables, Held, Said, Effect, state_of}
 use Rattle.off_defs.specs.Tables.{write_all}
 use Rattle.off_defs.proofs.ToldLemmas.{told_self, told_weaker}
 use Rattle.off_outside.proofs.KeeperLemmas.{settled_none, nothing_begun, not_committed_as, spent_none}
-use Rattle.off_book.specs.Http.{answer_request, by_meaning, is_full, heard_of, without_connection, TakesPiece, PieceDid}
+use Rattle.off_book.specs.Http.{answer_request, by_meaning, is_full, heard_of, with_connection, without_connection, TakesPiece, PieceDid}
 use Rattle.off_outside.specs.declared.keeper.KeepErr.{KeepErr}
 use Rattle.off_outside.specs.declared.keeper.KeepErr.TheVariants as keep
 use Rattle.off_outside.specs.KeeperSeen.{KeeperSeen}
+use Rattle.off_kept.specs.Right.{AllRight}
 use Rattle.off_office.specs.Desk.{Desk}
 use Rattle.off_office.specs.Asking.{Asks, PieceAsks, SpentWithin, meaning_calls}
 use Rattle.off_office.proofs.CommandLemmas.{nothing_spent}
+use Rattle.off_office.proofs.StepLemmas.{StaysAs, stays_self, stays_by, kept_unwritten}
 use Rattle.off_office.specs.Answering.{said_to, fault_said, busy_said, failed_said, had_memory, forgets, answer_asked, IsAnswered, WaitsFor, PieceOn, HeardPiece, NotHeard}
 
 abbrev Connections : Type 0
@@ -69,18 +71,21 @@ abbrev pub Hears : ℕ → List ℕ → Said → Desk → Desk → KeeperSeen �
 Hears conn piece said before after k l q = MatchResult q (λ _. HeardPiece conn piece said before after k l) (λ err. NotHeard err conn piece before after k l)
 
 -- a piece that touches no tables
-heard_quietly : (conn : ℕ) (piece : List ℕ) (said : Said) (before after : Desk) (k : KeeperSeen) → after.counts ≡ before.counts → after.held.now ≡ before.held.now
+heard_quietly : (conn : ℕ) (piece : List ℕ) (said : Said) (before after : Desk) (k : KeeperSeen) → StaysAs before after → after.held.now ≡ before.held.now
     → ((t : Tables) → PieceOn conn piece said [] before after t t) → HeardPiece conn piece said before after k k
-heard_quietly conn piece said before after k counts moment does = record {
+heard_quietly conn piece said before after k stays moment does = record {
   commit = [];
-  tables = told_self (λ t. record { holds = λ mirrors. (does t, record { counts = counts ∙ mirrors.counts }) });
+  tables = told_self (λ t. record {
+    holds = λ mirrors. (does t, record { counts = stays.counts ∙ mirrors.counts; kept = subst (AllRight t) (sym stays.kept) mirrors.kept });
+  });
   settled = settled_none [] k refl;
+  kept = kept_unwritten before after stays.kept;
   moment = moment;
 }
 
 busy_by : (conn : ℕ) (piece : List ℕ) (said : Said) (before : Desk) (k : KeeperSeen) (r : Result (Unit {0}) NoMemory)
     → is_full before.held.connections conn ≡ true → OnOk r (said ≡ busy_said conn) → Hears conn piece said before before k k (had_memory r)
-busy_by conn piece said before k (Ok u) full is = heard_quietly conn piece said before before k refl refl (λ t.
+busy_by conn piece said before k (Ok u) full is = heard_quietly conn piece said before before k (stays_self before) refl (λ t.
     subst (λ b. TakesPiece b (state_of t before.held) conn piece (record { said = said; commit = []; after = state_of t before.held })) (sym full)
     (ap (λ (x : Said). record { said = x; commit = []; after = state_of t before.held }) is))
 busy_by conn piece said before k (Err e) full is = record {
@@ -114,7 +119,9 @@ forgotten conn piece before after k is = record { forgotten = is; keeper = nothi
 wait_by : (conn : ℕ) (piece bytes : List ℕ) (said : Said) (before after : Desk) (k : KeeperSeen) (r : Result (Unit {0}) NoMemory)
     → Read conn piece bytes Waits before → WaitsFor conn bytes r said (forgets before conn) after → Hears conn piece said before after k k (had_memory r)
 wait_by conn piece bytes said before after k (Ok u) read waits =
-    heard_quietly conn piece said before after k (ap (λ (x : Desk). x.counts) waits.1) (ap (λ (x : Desk). x.held.now) waits.1) (λ t.
+    heard_quietly conn piece said before after k
+    (stays_by before (record (forgets before conn) { held = with_connection (forgets before conn).held conn bytes }) after waits.1 (record { counts = refl; kept = refl }))
+    (ap (λ (x : Desk). x.held.now) waits.1) (λ t.
     takes conn piece bytes Waits before t (record { said = said; commit = []; after = state_of t after.held }) read
     (ap (λ (x : Said). record { said = x; commit = []; after = state_of t after.held }) waits.0
     ∙ (ap (λ (x : Desk). record { said = failed_said (codes "http wait"); commit = []; after = state_of t x.held }) waits.1
@@ -130,7 +137,7 @@ wait_hears conn piece bytes meaning said before mid after k r q read is left wai
 
 bad_by : (conn : ℕ) (piece bytes : List ℕ) (f : HttpFault) (said : Said) (before : Desk) (k : KeeperSeen) (r : Result (Unit {0}) NoMemory)
     → Read conn piece bytes (Refused f) before → OnOk r (said ≡ fault_said conn (fault.Http f)) → Hears conn piece said before (forgets before conn) k k (had_memory r)
-bad_by conn piece bytes f said before k (Ok u) read is = heard_quietly conn piece said before (forgets before conn) k refl refl (λ t.
+bad_by conn piece bytes f said before k (Ok u) read is = heard_quietly conn piece said before (forgets before conn) k (record { counts = refl; kept = refl }) refl (λ t.
     takes conn piece bytes (Refused f) before t (record { said = said; commit = []; after = state_of t (without_connection before.held conn) }) read
     (ap (λ (x : Said). record { said = x; commit = []; after = state_of t (without_connection before.held conn) }) is))
 bad_by conn piece bytes f said before k (Err e) read is = forgotten conn piece before (forgets before conn) k refl
@@ -150,7 +157,7 @@ asked_by conn piece bytes m p b said before after k l (Ok u) read ends = record 
   commit = ends.writes;
   tables = told_weaker ends.tables (λ t v under. record {
     holds = λ mirrors.
-        let f = under.holds (record { counts = mirrors.counts }) in
+        let f = under.holds (record { counts = mirrors.counts; kept = mirrors.kept }) in
         let reply = answer_request t before.held.now m p b in (
           takes conn piece bytes (Asked m p b) before t (record { said = said; commit = ends.writes; after = state_of v after.held }) read
               (ap (λ (x : Said). record { said = x; commit = ends.writes; after = state_of v after.held }) f.0.0
@@ -161,13 +168,14 @@ asked_by conn piece bytes m p b said before after k l (Ok u) read ends = record 
         );
   });
   settled = ends.settled;
+  kept = ends.kept;
   moment = ap (λ (h : Held). h.now) ends.held;
 }
 asked_by conn piece bytes m p b said before after k l (Err e) read ends = record {
   forgotten = ends.same;
   keeper = not_committed_as ends.keeper (λ t told u begun mirrors.
       let effect = by_meaning (state_of t before.held) conn bytes (Asked m p b) in
-      (effect, (takes conn piece bytes (Asked m p b) before t effect read refl, begun (record { counts = mirrors.counts }))));
+      (effect, (takes conn piece bytes (Asked m p b) before t effect read refl, begun (record { counts = mirrors.counts; kept = mirrors.kept }))));
 }
 
 by_asked : (conn : ℕ) (piece bytes : List ℕ) (meaning : Meaning) (said : Said) (before after : Desk) (k l : KeeperSeen) (q : Result (Unit {0}) KeepErr)

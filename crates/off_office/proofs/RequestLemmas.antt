@@ -19,6 +19,7 @@ use Rattle.off_office.specs.Asking.{SpentWithin, command_calls, request_calls, m
 use Rattle.off_office.specs.Answering.{fault_said, had_memory, IsAnswered, answer_to}
 use Rattle.off_outside.proofs.KeeperLemmas.{settled_none, nothing_begun}
 use Rattle.off_office.proofs.AnswerLemmas.{not_answered}
+use Rattle.off_office.proofs.StepLemmas.{kept_unwritten}
 
 -- the parts of a request, as they were read
 pub record Parts (method target body m p b : List ℕ) : Type 0 where
@@ -46,6 +47,7 @@ fault_by err now conn said desk k (Ok u) is = record {
   writes = [];
   tables = told_self (λ t. record { holds = λ mirrors. ((is, refl, refl), mirrors) });
   held = refl;
+  kept = kept_unwritten desk desk refl;
   settled = settled_none [] k refl;
 }
 fault_by err now conn said desk k (Err e) is = not_answered (λ t. answer_command t now (Err err)) keep.Memory desk k k (nothing_begun k)

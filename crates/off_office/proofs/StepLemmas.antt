@@ -23,10 +23,13 @@ use Rattle.off_outside.specs.declared.keeper.KeepErr.TheVariants as keep
 use Rattle.off_outside.specs.KeeperSeen.{KeeperSeen}
 use Rattle.off_outside.specs.KeeperCalls.{Crash, IsWritten, NotCommitted}
 use Rattle.off_outside.proofs.KeeperLemmas.{unasked_self, crash_self, crash_weaker, spent_none}
+use Rattle.off_kept.specs.Entries.{without_written}
+use Rattle.off_kept.specs.Right.{AllRight}
+use Rattle.off_kept.proofs.RightLemmas.{nothing_written}
 use Rattle.off_office.specs.Desk.{Desk}
-use Rattle.off_office.specs.Conditions.{Mirrors, Under, StaysFit}
-use Rattle.off_office.specs.Acting.{Acts, Handled, StepOn, DoesOn, CountsFaults, LeavesNothing, EventBegins, DoingBegins, begun_in, is_quiet, desk_at, effect_of}
-use Rattle.off_office.specs.Asking.{Asks}
+use Rattle.off_office.specs.Conditions.{Mirrors, Fits, Under, StaysFit}
+use Rattle.off_office.specs.Acting.{Acts, Handled, StepOn, DoesOn, CountsFaults, LeavesNothing, EventBegins, DoingBegins, begun_in, is_quiet, desk_at, effect_of, kept_behind, KeepsBodies}
+use Rattle.off_office.specs.Asking.{Asks, AsksFew}
 use Rattle.off_office.specs.Saying.{SaysTime}
 use Rattle.off_office.specs.Answering.{failed_said, forgets, Fails, HeardPiece, NotHeard}
 
@@ -46,6 +49,8 @@ heard_handled conn piece said before after a b heard asks = record {
     );
   });
   written = heard.settled.tables;
+  keeps = told_weaker heard.settled.tables (λ t u written mirrors. heard.kept);
+  few = tt;
   up = λ up. inl (heard.settled.up up);
   faults = heard.settled.faults;
   commits = heard.settled.commits;
@@ -67,11 +72,34 @@ failed_on conn piece line outcome said before after t is gone =
     ∙ ap (λ (d : Desk). effect_of (Piece conn piece) outcome (failed_said line) [] (state_of t d.held)) gone
 
 mirrors_still : (conn : ℕ) (before after : Desk) (t : Tables) → after ≡ forgets before conn → Mirrors before t → Mirrors after t
-mirrors_still conn before after t gone mirrors = record { counts = ap (λ (d : Desk). d.counts) gone ∙ mirrors.counts }
+mirrors_still conn before after t gone mirrors =
+    subst (λ (d : Desk). Mirrors d t) (sym gone) (record { counts = mirrors.counts; kept = mirrors.kept })
 
 -- nothing was written
 pub stay_written : (a b : KeeperSeen) → ((t : Tables) → a.tables t → b.tables t) → Told a.tables b.tables (IsWritten [])
 stay_written a b stay = record { each = λ t told. record { value = t; told = stay t told; fits = refl } }
+
+-- where nothing is written all bodies stay
+pub kept_unwritten : (before after : Desk) → after.kept ≡ before.kept → after.kept ≡ without_written [] before.kept
+kept_unwritten before after same = same ∙ sym (nothing_written before.kept)
+
+-- what is kept where nothing was done
+kept_undone : (what : What) (outcome : Outcome) (desk : Desk) (t : Tables) → (outcome ≡ Did → ⊥) → desk.kept ≡ kept_behind what outcome [] desk t
+kept_undone (Datagram Tftp from bytes) Did desk t other = absurd (other refl)
+kept_undone (Datagram Tftp from bytes) Memory desk t other = refl
+kept_undone (Datagram Tftp from bytes) Keeper desk t other = refl
+kept_undone (Datagram Dhcp from bytes) outcome desk t other = kept_unwritten desk desk refl
+kept_undone (Datagram Time from bytes) outcome desk t other = refl
+kept_undone (Piece conn piece) outcome desk t other = kept_unwritten desk desk refl
+kept_undone (Closed conn) outcome desk t other = refl
+kept_undone Tick outcome desk t other = refl
+kept_undone End outcome desk t other = refl
+
+memory_not_did : Memory ≡ Did → ⊥
+memory_not_did is = cc
+
+keeper_not_did : Keeper ≡ Did → ⊥
+keeper_not_did is = cc
 
 -- nothing else may be in doubt
 pub only_doubt : {d : Type 0} → d ⊎ ⊥ → d
@@ -95,6 +123,8 @@ memory_handled conn piece said before after a b not asks is = record {
     };
   };
   written = stay_written a b not.keeper.tables;
+  keeps = told_weaker (stay_written a b not.keeper.tables) (λ t u written mirrors. kept_unwritten before after (ap (λ (d : Desk). d.kept) not.forgotten));
+  few = tt;
   up = not.keeper.up;
   faults = not.keeper.faults;
   commits = not.keeper.commits;
@@ -124,6 +154,8 @@ keeper_handled conn piece said before after a b not asks is = record {
     };
   };
   written = stay_written a b not.keeper.tables;
+  keeps = told_weaker (stay_written a b not.keeper.tables) (λ t u written mirrors. kept_unwritten before after (ap (λ (d : Desk). d.kept) not.forgotten));
+  few = tt;
   up = not.keeper.up;
   faults = not.keeper.faults;
   commits = not.keeper.commits;
@@ -150,9 +182,9 @@ loud_only what P loud quiet = cc
 -- an event that couldn't be acted on leaves the office as it was: memory was wanted, or the keeper failed
 pub memory_leaves : (what : What) (line : List ℕ) (said : Said) (desk : Desk) (a b : KeeperSeen)
     → is_quiet what ≡ false → line ≡ service_word what ++ codes " memory" → ((t : Tables) → DoesOn what Memory (failed_said line) [] desk desk t t)
-    → NotCommitted (DoingBegins what desk) keep.Memory a b → Asks what desk.held a b → said ≡ failed_said line
+    → NotCommitted (DoingBegins what desk) keep.Memory a b → Asks what desk.held a b → AsksFew what desk desk a b → said ≡ failed_said line
     → Handled what Memory said desk desk a b
-memory_leaves what line said desk a b loud named does not asks is = record {
+memory_leaves what line said desk a b loud named does not asks few is = record {
   commit = [];
   tables = record {
     each = λ t told. record {
@@ -162,6 +194,8 @@ memory_leaves what line said desk a b loud named does not asks is = record {
     };
   };
   written = stay_written a b not.tables;
+  keeps = told_weaker (stay_written a b not.tables) (λ t u written mirrors. kept_undone what Memory desk t memory_not_did);
+  few = few;
   up = not.up;
   faults = not.faults;
   commits = not.commits;
@@ -176,9 +210,9 @@ memory_leaves what line said desk a b loud named does not asks is = record {
 
 pub keeper_leaves : (what : What) (line : List ℕ) (said : Said) (desk : Desk) (a b : KeeperSeen)
     → is_quiet what ≡ false → line ≡ service_word what ++ codes " keeper" → ((t : Tables) → DoesOn what Keeper (failed_said line) [] desk desk t t)
-    → NotCommitted (DoingBegins what desk) keep.Failed a b → Asks what desk.held a b → said ≡ failed_said line
+    → NotCommitted (DoingBegins what desk) keep.Failed a b → Asks what desk.held a b → AsksFew what desk desk a b → said ≡ failed_said line
     → Handled what Keeper said desk desk a b
-keeper_leaves what line said desk a b loud named does not asks is = record {
+keeper_leaves what line said desk a b loud named does not asks few is = record {
   commit = [];
   tables = record {
     each = λ t told. record {
@@ -188,6 +222,8 @@ keeper_leaves what line said desk a b loud named does not asks is = record {
     };
   };
   written = stay_written a b not.tables;
+  keeps = told_weaker (stay_written a b not.tables) (λ t u written mirrors. kept_undone what Keeper desk t keeper_not_did);
+  few = few;
   up = not.up;
   faults = not.faults;
   commits = not.commits;
@@ -225,7 +261,7 @@ event_begins : (event : Event) (what : What) (before : Desk) → event.what ≡ 
     → (t u : Tables) → DoingBegins what (desk_at before event.at.0) t u → EventBegins event before t u
 unfolding Step
 event_begins event what before is t u begun mirrors =
-    let b = begun (record { counts = mirrors.counts }) in
+    let b = begun (record { counts = mirrors.counts; kept = mirrors.kept }) in
     (b.0, (subst (λ (w : What). Does (state_of t (held_at before.held event.at.0)) w Did b.0) (sym is) b.1.0, b.1.1))
 
 crash_by : (event : Event) (what : What) (outcome : Outcome) (said : Said) (commit : List Write) (before after : Desk) (a b : KeeperSeen)
@@ -255,6 +291,15 @@ asks_at (Closed conn) held at a b asks = asks
 asks_at Tick held at a b asks = asks
 asks_at End held at a b asks = asks
 
+few_at : (what : What) (desk after : Desk) (at : ℕ) (a b : KeeperSeen) → AsksFew what (desk_at desk at) after a b → AsksFew what desk after a b
+few_at (Datagram Dhcp from bytes) desk after at a b few = few
+few_at (Datagram Time from bytes) desk after at a b few = few
+few_at (Datagram Tftp from bytes) desk after at a b few = record { owner = few.owner; begun = few.begun }
+few_at (Piece conn piece) desk after at a b few = few
+few_at (Closed conn) desk after at a b few = few
+few_at Tick desk after at a b few = few
+few_at End desk after at a b few = few
+
 pub acts_by : (event : Event) (what : What) (outcome : Outcome) (said : Said) (before mid after : Desk) (a b : KeeperSeen)
     → event.what ≡ what → mid ≡ desk_at before event.at.0 → Handled what outcome said mid after a b → Acts event outcome said before after a b
 unfolding Step
@@ -263,24 +308,26 @@ acts_by event what outcome said before mid after a b is at handled =
     let step_of : (commit : List Write) (t u : Tables) → DoesOn what outcome said commit (desk_at before event.at.0) after t u → StepOn event outcome said commit before after t u = λ commit t u does.
     subst (λ (w : What). Does (state_of t (held_at before.held event.at.0)) w outcome (effect_of w outcome said commit (state_of u after.held))) (sym is) does in
     let tables : Told a.tables b.tables (Under before after (StepOn event outcome said now.commit before after)) = told_weaker now.tables (λ t u under. record {
-      holds = λ mirrors. let f = under.holds (record { counts = mirrors.counts }) in (step_of now.commit t u f.0, f.1);
+      holds = λ mirrors. let f = under.holds (record { counts = mirrors.counts; kept = mirrors.kept }) in (step_of now.commit t u f.0, f.1);
     }) in
     record {
       commit = now.commit;
       tables = tables;
       written = now.written;
+      keeps = told_weaker now.keeps (λ t u keeps. subst (λ (w : What). KeepsBodies w outcome now.commit (desk_at before event.at.0) after t) (sym is) keeps);
       fits = fits_by event outcome said now.commit before after a.tables b.tables tables;
       up = now.up;
       faults = now.faults;
       commits = now.commits;
       asks = subst (λ (w : What). Asks w before.held a b) (sym is) (asks_at what before.held event.at.0 a b now.asks);
+      few = subst (λ (w : What). AsksFew w before after a b) (sym is) (few_at what before after event.at.0 a b now.few);
       crash = crash_by event what outcome said now.commit before after a b is tables now.crash;
       doubts = λ t told u doubt. doubt_as now.commit (in_as outcome (a.doubt u) (event_begins event what before is t u)) (now.doubts t told u doubt);
       tells = subst (λ (w : What). TellsOutcome w outcome said.line) (sym is) now.tells;
       leaves = now.leaves;
       quiet = λ is_so.
           let quietly = now.quiet (sym (ap is_quiet is) ∙ is_so) in
-          record { step = λ t. step_of [] t t (quietly.does t); counts = quietly.counts; keeper = quietly.keeper };
+          record { step = λ t. step_of [] t t (quietly.does t); counts = quietly.counts; kept = quietly.kept; keeper = quietly.keeper };
       moment = now.moment;
     }
 
@@ -299,13 +346,54 @@ pub record Says (what : What) (outcome : Outcome) (said : Said) : Type 0 where
 abbrev pub DoesQuietly : What → Desk → Desk → Outcome → Said → Type 0
 DoesQuietly what before after outcome said = (t : Tables) → DoesOn what outcome said [] before after t t
 
+-- of what is kept of the tables nothing changed
+pub record StaysAs (before after : Desk) : Type 0 where
+  pub counts : after.counts ≡ before.counts
+  pub kept : after.kept ≡ before.kept
+
+pub stays_self : (desk : Desk) → StaysAs desk desk
+stays_self desk = record { counts = refl; kept = refl }
+
+pub stays_by : (before mid after : Desk) → after ≡ mid → StaysAs before mid → StaysAs before after
+stays_by before mid after is stays = subst (StaysAs before) (sym is) stays
+
+-- so it fits the tables still
+pub fits_as : (before after : Desk) (t : Tables) → StaysAs before after → Fits before t → Fits after t
+fits_as before after t stays fits = record {
+  good = fits.good;
+  mirrors = record { counts = stays.counts ∙ fits.mirrors.counts; kept = subst (AllRight t) (sym stays.kept) fits.mirrors.kept };
+}
+
+-- quiet events keep the bodies, and ask nothing
+kept_quietly : (what : What) (outcome : Outcome) (desk : Desk) (t : Tables) → is_quiet what ≡ true → desk.kept ≡ kept_behind what outcome [] desk t
+kept_quietly (Datagram Tftp from bytes) outcome desk t quiet = cc
+kept_quietly (Datagram Dhcp from bytes) outcome desk t quiet = cc
+kept_quietly (Datagram Time from bytes) outcome desk t quiet = refl
+kept_quietly (Piece conn piece) outcome desk t quiet = cc
+kept_quietly (Closed conn) outcome desk t quiet = refl
+kept_quietly Tick outcome desk t quiet = refl
+kept_quietly End outcome desk t quiet = refl
+
+few_quietly : (what : What) (desk after : Desk) (k : KeeperSeen) → is_quiet what ≡ true → AsksFew what desk after k k
+few_quietly (Datagram Tftp from bytes) desk after k quiet = cc
+few_quietly (Datagram Dhcp from bytes) desk after k quiet = tt
+few_quietly (Datagram Time from bytes) desk after k quiet = tt
+few_quietly (Piece conn piece) desk after k quiet = tt
+few_quietly (Closed conn) desk after k quiet = tt
+few_quietly Tick desk after k quiet = tt
+few_quietly End desk after k quiet = tt
+
 pub handled_quietly : (what : What) (outcome : Outcome) (said : Said) (before after : Desk) (k : KeeperSeen)
-    → after.held.now ≡ before.held.now → after.counts ≡ before.counts
+    → after.held.now ≡ before.held.now → StaysAs before after → is_quiet what ≡ true
     → DoesQuietly what before after outcome said → Says what outcome said → Asks what before.held k k → Handled what outcome said before after k k
-handled_quietly what outcome said before after k same counts does says asks = record {
+handled_quietly what outcome said before after k same stays quiet does says asks = record {
   commit = [];
-  tables = told_self (λ t. record { holds = λ mirrors. (does t, record { counts = counts ∙ mirrors.counts }) });
+  tables = told_self (λ t. record {
+    holds = λ mirrors. (does t, record { counts = stays.counts ∙ mirrors.counts; kept = subst (AllRight t) (sym stays.kept) mirrors.kept });
+  });
   written = told_self (λ t. refl);
+  keeps = told_self (λ t mirrors. stays.kept ∙ kept_quietly what outcome before t quiet);
+  few = few_quietly what before after k quiet;
   up = λ up. inl up;
   faults = says.faults k.faults;
   commits = refl;
@@ -314,7 +402,7 @@ handled_quietly what outcome said before after k same counts does says asks = re
   doubts = λ t told u doubt. kept_doubt outcome (k.doubt u) (DoingBegins what before t u) doubt;
   tells = says.tells;
   leaves = says.leaves;
-  quiet = λ is_so. record { does = does; counts = counts; keeper = unasked_self k };
+  quiet = λ is_so. record { does = does; counts = stays.counts; kept = stays.kept; keeper = unasked_self k };
   moment = same;
 }
 
@@ -336,16 +424,16 @@ pub time_handled : (from : Peer) (bytes : List ℕ) (outcome : Outcome) (said : 
     → SaysTime desk.held.now from outcome said → Handled (Datagram Time from bytes) outcome said desk desk k k
 time_handled from bytes outcome said desk k is =
     let does = time_does from bytes desk outcome said is in
-    handled_quietly (Datagram Time from bytes) outcome said desk desk k refl refl does.0 does.1 (spent_none k)
+    handled_quietly (Datagram Time from bytes) outcome said desk desk k refl (stays_self desk) refl does.0 does.1 (spent_none k)
 
 -- an event of which a line is said, or nothing, and no more
 said_handled : (what : What) (outcome : Outcome) (said other : Said) (before after : Desk) (k : KeeperSeen)
-    → after.held.now ≡ before.held.now → after.counts ≡ before.counts → outcome ≡ Did → said ≡ other
+    → after.held.now ≡ before.held.now → StaysAs before after → is_quiet what ≡ true → outcome ≡ Did → said ≡ other
     → DoesQuietly what before after Did other → Asks what before.held k k → Handled what outcome said before after k k
-said_handled what outcome said other before after k same counts did is does asks =
+said_handled what outcome said other before after k same stays quiet did is does asks =
     subst (λ (o : Outcome). Handled what o said before after k k) (sym did)
     (subst (λ (x : Said). Handled what Did x before after k k) (sym is)
-    (handled_quietly what Did other before after k same counts does (did_says what other) asks))
+    (handled_quietly what Did other before after k same stays quiet does (did_says what other) asks))
 
 -- the same, by the service that a datagram is for
 pub by_service : (service known : Service) (from : Peer) (bytes : List ℕ) (outcome : Outcome) (said : Said) (before after : Desk) (j k : KeeperSeen)
@@ -360,9 +448,10 @@ line_said said clear line is none = is ∙ ap (λ (s : Said). record s { line = 
 pub closed_handled : (conn : ℕ) (outcome : Outcome) (said : Said) (before after : Desk) (k : KeeperSeen)
     → after ≡ forgets before conn → outcome ≡ Did → said ≡ failed_said (codes "http closed") → Handled (Closed conn) outcome said before after k k
 closed_handled conn outcome said before after k left did is =
-    said_handled (Closed conn) outcome said (failed_said (codes "http closed")) before after k (ap (λ (x : Desk). x.held.now) left) (ap (λ (x : Desk). x.counts) left) did is
+    said_handled (Closed conn) outcome said (failed_said (codes "http closed")) before after k (ap (λ (x : Desk). x.held.now) left)
+    (stays_by before (forgets before conn) after left (record { counts = refl; kept = refl })) refl did is
     (λ t. ap (λ (x : Desk). effect_of (Closed conn) Did (failed_said (codes "http closed")) [] (state_of t x.held)) left)
     (spent_none k)
 
 pub end_handled : (said : Said) (desk : Desk) (k : KeeperSeen) → said ≡ says_nothing → Handled End Did said desk desk k k
-end_handled said desk k is = said_handled End Did said says_nothing desk desk k refl refl refl is (λ t. refl) (spent_none k)
+end_handled said desk k is = said_handled End Did said says_nothing desk desk k refl (stays_self desk) refl refl is (λ t. refl) (spent_none k)

@@ -24,28 +24,36 @@ use Rattle.off_outside.specs.KeeperSeen.{KeeperSeen, Rests}
 use Rattle.off_outside.specs.KeeperCalls.{Reads, NotDone, Looks, Spent}
 use Rattle.off_outside.proofs.KeeperLemmas.{reads_as, reads_told, reads_forgotten, not_begun, still_crash, spent_none}
 use Rattle.off_tftp.specs.Calls.{datagram_calls}
-use Rattle.off_tftp.specs.Saying.{Answers, Ticks, says_more}
+use Rattle.off_tftp.specs.Saying.{Ticks, says_more}
+use Rattle.off_tftp.specs.Keeping.{AnswersKeeping}
+use Rattle.off_office.specs.Asking.{FewCalls}
+use Rattle.off_kept.specs.Entries.{Entries}
+use Rattle.off_kept.specs.Right.{AllRight}
+use Rattle.off_kept.proofs.RightLemmas.{none_right}
 use Rattle.off_office.specs.Desk.{Desk}
 use Rattle.off_office.specs.Conditions.{Fits}
 use Rattle.off_office.specs.Acting.{Handled, DoesOn, NotStarted, effect_of}
 use Rattle.off_office.specs.Answering.{failed_said}
-use Rattle.off_office.specs.Transferring.{moved, MovesTransfers, DidPacket, FailsPacket, DidTick, MissedTick, TakesTick}
+use Rattle.off_office.specs.Transferring.{moved, moved_with, MovesTransfers, DidPacket, FailsPacket, DidTick, MissedTick, TakesTick}
 use Rattle.off_office.specs.declared.office.StartErr.{StartErr}
 use Rattle.off_office.specs.declared.office.StartErr.TheVariants as start
-use Rattle.off_office.proofs.StepLemmas.{DoesQuietly, Says, did_says, handled_quietly, memory_leaves, keeper_leaves}
+use Rattle.off_office.proofs.StepLemmas.{DoesQuietly, Says, did_says, stays_self, stays_by, handled_quietly, memory_leaves, keeper_leaves}
 
 -- ---- an office that begins
 
 pub started : (q : Result Desk StartErr) (counts : Counts) (a b : KeeperSeen)
-    → IfOk q (λ (office : Desk). office ≡ record { held = held_at_start; counts = counts }) → IfErr q (λ (err : StartErr). err ≡ start.Memory)
+    → IfOk q (λ (office : Desk). office ≡ record { held = held_at_start; counts = counts; kept = [] }) → IfErr q (λ (err : StartErr). err ≡ start.Memory)
     → Reads (λ t. Good t × (counts ≡ counts_of t)) a b
     → MatchResult q (λ (office : Desk). Reads (Fits office) a b) (λ (err : StartErr). NotStarted err a b)
 started (Ok office) counts a b is none reads =
-    reads_as reads (λ t opens. record { good = opens.0; mirrors = record { counts = ap (λ (d : Desk). d.counts) is ∙ opens.1 } })
+    reads_as reads (λ t opens. record {
+      good = opens.0;
+      mirrors = record { counts = ap (λ (d : Desk). d.counts) is ∙ opens.1; kept = subst (λ (d : Desk). AllRight t d.kept) (sym is) (none_right t) };
+    })
 started (Err err) counts a b none is reads = subst (λ (e : StartErr). NotStarted e a b) (sym is) (reads_forgotten reads)
 
 pub started_empty : (q : Result Desk StartErr) (counts : Counts)
-    → IfOk q (λ (office : Desk). office ≡ record { held = held_at_start; counts = counts }) → IfOk q (λ (office : Desk). office.held ≡ held_at_start)
+    → IfOk q (λ (office : Desk). office ≡ record { held = held_at_start; counts = counts; kept = [] }) → IfOk q (λ (office : Desk). office.held ≡ held_at_start)
 started_empty (Ok office) counts is = ap (λ (d : Desk). d.held) is
 started_empty (Err err) counts is = tt
 
@@ -59,28 +67,36 @@ said_whole clear said whole items line none more is =
     ∙ (ap (λ (s : Said). record s { line = line }) more
     ∙ ap (λ (s : Said). record (says_more s items) { line = line }) none)
 
-pub packet_did : (from : Peer) (bytes : List ℕ) (before after : Desk) (new : Transfers) (clear said whole : Said) (word : TftpWord) (a b : KeeperSeen)
-    → Reads (λ t. Answers t before.held.now before.held.transfers new from bytes clear said word) a b
-    → clear ≡ says_nothing → whole ≡ record said { line = tftp_line word } → after ≡ moved before new
-    → Reads (λ t. DidPacket from bytes before after whole t) a b
-packet_did from bytes before after new clear said whole word a b reads none is moves =
-    reads_as reads (λ t answers. record {
-      given = gives new answers.items word;
-      step = answers.step;
-      moves = moves;
-      says = said_whole clear said whole answers.items (tftp_line word) none answers.says is;
+pub packet_did : (from : Peer) (bytes : List ℕ) (before after : Desk) (new : Transfers) (keeps : Entries) (clear said whole : Said) (word : TftpWord) (a b : KeeperSeen)
+    → Reads (λ t. AllRight t before.kept → AnswersKeeping t before.held.now before.held.transfers new from bytes clear said before.kept keeps word) a b
+    → clear ≡ says_nothing → whole ≡ record said { line = tftp_line word } → after ≡ moved_with before new keeps
+    → Reads (λ t. AllRight t before.kept → DidPacket from bytes before after whole t) a b
+packet_did from bytes before after new keeps clear said whole word a b reads none is moves =
+    reads_as reads (λ t answers right.
+    let did = answers right in
+    let kept_is : after.kept ≡ keeps = ap (λ (d : Desk). d.kept) moves in
+    record {
+      given = gives new did.answers.items word;
+      step = did.answers.step;
+      moves = moves ∙ ap (moved_with before new) (sym kept_is);
+      says = said_whole clear said whole did.answers.items (tftp_line word) none did.answers.says is;
+      keeps = kept_is ∙ did.keeps_is;
+      right = subst (AllRight t) (sym kept_is) did.right;
     })
 
-pub packet_told : (q : Result (Unit {0}) KeepErr) (r : Result TftpWord KeepErr) (word : TftpWord) (from : Peer) (bytes : List ℕ) (inside before : Desk) (new : Transfers)
+pub packet_told : (q : Result (Unit {0}) KeepErr) (r : Result TftpWord KeepErr) (word : TftpWord) (from : Peer) (bytes : List ℕ) (inside before : Desk) (new : Transfers) (keeps : Entries)
     (clear said whole : Said) (a b : KeeperSeen)
-    → q ≡ Ok tt → r ≡ Ok word → Looks r a b (λ w t. Answers t inside.held.now inside.held.transfers new from bytes clear said w)
+    → q ≡ Ok tt → r ≡ Ok word
+    → Looks r a b (λ w t. AllRight t inside.kept → AnswersKeeping t inside.held.now inside.held.transfers new from bytes clear said inside.kept keeps w)
     → inside ≡ before → clear ≡ says_nothing → whole ≡ record said { line = tftp_line word }
-    → Looks q a b (λ _ t. DidPacket from bytes before (moved inside new) whole t)
-packet_told q r word from bytes inside before new clear said whole a b done read told seen none is =
-    subst (λ (d : Desk). Looks q a b (λ _ t. DidPacket from bytes d (moved inside new) whole t)) seen
-    (subst (λ (x : Result (Unit {0}) KeepErr). Looks x a b (λ _ t. DidPacket from bytes inside (moved inside new) whole t)) (sym done)
-    (packet_did from bytes inside (moved inside new) new clear said whole word a b
-    (subst (λ (x : Result TftpWord KeepErr). Looks x a b (λ w t. Answers t inside.held.now inside.held.transfers new from bytes clear said w)) read told)
+    → Looks q a b (λ _ t. AllRight t before.kept → DidPacket from bytes before (moved_with inside new keeps) whole t)
+packet_told q r word from bytes inside before new keeps clear said whole a b done read told seen none is =
+    subst (λ (d : Desk). Looks q a b (λ _ t. AllRight t d.kept → DidPacket from bytes d (moved_with inside new keeps) whole t)) seen
+    (subst (λ (x : Result (Unit {0}) KeepErr). Looks x a b (λ _ t. AllRight t inside.kept → DidPacket from bytes inside (moved_with inside new keeps) whole t)) (sym done)
+    (packet_did from bytes inside (moved_with inside new keeps) new keeps clear said whole word a b
+    (subst
+    (λ (x : Result TftpWord KeepErr). Looks x a b (λ w t. AllRight t inside.kept → AnswersKeeping t inside.held.now inside.held.transfers new from bytes clear said inside.kept keeps w))
+    read told)
     none is refl))
 
 pub packet_not_told : (q : Result (Unit {0}) KeepErr) (r : Result TftpWord KeepErr) (err : KeepErr) (P : TftpWord → Tables → Type 0) (Q : Unit {0} → Tables → Type 0)
@@ -103,15 +119,20 @@ packet_does from bytes before after said t did = record {
 }
 
 pub packet_handled : (from : Peer) (bytes : List ℕ) (said : Said) (before after : Desk) (a b : KeeperSeen) → Rests a
-    → Reads (λ t. DidPacket from bytes before after said t) a b → MovesTransfers before after
-    → Spent (datagram_calls before.held.transfers from bytes) a b
+    → Reads (λ t. AllRight t before.kept → DidPacket from bytes before after said t) a b → MovesTransfers before after
+    → Spent (datagram_calls before.held.transfers from bytes) a b → FewCalls from bytes before after a b
     → Handled (Datagram Tftp from bytes) Did said before after a b
-packet_handled from bytes said before after a b rests reads moves spent = record {
+packet_handled from bytes said before after a b rests reads moves spent few = record {
   commit = [];
   tables = reads_told reads (λ t did. record {
-    holds = λ mirrors. (packet_does from bytes before after said t did, record { counts = ap (λ (d : Desk). d.counts) moves ∙ mirrors.counts });
+    holds = λ mirrors. (
+      packet_does from bytes before after said t (did mirrors.kept),
+      record { counts = ap (λ (d : Desk). d.counts) moves ∙ mirrors.counts; kept = (did mirrors.kept).right },
+    );
   });
   written = reads_told reads (λ t did. refl);
+  keeps = reads_told reads (λ t did mirrors. (did mirrors.kept).keeps);
+  few = few;
   up = λ up. inl (reads.quiet.up up);
   faults = reads.quiet.faults;
   commits = reads.quiet.commits;
@@ -125,21 +146,21 @@ packet_handled from bytes said before after a b rests reads moves spent = record
 }
 
 packet_undone : (from : Peer) (bytes : List ℕ) (err : KeepErr) (outcome : Outcome) (said : Said) (desk : Desk) (a b : KeeperSeen) → Rests a
-    → NotDone err a b → Spent (datagram_calls desk.held.transfers from bytes) a b → FailsPacket err outcome said
+    → NotDone err a b → Spent (datagram_calls desk.held.transfers from bytes) a b → FewCalls from bytes desk desk a b → FailsPacket err outcome said
     → Handled (Datagram Tftp from bytes) outcome said desk desk a b
-packet_undone from bytes keep.Memory outcome said desk a b rests not spent is =
+packet_undone from bytes keep.Memory outcome said desk a b rests not spent few is =
     subst (λ (o : Outcome). Handled (Datagram Tftp from bytes) o said desk desk a b) (sym is.0)
-    (memory_leaves (Datagram Tftp from bytes) (codes "tftp memory") said desk a b refl refl (λ t. refl) (not_begun rests not) spent is.1)
-packet_undone from bytes keep.Failed outcome said desk a b rests not spent is =
+    (memory_leaves (Datagram Tftp from bytes) (codes "tftp memory") said desk a b refl refl (λ t. refl) (not_begun rests not) spent few is.1)
+packet_undone from bytes keep.Failed outcome said desk a b rests not spent few is =
     subst (λ (o : Outcome). Handled (Datagram Tftp from bytes) o said desk desk a b) (sym is.0)
-    (keeper_leaves (Datagram Tftp from bytes) (codes "tftp keeper") said desk a b refl refl (λ t. refl) (not_begun rests not) spent is.1)
+    (keeper_leaves (Datagram Tftp from bytes) (codes "tftp keeper") said desk a b refl refl (λ t. refl) (not_begun rests not) spent few is.1)
 
 pub packet_failed : (from : Peer) (bytes : List ℕ) (err : KeepErr) (outcome : Outcome) (said : Said) (before after : Desk) (a b : KeeperSeen) → Rests a
-    → NotDone err a b → Spent (datagram_calls before.held.transfers from bytes) a b → after ≡ before → FailsPacket err outcome said
+    → NotDone err a b → Spent (datagram_calls before.held.transfers from bytes) a b → FewCalls from bytes before after a b → after ≡ before → FailsPacket err outcome said
     → Handled (Datagram Tftp from bytes) outcome said before after a b
-packet_failed from bytes err outcome said before after a b rests not spent same is =
+packet_failed from bytes err outcome said before after a b rests not spent few same is =
     subst (λ (d : Desk). Handled (Datagram Tftp from bytes) outcome said before d a b) (sym same)
-    (packet_undone from bytes err outcome said before a b rests not spent is)
+    (packet_undone from bytes err outcome said before a b rests not spent (subst (λ (d : Desk). FewCalls from bytes before d a b) same few) is)
 
 -- ---- a Tick
 
@@ -198,10 +219,11 @@ tick_missed outcome inside before new clear said whole is seen kept same none li
 pub tick_handled : (outcome : Outcome) (said : Said) (before after : Desk) (k : KeeperSeen) → TakesTick outcome before after said
     → Handled Tick outcome said before after k k
 tick_handled Did said before after k did =
-    handled_quietly Tick Did said before after k (ap (λ (d : Desk). d.held.now) did.moves) (ap (λ (d : Desk). d.counts) did.moves)
+    handled_quietly Tick Did said before after k (ap (λ (d : Desk). d.held.now) did.moves)
+    (stays_by before (moved before did.transfers) after did.moves (record { counts = refl; kept = refl })) refl
     (tick_does before after said did) (did_says Tick said) (spent_none k)
 tick_handled Memory said before after k missed =
-    handled_quietly Tick Memory said before after k (ap (λ (d : Desk). d.held.now) missed.stays) (ap (λ (d : Desk). d.counts) missed.stays)
+    handled_quietly Tick Memory said before after k (ap (λ (d : Desk). d.held.now) missed.stays) (stays_by before before after missed.stays (stays_self before)) refl
     (missed_does before after said missed)
     (record { faults = grew_self; tells = ap (λ (s : Said). s.line) missed.says; leaves = ap (λ (s : Said). s.items) missed.says })
     (spent_none k)

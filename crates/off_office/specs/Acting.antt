@@ -1,5 +1,6 @@
 -- What one event does to an office and its tables.
 use Rattle.std.specs.Prelude.{◌≡◌, ℕ, Bool, true, false, List, []}
+use Rattle.off_base.specs.declared.addresses.Peer.{Peer}
 use Rattle.off_defs.specs.declared.events.Event.{Event}
 use Rattle.off_defs.specs.declared.events.Service.TheVariants.{Dhcp, Time, Tftp}
 use Rattle.off_defs.specs.declared.events.What.{What}
@@ -19,9 +20,11 @@ use Rattle.off_outside.specs.KeeperSeen.{KeeperSeen}
 use Rattle.off_outside.specs.KeeperCalls.{Reads, NotDone, StaysUp, Unasked, Crash, IsWritten}
 use Rattle.off_outside.specs.declared.keeper.KeepErr.{KeepErr}
 use Rattle.off_outside.specs.declared.keeper.KeepErr.TheVariants as keep
+use Rattle.off_kept.specs.Entries.{Entries, without_written}
+use Rattle.off_tftp.specs.Keeping.{kept_after}
 use Rattle.off_office.specs.Desk.{Desk}
 use Rattle.off_office.specs.Conditions.{Mirrors, Under, StaysFit}
-use Rattle.off_office.specs.Asking.{Asks}
+use Rattle.off_office.specs.Asking.{Asks, AsksFew}
 use Rattle.off_office.specs.declared.office.StartErr.{StartErr}
 use Rattle.off_office.specs.declared.office.StartErr.TheVariants.{Bad, Failed, Memory as NoMemory}
 
@@ -107,11 +110,34 @@ DoingBegins what before t u =
     → (effect : Effect)
     × (Does (state_of t before.held) what Did effect × (u ≡ effect.after.tables))
 
+-- What is kept of bodies behind an event: a read request that is accepted puts its modem's first,
+-- and what is written is forgotten.
+abbrev pub kept_by_packet : Outcome → Peer → List ℕ → Desk → Tables → Entries
+kept_by_packet Did from bytes before t =
+    kept_after t before.held.now before.held.transfers from bytes before.kept
+kept_by_packet Memory from bytes before t = before.kept
+kept_by_packet Keeper from bytes before t = before.kept
+
+abbrev pub kept_behind : What → Outcome → List Write → Desk → Tables → Entries
+kept_behind (Datagram Tftp from bytes) outcome commit before t =
+    kept_by_packet outcome from bytes before t
+kept_behind (Datagram Dhcp from bytes) outcome commit before t = without_written commit before.kept
+kept_behind (Datagram Time from bytes) outcome commit before t = before.kept
+kept_behind (Piece conn piece) outcome commit before t = without_written commit before.kept
+kept_behind (Closed conn) outcome commit before t = before.kept
+kept_behind Tick outcome commit before t = before.kept
+kept_behind End outcome commit before t = before.kept
+
+abbrev pub KeepsBodies : What → Outcome → List Write → Desk → Desk → Tables → Type 0
+KeepsBodies what outcome commit before after t =
+    Mirrors before t → after.kept ≡ kept_behind what outcome commit before t
+
 -- it does so whatever the tables, also where none are told, and the keeper isn't asked
 pub record HandledQuietly (what : What) (outcome : Outcome) (said : Said) (before after : Desk)
     (old new : KeeperSeen) : Type 0 where
   pub does : (t : Tables) → DoesOn what outcome said [] before after t t
   pub counts : after.counts ≡ before.counts
+  pub kept : after.kept ≡ before.kept
   pub keeper : Unasked old new
 
 -- What an office makes of an event whose moment is its own already, whatever service it is for.
@@ -122,10 +148,12 @@ pub record Handled (what : What) (outcome : Outcome) (said : Said) (before after
   pub tables :
       Told old.tables new.tables (Under before after (DoesOn what outcome said commit before after))
   pub written : Told old.tables new.tables (IsWritten commit)
+  pub keeps : Told old.tables new.tables (λ t u. KeepsBodies what outcome commit before after t)
   pub up : StaysUp old new
   pub faults : CountsFaults outcome old.faults new.faults
   pub commits : new.commits ≡ commits_after commit old.commits
   pub asks : Asks what before.held old new
+  pub few : AsksFew what before after old new
   pub crash : Crash (begun_in outcome (IsWritten commit) (DoingBegins what before)) old new
   pub doubts : LeavesDoubt outcome commit (DoingBegins what before) old new
   pub tells : TellsOutcome what outcome said.line
@@ -139,11 +167,12 @@ pub record ActsQuietly (event : Event) (outcome : Outcome) (said : Said) (before
     (old new : KeeperSeen) : Type 0 where
   pub step : (t : Tables) → StepOn event outcome said [] before after t t
   pub counts : after.counts ≡ before.counts
+  pub kept : after.kept ≡ before.kept
   pub keeper : Unasked old new
 
 -- One event. `commit` is what it wrote to the tables, in one commit, which the keeper has counted.
 -- Where the office mirrored the tables, it's the step of the book, and the office mirrors them
--- again; good tables stay good. A crash meanwhile leaves the tables before it, the commit in doubt,
+-- again; good tables stay good. Of the bodies of files it keeps what is said. A crash meanwhile leaves the tables before it, the commit in doubt,
 -- or what the event would leave.
 pub record Acts (event : Event) (outcome : Outcome) (said : Said) (before after : Desk)
     (old new : KeeperSeen) : Type 0 where
@@ -151,11 +180,14 @@ pub record Acts (event : Event) (outcome : Outcome) (said : Said) (before after 
   pub tables : Told old.tables new.tables
       (Under before after (StepOn event outcome said commit before after))
   pub written : Told old.tables new.tables (IsWritten commit)
+  pub keeps : Told old.tables new.tables (λ t u.
+      KeepsBodies event.what outcome commit (desk_at before event.at.0) after t)
   pub fits : Told old.tables new.tables (StaysFit before after)
   pub up : StaysUp old new
   pub faults : CountsFaults outcome old.faults new.faults
   pub commits : new.commits ≡ commits_after commit old.commits
   pub asks : Asks event.what before.held old new
+  pub few : AsksFew event.what before after old new
   pub crash : Crash (EventBegins event before) old new
   pub doubts : LeavesDoubt outcome commit (EventBegins event before) old new
   pub tells : TellsOutcome event.what outcome said.line

@@ -29,6 +29,7 @@ use Rattle.off_outside.specs.KeeperCalls.{Reads, NotDone, IsWritten, Settled, No
 use Rattle.off_deciding.specs.declared.results.Planned.{Planned}
 use Rattle.off_deciding.specs.declared.results.AccountErr.{AccountErr}
 use Rattle.off_deciding.specs.declared.results.AccountErr.TheVariants.{Refused, Failed, Memory}
+use Rattle.off_kept.specs.Entries.{without_written}
 use Rattle.off_office.specs.Desk.{Desk}
 use Rattle.off_office.specs.Conditions.{Mirrors, Under}
 use Rattle.off_office.specs.Acting.{DoingBegins}
@@ -58,9 +59,13 @@ abbrev pub CountsRows : Command → Reply → Type 0
 CountsRows (Import kind batch digest rows) answer = (n : ℕ) × (answer ≡ Rows n)
 CountsRows command answer = Unit {0}
 
+-- an office behind writes: it forgets the bodies of which they change a row
+abbrev pub desk_written : Desk → List Write → Desk
+desk_written desk writes = record desk { kept = without_written writes desk.kept }
+
 -- an office that has done what was planned
 abbrev pub desk_behind : Desk → Planned → Desk
-desk_behind desk planned = record desk { counts = planned.counts }
+desk_behind desk planned = record (desk_written desk planned.writes) { counts = planned.counts }
 
 -- What a command was planned to do: where the office mirrors the tables, it's the step of the book,
 -- and the office that has done it mirrors those behind its writes.
@@ -91,6 +96,7 @@ pub record Commanded (command : Command) (done : Reply) (now : ℕ) (before afte
   pub tables : Told old.tables new.tables
       (Under before after (λ t u. (clerk_step t now command ≡ step_done t writes done)
       × IsWritten writes t u))
+  pub kept : after.kept ≡ without_written writes before.kept
   pub settled : Settled writes old new
 
 -- it wasn't, and the tables are as before
@@ -110,6 +116,7 @@ pub record AnsweredBy (answer : Tables → Answered) (conn : ℕ) (said : Said)
   pub tables : Told old.tables new.tables (Under before after (λ t u.
       (said ≡ said_to conn (answer t)) × (writes ≡ (answer t).writes) × IsWritten writes t u))
   pub held : after.held ≡ before.held
+  pub kept : after.kept ≡ without_written writes before.kept
   pub settled : Settled writes old new
 
 -- the tables that a request would leave
@@ -168,6 +175,7 @@ pub record HeardPiece (conn : ℕ) (piece : List ℕ) (said : Said) (before afte
   pub tables :
       Told old.tables new.tables (Under before after (PieceOn conn piece said commit before after))
   pub settled : Settled commit old new
+  pub kept : after.kept ≡ without_written commit before.kept
   pub moment : after.held.now ≡ before.held.now
 
 -- it couldn't be acted on: its connection is forgotten, and all else is as before

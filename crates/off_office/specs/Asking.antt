@@ -1,5 +1,6 @@
 -- How many calls of the keeper an event asks at most.
 use Rattle.std.specs.Prelude.{ℕ, ◌+◌, Bool, true, false, List, [], ◌∷◌, ◌++◌, Option, Some, None, option_map, IfSome, Result, Ok, Err}
+use Rattle.off_base.specs.declared.addresses.Peer.{Peer}
 use Rattle.off_http.specs.Request.{Meaning, Waits, Refused, Asked, RequestIs}
 use Rattle.off_defs.specs.declared.orders.Command.{Command}
 use Rattle.off_defs.specs.declared.orders.Command.TheVariants.{SetSite, PutSubscriber, PutAddOn, PutModem, PutClass, PutPool, Remove, Show, Import}
@@ -18,6 +19,8 @@ use Rattle.off_book.specs.Http.{is_full, heard_of}
 use Rattle.off_outside.specs.KeeperSeen.{KeeperSeen}
 use Rattle.off_outside.specs.KeeperCalls.{Spent}
 use Rattle.off_deciding.specs.Deciding.{most_calls}
+use Rattle.off_tftp.specs.Keeping.{FewWhereKept, FewWhereBegun}
+use Rattle.off_office.specs.Desk.{Desk}
 
 -- at most so many calls, where there is a bound
 abbrev pub SpentWithin : Option ℕ → KeeperSeen → KeeperSeen → Type 0
@@ -77,3 +80,20 @@ Asks (Piece conn piece) held old new =
 Asks (Closed conn) held old new = Spent 0 old new
 Asks Tick held old new = Spent 0 old new
 Asks End held old new = Spent 0 old new
+
+-- A read request whose modem's body is kept asks three calls at most: where the tables are told, by
+-- the lease of the address, which says whose it is; and whatever the tables, where a transfer has
+-- begun with it.
+pub record FewCalls (from : Peer) (bytes : List ℕ) (before after : Desk)
+    (old new : KeeperSeen) : Type 0 where
+  pub owner : FewWhereKept from.ip before.kept old new
+  pub begun : FewWhereBegun from bytes after.held.transfers before.kept old new
+
+abbrev pub AsksFew : What → Desk → Desk → KeeperSeen → KeeperSeen → Type 0
+AsksFew (Datagram Tftp from bytes) before after old new = FewCalls from bytes before after old new
+AsksFew (Datagram Dhcp from bytes) before after old new = Unit {0}
+AsksFew (Datagram Time from bytes) before after old new = Unit {0}
+AsksFew (Piece conn piece) before after old new = Unit {0}
+AsksFew (Closed conn) before after old new = Unit {0}
+AsksFew Tick before after old new = Unit {0}
+AsksFew End before after old new = Unit {0}

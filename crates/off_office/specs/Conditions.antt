@@ -4,11 +4,14 @@ use Rattle.std.specs.Prelude.{◌≡◌}
 use Rattle.off_defs.specs.State.{Tables}
 use Rattle.off_rules.specs.Good.{Good}
 use Rattle.off_rules.specs.Rows.{counts_of}
+use Rattle.off_kept.specs.Right.{AllRight}
 use Rattle.off_office.specs.Desk.{Desk}
 
--- what an office keeps of the tables is what stands there: how many rows there are of each kind
+-- what an office keeps of the tables is what stands there: how many rows there are of each kind, and
+-- the bodies of files
 pub record Mirrors (desk : Desk) (tables : Tables) : Type 0 where
   pub counts : desk.counts ≡ counts_of tables
+  pub kept : AllRight tables desk.kept
 
 -- and the tables are good
 pub record Fits (desk : Desk) (tables : Tables) : Type 0 where

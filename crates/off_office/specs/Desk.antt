@@ -1,14 +1,16 @@
--- What an office keeps between two events: what the book says that it holds, and how many rows of
--- each kind the tables have.
+-- What an office keeps between two events: what the book says that it holds, how many rows of each
+-- kind the tables have, and the bodies of files that were built of them.
 use Rattle.std.specs.Prelude.{ℕ, refl}
 use Rattle.std.specs.Coded.{Coded, code_by, coded×, coded_ℕ}
 use Rattle.off_defs.specs.State.{Held}
 use Rattle.off_defs.specs.Codes.{held_code}
 use Rattle.off_rules.specs.declared.counts.Counts.{Counts}
+use Rattle.off_kept.specs.Entries.{Entries, kept_code}
 
 pub record Desk : Type 0 where
   pub held : Held
   pub counts : Counts
+  pub kept : Entries
 
 abbrev counts_code : Coded Counts
 counts_code =
@@ -27,5 +29,6 @@ counts_code =
 
 abbrev pub desk_code : Coded Desk
 desk_code =
-    code_by (Held × Counts) (coded× held_code counts_code) (λ k. (k.held, k.counts))
-    (λ p. record { held = p.0; counts = p.1 }) (λ _. refl)
+    code_by (Held × (Counts × Entries)) (coded× held_code (coded× counts_code kept_code))
+    (λ k. (k.held, (k.counts, k.kept)))
+    (λ p. record { held = p.0; counts = p.1.0; kept = p.1.1 }) (λ _. refl)

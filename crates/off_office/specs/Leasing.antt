@@ -15,15 +15,17 @@ use Rattle.off_outside.specs.declared.keeper.KeepErr.{KeepErr}
 use Rattle.off_outside.specs.declared.keeper.KeepErr.TheVariants as keep
 use Rattle.off_outside.specs.KeeperSeen.{KeeperSeen}
 use Rattle.off_outside.specs.KeeperCalls.{IsWritten, Settled, NotCommitted}
-use Rattle.off_office.specs.Answering.{failed_said}
+use Rattle.off_office.specs.Desk.{Desk}
+use Rattle.off_office.specs.Answering.{failed_said, desk_written}
 
 -- what was read of it is done and said at a moment, as the book has it, whatever the tables
-pub record DidMessage (read : Result Received DhcpFault) (now : ℕ) (said : Said)
+pub record DidMessage (read : Result Received DhcpFault) (before after : Desk) (said : Said)
     (old new : KeeperSeen) : Type 0 where
   pub commit : List Write
   pub tables : Told old.tables new.tables (λ t u.
-      (said ≡ dhcp_said (step_of t now read)) × (commit ≡ (step_of t now read).writes)
-      × IsWritten commit t u)
+      (said ≡ dhcp_said (step_of t before.held.now read))
+      × (commit ≡ (step_of t before.held.now read).writes) × IsWritten commit t u)
+  pub desk : after ≡ desk_written before commit
   pub settled : Settled commit old new
 
 -- the tables that it would leave
@@ -31,15 +33,17 @@ abbrev pub MessageBegins : Result Received DhcpFault → ℕ → Tables → Tabl
 MessageBegins read now t u = u ≡ write_all t (step_of t now read).writes
 
 -- it isn't, and the tables are as before
-abbrev pub ServesMessage : Result (Unit {0}) KeepErr → Result Received DhcpFault → ℕ → Said
-    → KeeperSeen → KeeperSeen → Type 0
-ServesMessage result read now said old new =
-    MatchResult result (λ _. DidMessage read now said old new)
-    (λ err. NotCommitted (MessageBegins read now) err old new)
+abbrev pub ServesMessage : Result (Unit {0}) KeepErr → Result Received DhcpFault → Desk → Desk
+    → Said → KeeperSeen → KeeperSeen → Type 0
+ServesMessage result read before after said old new =
+    MatchResult result (λ _. DidMessage read before after said old new)
+    (λ err. NotCommitted (MessageBegins read before.held.now) err old new)
 
 -- what a step says is in hand, and what it writes is committed
-pub record DidStep (step : LeaseStep) (said : Said) (old new : KeeperSeen) : Type 0 where
+pub record DidStep (step : LeaseStep) (before after : Desk) (said : Said) (old new : KeeperSeen)
+    : Type 0 where
   pub said_is : said ≡ dhcp_said step
+  pub desk : after ≡ desk_written before step.writes
   pub settled : Settled step.writes old new
 
 -- why a message couldn't be acted on is said

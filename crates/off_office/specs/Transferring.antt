@@ -12,6 +12,9 @@ use Rattle.off_transfer_rules.specs.declared.ticks.Ticked.{Ticked}
 use Rattle.off_book.specs.Tftp.{tftp_said, tick_said}
 use Rattle.off_outside.specs.declared.keeper.KeepErr.{KeepErr}
 use Rattle.off_outside.specs.declared.keeper.KeepErr.TheVariants as keep
+use Rattle.off_kept.specs.Entries.{Entries}
+use Rattle.off_kept.specs.Right.{AllRight}
+use Rattle.off_tftp.specs.Keeping.{kept_after}
 use Rattle.off_office.specs.Desk.{Desk}
 use Rattle.off_office.specs.Answering.{failed_said}
 
@@ -19,16 +22,24 @@ use Rattle.off_office.specs.Answering.{failed_said}
 abbrev pub moved : Desk → Transfers → Desk
 moved desk transfers = record desk { held = record desk.held { transfers = transfers } }
 
-abbrev pub MovesTransfers : Desk → Desk → Type 0
-MovesTransfers before after = after ≡ moved before after.held.transfers
+-- and nothing but these and the bodies
+abbrev pub moved_with : Desk → Transfers → Entries → Desk
+moved_with desk transfers entries = record (moved desk transfers) { kept = entries }
 
--- a datagram is acted on and said, as the book has it, whatever the tables
+abbrev pub MovesTransfers : Desk → Desk → Type 0
+MovesTransfers before after = after ≡ moved_with before after.held.transfers after.kept
+
+-- A datagram is acted on and said, as the book has it, whatever the tables by which the bodies are
+-- right. They are so again.
 pub record DidPacket (from : Peer) (bytes : List ℕ) (before after : Desk) (said : Said)
     (tables : Tables) : Type 0 where
   pub given : Given
   pub step : TftpStep tables before.held.now before.held.transfers from bytes given
-  pub moves : after ≡ moved before given.transfers
+  pub moves : after ≡ moved_with before given.transfers after.kept
   pub says : said ≡ tftp_said given
+  pub keeps : after.kept
+      ≡ kept_after tables before.held.now before.held.transfers from bytes before.kept
+  pub right : AllRight tables after.kept
 
 -- why it couldn't be acted on is said
 abbrev pub FailsPacket : KeepErr → Outcome → Said → Type 0

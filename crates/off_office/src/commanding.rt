@@ -7,7 +7,7 @@ ghost use Rattle.off_outside.specs.KeeperCalls.{Reads, Settled, NotCommitted, Is
 ghost use Rattle.off_office.specs.Asking.{SpentWithin, command_calls, most_commits};
 ghost use Rattle.off_office.specs.Asking.{commit_calls};
 ghost use Rattle.off_office.specs.Answering.{IsPlanned, NotPlanned, Commanded, NotCommanded};
-ghost use Rattle.off_office.specs.Answering.{CountsRows};
+ghost use Rattle.off_office.specs.Answering.{CountsRows, desk_written};
 
 use crate::office::Office;
 use off_accounts::{AccountErr, Planned, decide};
@@ -38,6 +38,7 @@ impl Office {
             (K.seen keeper.old) (K.seen keeper.new)) }
         ensures held { self.new.held ≡ held_at self.old.held at.0 }
         ensures counts { OnErr result (self.new.counts ≡ self.old.counts) }
+        ensures kept { OnErr result (self.new.kept ≡ self.old.kept) }
         ensures right { IfOk result (λ done. IsRightReply done) }
         ensures rows { IfOk result (λ done. CountsRows c.now done) }
         ensures spent { SpentWithin (command_calls c.now)
@@ -71,7 +72,8 @@ impl Office {
     }
 
     // Does what was planned, whatever service planned it: the writes in one commit, where there are
-    // any, and then what the office keeps of the tables, which takes no memory.
+    // any, and then what the office keeps of the tables, which takes no memory. Bodies of files are
+    // forgotten of which a row was written.
     pub(crate) fn settle<K: Keeper>(
         &mut self,
         keeper: &mut K,
@@ -82,12 +84,14 @@ impl Office {
             (λ _. Settled writes.now (K.seen keeper.old) (K.seen keeper.new))
             (λ err. NotCommitted (IsWritten writes.now) err
             (K.seen keeper.old) (K.seen keeper.new)) }
-        ensures ok { OnOk result (self.new ≡ record self.old { counts = counts.now }) }
+        ensures ok { OnOk result (self.new
+            ≡ record (desk_written self.old writes.now) { counts = counts.now }) }
         ensures err { OnErr result (self.new ≡ self.old) }
         ensures spent { Spent (commit_calls writes.now) (K.seen keeper.old) (K.seen keeper.new) }
     {
         commit_all(self.alloc, keeper, writes)?;
         self.counts = *counts;
+        self.kept.forget(writes);
         Ok(())
     }
 }

@@ -1,4 +1,4 @@
-ghost use Rattle.std.specs.Prelude.{◌≡◌, ◌≤◌, length, OnOk, Ok, MatchResult};
+ghost use Rattle.std.specs.Prelude.{◌≡◌, ◌≤◌, length, OnOk, OnErr, Ok, MatchResult};
 ghost use Rattle.off_defs.specs.State.{says_nothing};
 ghost use Rattle.off_dhcp.specs.Datagram.{message_of};
 ghost use Rattle.off_lease_rules.specs.Words.{unread};
@@ -41,9 +41,9 @@ impl Office {
         out: &mut Replies,
     ) -> Result<(), KeepErr>
         requires { out.old ≡ says_nothing }
-        ensures told { ServesMessage result (message_of bytes.now) self.old.held.now out.new
+        ensures told { ServesMessage result (message_of bytes.now) self.old self.new out.new
             (K.seen keeper.old) (K.seen keeper.new) }
-        ensures same { self.new ≡ self.old }
+        ensures same { OnErr result (self.new ≡ self.old) }
         ensures spent { SpentWithin (message_asks (message_of bytes.now))
             (K.seen keeper.old) (K.seen keeper.new) }
     {
@@ -64,9 +64,9 @@ impl Office {
         out: &mut Replies,
     ) -> Result<(), KeepErr>
         requires { out.old ≡ says_nothing }
-        ensures told { ServesMessage result (Ok m.now) self.old.held.now out.new
+        ensures told { ServesMessage result (Ok m.now) self.old self.new out.new
             (K.seen keeper.old) (K.seen keeper.new) }
-        ensures same { self.new ≡ self.old }
+        ensures same { OnErr result (self.new ≡ self.old) }
         ensures spent { SpentWithin (message_asks (Ok m.now))
             (K.seen keeper.old) (K.seen keeper.new) }
     {
@@ -85,10 +85,10 @@ impl Office {
     ) -> Result<(), KeepErr>
         requires { out.old ≡ says_nothing }
         ensures told { MatchResult result
-            (λ _. DidStep step out.new (K.seen keeper.old) (K.seen keeper.new))
+            (λ _. DidStep step self.old self.new out.new (K.seen keeper.old) (K.seen keeper.new))
             (λ err. NotCommitted (IsWritten step.writes) err
             (K.seen keeper.old) (K.seen keeper.new)) }
-        ensures same { self.new ≡ self.old }
+        ensures same { OnErr result (self.new ≡ self.old) }
         ensures spent { Spent (commit_calls step.writes) (K.seen keeper.old) (K.seen keeper.new) }
     {
         let LeaseStep {

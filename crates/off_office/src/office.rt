@@ -13,6 +13,7 @@ use crate::connections::Connections;
 use off_accounts::{Opening, open_tables};
 use off_base::{Bytes, Moment, NoMemory, Peer};
 use off_defs::{Key, time_of_day};
+use off_kept::Kept;
 use off_outside::{Event, KeepErr, Keeper, Outcome, Replies, Sent, Service, What};
 use off_rules::Counts;
 use off_tftp::Transfers;
@@ -31,12 +32,14 @@ pub enum StartErr {
 }
 
 /// The office between two events: the moment of its latest event, how many rows the tables have,
-/// the files on their way to modems, and the clerks' connections.
+/// the bodies of files that were built of them, the files on their way to modems, and the clerks'
+/// connections.
 #[derive(Drop)]
 pub struct Office {
     pub(crate) alloc: Global,
     pub(crate) now: Moment,
     pub(crate) counts: Counts,
+    pub(crate) kept: Kept,
     pub(crate) transfers: Transfers,
     pub(crate) connections: Connections,
 }
@@ -51,12 +54,13 @@ impl Model for Office {
     ghost view = { λ o. record {
       held = record { now = o.now.0; transfers = o.transfers; connections = o.connections };
       counts = o.counts;
+      kept = o.kept;
     } };
 }
 
 impl Office {
-    /// Opens the tables: an office that has just begun, with no transfers, no connections and
-    /// moment 0, over tables that are good.
+    /// Opens the tables: an office that has just begun, with no transfers, no connections, no bodies
+    /// of files and moment 0, over tables that are good.
     ///
     /// `Bad` comes exactly where they aren't, with the least bad key. The tables stay as they are.
     /// They are walked once.
@@ -78,14 +82,18 @@ impl Office {
     // An office with these counts, in which nothing has begun.
     fn empty(alloc: Global, counts: Counts) -> Result<Office, StartErr>
         ensures ok { IfOk result
-            (λ office. office ≡ record { held = held_at_start; counts = counts }) }
+            (λ office. office ≡ record { held = held_at_start; counts = counts; kept = [] }) }
         ensures err { IfErr result (λ err. err ≡ start.Memory) }
     {
+        let Ok(kept) = Kept::new(alloc) else {
+            return Err(StartErr::Memory);
+        };
         match Transfers::new(alloc) {
             Ok(transfers) => Ok(Office {
                 alloc,
                 now: Moment(0),
                 counts,
+                kept,
                 transfers,
                 connections: Connections::new(alloc),
             }),

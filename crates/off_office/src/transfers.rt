@@ -3,8 +3,10 @@ ghost use Rattle.off_defs.specs.State.{says_nothing};
 ghost use Rattle.off_transfer_rules.specs.Words.{tftp_line, tick_line};
 ghost use Rattle.off_transfer_rules.specs.declared.words.TftpWord.TheVariants as word;
 ghost use Rattle.off_outside.specs.KeeperCalls.{Looks, Spent};
+ghost use Rattle.off_kept.specs.Right.{AllRight};
 ghost use Rattle.off_tftp.specs.Calls.{datagram_calls};
 ghost use Rattle.off_office.specs.Acting.{Handled};
+ghost use Rattle.off_office.specs.Asking.{FewCalls};
 ghost use Rattle.off_office.specs.Transferring.{MovesTransfers, DidPacket, FailsPacket};
 ghost use Rattle.off_office.specs.Transferring.{TakesTick};
 
@@ -44,16 +46,24 @@ impl Office {
     ) -> Result<(), KeepErr>
         requires { out.old ≡ says_nothing }
         ensures told { Looks result (K.seen keeper.old) (K.seen keeper.new)
-            (λ _ t. DidPacket from bytes.now self.old self.new out.new t) }
+            (λ _ t. AllRight t self.old.kept
+            → DidPacket from bytes.now self.old self.new out.new t) }
         ensures moves { MovesTransfers self.old self.new }
         ensures kept { OnErr result (self.new ≡ self.old) }
         ensures spent { Spent (datagram_calls self.old.held.transfers from bytes.now)
             (K.seen keeper.old) (K.seen keeper.new) }
+        ensures few { FewCalls from bytes.now self.old self.new
+            (K.seen keeper.old) (K.seen keeper.new) }
     {
-        match self
-            .transfers
-            .on_datagram(self.alloc, keeper, self.now, from, bytes, out)
-        {
+        match self.transfers.on_datagram(
+            self.alloc,
+            keeper,
+            &mut self.kept,
+            self.now,
+            from,
+            bytes,
+            out,
+        ) {
             Ok(word) => {
                 say_word(word, out);
                 Ok(())

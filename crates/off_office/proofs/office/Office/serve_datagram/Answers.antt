@@ -12,7 +12,7 @@ use Rattle.off_office.proofs.office.Office.serve_datagram.Goals as goal
 pub returns-in-Ok-clause-told : goal.returns-in-Ok-clause-told
 returns-in-Ok-clause-told g c =
     subst
-    (λ (read : Result Received DhcpFault). ServesMessage c.serve_message.result read c.args.self.now.held.now c.serve_message.new.out
+    (λ (read : Result Received DhcpFault). ServesMessage c.serve_message.result read c.args.self.now c.serve_message.new.self c.serve_message.new.out
     (g.K.Keeper.seen c.args.keeper.now) (g.K.Keeper.seen c.serve_message.new.keeper))
     (sym c.in-Ok.is ∙ c.read.ensures.message) c.serve_message.ensures.told
 

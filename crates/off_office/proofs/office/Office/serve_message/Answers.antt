@@ -1,14 +1,15 @@
-use Rattle.std.proofs.Common.{subst, Ok}
+use Rattle.std.proofs.Common.{◌≡◌, subst}
 use Rattle.off_office.specs.Desk.{Desk}
-use Rattle.off_office.specs.Leasing.{ServesMessage}
+use Rattle.off_lease_rules.specs.Steps.{lease_step}
+use Rattle.off_outside.specs.KeeperCalls.{Reads}
 use Rattle.off_office.proofs.LeaseLemmas.{step_serves, not_serves, step_spent, not_spent}
 use Rattle.off_office.proofs.office.Office.serve_message.Goals as goal
 
 pub returns-in-Ok-clause-told : goal.returns-in-Ok-clause-told
 returns-in-Ok-clause-told g c =
-    subst (λ (d : Desk). ServesMessage c.carry_step.result (Ok c.args.m.now) d.held.now c.carry_step.new.out (g.K.Keeper.seen c.args.keeper.now) (g.K.Keeper.seen c.carry_step.new.keeper))
-    c.self.view_is
-    (step_serves c.carry_step.result _ _ c.in-Ok.step _ _ _ _ (g.met.K.Keeper.rests c.args.keeper.now) c.in-Ok.ensures.told c.carry_step.ensures.told)
+    step_serves c.carry_step.result _ _ _ c.in-Ok.step _ _ _ _ (g.met.K.Keeper.rests c.args.keeper.now)
+    (subst (λ (d : Desk). Reads (λ t. c.in-Ok.step ≡ lease_step t d.held.now c.args.m.now) (g.K.Keeper.seen c.args.keeper.now) (g.K.Keeper.seen c.answer.new.keeper)) c.self.view_is c.in-Ok.ensures.told)
+    c.carry_step.ensures.told
 
 pub returns-in-Ok-clause-spent : goal.returns-in-Ok-clause-spent
 returns-in-Ok-clause-spent g c =
@@ -17,7 +18,7 @@ returns-in-Ok-clause-spent g c =
 
 pub returns-in-Err-clause-told : goal.returns-in-Err-clause-told
 returns-in-Err-clause-told g c =
-    not_serves c.in-Err.err c.args.m.now c.args.self.now.held.now c.args.out.now (g.K.Keeper.seen c.args.keeper.now) (g.K.Keeper.seen c.answer.new.keeper)
+    not_serves c.in-Err.err c.args.m.now c.args.self.now c.args.self.now c.args.out.now (g.K.Keeper.seen c.args.keeper.now) (g.K.Keeper.seen c.answer.new.keeper)
     (g.met.K.Keeper.rests c.args.keeper.now) c.in-Err.ensures.told
 
 pub returns-in-Err-clause-spent : goal.returns-in-Err-clause-spent
