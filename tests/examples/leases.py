@@ -242,6 +242,8 @@ class Office:
             return 409, "pool-has-leases", compact({"at": text_of(lost), "fault": "pool-has-leases"})
         if row:
             self.put(row)
+        elif path.count("/") == 4:
+            self.drop("add-on", path.split("/")[2::2])
         else:
             self.drop(kind[:-1], [number])
         return 200, "", '{"ok":true}'

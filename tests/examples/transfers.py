@@ -179,11 +179,15 @@ class TransferPlayer(Player):
     def lines(self, rows, lines, events):
         return ["office", *rows, *lines, *(line_of(turn, moment, what) for turn, (moment, _, what) in enumerate(events, 1))]
 
-    def play(self, remark, events, rows=HELD, lines=(), tables=False, model_rows=None):
-        """A run of events over the office's rows and others. Where the script writes many rows as one, `model_rows` has them singly."""
-        made = played([*self.rows, *(model_rows or rows)], events)
-        expected = outcome(wrote=made.wrote, sent=made.sent, tables=made.office.rows() if tables else None)
-        self.script.run(remark, self.lines(rows, [*lines, *(["show tables"] if tables else [])], events), expected)
+    def play(self, remark, events, rows=HELD, lines=(), tables=False, model_rows=None, calls=None):
+        """A run of events over the office's rows and others. Where the script writes many rows as one, `model_rows` has them singly. `calls` are those of the
+        keeper behind the opening, which puts the rows by one and then reads each, and that there is none behind the last."""
+        whole = [*self.rows, *(model_rows or rows)]
+        made = played(whole, events)
+        opening = 2 + len(Office(whole).rows())
+        expected = outcome(wrote=made.wrote, sent=made.sent, tables=made.office.rows() if tables else None, calls=calls and opening + calls)
+        shows = [*(["show tables"] if tables else []), *(["show calls"] if calls else [])]
+        self.script.run(remark, self.lines(rows, [*lines, *shows], events), expected)
         return made
 
     def fails_each(self, remark, events, reading, rows=HELD):
@@ -537,6 +541,61 @@ def crowding(player):
     player.play("all are closed", [*everyone, *ends], rows=[*many, *wide], model_rows=[*single, *wide], lines=["room link 2000 200000"])
 
 
+# A request reads the lease of its address, the modem and the site; for a body that isn't kept the subscriber, the class and eight add-ons besides. So does the
+# acknowledgement of a block that isn't the last, but for the latter.
+JUDGED, BUILT = 3, 10
+
+
+def keeping(player):
+    def again(port, moment="t+5"):
+        return [(moment, word, reads(44, port=port) if word == "oack" else acks(int(word[-1]) - 1, port=port)) for _, word, _ in WHOLE[:-1]]
+    player.section("a body is kept for the next request of its modem",
+                   "Only its moment is new: the rows of which it is made aren't read again. A command that changes one of them has it built anew.")
+    made = player.play("five seconds later", [*WHOLE, *again(PORT + 1)], calls=2 * len(WHOLE[:-1]) * JUDGED + BUILT)
+    first, second = (b"".join(bytes.fromhex(each.split(" ")[-1])[4:] for each in got(made, f"{A}:{port}")[1:]) for port in (PORT, PORT + 1))
+    later_front = FRONT.replace(bytes.fromhex("e8fe6f80"), bytes.fromhex("e8fe6f85"))
+    if first != FILE or second[:len(FRONT)] != later_front or second == first:
+        raise Disagreement("the second file has another moment, and else the same settings")
+    made = player.play("the class is another", [*WHOLE, *again(PORT + 1), ("t+5", "", put_class(TWICE_GOLD)), *again(PORT + 2)])
+    if "080401312d00" not in got(made, f"{A}:{PORT + 2}")[1]:
+        raise Disagreement("the third file has the new rate")
+    both = [*BOTH, 'class 2 "lead" ' + PLAIN]
+    for remark, command in {
+            "its subscriber is another": put_subscriber(7, active=False), "it has an add-on": put_add_on(7, 3, BOOST),
+            "the modem is of another class": put_modem(7, 2), "another class": put_class(TWICE_GOLD, 2), "another subscriber": put_subscriber(9)}.items():
+        player.play(remark, [*WHOLE, ("t", "oack", reads(76, last=1, held=B)), ("t+5", "", command), ("t+5", "oack", reads(1000, port=PORT + 1)),
+                             ("t+5", "block 1", acks(0, port=PORT + 1)), ("t+5", "oack", reads(1000, last=1, held=B)),
+                             ("t+5", "block 1", acks(0, held=B))], rows=both)
+    player.play("an add-on is gone", [*WHOLE, ("t+5", "", remove("/subscribers/7/addons/3")), *again(PORT + 1)], rows=[f"add-on 7 3 {BOOST}", *HELD])
+    player.play("by the secret of the moment", [*WHOLE, ("t+5", "", put_site(secret=b"Secret")), ("t+5", "oack", reads(44, secret=b"Secret")),
+                                                ("t+5", "block 1", acks(0)), ("t+5", "block 2", acks(1))])
+    player.play("at another address", [*WHOLE, ("t", "released", releases()), ("t", "offer", discover()), ("t", "ack", selects()), *again(PORT + 1, "t")])
+    player.play("a request that is refused", [("t", "name", reads(name=name(held=B))), ("t", "name", reads(name=name(held=B))), WHOLE[0]],
+                calls=3 * JUDGED + BUILT)
+    player.section("the bodies of 512 modems are kept", "Those that asked last. Each gives up its file, so that there is room for the transfer of the next one.")
+    folded = [row for high, last in ((0, 255), (1, 255), (2, 0)) for row in (
+        f'repeat 0 {last} modem 030{high}% 7 1 ""', f"repeat 0 {last} lease 10.64.{high + 1}.# bound 030{high}% t+1000", f"repeat 0 {last} held 030{high}% 10.64.{high + 1}.#")]
+    single = [row for number in range(513) for row in (
+        f'modem {many(number).hex()} 7 1 ""', f"lease {place_of(number)} bound {many(number).hex()} t+1000", f"held {many(number).hex()} {place_of(number)}")]
+    wide = ["drop pool 1", f"pool 1 10.64.0.1 10.64.3.255 16 {leases.RELAY} {leases.RELAY}"]
+
+    def asks(number):
+        held = place_of(number)
+        return [("t", "oack", reads(44, held=held, name=name_of(b"secret", many(number), address(held)))), ("t", "peer-error", gives_up(held=held))]
+    for remark, count, calls in (("the first again, behind 511 others", 512, 0), ("the first again, behind 512 others", 513, BUILT)):
+        player.play(remark, [event for number in [*range(count), 0] for event in asks(number)], rows=[*folded, *wide], model_rows=[*single, *wide],
+                    lines=["room link 2000 200000"], calls=(count + 1) * JUDGED + count * BUILT + calls)
+
+
+def many(number):
+    """One of many modems' addresses, and where it is reached."""
+    return bytes.fromhex(f"030{number // 256}{number % 256:08x}")
+
+
+def place_of(number):
+    return f"10.64.{number // 256 + 1}.{number % 256}"
+
+
 def got(made, peer):
     """What a run sent to a peer, in order."""
     return [item for item in made.sent if item.startswith(f"datagram tftp to {peer} ")]
@@ -603,5 +662,5 @@ def failing(player):
 def sections(script, rows):
     """Writes the sections, over an office of these rows."""
     player = TransferPlayer(script, rows)
-    for write in (worked, changing, several, asking_again, ticking, reading_packets, refusing, crowding, isolated, failing):
+    for write in (worked, changing, several, asking_again, ticking, reading_packets, refusing, crowding, keeping, isolated, failing):
         write(player)
