@@ -5,7 +5,7 @@ use Rattle.off_defs.specs.declared.orders.Command.{Command}
 use Rattle.off_defs.specs.declared.rules.Rule.{Rule}
 use Rattle.off_defs.specs.State.{Tables, Said}
 use Rattle.off_defs.specs.Tables.{write_all}
-use Rattle.off_rules.specs.Clerk.{Stepped, clerk_step, step_done, step_refused}
+use Rattle.off_rules.specs.Clerk.{Stepped, clerk_step, step_refused}
 use Rattle.off_clerk_rules.specs.declared.faults.Fault.TheVariants as fault
 use Rattle.off_book.specs.Http.{Answered, answer_step}
 use Rattle.off_outside.specs.declared.keeper.KeepErr.{KeepErr}

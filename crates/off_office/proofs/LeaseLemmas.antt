@@ -1,5 +1,5 @@
 -- A datagram to the DHCP port, from what its message does to the step of the book.
-use Rattle.std.proofs.Common.{◌≡◌, ℕ, ◌+◌, ◌⊎◌, inl, inr, true, false, List, [], codes, Option, Some, None, option_map, Result, Ok, Err, OnOk, MatchResult, refl, sym, ap, ◌∙◌, subst, arith, append-nil}
+use Rattle.std.proofs.Common.{◌≡◌, ℕ, inl, true, false, List, [], codes, Result, Ok, Err, OnOk, MatchResult, refl, sym, ap, ◌∙◌, subst, append-nil}
 use Rattle.off_base.specs.declared.addresses.Peer.{Peer}
 use Rattle.off_dhcp.specs.Datagram.{Received, message_of}
 use Rattle.off_dhcp.specs.declared.faults.DhcpFault.{DhcpFault}
@@ -9,27 +9,25 @@ use Rattle.off_defs.specs.declared.events.What.TheVariants.{Datagram}
 use Rattle.off_defs.specs.declared.orders.Write.{Write}
 use Rattle.off_defs.specs.declared.results.Outcome.{Outcome}
 use Rattle.off_defs.specs.declared.results.Outcome.TheVariants.{Did, Memory, Keeper}
-use Rattle.off_defs.specs.State.{Tables, Said, state_of, says_nothing}
+use Rattle.off_defs.specs.State.{Tables, Said, state_of}
 use Rattle.off_defs.specs.Tables.{write_all}
-use Rattle.off_defs.specs.Told.{Told}
 use Rattle.off_defs.proofs.ToldLemmas.{told_self, told_weaker}
-use Rattle.off_rules.specs.Rows.{counts_of}
 use Rattle.off_lease_rules.specs.declared.results.LeaseStep.{LeaseStep}
 use Rattle.off_lease_rules.specs.Words.{unread}
 use Rattle.off_lease_rules.specs.Steps.{lease_step, step_of, dhcp_step}
 use Rattle.off_lease_laws.proofs.LawLemmas.{datagrams_leave_fit}
-use Rattle.off_book.specs.Dhcp.{dhcp_line, dhcp_said, dhcp_effect, DhcpDid}
-use Rattle.off_book.specs.Step.{Does, completed}
+use Rattle.off_book.specs.Dhcp.{dhcp_line, dhcp_said, dhcp_effect}
+use Rattle.off_book.specs.Step.{completed}
 use Rattle.off_outside.specs.declared.keeper.KeepErr.{KeepErr}
 use Rattle.off_outside.specs.declared.keeper.KeepErr.TheVariants as keep
 use Rattle.off_outside.specs.KeeperSeen.{KeeperSeen, Rests}
 use Rattle.off_outside.specs.KeeperCalls.{Reads, Settled, NotCommitted, NotDone, IsWritten, Spent}
-use Rattle.off_outside.proofs.KeeperLemmas.{settled_none, settled_then, not_begun, not_begun_then, nothing_begun, not_committed_as, spent_none, spent_then, spent_within}
+use Rattle.off_outside.proofs.KeeperLemmas.{settled_none, settled_then, not_begun, not_begun_then, not_committed_as, spent_none}
 use Rattle.off_lease.specs.Calls.{message_calls}
 use Rattle.off_office.specs.Desk.{Desk}
 use Rattle.off_office.specs.Conditions.{Mirrors}
-use Rattle.off_office.specs.Acting.{Handled, DoesOn, DoingBegins, effect_of}
-use Rattle.off_office.specs.Asking.{Asks, SpentWithin, commit_calls, message_asks}
+use Rattle.off_office.specs.Acting.{Handled, DoingBegins, effect_of}
+use Rattle.off_office.specs.Asking.{SpentWithin, commit_calls, message_asks}
 use Rattle.off_kept.specs.Entries.{Entries, without_written}
 use Rattle.off_kept.specs.Right.{AllRight}
 use Rattle.off_kept.proofs.RightLemmas.{kept_stays_right, nothing_written}

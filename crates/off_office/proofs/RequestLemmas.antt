@@ -1,13 +1,12 @@
 -- A request that was read, and its answer.
-use Rattle.std.proofs.Common.{◌≡◌, ℕ, List, [], Option, Some, Result, Ok, Err, OnOk, refl, sym, ap, ◌∙◌, subst}
+use Rattle.std.proofs.Common.{◌≡◌, ℕ, List, [], Result, Ok, Err, OnOk, refl, sym, ap, ◌∙◌, subst}
 use Rattle.off_base.specs.declared.octets.NoMemory.{NoMemory}
 use Rattle.off_defs.specs.declared.orders.Command.{Command}
-use Rattle.off_defs.specs.State.{Tables, Said}
+use Rattle.off_defs.specs.State.{Said}
 use Rattle.off_clerk_rules.specs.declared.faults.ClerkErr.{ClerkErr}
 use Rattle.off_clerk_rules.specs.declared.faults.Fault.TheVariants as fault
 use Rattle.off_clerk_rules.specs.Commands.{command_read}
-use Rattle.off_book.specs.Http.{Answered, answer_command, answer_request}
-use Rattle.off_rules.specs.Clerk.{clerk_step}
+use Rattle.off_book.specs.Http.{answer_command, answer_request}
 use Rattle.off_outside.specs.declared.keeper.KeepErr.{KeepErr}
 use Rattle.off_outside.specs.declared.keeper.KeepErr.TheVariants as keep
 use Rattle.off_outside.specs.KeeperSeen.{KeeperSeen}

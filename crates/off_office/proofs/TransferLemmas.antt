@@ -1,5 +1,5 @@
 -- A datagram to the TFTP port, and a Tick, to the step of the book.
-use Rattle.std.proofs.Common.{◌≡◌, ℕ, ◌++◌, inl, true, false, List, [], codes, Result, Ok, Err, IfOk, IfErr, MatchResult, refl, sym, ap, ◌∙◌, subst, append-nil}
+use Rattle.std.proofs.Common.{◌≡◌, ℕ, inl, true, false, List, [], codes, Result, Ok, Err, IfOk, IfErr, MatchResult, refl, sym, ap, ◌∙◌, subst, append-nil}
 use Rattle.off_base.specs.declared.addresses.Peer.{Peer}
 use Rattle.off_base.specs.declared.octets.NoMemory.{NoMemory}
 use Rattle.off_defs.specs.declared.events.Service.TheVariants.{Tftp}
@@ -12,12 +12,11 @@ use Rattle.off_rules.specs.declared.counts.Counts.{Counts}
 use Rattle.off_rules.specs.Good.{Good}
 use Rattle.off_rules.specs.Rows.{counts_of}
 use Rattle.off_transfer_rules.specs.Transfers.{Transfers}
-use Rattle.off_transfer_rules.specs.Steps.{Given, gives}
+use Rattle.off_transfer_rules.specs.Steps.{gives}
 use Rattle.off_transfer_rules.specs.Words.{tftp_line, tick_line}
 use Rattle.off_transfer_rules.specs.declared.words.TftpWord.{TftpWord}
 use Rattle.off_transfer_rules.specs.declared.ticks.Ticked.{Ticked}
-use Rattle.off_book.specs.Step.{Does, completed}
-use Rattle.off_book.specs.Tftp.{TftpDid, TickDid, tftp_said, tick_said, transfers_effect}
+use Rattle.off_book.specs.Tftp.{tftp_said, tick_said}
 use Rattle.off_outside.specs.declared.keeper.KeepErr.{KeepErr}
 use Rattle.off_outside.specs.declared.keeper.KeepErr.TheVariants as keep
 use Rattle.off_outside.specs.KeeperSeen.{KeeperSeen, Rests}
@@ -37,7 +36,7 @@ use Rattle.off_office.specs.Answering.{failed_said}
 use Rattle.off_office.specs.Transferring.{moved, moved_with, MovesTransfers, DidPacket, FailsPacket, DidTick, MissedTick, TakesTick}
 use Rattle.off_office.specs.declared.office.StartErr.{StartErr}
 use Rattle.off_office.specs.declared.office.StartErr.TheVariants as start
-use Rattle.off_office.proofs.StepLemmas.{DoesQuietly, Says, did_says, stays_self, stays_by, handled_quietly, memory_leaves, keeper_leaves}
+use Rattle.off_office.proofs.StepLemmas.{DoesQuietly, did_says, stays_self, stays_by, handled_quietly, memory_leaves, keeper_leaves}
 
 -- ---- an office that begins
 

@@ -172,8 +172,8 @@ pub record ActsQuietly (event : Event) (outcome : Outcome) (said : Said) (before
 
 -- One event. `commit` is what it wrote to the tables, in one commit, which the keeper has counted.
 -- Where the office mirrored the tables, it's the step of the book, and the office mirrors them
--- again; good tables stay good. Of the bodies of files it keeps what is said. A crash meanwhile leaves the tables before it, the commit in doubt,
--- or what the event would leave.
+-- again, and keeps of the bodies what `kept_behind` says; good tables stay good. A crash meanwhile
+-- leaves the tables before it, the commit in doubt, or what the event would leave.
 pub record Acts (event : Event) (outcome : Outcome) (said : Said) (before after : Desk)
     (old new : KeeperSeen) : Type 0 where
   pub commit : List Write

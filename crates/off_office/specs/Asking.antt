@@ -1,5 +1,5 @@
 -- How many calls of the keeper an event asks at most.
-use Rattle.std.specs.Prelude.{ℕ, ◌+◌, Bool, true, false, List, [], ◌∷◌, ◌++◌, Option, Some, None, option_map, IfSome, Result, Ok, Err}
+use Rattle.std.specs.Prelude.{ℕ, ◌+◌, Bool, true, false, List, [], ◌∷◌, ◌++◌, Option, Some, option_map, IfSome, Result, Ok, Err}
 use Rattle.off_base.specs.declared.addresses.Peer.{Peer}
 use Rattle.off_http.specs.Request.{Meaning, Waits, Refused, Asked, RequestIs}
 use Rattle.off_defs.specs.declared.orders.Command.{Command}

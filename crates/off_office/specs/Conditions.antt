@@ -7,8 +7,8 @@ use Rattle.off_rules.specs.Rows.{counts_of}
 use Rattle.off_kept.specs.Right.{AllRight}
 use Rattle.off_office.specs.Desk.{Desk}
 
--- what an office keeps of the tables is what stands there: how many rows there are of each kind, and
--- the bodies of files
+-- what an office keeps of the tables is what stands there: how many rows there are of each kind,
+-- and the bodies of files
 pub record Mirrors (desk : Desk) (tables : Tables) : Type 0 where
   pub counts : desk.counts ≡ counts_of tables
   pub kept : AllRight tables desk.kept

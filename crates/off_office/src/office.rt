@@ -59,8 +59,8 @@ impl Model for Office {
 }
 
 impl Office {
-    /// Opens the tables: an office that has just begun, with no transfers, no connections, no bodies
-    /// of files and moment 0, over tables that are good.
+    /// Opens the tables: an office that has just begun, with no transfers, no connections, no
+    /// bodies of files and moment 0, over tables that are good.
     ///
     /// `Bad` comes exactly where they aren't, with the least bad key. The tables stay as they are.
     /// They are walked once.

@@ -1,4 +1,4 @@
-use Rattle.std.proofs.Common.{sym, ap, ◌∙◌, subst, Result, Ok, List, ℕ}
+use Rattle.std.proofs.Common.{sym, ap, ◌∙◌, subst, Result, List, ℕ}
 use Rattle.off_dhcp.specs.Datagram.{Received, message_of}
 use Rattle.off_dhcp.specs.declared.faults.DhcpFault.{DhcpFault}
 use Rattle.off_defs.specs.State.{Said}

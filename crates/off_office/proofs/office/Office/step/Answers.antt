@@ -1,4 +1,4 @@
-use Rattle.std.proofs.Common.{refl, sym, ap, ◌∙◌, List, ℕ, codes}
+use Rattle.std.proofs.Common.{sym, ap, ◌∙◌, List, ℕ, codes}
 use Rattle.off_defs.specs.declared.events.What.TheVariants.{Datagram, Piece, Closed, Tick, End}
 use Rattle.off_defs.specs.State.{Said}
 use Rattle.off_office.proofs.StepLemmas.{acts_by, closed_handled, end_handled}
