@@ -21,7 +21,7 @@ pub(crate) fn agrees(seen: &Seen, now: Moment, ip: Ip4, live: &Live) -> bool
 {
     is_held_by(now, seen.lease, live.modem())
         && is_of_subscriber(&seen.modem, live.subscriber())
-        && is_own_name(&seen.site, live.name(), live.modem(), ip)
+        && has_own_name(&seen.site, live, ip)
 }
 
 /// Whether the name is that of the file of the modem to which the address is bound.
@@ -29,7 +29,7 @@ pub(crate) fn names_file(seen: &Seen, now: Moment, ip: Ip4, name: &[u8]) -> bool
     ensures { result ≡ names_file now.0 ip name.now (view_of seen.now) }
 {
     match holder(now, seen.lease) {
-        Some(mac) => is_own_name(&seen.site, name, mac, ip),
+        Some(mac) => is_name_at(&seen.site, name, mac, ip),
         None => false,
     }
 }
@@ -83,11 +83,27 @@ fn is_of_subscriber(modem: &Option<Modem>, subscriber: u32) -> bool
     }
 }
 
-fn is_own_name(site: &Option<Site>, name: &[u8], mac: Mac, ip: Ip4) -> bool
+fn has_own_name(site: &Option<Site>, live: &Live, ip: Ip4) -> bool
+    ensures { result ≡ passes (is_own_name live.now.name live.now.modem ip) site.now }
+{
+    match site {
+        Some(site) => live.has_own_name(site, ip),
+        None => false,
+    }
+}
+
+fn is_name_at(site: &Option<Site>, name: &[u8], mac: Mac, ip: Ip4) -> bool
     ensures { result ≡ passes (is_own_name name.now mac ip) site.now }
 {
     match site {
-        Some(site) => name == file_name(site.secret.as_slice(), mac, ip).as_slice(),
+        Some(site) => is_own_name(site, name, mac, ip),
         None => false,
     }
+}
+
+/// Whether the name is that of a modem's file at an address.
+pub(crate) fn is_own_name(site: &Site, name: &[u8], mac: Mac, ip: Ip4) -> bool
+    ensures { result ≡ is_own_name name.now mac ip site.now }
+{
+    name == file_name(site.secret.as_slice(), mac, ip).as_slice()
 }

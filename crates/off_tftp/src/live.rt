@@ -1,14 +1,18 @@
 ghost use Rattle.std.specs.Prelude.{◌≡◌, ◌≤◌, suc, true, false, length, IfOk, IfSome};
 ghost use Rattle.off_transfer_rules.specs.Replies.{data_packet, oack_packet};
+ghost use Rattle.off_file_rules.specs.Name.{name_of};
 ghost use Rattle.off_transfer_rules.specs.Steps.{is_repeated};
+ghost use Rattle.off_transfer_rules.specs.View.{is_own_name};
 ghost use Rattle.off_transfer_rules.specs.Transfers.{packet_of_number, last_packet, is_at_last};
 ghost use Rattle.off_transfer_rules.specs.Transfers.{begun, gone_on, asked_again, sent_again};
 ghost use Rattle.off_transfer_rules.specs.Transfers.{first_number, size_for};
 ghost use Rattle.off_transfer_rules.specs.Ticks.{is_due, has_resend};
 
 use crate::files::File;
+use crate::judging::is_own_name;
 use crate::replies::{data_packet, oack_packet};
-use off_base::{Bytes, Mac, Moment, NoMemory};
+use off_base::{Bytes, Ip4, Mac, Moment, NoMemory, Secret};
+use off_defs::Site;
 use std::alloc::Global;
 use std::marker::Model;
 
@@ -23,10 +27,18 @@ const PATIENCE: u64 = 2;
 
 const MOST_RESENDS: u8 = 5;
 
+/// Under which secret, and for which address, a file's name was found right.
+#[derive(Drop)]
+pub(crate) struct Named {
+    pub(crate) secret: Secret,
+    pub(crate) ip: Ip4,
+}
+
 /// A live transfer, which owns its file.
 #[derive(Drop)]
 pub struct Live {
     name: Bytes,
+    named: Named,
     modem: Mac,
     subscriber: u32,
     file: File,
@@ -39,7 +51,8 @@ pub struct Live {
 }
 
 impl Model for Live {
-    ghost use Rattle.std.specs.Prelude.{◌≤◌, length};
+    ghost use Rattle.std.specs.Prelude.{◌≡◌, ◌≤◌, length};
+    ghost use Rattle.off_file_rules.specs.Name.{name_of};
     ghost use Rattle.off_defs.specs.State.{Transfer};
     ghost use Rattle.off_defs.specs.Codes.{transfer_code};
 
@@ -61,7 +74,8 @@ impl Model for Live {
     } };
 
     ghost invariant = { λ l. (8 ≤ l.size) × (l.size ≤ 1428)
-        × (length l.file ≤ 6200) };
+        × (length l.file ≤ 6200)
+        × (l.name ≡ name_of l.named.secret l.modem l.named.ip) };
 }
 
 impl Live {
@@ -73,20 +87,23 @@ impl Live {
         modem: Mac,
         subscriber: u32,
         name: &[u8],
+        named: Named,
         size: Option<u16>,
         file: File,
     ) -> Result<Live, NoMemory>
         requires least { IfSome size (λ size. 8 ≤ size) }
         requires few { length file ≤ 6200 }
+        requires right { name.now ≡ name_of named.secret modem named.ip }
         ensures { IfOk result (λ live. live
             ≡ begun now.0 request.now modem subscriber name.now size file) }
     {
-        let mut named = Bytes::new(alloc);
-        named.push_all(name)?;
+        let mut kept = Bytes::new(alloc);
+        kept.push_all(name)?;
         let mut asked = Bytes::new(alloc);
         asked.push_all(request)?;
         Ok(Live {
-            name: named,
+            name: kept,
+            named,
             modem,
             subscriber,
             file,
@@ -127,11 +144,15 @@ impl Live {
         self.subscriber
     }
 
-    /// The name of its file.
-    pub(crate) fn name(&self) -> &[u8]
-        ensures { result.now ≡ self.now.name }
+    /// Whether the name is that of its modem's file at an address. It's computed anew only where
+    /// the transfer began under another secret, or for another address.
+    pub(crate) fn has_own_name(&self, site: &Site, ip: Ip4) -> bool
+        ensures { result ≡ is_own_name self.now.name self.now.modem ip site.now }
     {
-        self.name.as_slice()
+        if self.named.ip == ip && self.named.secret.as_slice() == site.secret.as_slice() {
+            return true;
+        }
+        is_own_name(site, self.name.as_slice(), self.modem, ip)
     }
 
     /// Whether the last block was sent.

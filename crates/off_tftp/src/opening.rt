@@ -1,11 +1,14 @@
 //! A read request that didn't come before.
 
 ghost use Rattle.std.specs.Prelude.{◌≡◌, ◌≤◌, ◌∷◌, [], List, Option, Some, length, option_map};
-ghost use Rattle.std.specs.Prelude.{ℕ, false, IfOk, IfSome, OnOk, OnErr};
+ghost use Rattle.std.specs.Prelude.{ℕ, true, false, is_some, IfOk, IfSome, OnOk, OnErr};
 ghost use Rattle.std.specs.FinMap as map;
 ghost use Rattle.off_base.specs.Tree.{Tree, spelling};
+ghost use Rattle.off_base.specs.declared.macs.Mac.{Mac as MacSeen};
 ghost use Rattle.off_defs.specs.declared.tables.Modem.{Modem as ModemSeen};
-ghost use Rattle.off_transfer_rules.specs.View.{View};
+ghost use Rattle.off_rules.specs.Rows.{passes};
+ghost use Rattle.off_file_rules.specs.Name.{name_of};
+ghost use Rattle.off_transfer_rules.specs.View.{View, is_own_name};
 ghost use Rattle.off_transfer_rules.specs.Steps.{way_anew, way_for_modem, last_to};
 ghost use Rattle.off_transfer_rules.specs.Transfers.{begun, first_word, packet_to};
 ghost use Rattle.off_kept.specs.Entries.{with_first};
@@ -19,7 +22,7 @@ ghost use Rattle.off_tftp.specs.Stages.{lacks_room, repeats};
 use crate::files::File;
 use crate::gathering::Seen;
 use crate::judging::holder;
-use crate::live::Live;
+use crate::live::{Live, Named};
 use crate::saying::{deny, packet_to};
 use crate::transfers::Transfers;
 use off_base::{Bytes, Ip4, Mac, Moment, NoMemory, Peer};
@@ -117,7 +120,8 @@ impl Transfers {
         }
         let entry = shared(found)?;
         let file = file_for(&seen.site, found.body.share()?, now, from.ip);
-        let begun = begin(alloc, now, bytes, mac, subscriber, name, size, file)?;
+        let named = named_at(&seen.site, from.ip);
+        let begun = begin(alloc, now, bytes, mac, subscriber, name, named, size, file)?;
         self.start(alloc, kept, from, mac, entry, begun, size, out)
     }
 
@@ -205,6 +209,7 @@ fn file_for(site: &Option<Site>, body: Body, now: Moment, ip: Ip4) -> Option<Fil
     ensures built { (v : View) → v.site ≡ site.now → option_map spelling v.profile ≡ Some body
         → CanServe v now.0 ip → IsBegun v now.0 ip result }
     ensures few { IfSome result (λ file. length file ≤ 6200) }
+    ensures sited { is_some result ≡ true → is_some site.now ≡ true }
 {
     let Some(site) = site else { return None };
     File::signed(body, now, ip, site.secret.as_slice())
@@ -218,11 +223,15 @@ fn begin(
     modem: Mac,
     subscriber: u32,
     name: &[u8],
+    named: Option<Named>,
     size: Option<u16>,
     file: Option<File>,
 ) -> Result<Option<Live>, NoMemory>
     requires least { IfSome size (λ size. 8 ≤ size) }
     requires few { IfSome file (λ file. length file ≤ 6200) }
+    requires right { IfSome named
+        (λ named. name.now ≡ name_of named.secret modem named.ip) }
+    requires both { is_some file ≡ true → is_some named ≡ true }
     ensures begun { IfOk result (λ live. live
         ≡ option_map (begun now.0 request.now modem subscriber name.now size) file) }
     ensures whose { IfOk result (λ live. IfSome live (λ x. x.modem ≡ modem)) }
@@ -230,7 +239,28 @@ fn begin(
     let Some(file) = file else {
         return Ok(None);
     };
-    Ok(Some(Live::begin(alloc, now, request, modem, subscriber, name, size, file)?))
+    let Some(named) = named else {
+        return Ok(None);
+    };
+    Ok(Some(Live::begin(
+        alloc, now, request, modem, subscriber, name, named, size, file,
+    )?))
+}
+
+// Under which secret, and for which address, a name is found right by what was read.
+fn named_at(site: &Option<Site>, ip: Ip4) -> Option<Named>
+    ensures right { (name : List ℕ) (mac : MacSeen)
+        → passes (is_own_name name mac ip) site.now ≡ true
+        → IfSome result (λ named. name ≡ name_of named.secret mac named.ip) }
+    ensures made { is_some result ≡ is_some site.now }
+{
+    let Some(site) = site else {
+        return None;
+    };
+    Some(Named {
+        secret: site.secret.copy(),
+        ip,
+    })
 }
 
 fn first_word(size: Option<u16>) -> TftpWord
