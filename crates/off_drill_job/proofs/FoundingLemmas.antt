@@ -18,6 +18,7 @@ use Rattle.off_outside.specs.declared.keeper.KeepErr.TheVariants as keep
 use Rattle.off_outside.specs.KeeperSeen.{KeeperSeen}
 use Rattle.off_office.specs.Answering.{Commanded, NotCommanded}
 use Rattle.off_office.specs.Desk.{Desk}
+use Rattle.off_office.proofs.StepLemmas.{StaysAs, fits_as}
 use Rattle.off_drill_rules.specs.Rows.{begins_at, with_site, with_class, founded, peopled}
 use Rattle.off_drill_rules.specs.Law.{held_behind}
 use Rattle.off_drill_job.specs.Founding.{set_site, put_pool, put_subscriber, put_modem, Gave, Builds, Halts, PassesOver}
@@ -43,9 +44,9 @@ module _ (command : Command) (before after : Desk) (k l : KeeperSeen) (sound : I
     faults = done.settled.faults;
   }
 
-  refused_by : (err : AccountErr) (result : Result (Unit {0}) KeepErr) → after.counts ≡ before.counts → NotCommanded command err after.held.now before k l → PassesOver err result
+  refused_by : (err : AccountErr) (result : Result (Unit {0}) KeepErr) → StaysAs before after → NotCommanded command err after.held.now before k l → PassesOver err result
       → MatchResult result (λ _. Gave command before after k l) (λ kept. Halts kept before k l)
-  refused_by (Refused row broken) (Ok done) counts not is = record {
+  refused_by (Refused row broken) (Ok done) stays not is = record {
     tables = record {
       each = λ t told.
           let one = not.tables t told in
@@ -53,7 +54,7 @@ module _ (command : Command) (before after : Desk) (k l : KeeperSeen) (sound : I
             value = t;
             told = one.0;
             fits = λ fit. (
-              record { good = fit.good; mirrors = record { counts = counts ∙ fit.mirrors.counts } },
+              fits_as before after t stays fit,
               ap (λ (s : Stepped). s.tables) (sym (one.1 fit.mirrors)) ∙ ap (λ (n : ℕ). (clerk_step t n command).tables) now,
             );
           };
@@ -61,19 +62,19 @@ module _ (command : Command) (before after : Desk) (k l : KeeperSeen) (sound : I
     up = not.quiet.up;
     faults = not.quiet.faults;
   }
-  refused_by (Refused row broken) (Err kept) counts not is = cc
-  refused_by Failed (Ok done) counts not is = cc
-  refused_by Failed (Err kept) counts not is =
+  refused_by (Refused row broken) (Err kept) stays not is = cc
+  refused_by Failed (Ok done) stays not is = cc
+  refused_by Failed (Err kept) stays not is =
       let same : keep.Failed ≡ kept = let e = is in cc in
       subst (λ (v : KeepErr). Halts v before k l) same
       (record { tables = record { each = λ t told. record { value = t; told = not.tables t told; fits = λ fit. fit.good } }; up = not.up; faults = not.faults })
-  refused_by Memory (Ok done) counts not is = cc
-  refused_by Memory (Err kept) counts not is =
+  refused_by Memory (Ok done) stays not is = cc
+  refused_by Memory (Err kept) stays not is =
       let same : keep.Memory ≡ kept = let e = is in cc in
       subst (λ (v : KeepErr). Halts v before k l) same
       (record { tables = record { each = λ t told. record { value = t; told = not.tables t told; fits = λ fit. fit.good } }; up = not.up; faults = not.faults })
 
-  pub gave_refused : (err : AccountErr) (result : Result (Unit {0}) KeepErr) → after.counts ≡ before.counts → NotCommanded command err after.held.now before k l → PassesOver err result
+  pub gave_refused : (err : AccountErr) (result : Result (Unit {0}) KeepErr) → StaysAs before after → NotCommanded command err after.held.now before k l → PassesOver err result
       → MatchResult result (λ _. Gave command before after k l) (λ kept. Halts kept before k l)
   gave_refused = refused_by
 

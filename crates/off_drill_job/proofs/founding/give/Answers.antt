@@ -8,4 +8,4 @@ returns-in-Ok-clause-told g c =
 pub returns-in-Err-clause-told : goal.returns-in-Err-clause-told
 returns-in-Err-clause-told g c =
     gave_refused _ _ c.command.new.self _ _ c.requires.sound c.requires.fits (begun_now _ (come_to _ _ c.in-Err.ensures.held c.requires.ready)) c.in-Err.err c.pass_over.result
-    c.in-Err.ensures.counts c.in-Err.ensures.told c.pass_over.ensures
+    (record { counts = c.in-Err.ensures.counts; kept = c.in-Err.ensures.kept }) c.in-Err.ensures.told c.pass_over.ensures
