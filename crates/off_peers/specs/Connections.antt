@@ -31,6 +31,13 @@ IsSpoken Quiet spoke = Unit {0}
 IsSpoken Dropped spoke = Unit {0}
 IsSpoken Over spoke = Unit {0}
 
+-- the peer was heard now where it gave a piece; what gives none, and goes on, isn't heard
+abbrev pub IsHeardAt : Heard → ℕ → ℕ → ℕ → Type 0
+IsHeardAt (Piece bytes) now before after = after ≡ now
+IsHeardAt Quiet now before after = after ≡ before
+IsHeardAt Dropped now before after = after ≡ before
+IsHeardAt Over now before after = Unit {0}
+
 -- the moment that is so much later
 abbrev pub later : ℕ → ℕ → ℕ
 later now span = min (now + span) (2 ^ 64 - 1)

@@ -1,5 +1,6 @@
-ghost use Rattle.std.specs.Prelude.{◌≡◌, ◌≢◌, ◌<◌, ◌≤◌, ◌↔◌, ◌⊎◌, length, IsTrue, true, false};
-ghost use Rattle.off_peers.specs.Connections.{GivesNothing, IsInTime, IsPieceOf, IsSpoken, later};
+ghost use Rattle.std.specs.Prelude.{◌≡◌, ◌≢◌, ◌<◌, ◌≤◌, ◌↔◌, ◌⊎◌, ◌+◌, ◌-◌, ◌^◌, length, min, IsTrue, true, false, Some, MatchOption};
+ghost use Rattle.off_peers.specs.Connections.{GivesNothing, IsInTime, IsPieceOf, IsSpoken, IsHeardAt, later};
+ghost use Rattle.mio.specs.Event.{is_readable, is_read_closed, is_error};
 ghost use Rattle.off_peers.specs.declared.connection.Heard.TheVariants as heard;
 ghost use Rattle.off_peers.specs.declared.connection.Stage.TheVariants as stage;
 
@@ -141,7 +142,12 @@ impl Connection {
     /// How soon its request is to be begun: 0 where none waits; 1 where its peer drips; else the
     /// more, the more has come of it.
     pub fn rank(&self) -> usize
-        ensures { self.now.stage ≢ stage.Waiting → result ≡ 0 }
+        ensures taken { self.now.stage ≢ stage.Waiting → result ≡ 0 }
+        ensures unheard { self.now.readable ≡ false → result ≡ 0 }
+        ensures dripping { self.now.stage ≡ stage.Waiting → self.now.readable ≡ true
+            → self.now.drips ≡ true → result ≡ 1 }
+        ensures more { self.now.stage ≡ stage.Waiting → self.now.readable ≡ true
+            → self.now.drips ≡ false → result ≡ min (self.now.counted + 2) (2 ^ 64 - 1) }
     {
         if self.stage != Stage::Waiting || !self.readable {
             return 0;
@@ -176,7 +182,13 @@ impl Connection {
 
     /// From when on it makes room for another: None where it waits for the office, and not for its
     /// peer.
-    pub fn makes_room_at(&self) -> Option<u64> {
+    pub fn makes_room_at(&self) -> Option<u64>
+        ensures waiting { self.now.stage ≡ stage.Waiting → MatchOption result
+            ((self.now.readable ≡ true) × (self.now.drips ≡ false))
+            (λ moment. moment ≡ later self.now.heard SHORT_SILENCE) }
+        ensures taken { self.now.stage ≢ stage.Waiting
+            → result ≡ Some (later self.now.heard LONG_SILENCE) }
+    {
         match self.stage {
             Stage::Waiting => {
                 if self.readable && !self.drips {
@@ -202,6 +214,9 @@ impl Connection {
         ensures number { self.new.number ≡ self.old.number }
         ensures stage { self.new.stage ≡ self.old.stage }
         ensures spoke { self.new.spoke ≡ self.old.spoke }
+        ensures readable { IsTrue (is_readable told.now) → self.new.readable ≡ true }
+        ensures closed { IsTrue (is_read_closed told.now) → self.new.ended ≡ true }
+        ensures broken { IsTrue (is_error told.now) → self.new.ended ≡ true }
     {
         let is_over = told.is_read_closed() || told.is_error();
         if told.is_writable() || told.is_write_closed() || is_over {
@@ -242,6 +257,7 @@ impl Connection {
         ensures open { self.new.stage ≡ stage.Open }
         ensures spoke { self.new.spoke ≡ self.old.spoke }
         ensures until { self.new.until ≡ later now LONGEST_REQUEST }
+        ensures heard { self.new.heard ≡ now }
     {
         self.stage = Stage::Open;
         self.heard = now;
@@ -257,6 +273,7 @@ impl Connection {
         ensures spoken { IsSpoken result self.new.spoke }
         ensures in_time { IsInTime result now self.new.until }
         ensures until { self.new.until ≡ self.old.until }
+        ensures heard { IsHeardAt result now self.old.heard self.new.heard }
     {
         if self.until <= now {
             return Heard::Over;
@@ -282,6 +299,9 @@ impl Connection {
         ensures open { IsTrue result → self.old.stage ≡ stage.Open }
         ensures fits { IsTrue result → length bytes.now ≤ self.old.unsent.room }
         ensures stage { self.new.stage ≡ self.old.stage }
+        ensures spoke { self.new.spoke ≡ self.old.spoke }
+        ensures until { self.new.until ≡ self.old.until }
+        ensures heard { self.new.heard ≡ self.old.heard }
     {
         self.stage == Stage::Open && self.unsent.put(bytes) && self.send_rest() != Sending::Broken
     }
@@ -292,6 +312,8 @@ impl Connection {
         ensures number { self.new.number ≡ self.old.number }
         ensures closed { self.new.stage ≢ stage.Open }
         ensures until { self.old.stage ≡ stage.Open → self.new.until ≡ later now LONGEST_CLOSE }
+        ensures again { self.old.stage ≢ stage.Open → self.new.until ≡ self.old.until }
+        ensures heard { self.new.heard ≡ self.old.heard }
     {
         if self.stage == Stage::Open {
             self.stage = Stage::Sending;
@@ -309,6 +331,7 @@ impl Connection {
         ensures stage { self.new.stage ≡ self.old.stage }
         ensures spoke { self.new.spoke ≡ self.old.spoke }
         ensures until { self.new.until ≡ self.old.until }
+        ensures heard { self.new.heard ≡ self.old.heard }
     {
         if !self.writable && !self.unsent.is_empty() {
             return Sending::Rest;
@@ -324,6 +347,7 @@ impl Connection {
         ensures stage { self.new.stage ≡ stage.Ending }
         ensures spoke { self.new.spoke ≡ self.old.spoke }
         ensures until { self.new.until ≡ self.old.until }
+        ensures heard { self.new.heard ≡ self.old.heard }
     {
         let _told = self.stream.shutdown(Shutdown::Write);
         self.stage = Stage::Ending;
@@ -337,6 +361,7 @@ impl Connection {
         ensures spoken { IsSpoken result self.new.spoke }
         ensures in_time { IsInTime result now self.new.until }
         ensures until { self.new.until ≡ self.old.until }
+        ensures heard { IsHeardAt result now self.old.heard self.new.heard }
     {
         if !self.readable {
             return Heard::Quiet;
@@ -368,6 +393,7 @@ impl Connection {
         ensures number { self.new.number ≡ self.old.number }
         ensures stage { self.new.stage ≡ self.old.stage }
         ensures until { self.new.until ≡ self.old.until }
+        ensures heard { self.new.heard ≡ self.old.heard }
         ensures given { IsPieceOf part.now result }
         ensures spoken { IsSpoken result self.new.spoke }
     {
@@ -386,6 +412,7 @@ impl Connection {
         ensures number { self.new.number ≡ self.old.number }
         ensures stage { self.new.stage ≡ self.old.stage }
         ensures until { self.new.until ≡ self.old.until }
+        ensures heard { self.new.heard ≡ self.old.heard }
         ensures gives { GivesNothing result }
     {
         if !self.readable {

@@ -1,4 +1,5 @@
-ghost use Rattle.std.specs.Prelude.{◌↔◌, [], ◌∷◌, Contains, IsTrue};
+ghost use Rattle.std.specs.Prelude.{◌≡◌, ◌≢◌, ◌==◌, ◌↔◌, [], ◌∷◌, length, Contains, IsTrue, false};
+ghost use Rattle.std.specs.List.{starts_with};
 ghost use Rattle.off_defs.specs.declared.events.Service.TheVariants as service;
 ghost use Rattle.off_peers.specs.Reflections.{IsReflection, AnswersByItself, IsNoClient};
 
@@ -64,7 +65,9 @@ fn is_no_client(address: u32) -> bool
 /// this one. No client sends them (RFC 868: it sends an empty datagram), and they are no TFTP
 /// packet but an acknowledgement; so two offices whose ports are no standard ones don't answer each
 /// other.
-pub fn is_time_answer(datagram: &[u8], now: Moment) -> bool {
+pub fn is_time_answer(datagram: &[u8], now: Moment) -> bool
+    ensures { length datagram.now ≢ 4 → result ≡ false }
+{
     let &[first, second, third, fourth] = datagram else {
         return false;
     };
@@ -76,6 +79,8 @@ pub fn is_time_answer(datagram: &[u8], now: Moment) -> bool {
 }
 
 /// Whether a datagram begins as a TFTP acknowledgement (RFC 1350, section 5).
-pub fn is_acknowledgement(datagram: &[u8]) -> bool {
+pub fn is_acknowledgement(datagram: &[u8]) -> bool
+    ensures { result ≡ starts_with (λ a b. a == b) datagram.now (0 ∷ 4 ∷ []) }
+{
     datagram.starts_with(&[0, 4])
 }

@@ -1,5 +1,6 @@
 ghost use Rattle.std.specs.Prelude.{◌≡◌, [], ◌==◌, length, IfOk, MatchBool};
 ghost use Rattle.off_peers.specs.UnsentHeld.{Put, DoesNotFit, Sends};
+ghost use Rattle.off_peers.specs.declared.unsent.Sending.TheVariants.{Whole};
 
 use mio::net::TcpStream;
 use off_base::NoMemory;
@@ -86,7 +87,8 @@ impl Unsent {
 
     /// Hands the system as many of the bytes as it takes, and forgets these.
     pub fn send(&mut self, stream: &mut TcpStream) -> Sending
-        ensures { Sends result self.old self.new }
+        ensures sends { Sends result self.old self.new }
+        ensures none { self.old.left ≡ [] → result ≡ Whole }
     {
         let len = self.bytes.len();
         if self.sent == len {
