@@ -1,3 +1,4 @@
+pub mod Asking
 pub mod Founding
 pub mod Tallying
 pub mod Exercising

@@ -1,12 +1,10 @@
 ghost use Rattle.std.specs.Prelude.{◌≡◌, ◌≤◌, ◌<◌, ◌+◌, MatchResult};
-ghost use Rattle.off_drill_rules.specs.Events.{asks_for_offer, asks_for_lease, asks_for_file};
-ghost use Rattle.off_drill_rules.specs.Events.{acknowledges};
-ghost use Rattle.off_drill_rules.specs.Numbers.{offer_line, ack_line, oack_line, done_line};
 ghost use Rattle.off_drill_laws.specs.Stages.{Waits, Gets};
+ghost use Rattle.off_drill_job.specs.Asking.{event_for, hoped_line};
 ghost use Rattle.off_drill_job.specs.Founding.{Halts};
 ghost use Rattle.off_drill_job.specs.Exercising.{TookTurn, LosesTurn, Exercised, Stopped};
 
-use crate::messages::{acknowledge, ask_for_file, ask_for_lease, ask_for_offer};
+use crate::messages::{Ask, hoped_line, message};
 use crate::tallying::count_said;
 use off_base::NoMemory;
 use off_drill_rules::Tally;
@@ -61,15 +59,15 @@ fn serve_modem<L: Link, K: Keeper>(
         (λ err. Stopped err count (Waits k) office.old
         (K.seen keeper.old) (K.seen keeper.new) (L.seen link.old) (L.seen link.new)) }
 {
-    let offered = offer(alloc, k + 1, office, keeper, link, tally)?;
+    let offered = ask(alloc, k + 1, Ask::Offer, office, keeper, link, tally)?;
     if !offered {
         return Ok(());
     }
-    let leased = lease(alloc, k + 1, office, keeper, link, tally)?;
+    let leased = ask(alloc, k + 1, Ask::Lease, office, keeper, link, tally)?;
     if !leased {
         return Ok(());
     }
-    let begun = begin_file(alloc, k + 1, office, keeper, link, tally)?;
+    let begun = ask(alloc, k + 1, Ask::File, office, keeper, link, tally)?;
     if !begun {
         return Ok(());
     }
@@ -96,7 +94,7 @@ fn get_file<L: Link, K: Keeper>(
         (K.seen keeper.old) (K.seen keeper.new) (L.seen link.old) (L.seen link.new)) }
 {
     for number in 0..MOST_ACKNOWLEDGED {
-        let has_all = get_block(alloc, k + 1, number, office, keeper, link, tally)?;
+        let has_all = ask(alloc, k + 1, Ask::Next(number), office, keeper, link, tally)?;
         if has_all {
             return Ok(());
         }
@@ -104,10 +102,11 @@ fn get_file<L: Link, K: Keeper>(
     Ok(())
 }
 
-// Modem `i` asks for an offer, and tells whether it got one.
-fn offer<L: Link, K: Keeper>(
+// Modem `i` asks the office for something, and tells whether the line is the one that it hopes for.
+fn ask<L: Link, K: Keeper>(
     alloc: Global,
     i: u32,
+    wanted: Ask,
     office: &mut Office,
     keeper: &mut K,
     link: &mut L,
@@ -115,84 +114,22 @@ fn offer<L: Link, K: Keeper>(
 ) -> Result<bool, KeepErr>
     requires { i ≤ 4000 }
     ensures { MatchResult result
-        (λ same. TookTurn (asks_for_offer i) offer_line same office.old office.new
+        (λ same. TookTurn (event_for wanted i) (hoped_line wanted) same office.old office.new
         (K.seen keeper.old) (K.seen keeper.new) (L.seen link.old) (L.seen link.new)
         tally.old tally.new)
         (λ err. LosesTurn err office.old (K.seen keeper.old) (K.seen keeper.new)
         (L.seen link.old) (L.seen link.new)) }
 {
-    match ask_for_offer(alloc, i) {
-        Ok(event) => take(alloc, &event, b"dhcp offer", office, keeper, link, tally),
-        Err(NoMemory) => Err(KeepErr::Memory),
-    }
-}
-
-// Modem `i` asks for the address that it was offered, and tells whether it got it.
-fn lease<L: Link, K: Keeper>(
-    alloc: Global,
-    i: u32,
-    office: &mut Office,
-    keeper: &mut K,
-    link: &mut L,
-    tally: &mut Tally,
-) -> Result<bool, KeepErr>
-    requires { i ≤ 4000 }
-    ensures { MatchResult result
-        (λ same. TookTurn (asks_for_lease i) ack_line same office.old office.new
-        (K.seen keeper.old) (K.seen keeper.new) (L.seen link.old) (L.seen link.new)
-        tally.old tally.new)
-        (λ err. LosesTurn err office.old (K.seen keeper.old) (K.seen keeper.new)
-        (L.seen link.old) (L.seen link.new)) }
-{
-    match ask_for_lease(alloc, i) {
-        Ok(event) => take(alloc, &event, b"dhcp ack", office, keeper, link, tally),
-        Err(NoMemory) => Err(KeepErr::Memory),
-    }
-}
-
-// Modem `i` asks for its file, and tells whether it is sent.
-fn begin_file<L: Link, K: Keeper>(
-    alloc: Global,
-    i: u32,
-    office: &mut Office,
-    keeper: &mut K,
-    link: &mut L,
-    tally: &mut Tally,
-) -> Result<bool, KeepErr>
-    requires { i ≤ 4000 }
-    ensures { MatchResult result
-        (λ same. TookTurn (asks_for_file i) oack_line same office.old office.new
-        (K.seen keeper.old) (K.seen keeper.new) (L.seen link.old) (L.seen link.new)
-        tally.old tally.new)
-        (λ err. LosesTurn err office.old (K.seen keeper.old) (K.seen keeper.new)
-        (L.seen link.old) (L.seen link.new)) }
-{
-    match ask_for_file(alloc, i) {
-        Ok(event) => take(alloc, &event, b"tftp oack", office, keeper, link, tally),
-        Err(NoMemory) => Err(KeepErr::Memory),
-    }
-}
-
-// Modem `i` acknowledges a packet, and tells whether it has all of its file.
-fn get_block<L: Link, K: Keeper>(
-    alloc: Global,
-    i: u32,
-    number: u16,
-    office: &mut Office,
-    keeper: &mut K,
-    link: &mut L,
-    tally: &mut Tally,
-) -> Result<bool, KeepErr>
-    requires { i ≤ 4000 }
-    ensures { MatchResult result
-        (λ same. TookTurn (acknowledges i number) done_line same office.old office.new
-        (K.seen keeper.old) (K.seen keeper.new) (L.seen link.old) (L.seen link.new)
-        tally.old tally.new)
-        (λ err. LosesTurn err office.old (K.seen keeper.old) (K.seen keeper.new)
-        (L.seen link.old) (L.seen link.new)) }
-{
-    match acknowledge(alloc, i, number) {
-        Ok(event) => take(alloc, &event, b"tftp done", office, keeper, link, tally),
+    match message(alloc, i, wanted) {
+        Ok(event) => take(
+            alloc,
+            &event,
+            hoped_line(wanted),
+            office,
+            keeper,
+            link,
+            tally,
+        ),
         Err(NoMemory) => Err(KeepErr::Memory),
     }
 }

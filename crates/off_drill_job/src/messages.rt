@@ -2,8 +2,11 @@ ghost use Rattle.std.specs.Prelude.{◌≡◌, ◌≤◌, IfOk};
 ghost use Rattle.off_drill_rules.specs.Rows.{mac, address, relay};
 ghost use Rattle.off_drill_rules.specs.Messages.{fixed_part, modem_options, discover, request};
 ghost use Rattle.off_drill_rules.specs.Messages.{read_request, acknowledgement};
-ghost use Rattle.off_drill_rules.specs.Events.{asks_for_offer, asks_for_lease, asks_for_file};
-ghost use Rattle.off_drill_rules.specs.Events.{acknowledges};
+ghost use Rattle.off_drill_rules.specs.Messages.{by_relay, by_modem};
+ghost use Rattle.off_drill_rules.specs.Events.{at_modem};
+ghost use Rattle.off_defs.specs.declared.events.What.TheVariants.{Datagram};
+ghost use Rattle.off_defs.specs.declared.events.Service.TheVariants.{Dhcp, Tftp};
+ghost use Rattle.off_drill_job.specs.Asking.{event_for, hoped_line};
 
 use crate::rows::{RELAY, SECRET, address_of, mac_of, moment_of};
 use off_base::{Bytes, NoMemory, Peer};
@@ -14,13 +17,61 @@ use std::alloc::Global;
 // The four bytes in front of a message's options (RFC 2131, section 3).
 const COOKIE: [u8; 4] = [99, 130, 83, 99];
 
-/// Modem `i` asks for an offer.
-pub(crate) fn ask_for_offer(alloc: Global, i: u32) -> Result<Event, NoMemory>
+/// What a modem asks of the office.
+#[derive(Clone, Copy)]
+pub enum Ask {
+    /// An offer.
+    Offer,
+    /// The address that it was offered.
+    Lease,
+    /// Its file.
+    File,
+    /// The packet behind the one of this number, which has come.
+    Next(u16),
+}
+
+/// What modem `i` sends to ask for that.
+pub(crate) fn message(alloc: Global, i: u32, ask: Ask) -> Result<Event, NoMemory>
     requires { i ≤ 4000 }
-    ensures { IfOk result (λ event. event ≡ asks_for_offer i) }
+    ensures { IfOk result (λ event. event ≡ event_for ask i) }
 {
-    let bytes = discover(alloc, i)?;
-    Ok(Event {
+    match ask {
+        Ask::Offer => {
+            let bytes = discover(alloc, i)?;
+            Ok(by_relay(i, bytes))
+        }
+        Ask::Lease => {
+            let bytes = request(alloc, i)?;
+            Ok(by_relay(i, bytes))
+        }
+        Ask::File => {
+            let bytes = read_request(alloc, i)?;
+            Ok(by_modem(i, bytes))
+        }
+        Ask::Next(number) => {
+            let bytes = acknowledgement(alloc, number)?;
+            Ok(by_modem(i, bytes))
+        }
+    }
+}
+
+/// The words of the line by which the office says that it did the last of what is asked.
+pub(crate) fn hoped_line(ask: Ask) -> &'static [u8]
+    ensures { result.now ≡ hoped_line ask }
+{
+    match ask {
+        Ask::Offer => b"dhcp offer",
+        Ask::Lease => b"dhcp ack",
+        Ask::File => b"tftp oack",
+        Ask::Next(_) => b"tftp done",
+    }
+}
+
+// A DHCP message of modem `i`, which its relay hands on.
+fn by_relay(i: u32, bytes: Bytes) -> Event
+    ensures { result ≡ at_modem i (Datagram Dhcp by_relay bytes) }
+{
+    Event {
         at: moment_of(i),
         what: What::Datagram {
             service: Service::Dhcp,
@@ -30,35 +81,15 @@ pub(crate) fn ask_for_offer(alloc: Global, i: u32) -> Result<Event, NoMemory>
             },
             bytes,
         },
-    })
+    }
 }
 
-/// Modem `i` asks for the address that it was offered.
-pub(crate) fn ask_for_lease(alloc: Global, i: u32) -> Result<Event, NoMemory>
+// A TFTP packet of modem `i`.
+fn by_modem(i: u32, bytes: Bytes) -> Event
     requires { i ≤ 4000 }
-    ensures { IfOk result (λ event. event ≡ asks_for_lease i) }
+    ensures { result ≡ at_modem i (Datagram Tftp (by_modem i) bytes) }
 {
-    let bytes = request(alloc, i)?;
-    Ok(Event {
-        at: moment_of(i),
-        what: What::Datagram {
-            service: Service::Dhcp,
-            from: Peer {
-                ip: RELAY,
-                port: 67,
-            },
-            bytes,
-        },
-    })
-}
-
-/// Modem `i` asks for its file.
-pub(crate) fn ask_for_file(alloc: Global, i: u32) -> Result<Event, NoMemory>
-    requires { i ≤ 4000 }
-    ensures { IfOk result (λ event. event ≡ asks_for_file i) }
-{
-    let bytes = read_request(alloc, i)?;
-    Ok(Event {
+    Event {
         at: moment_of(i),
         what: What::Datagram {
             service: Service::Tftp,
@@ -68,26 +99,7 @@ pub(crate) fn ask_for_file(alloc: Global, i: u32) -> Result<Event, NoMemory>
             },
             bytes,
         },
-    })
-}
-
-/// The packet of this number has come to modem `i`.
-pub(crate) fn acknowledge(alloc: Global, i: u32, number: u16) -> Result<Event, NoMemory>
-    requires { i ≤ 4000 }
-    ensures { IfOk result (λ event. event ≡ acknowledges i number) }
-{
-    let bytes = acknowledgement(alloc, number)?;
-    Ok(Event {
-        at: moment_of(i),
-        what: What::Datagram {
-            service: Service::Tftp,
-            from: Peer {
-                ip: address_of(i),
-                port: 5000,
-            },
-            bytes,
-        },
-    })
+    }
 }
 
 // A BOOTREQUEST with its number, its relay and its client, up to its options.
