@@ -69,7 +69,7 @@ pub record Exercised (n : ℕ) (from to : Stage) (before after : Desk) (old new 
   pub counts : tally' ≡ raised_by tally (tally_by turns)
 
 -- turns that lead to some stage of a drill
-pub record Part (n : ℕ) (from : Stage) (turns : List Turn) (s : State) : Type 0 where
+pub record PartWay (n : ℕ) (from : Stage) (turns : List Turn) (s : State) : Type 0 where
   pub stage : Stage
   pub mid : State
   pub place : (served stage < n) ⊎ (stage ≡ Waits n)
@@ -82,7 +82,7 @@ pub record Stopped (err : KeepErr) (n : ℕ) (from : Stage) (before : Desk) (old
   pub did : AllDid turns
   pub tables : Told old.tables new.tables (λ t u.
       Fits before t → Good u
-      × (Stands n from (state_of t before.held) → Part n from turns (state_of t before.held)))
+      × (Stands n from (state_of t before.held) → PartWay n from turns (state_of t before.held)))
   pub up : StaysUp old new
   pub faults : Grew (keeper_faults_in err) old.faults new.faults
   pub sent : SentTurns turns link link'

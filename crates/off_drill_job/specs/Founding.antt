@@ -34,7 +34,8 @@ put_modem i = PutModem (mac i) (modem i)
 
 -- A command was given to the office at the drill's first moment: the tables are those of the book's
 -- step, which are as before where a rule refuses it.
-pub record Gave (command : Command) (before after : Desk) (old new : KeeperSeen) : Type 0 where
+pub record GaveCommand (command : Command) (before after : Desk) (old new : KeeperSeen)
+    : Type 0 where
   pub tables : Told old.tables new.tables (λ t u.
       Fits before t → Fits after u × (u ≡ (clerk_step t begins_at command).tables))
   pub up : old.up → new.up

@@ -6,16 +6,16 @@ use Rattle.off_drill_rules.specs.declared.tally.Tally.{Tally}
 use Rattle.off_drill_rules.specs.Numbers.{data_in, octets_in}
 
 -- a counter after so many more; one that is past the greatest number already stays
-abbrev pub raised : ℕ → ℕ → ℕ
-raised count more = max count (min (count + more) greatest_u64)
+abbrev pub lifted : ℕ → ℕ → ℕ
+lifted count more = max count (min (count + more) greatest_u64)
 
 abbrev pub raised_by : Tally → Tally → Tally
 raised_by tally more = record {
-  offers = raised tally.offers more.offers;
-  acks = raised tally.acks more.acks;
-  files = raised tally.files more.files;
-  blocks = raised tally.blocks more.blocks;
-  octets = raised tally.octets more.octets;
+  offers = lifted tally.offers more.offers;
+  acks = lifted tally.acks more.acks;
+  files = lifted tally.files more.files;
+  blocks = lifted tally.blocks more.blocks;
+  octets = lifted tally.octets more.octets;
 }
 
 -- what DATA packets count for

@@ -5,7 +5,7 @@ ghost use Rattle.off_rows.specs.Sound.{is_sound};
 ghost use Rattle.off_table_laws.specs.Laws.{secret_fits};
 ghost use Rattle.off_drill_rules.specs.Rows.{begins_at, with_site, with_class, founded, peopled};
 ghost use Rattle.off_drill_rules.specs.Law.{held_behind};
-ghost use Rattle.off_drill_job.specs.Founding.{Gave, Builds, Halts, PassesOver};
+ghost use Rattle.off_drill_job.specs.Founding.{GaveCommand, Builds, Halts, PassesOver};
 
 use crate::commands::{put_class, put_modem, put_pool, put_subscriber, set_site};
 use crate::rows::BEGINS_AT;
@@ -89,7 +89,7 @@ fn give<K: Keeper>(command: &Command, office: &mut Office, keeper: &mut K) -> Re
     requires fits { IsTrue (secret_fits command.now) }
     requires ready { held_at office.old.held begins_at ≡ held_behind 0 }
     ensures told { MatchResult result
-        (λ _. Gave command.now office.old office.new (K.seen keeper.old) (K.seen keeper.new))
+        (λ _. GaveCommand command.now office.old office.new (K.seen keeper.old) (K.seen keeper.new))
         (λ err. Halts err office.old (K.seen keeper.old) (K.seen keeper.new)) }
     ensures held { office.new.held ≡ held_behind 0 }
 {
