@@ -3,26 +3,66 @@
 
     python3 tests/reading/words.py
 
-Prints each word that stands for more than one definition, with the files. It is no part of the gate.
+Prints each word that stands for more than one definition, with the files; then each file of specs/, proofs/ or src/ where two of a word come
+together, by its `use` lines or beside a definition of its own, and each word for which docs/DECISIONS.md gives no reason. Ends with status 1
+where there is one of these. It is no part of the gate.
 """
 import collections
 import pathlib
 import re
+import sys
 
-ROOT = pathlib.Path(__file__).resolve().parents[2]
+TOP = pathlib.Path(__file__).resolve().parents[2]
+ROOT = TOP / "crates"
 HEAD = re.compile(r"^(?:abbrev |unfoldable )*pub (?:record |data )?([A-Za-z_][A-Za-z0-9_'-]*)\b.* : ")
+USE = re.compile(r"\buse Rattle\.(\w+)\.specs\.([\w.]+)\.\{([^}]*)\}")
+
+
+def place_of(path):
+    return str(path.relative_to(ROOT)).replace("/specs/", "/").removesuffix(".antt")
+
+
+def shared_words():
+    """The files that define a word, for each that two define."""
+    places = collections.defaultdict(list)
+    for path in sorted(ROOT.glob("*/specs/**/*.antt")):
+        for word in {m.group(1) for line in path.read_text(encoding="utf8").split("\n") if (m := HEAD.match(line))}:
+            places[word].append(place_of(path))
+    return {word: where for word, where in sorted(places.items()) if len(where) > 1}
+
+
+def meetings(shared):
+    """The files in which two definitions of a word come together."""
+    found = []
+    for path in sorted([*ROOT.glob("*/specs/**/*.antt"), *ROOT.glob("*/proofs/**/*.antt"), *ROOT.glob("*/src/**/*.rt")]):
+        brought = collections.defaultdict(set)
+        for crate, module, words in USE.findall(path.read_text(encoding="utf8")):
+            for word in words.split(","):
+                brought[word.split(" as ")[0].strip()].add(f"{crate}/{module.replace('.', '/')}")
+        for word, where in shared.items():
+            both = set(where) & (brought[word] | {place_of(path)})
+            if len(both) > 1:
+                found.append(f"{path.relative_to(ROOT)}: {word} of {' and '.join(sorted(both))}")
+    return found
+
+
+def reasons():
+    """The words for which the page of decisions gives a reason."""
+    page = (TOP / "docs" / "DECISIONS.md").read_text(encoding="utf8")
+    rows = page[page.index("| Words | Why |"):].split("\n\n")[0].split("\n")[2:]
+    return {word for row in rows for word in re.findall(r"`([^`]+)`", row.split("|")[1])}
 
 
 def main():
-    places = collections.defaultdict(list)
-    for path in sorted((ROOT / "crates").glob("*/specs/**/*.antt")):
-        words = {m.group(1) for line in path.read_text(encoding="utf8").split("\n") if (m := HEAD.match(line))}
-        for word in words:
-            places[word].append(str(path.relative_to(ROOT / "crates")).replace("/specs/", "/").removesuffix(".antt"))
-    shared = {word: where for word, where in places.items() if len(where) > 1}
-    for word in sorted(shared):
-        print(f"{word}: {', '.join(shared[word])}")
-    print(len(shared), "words")
+    shared = shared_words()
+    for word, where in shared.items():
+        print(f"{word}: {', '.join(where)}")
+    given = reasons()
+    faults = meetings(shared) + [f"{word}: no reason in docs/DECISIONS.md" for word in shared if word not in given]
+    faults += [f"{word}: docs/DECISIONS.md has a reason, and it stands once" for word in sorted(given - set(shared))]
+    print("\n".join(faults + [f"{len(shared)} words, {len(faults)} faults"]))
+    return 1 if faults else 0
 
 
-main()
+if __name__ == "__main__":
+    sys.exit(main())
