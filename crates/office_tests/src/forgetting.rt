@@ -1,62 +1,43 @@
 ghost use Rattle.std.specs.Prelude.{◌≤◌};
-ghost use Rattle.off_defs.specs.Told.{one_none};
-ghost use Rattle.office_tests.specs.Untold.{keeper_counts};
 
+use crate::silence::{Answers, Silent, unasked};
 use off_defs::{Key, Row, Writes};
 use off_drill_job::drill;
 use off_keepmem::MemKeeper;
-use off_outside::{Calls, Events, KeepErr, Keeper, MemLink, MemSink, one_more};
+use off_outside::{Calls, Events, Keeper, MemLink, MemSink};
 use std::alloc::Global;
 use std::test::Fail;
 
-// A keeper that tells nothing. It keeps the first commits alone, and behind them it finds a lease
-// so many times more.
+// It keeps the first commits alone, and behind them it finds a lease so many times more.
 #[derive(Drop)]
 struct Forgetful {
     kept: MemKeeper,
     keeps: u64,
     finds: u64,
-    calls: u64,
-    commits: u64,
 }
 
-impl Keeper for Forgetful {
-    ghost seen = { λ k. keeper_counts 0 k.calls k.commits };
-
-    fn get(&mut self, alloc: Global, key: &Key) -> Result<Option<Row>, KeepErr> {
-        self.calls = one_more(self.calls);
-        if self.commits >= self.keeps && is_lease(key) {
+impl Answers for Forgetful {
+    fn row(&mut self, alloc: Global, key: &Key, commits: u64) -> Option<Option<Row>> {
+        if commits >= self.keeps && is_lease(key) {
             if self.finds == 0 {
-                return Ok(None);
+                return Some(None);
             }
             self.finds -= 1;
         }
-        match self.kept.get(alloc, key) {
-            Ok(row) => Ok(row),
-            Err(_refused) => Err(KeepErr::Memory),
-        }
+        self.kept.get(alloc, key).ok()
     }
 
-    fn next(&mut self, alloc: Global, after: Option<&Key>) -> Result<Option<(Key, Row)>, KeepErr> {
-        self.calls = one_more(self.calls);
-        match self.kept.next(alloc, after) {
-            Ok(entry) => Ok(entry),
-            Err(_refused) => Err(KeepErr::Memory),
-        }
+    fn entry(&mut self, alloc: Global, after: Option<&Key>) -> Option<Option<(Key, Row)>> {
+        self.kept.next(alloc, after).ok()
     }
 
-    fn commit(&mut self, alloc: Global, writes: &Writes) -> Result<(), KeepErr> {
-        self.calls = one_more(self.calls);
-        if self.commits < self.keeps && self.kept.commit(alloc, writes).is_err() {
-            return Err(KeepErr::Memory);
+    fn write(&mut self, alloc: Global, writes: &Writes, commits: u64) -> Option<()> {
+        if commits < self.keeps {
+            self.kept.commit(alloc, writes).ok()
+        } else {
+            Some(())
         }
-        self.commits = one_more(self.commits);
-        Ok(())
     }
-
-    ghost one_tables = { λ _ up. one_none };
-
-    ghost rests = { λ k tables told opened might. absurd might };
 }
 
 fn is_lease(key: &Key) -> bool {
@@ -66,21 +47,19 @@ fn is_lease(key: &Key) -> bool {
     }
 }
 
-fn keeper_that_forgets(alloc: Global, keeps: u64, finds: u64) -> Forgetful {
-    Forgetful {
+fn keeper_that_forgets(alloc: Global, keeps: u64, finds: u64) -> Silent<Forgetful> {
+    unasked(Forgetful {
         kept: MemKeeper::new(alloc, Calls::new(alloc)),
         keeps,
         finds,
-        calls: 0,
-        commits: 0,
-    }
+    })
 }
 
 // A drill over a keeper that forgets: its line, and how many items were sent.
 fn drilled(
     alloc: Global,
     count: u32,
-    keeper: &mut Forgetful,
+    keeper: &mut Silent<Forgetful>,
     line: &str,
     items: usize,
 ) -> Result<bool, Fail>

@@ -16,3 +16,5 @@ mod forgetting;
 mod kept;
 #[cfg(test)]
 mod lying;
+#[cfg(test)]
+mod silence;
