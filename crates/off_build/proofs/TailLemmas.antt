@@ -6,6 +6,7 @@ use Rattle.off_base.specs.declared.addresses.Ip4.{Ip4}
 use Rattle.off_tlv.specs.Grammar.{end_byte}
 use Rattle.off_mic.specs.Mic.{without_mics, cm_mic_of, cmts_mic_of, with_both}
 use Rattle.off_mic.specs.Seal.{EndsPadded}
+use Rattle.off_mic.specs.Started.{NoneFirst}
 use Rattle.off_mic.proofs.SealLemmas.{neither_join, end_pushed, sealed_is}
 use Rattle.off_file_rules.specs.File.{stamps, IsBuilt}
 
@@ -29,7 +30,7 @@ pub tail_seals : (secret : List ℕ) (now : ℕ) (ip : Ip4) (profile : List Tree
     → body ≡ spelling profile → without_mics profile ≡ profile
     → stamped ≡ spelling (stamps now ip)
     → ((front back : List Tree) → body ≡ spelling front → stamped ≡ spelling back → with_cm ≡ spelling (back ++ leaf 6 (cm_mic_of (front ++ back)) ∷ []))
-    → ((front back : List Tree) → body ≡ spelling front → with_cm ≡ spelling back → with_cmts ≡ spelling (back ++ leaf 7 (cmts_mic_of secret (front ++ back)) ∷ []))
+    → ((front back : List Tree) → body ≡ spelling front → with_cm ≡ spelling back → NoneFirst back → with_cmts ≡ spelling (back ++ leaf 7 (cmts_mic_of secret (front ++ back)) ∷ []))
     → EndsPadded (body ++ with_cmts) (body ++ ended) → IsBuilt secret profile now ip (body ++ ended)
 tail_seals secret now ip profile body stamped with_cm with_cmts ended b neither s cm cmts end =
     let back : List Tree = stamps now ip in
@@ -37,7 +38,7 @@ tail_seals secret now ip profile body stamped with_cm with_cmts ended b neither 
     let second : with_cmts ≡ spelling
     ((stamps now ip ++ leaf 6 (cm_mic_of (profile ++ stamps now ip)) ∷ [])
     ++ leaf 7 (cmts_mic_of secret (profile ++ (stamps now ip ++ leaf 6 (cm_mic_of (profile ++ stamps now ip)) ∷ []))) ∷ []) =
-    cmts profile (stamps now ip ++ leaf 6 (cm_mic_of (profile ++ stamps now ip)) ∷ []) b first in
+    cmts profile (stamps now ip ++ leaf 6 (cm_mic_of (profile ++ stamps now ip)) ∷ []) b first refl in
     let whole : body ++ with_cmts ≡ spelling (with_both secret (profile ++ stamps now ip)) =
     ap (λ (x : List ℕ). x ++ with_cmts) b ∙ ap (λ (x : List ℕ). spelling profile ++ x) second
     ∙ both_in_two secret profile (stamps now ip) (cmts_mic_of secret (profile ++ (stamps now ip ++ leaf 6 (cm_mic_of (profile ++ stamps now ip)) ∷ []))) refl in

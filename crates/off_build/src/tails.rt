@@ -3,6 +3,7 @@ ghost use Rattle.arrayvec.specs.ArrayVec.{array_vec_len};
 ghost use Rattle.off_base.specs.Tree.{Tree, leaf, spelling};
 ghost use Rattle.off_mic.specs.Mic.{cm_mic_of, cmts_mic_of, without_mics};
 ghost use Rattle.off_mic.specs.Seal.{EndsPadded};
+ghost use Rattle.off_mic.specs.Started.{NoneFirst};
 ghost use Rattle.off_file_rules.specs.File.{stamps, IsBuilt};
 
 use crate::bodies::Body;
@@ -10,7 +11,6 @@ use crate::held::{Held, push_all, push_setting};
 use arrayvec::ArrayVec;
 use off_base::{Ip4, Moment};
 use off_defs::time_of_day;
-use off_mic::{cm_mic, cmts_mic};
 use off_tlv::END_MARKER;
 use std::marker::Model;
 
@@ -88,19 +88,20 @@ fn push_cm(body: &Body, held: &mut Held)
         → held.new.items ≡ spelling (back ++ leaf 6 (cm_mic_of (front ++ back)) ∷ []) }
     ensures len { array_vec_len held.new ≡ array_vec_len held.old + 18 }
 {
-    let mic = cm_mic(body.as_slice(), held.as_slice());
+    let mic = body.cm_mic(held.as_slice());
     push_setting(6, &mic, held);
 }
 
-// Appends the termination system's of the body and what is held.
+// Appends the termination system's of the body and what is held, which has none of the codes that
+// this value takes first.
 fn push_cmts(secret: &[u8], body: &Body, held: &mut Held)
     requires { array_vec_len held.old ≤ 34 }
     ensures items { (front back : List Tree) → body.now ≡ spelling front
-        → held.old.items ≡ spelling back
+        → held.old.items ≡ spelling back → NoneFirst back
         → held.new.items ≡ spelling (back ++ leaf 7 (cmts_mic_of secret.now (front ++ back)) ∷ []) }
     ensures len { array_vec_len held.new ≡ array_vec_len held.old + 18 }
 {
-    let mic = cmts_mic(secret, body.as_slice(), held.as_slice());
+    let mic = body.cmts_mic(secret, held.as_slice());
     push_setting(7, &mic, held);
 }
 

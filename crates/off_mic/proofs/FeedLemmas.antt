@@ -104,7 +104,7 @@ pub copied_all : (wanted : Wanted) (trees : List Tree) (rest before after : List
 copied_all wanted trees rest before after f e = f.appended ∙ ap (λ (x : List ℕ). before ++ x) (came_all wanted trees rest f.text f.came e)
 
 -- the settings of one code more
-pub more_codes : (codes : List ℕ) (i : ℕ) (front back : List Tree) → i < length codes
+more_codes : (codes : List ℕ) (i : ℕ) (front back : List Tree) → i < length codes
     → text_of_codes (take i codes) (front ++ back) ++ wanted_text (OfCode (get_or codes i 0)) front ++ wanted_text (OfCode (get_or codes i 0)) back
     ≡ text_of_codes (take (i + 1) codes) (front ++ back)
 more_codes codes i front back at =
@@ -117,6 +117,15 @@ more_codes codes i front back at =
     ∙ ap (λ (x : List ℕ). text_of_codes (take i codes) (front ++ back) ++ x) (sym (wanted_text-append (OfCode (get_or codes i 0)) front back))
     ∙ sym last
 
-pub all_codes : (i : ℕ) (trees : List Tree) → length digest_order ≤ i → text_of_codes (take i digest_order) trees ≡ digest_text trees
-unfolding digest_text
-all_codes i trees all = ap (λ (x : List ℕ). text_of_codes x trees) (take_all i digest_order all)
+-- behind a message that was taken in before
+pub more_behind : (message codes : List ℕ) (i : ℕ) (front back : List Tree) → i < length codes
+    → message ++ text_of_codes (take i codes) (front ++ back) ++ wanted_text (OfCode (get_or codes i 0)) front ++ wanted_text (OfCode (get_or codes i 0)) back
+    ≡ message ++ text_of_codes (take (i + 1) codes) (front ++ back)
+more_behind message codes i front back at =
+    let had : List ℕ = text_of_codes (take i codes) (front ++ back) in
+    let one : List ℕ = wanted_text (OfCode (get_or codes i 0)) front in
+    let other : List ℕ = wanted_text (OfCode (get_or codes i 0)) back in
+    ap (λ (x : List ℕ). x ++ other) (append_assoc message had one) ∙ append_assoc message (had ++ one) other ∙ ap (λ (x : List ℕ). message ++ x) (more_codes codes i front back at)
+
+pub all_behind : (message codes : List ℕ) (i : ℕ) (trees : List Tree) → length codes ≤ i → message ++ text_of_codes (take i codes) trees ≡ message ++ text_of_codes codes trees
+all_behind message codes i trees all = ap (λ (x : List ℕ). message ++ text_of_codes x trees) (take_all i codes all)

@@ -2,3 +2,4 @@ pub mod CheckLemmas
 mod Examples
 pub mod FeedLemmas
 pub mod SealLemmas
+mod StartedLemmas

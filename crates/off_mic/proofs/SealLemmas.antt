@@ -51,7 +51,7 @@ no_mic_left code (t ∷ ts) mic = none_of code t (without_mics ts) (not (is_mic 
 no_mic : (code : ℕ) (ts : List Tree) → is_mic code ≡ true → without_mics ts ≡ ts → of_code code ts ≡ []
 no_mic code ts mic neither = ap (of_code code) (sym neither) ∙ no_mic_left code ts mic
 
-of_code-append : (code : ℕ) (ts us : List Tree) → of_code code (ts ++ us) ≡ of_code code ts ++ of_code code us
+pub of_code-append : (code : ℕ) (ts us : List Tree) → of_code code (ts ++ us) ≡ of_code code ts ++ of_code code us
 of_code-append code ts us = filter-append (λ t. eqb (code_of t) code) ts us
 
 without_mics-append : (ts us : List Tree) → without_mics (ts ++ us) ≡ without_mics ts ++ without_mics us

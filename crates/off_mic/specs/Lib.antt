@@ -4,3 +4,4 @@ pub mod Hmac
 pub mod Laws
 pub mod Mic
 pub mod Seal
+pub mod Started

@@ -1,6 +1,7 @@
-ghost use Rattle.std.specs.Prelude.{◌≡◌, ◌++◌, List};
+ghost use Rattle.std.specs.Prelude.{◌≡◌, ◌++◌, ℕ, List};
 ghost use Rattle.off_base.specs.Tree.{Tree, spelling};
-ghost use Rattle.off_mic.specs.Mic.{cm_mic_of, cmts_mic_of};
+ghost use Rattle.off_mic.specs.Mic.{cm_mic_of, cmts_mic_of, text_of_codes};
+ghost use Rattle.off_mic.specs.Hmac.{HoldsKeyed};
 
 use crate::feeding::{Wanted, feed};
 use crate::keyed::Hmac;
@@ -8,7 +9,7 @@ use md5::{Digest, Md5};
 
 // The codes that the termination system's value covers, in the order in which their settings are
 // taken.
-const DIGEST_ORDER: [u8; 21] = [
+pub(crate) const DIGEST_ORDER: [u8; 21] = [
     1, 2, 3, 4, 17, 43, 6, 18, 19, 20, 22, 23, 24, 25, 28, 29, 26, 35, 36, 37, 40,
 ];
 
@@ -33,9 +34,18 @@ pub fn cmts_mic(secret: &[u8], first: &[u8], rest: &[u8]) -> [u8; 16]
         → result ≡ cmts_mic_of secret.now (front ++ back) }
 {
     let mut hmac = Hmac::new(secret);
-    for code in &DIGEST_ORDER {
+    take_codes(&DIGEST_ORDER, first, rest, &mut hmac);
+    hmac.finish()
+}
+
+// Takes in the settings of these codes, code by code, that are spelled in two pieces.
+pub(crate) fn take_codes(codes: &[u8], first: &[u8], rest: &[u8], hmac: &mut Hmac)
+    ensures { (key message : List ℕ) (front back : List Tree) → first.now ≡ spelling front
+        → rest.now ≡ spelling back → HoldsKeyed hmac.old key message
+        → HoldsKeyed hmac.new key (message ++ text_of_codes codes.now (front ++ back)) }
+{
+    for code in codes {
         hmac.take_settings(Wanted::OfCode(*code), first);
         hmac.take_settings(Wanted::OfCode(*code), rest);
     }
-    hmac.finish()
 }

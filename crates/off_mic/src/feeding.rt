@@ -50,6 +50,16 @@ pub(crate) fn feed(hasher: &mut Md5, wanted: Wanted, bytes: &[u8])
     }
 }
 
+// The same state again.
+pub(crate) fn copied(hasher: &Md5) -> Md5
+    ensures { result ≡ hasher.now }
+{
+    let Ok(copy) = hasher.clone() else {
+        unreachable!()
+    };
+    copy
+}
+
 // Takes in a setting that is wanted.
 fn feed_one(hasher: &mut Md5, wanted: Wanted, code: u8, value: &[u8])
     requires { length value.now ≤ 255 }

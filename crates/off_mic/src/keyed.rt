@@ -3,7 +3,7 @@ ghost use Rattle.off_base.specs.Tree.{Tree, spelling};
 ghost use Rattle.off_mic.specs.Feed.{wanted_text};
 ghost use Rattle.off_mic.specs.Hmac.{hmac, padded_key, masked, HoldsKeyed};
 
-use crate::feeding::{Wanted, feed};
+use crate::feeding::{Wanted, copied, feed};
 use md5::{Digest, Md5};
 
 /// The bytes of a block of MD5.
@@ -51,6 +51,16 @@ impl Hmac {
             → HoldsKeyed self.new key (message ++ wanted_text wanted trees) }
     {
         feed(&mut self.inner, wanted, bytes);
+    }
+
+    /// The same state again.
+    pub(crate) fn copy(&self) -> Hmac
+        ensures { result ≡ self.now }
+    {
+        Hmac {
+            inner: copied(&self.inner),
+            outer: self.outer,
+        }
     }
 
     /// The code of the message.
