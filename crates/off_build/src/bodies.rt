@@ -10,8 +10,8 @@ use std::alloc::Global;
 use std::marker::Model;
 use std::rc::RcSlice;
 
-/// The spelling of a profile, which several owners share, with what the two values of its files take
-/// of it, so that each file doesn't take it in anew. Contracts see its bytes.
+/// The spelling of a profile, which several owners share, and what the two values of its files take
+/// in of it, which no file so takes in anew. Contracts see its bytes.
 #[derive(Drop)]
 pub struct Body {
     spelling: RcSlice<u8>,

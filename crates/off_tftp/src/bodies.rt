@@ -3,7 +3,7 @@
 ghost use Rattle.std.specs.Prelude.{◌≡◌, true, is_some, option_map, IfOk, IfErr, IfSome};
 ghost use Rattle.std.specs.Prelude.{Some, MatchResult};
 ghost use Rattle.off_kept.specs.Entries.{kept_of};
-ghost use Rattle.off_base.specs.Tree.{AllFit};
+ghost use Rattle.off_base.specs.Tree.{AllFit, spelling};
 ghost use Rattle.off_base.specs.declared.macs.Mac.{Mac as MacSeen};
 ghost use Rattle.off_rules.specs.Rows.{modem_in};
 ghost use Rattle.off_file_rules.specs.Profile.{profile_in};
@@ -13,9 +13,9 @@ ghost use Rattle.off_outside.specs.KeeperCalls.{Looks, Spent};
 ghost use Rattle.off_tftp.specs.Keeping.{entry_of};
 
 use crate::gathering::read_profile;
-use off_base::{Mac, NoMemory, Settings};
+use off_base::{Mac, NoMemory, Secret, Settings};
 use off_build::Body;
-use off_defs::Modem;
+use off_defs::{Modem, Site};
 use off_kept::{Kept, KeptBody};
 use off_outside::{KeepErr, Keeper};
 use off_tlv::spelled_len;
@@ -28,6 +28,7 @@ pub(crate) fn kept_or_built<K: Keeper>(
     alloc: Global,
     keeper: &mut K,
     kept: &Kept,
+    site: &Option<Site>,
     mac: Mac,
     modem: &Modem,
 ) -> Result<Option<KeptBody>, KeepErr>
@@ -42,7 +43,7 @@ pub(crate) fn kept_or_built<K: Keeper>(
     if found.is_some() {
         return Ok(found);
     }
-    built(alloc, keeper, modem)
+    built(alloc, keeper, site, modem)
 }
 
 // What is kept of a modem.
@@ -61,6 +62,7 @@ fn found_in(kept: &Kept, mac: Mac) -> Result<Option<KeptBody>, KeepErr>
 fn built<K: Keeper>(
     alloc: Global,
     keeper: &mut K,
+    site: &Option<Site>,
     modem: &Modem,
 ) -> Result<Option<KeptBody>, KeepErr>
     ensures told { (mac : MacSeen) → Looks result (K.seen keeper.old) (K.seen keeper.new)
@@ -69,12 +71,13 @@ fn built<K: Keeper>(
     ensures spent { Spent 10 (K.seen keeper.old) (K.seen keeper.new) }
 {
     let profile = read_profile(alloc, keeper, modem.subscriber, modem.class)?;
-    spelled(alloc, modem, &profile)
+    spelled(alloc, site, modem, &profile)
 }
 
 // The body of a profile, where there is one. A profile of the tables has one.
 fn spelled(
     alloc: Global,
+    site: &Option<Site>,
     modem: &Modem,
     profile: &Option<Settings>,
 ) -> Result<Option<KeptBody>, KeepErr>
@@ -88,7 +91,7 @@ fn spelled(
     if spelled_len(profile).is_none() {
         return Ok(None);
     }
-    match Body::spell(alloc, profile) {
+    match spell(alloc, site, profile) {
         Ok(body) => Ok(Some(KeptBody {
             subscriber: modem.subscriber,
             class: modem.class,
@@ -96,4 +99,26 @@ fn spelled(
         })),
         Err(NoMemory) => Err(KeepErr::Memory),
     }
+}
+
+// The spelling of a profile, with the digests of its files begun under the site's secret.
+fn spell(alloc: Global, site: &Option<Site>, profile: &Settings) -> Result<Body, NoMemory>
+    requires { AllFit profile.now }
+    ensures { IfOk result (λ body. body ≡ spelling profile.now) }
+{
+    let secret = secret_of(site);
+    Body::spell(alloc, profile, &secret)
+}
+
+// The site's secret. Where there is no site no file is signed, and an empty one stands for it.
+fn secret_of(site: &Option<Site>) -> Secret
+    ensures { IfSome site.now (λ site. result ≡ site.secret) }
+{
+    if let Some(site) = site {
+        return site.secret.copy();
+    }
+    let Some(empty) = Secret::read(&[]) else {
+        unreachable!()
+    };
+    empty
 }

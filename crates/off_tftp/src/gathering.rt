@@ -81,7 +81,8 @@ pub(crate) fn look_for_file<K: Keeper>(
     if !names_file(&seen, now, ip, name) {
         return Ok(seen);
     }
-    let body = body_for(alloc, keeper, kept, owner_by(seen.lease), &seen.modem)?;
+    let owner = owner_by(seen.lease);
+    let body = body_for(alloc, keeper, kept, &seen.site, owner, &seen.modem)?;
     seen.body = body;
     Ok(seen)
 }
@@ -118,6 +119,7 @@ fn body_for<K: Keeper>(
     alloc: Global,
     keeper: &mut K,
     kept: &Kept,
+    site: &Option<Site>,
     owner: Option<Mac>,
     modem: &Option<Modem>,
 ) -> Result<Option<KeptBody>, KeepErr>
@@ -130,7 +132,7 @@ fn body_for<K: Keeper>(
 {
     let Some(mac) = owner else { return Ok(None) };
     let Some(modem) = modem else { return Ok(None) };
-    kept_or_built(alloc, keeper, kept, mac, modem)
+    kept_or_built(alloc, keeper, kept, site, mac, modem)
 }
 
 /// The profile of a subscriber and a class, where both are there. It's ten calls.

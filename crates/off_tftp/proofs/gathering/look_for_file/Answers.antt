@@ -12,17 +12,17 @@ returns-then-not-names_file-clause-told g c =
 pub returns-clause-told : goal.returns-clause-told
 returns-clause-told g c =
     reads_then c.in_ok-seen.ensures.told c.in_ok-body.ensures.told
-    (λ t seen made right. shows_body t c.args.ip c.in_ok-seen.seen c.owner_by.result c.in_ok-body.body c.args.now.0 c.args.name.now c.owner_by.ensures seen
+    (λ t seen made right. shows_body t c.args.ip c.in_ok-seen.seen c.owner_by-owner.result c.in_ok-body.body c.args.now.0 c.args.name.now c.owner_by-owner.ensures seen
     (sym c.names_file.ensures ∙ c.if-not-names_file.false) (made right))
 
 pub returns-in_err-body-clause-few : goal.returns-in_err-body-clause-few
 returns-in_err-body-clause-few g c =
-    few_behind c.args.ip c.args.kept.now c.in_ok-seen.seen c.owner_by.result c.owner_by.ensures c.in_ok-seen.ensures.told c.look.ensures.spent c.body_for.ensures.few
+    few_behind c.args.ip c.args.kept.now c.in_ok-seen.seen c.owner_by-owner.result c.owner_by-owner.ensures c.in_ok-seen.ensures.told c.look.ensures.spent c.body_for.ensures.few
 
 pub returns-clause-few : goal.returns-clause-few
 returns-clause-few g c =
-    few_behind c.args.ip c.args.kept.now c.in_ok-seen.seen c.owner_by.result c.owner_by.ensures c.in_ok-seen.ensures.told c.look.ensures.spent c.body_for.ensures.few
+    few_behind c.args.ip c.args.kept.now c.in_ok-seen.seen c.owner_by-owner.result c.owner_by-owner.ensures c.in_ok-seen.ensures.told c.look.ensures.spent c.body_for.ensures.few
 
 pub returns-clause-few_seen : goal.returns-clause-few_seen
 returns-clause-few_seen g c =
-    few_seen_behind c.args.kept.now c.in_ok-seen.seen c.owner_by.result c.owner_by.ensures c.look.ensures.spent c.body_for.ensures.few
+    few_seen_behind c.args.kept.now c.in_ok-seen.seen c.owner_by-owner.result c.owner_by-owner.ensures c.look.ensures.spent c.body_for.ensures.few
