@@ -1,5 +1,5 @@
 use md5::{Digest, Md5};
-use off_base::{Bytes, Ip4, Mac, Moment, NoMemory, Settings, Short};
+use off_base::{Bytes, Ip4, Mac, Moment, NoMemory, Secret, Settings, Short};
 use off_build::{Body, FileTail, block, tail};
 use off_defs::{Key, Subscriber, Write, Writes};
 use off_kept::{Kept, KeptBody};
@@ -110,10 +110,18 @@ struct Made {
     add_ons: AddOns,
 }
 
+fn secret() -> Result<Secret, NoMemory> {
+    match Secret::read(SECRET) {
+        Some(secret) => Ok(secret),
+        None => Err(NoMemory),
+    }
+}
+
 fn body_of(alloc: Global, made: &Made) -> Result<Body, NoMemory> {
+    let secret = secret()?;
     let profile = profile_of(alloc, &made.who, &made.class, &made.add_ons)?;
     match spelled_len(&profile) {
-        Some(_) => Body::spell(alloc, &profile),
+        Some(_) => Body::spell(alloc, &profile, &secret),
         None => Err(NoMemory),
     }
 }
