@@ -29,19 +29,19 @@ pub fn keeper_of(alloc: Global, text: &[u8]) -> Result<MemKeeper, Unread> {
     }
 }
 
-fn counted(page: &mut Page, word: &str, number: u64) -> Result<(), NoMemory> {
+fn show_count(page: &mut Page, word: &str, number: u64) -> Result<(), NoMemory> {
     page.text(word)?;
     page.number(number)
 }
 
 /// Prints how many rows of each kind there are.
 pub fn show_counts(page: &mut Page, counts: &Counts) -> Result<(), NoMemory> {
-    counted(page, "subscribers ", counts.subscribers)?;
-    counted(page, " add-ons ", counts.addons)?;
-    counted(page, " modems ", counts.modems)?;
-    counted(page, " classes ", counts.classes)?;
-    counted(page, " pools ", counts.pools)?;
-    counted(page, " batches ", counts.batches)
+    show_count(page, "subscribers ", counts.subscribers)?;
+    show_count(page, " add-ons ", counts.addons)?;
+    show_count(page, " modems ", counts.modems)?;
+    show_count(page, " classes ", counts.classes)?;
+    show_count(page, " pools ", counts.pools)?;
+    show_count(page, " batches ", counts.batches)
 }
 
 /// `count ROW; ROW`: how many possible rows of each kind the tables have.
@@ -66,5 +66,5 @@ pub fn writes(alloc: Global, page: &mut Page, line: Line<'_>) -> Result<(), Unre
         page.text("; ")?;
         last = Some(key);
     }
-    Ok(counted(page, "calls ", keeper.calls())?)
+    Ok(show_count(page, "calls ", keeper.calls())?)
 }

@@ -14,7 +14,7 @@ use std::alloc::Global;
 
 /// `decide t remove pool 1; ROW; ROW`: what is to be written at a command over these rows, what is
 /// then answered, and how many rows there are behind it; or the rule that is broken.
-pub fn decided(alloc: Global, page: &mut Page, line: Line<'_>) -> Result<(), Unread> {
+pub fn show_decision(alloc: Global, page: &mut Page, line: Line<'_>) -> Result<(), Unread> {
     let mut line = line;
     let now = line.moment()?;
     let (asked, rows) = cut(line.rest());

@@ -34,7 +34,7 @@ impl Answers for Clerks {
             b"head" => faults::head(alloc, page),
             b"count" => counting::count(alloc, page, line),
             b"writes" => counting::writes(alloc, page, line),
-            b"decide" => deciding::decided(alloc, page, line),
+            b"decide" => deciding::show_decision(alloc, page, line),
             _ => Err(Unread::Words),
         }
     }
