@@ -27,12 +27,14 @@ use Rattle.off_office.specs.declared.office.StartErr.TheVariants as start_err
 use Rattle.off_serve.specs.declared.serving.Stop.{Stop}
 use Rattle.off_serve.specs.declared.serving.Stop.TheVariants as stop
 use Rattle.off_serve.specs.Serving.{World, world_of}
+use Rattle.off_jobs.specs.Jobs.{Tells}
+use Rattle.off_jobs.specs.Text.{memory_refused}
 use Rattle.off_import_job.specs.Opening.{closed_status, closed_line}
-use Rattle.off_serve.specs.Headline.{WroteText, CutText, LastsIn, RanTurns, KeeperRan, RanFrom, RanOffice, Stops, Served, OwnLine, OwnWritten, Ended, Ends, NoFault, AllUp, Completed, ServesAsOffice, own_writes, memory_refused, link_refused}
+use Rattle.off_serve.specs.Headline.{WroteText, CutText, LastsIn, RanTurns, KeeperRan, RanFrom, RanOffice, Stops, Served, OwnLine, Ended, Ends, NoFault, AllUp, Completed, ServesAsOffice, own_writes, link_refused}
 use Rattle.off_serve.proofs.ServeLemmas.{wrote_more, wrote_same, wrote_none, cut_more, cut_same}
 use Rattle.off_sending.proofs.UpLemmas.{up_chain}
 
-own_line : (of : ℕ) (own text : List ℕ) (status : ℕ) (a b c : SinkSeen) → WroteText text a b → OwnWritten of own status b c → OwnLine of own text status a c
+own_line : (of : ℕ) (own text : List ℕ) (status : ℕ) (a b c : SinkSeen) → WroteText text a b → Tells of own status b c → OwnLine of own text status a c
 own_line of own text status a b c wrote (inl w) = inl (w.0, wrote_more wrote w.1)
 own_line of own text status a b c wrote (inr w) = inr (w.0, cut_more wrote w.1)
 
@@ -129,7 +131,7 @@ good_again opened ran = record {
       record { value = g.value; told = g.told; fits = (g.fits before.1).good };
 }
 
-own_one : (of : ℕ) (own : List ℕ) (status : ℕ) (a b : SinkSeen) → OwnWritten of own status a b → b.calls ≡ one_more a.calls
+own_one : (of : ℕ) (own : List ℕ) (status : ℕ) (a b : SinkSeen) → Tells of own status a b → b.calls ≡ one_more a.calls
 own_one of own status a b (inl w) = w.1.calls
 own_one of own status a b (inr w) = w.1.calls
 
@@ -219,7 +221,7 @@ pub link_unasked : (link : LinkSeen) → LinkUnasked link link
 link_unasked link = record { left = stays_self; sent = stays_self; up = λ up. up; missed = refl; faults = refl; unsent = refl }
 
 pub stays_closed : (budget : ℕ) (link : LinkSeen) (k l : KeeperSeen) (a b : SinkSeen) (why : StartErr) (status : ℕ)
-    → LinkUnasked link link → NotStarted why k l → OwnWritten (closed_status why) (closed_line why) status a b → ServesAsOffice budget (world_of link k a) (world_of link l b) status
+    → LinkUnasked link link → NotStarted why k l → Tells (closed_status why) (closed_line why) status a b → ServesAsOffice budget (world_of link k a) (world_of link l b) status
 stays_closed budget link k l a b why status same tables wrote =
     let text = own_line (closed_status why) (closed_line why) [] status a a b (wrote_none a) wrote in
     inl (record {

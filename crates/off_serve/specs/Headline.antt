@@ -21,12 +21,13 @@ use Rattle.off_outside.specs.LinkCalls.{LinkUnasked, LinkStaysUp}
 use Rattle.off_office.specs.Conditions.{Under, StaysFit}
 use Rattle.off_office.specs.Acting.{NotStarted}
 use Rattle.off_office.specs.declared.office.StartErr.{StartErr}
-use Rattle.off_outside.specs.Streams.{SourceSeen, SourceUnasked, SinkSeen, SinkUnasked, SinkStaysUp, HasFront, Wrote, NotWritten}
+use Rattle.off_outside.specs.Streams.{SourceSeen, SourceUnasked, SinkSeen, SinkUnasked, SinkStaysUp, HasFront}
 use Rattle.off_book.specs.Words.{Job, to_serve, to_import, to_drill, to_seal, to_check}
 use Rattle.off_import_job.specs.Opening.{closed_status, closed_line}
 use Rattle.off_import_job.specs.Importing.{Imports}
 use Rattle.off_drill_job.specs.Drilling.{Drills}
-use Rattle.off_jobs.specs.Jobs.{SealsInput, ChecksInput}
+use Rattle.off_jobs.specs.Jobs.{Tells, SealsInput, ChecksInput}
+use Rattle.off_jobs.specs.Text.{memory_refused}
 use Rattle.off_serve.specs.Serving.{World, world_of, most_missed}
 use Rattle.off_serve.specs.declared.serving.Stop.{Stop}
 use Rattle.off_serve.specs.declared.serving.Stop.TheVariants as stop
@@ -175,25 +176,17 @@ abbrev pub OwnLine : ℕ → List ℕ → List ℕ → ℕ → SinkSeen → Sink
 OwnLine of own text status old new =
     ((status ≡ of) × WroteText (text ++ own) old new) ⊎ ((status ≡ 4) × CutText text own old new)
 
--- the run's own line, by itself
-abbrev pub OwnWritten : ℕ → List ℕ → ℕ → SinkSeen → SinkSeen → Type 0
-OwnWritten of own status old new =
-    ((status ≡ of) × Wrote own old new) ⊎ ((status ≡ 4) × NotWritten own old new)
-
 abbrev pub words_refused : List ℕ
 words_refused = codes "words refused" ++ 10 ∷ []
 
 abbrev pub link_refused : List ℕ
 link_refused = codes "link refused" ++ 10 ∷ []
 
-abbrev pub memory_refused : List ℕ
-memory_refused = codes "memory refused" ++ 10 ∷ []
-
 -- the end of the run: its own line, where it has one, and the status
 abbrev pub Ended : Stop → ℕ → SinkSeen → SinkSeen → Type 0
 Ended stop.Finished status old new = (status ≡ 0) × SinkUnasked old new
-Ended stop.Memory status old new = OwnWritten 6 memory_refused status old new
-Ended stop.Link status old new = OwnWritten 5 link_refused status old new
+Ended stop.Memory status old new = Tells 6 memory_refused status old new
+Ended stop.Link status old new = Tells 5 link_refused status old new
 Ended stop.Sink status old new = (status ≡ 4) × SinkUnasked old new
 
 -- what was written at the end, and the status. 0: all turns were taken, or an End; 4: the sink

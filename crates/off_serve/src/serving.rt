@@ -1,7 +1,7 @@
 ghost use Rattle.std.specs.Prelude.{◌≡◌, ◌++◌, ◌≤◌, length, map, string_bytes, MatchOption};
 ghost use Rattle.off_book.specs.Words.{job_of};
 ghost use Rattle.off_serve.specs.Reading.{asked_for, DrillsFew};
-ghost use Rattle.off_serve.specs.Headline.{Served, Ended, OwnWritten, ServesAsOffice, RefusesAll};
+ghost use Rattle.off_serve.specs.Headline.{Served, Ended, ServesAsOffice, RefusesAll};
 ghost use Rattle.off_serve.specs.Headline.{DoesJob, outside_of};
 ghost use Rattle.off_serve.specs.Serving.{world_of};
 
@@ -9,9 +9,9 @@ use crate::jobs::{Asked, read_words};
 use crate::turning::{Turned, take_turn};
 use off_drill_job::drill;
 use off_import_job::{import_input, stay_closed};
-use off_jobs::{check_input, seal_input};
+use off_jobs::{check_input, seal_input, tell};
 use off_office::Office;
-use off_outside::{Failed, Keeper, Link, Sink, Source};
+use off_outside::{Keeper, Link, Sink, Source};
 use std::alloc::Global;
 
 /// Why `serve` stopped.
@@ -61,7 +61,7 @@ pub fn run<L: Link, K: Keeper, S: Source, W: Sink>(
 {
     match read_words(words) {
         Some(asked) => do_job(alloc, &asked, link, keeper, source, out),
-        None => own_line(out, b"words refused\n", 1),
+        None => tell(out, b"words refused\n", 1),
     }
 }
 
@@ -117,19 +117,9 @@ fn finish<W: Sink>(stop: Stop, out: &mut W) -> u8
 {
     match stop {
         Stop::Finished => 0,
-        Stop::Memory => own_line(out, b"memory refused\n", 6),
-        Stop::Link => own_line(out, b"link refused\n", 5),
+        Stop::Memory => tell(out, b"memory refused\n", 6),
+        Stop::Link => tell(out, b"link refused\n", 5),
         Stop::Sink => 4,
-    }
-}
-
-// Writes a line, and answers its status, or 4 where the sink fails.
-fn own_line<W: Sink>(out: &mut W, line: &[u8], status: u8) -> u8
-    ensures { OwnWritten status line.now result (W.seen out.old) (W.seen out.new) }
-{
-    match out.write(line) {
-        Ok(()) => status,
-        Err(Failed) => 4,
     }
 }
 
