@@ -6,7 +6,6 @@ ghost use Rattle.off_drill_job.specs.Exercising.{TookTurn, LosesTurn, Exercised,
 
 use crate::messages::{Ask, hoped_line, message};
 use crate::tallying::count_said;
-use off_base::NoMemory;
 use off_drill_rules::Tally;
 use off_office::Office;
 use off_outside::{Event, KeepErr, Keeper, Link, Outcome, Replies};
@@ -120,18 +119,16 @@ fn ask<L: Link, K: Keeper>(
         (λ err. LosesTurn err office.old (K.seen keeper.old) (K.seen keeper.new)
         (L.seen link.old) (L.seen link.new)) }
 {
-    match message(alloc, i, wanted) {
-        Ok(event) => take(
-            alloc,
-            &event,
-            hoped_line(wanted),
-            office,
-            keeper,
-            link,
-            tally,
-        ),
-        Err(NoMemory) => Err(KeepErr::Memory),
-    }
+    let event = message(alloc, i, wanted)?;
+    take(
+        alloc,
+        &event,
+        hoped_line(wanted),
+        office,
+        keeper,
+        link,
+        tally,
+    )
 }
 
 // Has the office act on an event, sends what it says and counts it, and tells whether its line has

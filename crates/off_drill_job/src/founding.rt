@@ -10,7 +10,7 @@ ghost use Rattle.off_drill_job.specs.Founding.{GaveCommand, Builds, Halts, Passe
 use crate::commands::{put_class, put_modem, put_pool, put_subscriber, set_site};
 use crate::rows::BEGINS_AT;
 use off_accounts::AccountErr;
-use off_base::{Moment, NoMemory};
+use off_base::Moment;
 use off_defs::Command;
 use off_office::Office;
 use off_outside::{KeepErr, Keeper};
@@ -47,10 +47,8 @@ fn give_class<K: Keeper>(alloc: Global, office: &mut Office, keeper: &mut K) -> 
         (λ err. Halts err office.old (K.seen keeper.old) (K.seen keeper.new)) }
     ensures held { OnOk result (office.new.held ≡ held_behind 0) }
 {
-    match put_class(alloc) {
-        Ok(command) => give(&command, office, keeper),
-        Err(NoMemory) => Err(KeepErr::Memory),
-    }
+    let command = put_class(alloc)?;
+    give(&command, office, keeper)
 }
 
 // Gives the office so many subscribers and their modems.
