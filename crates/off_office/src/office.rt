@@ -3,7 +3,7 @@ ghost use Rattle.std.specs.Prelude.{MatchResult, IfErr};
 ghost use Rattle.off_defs.specs.State.{held_at_start, says_nothing};
 ghost use Rattle.off_book.specs.Time.{time_answer};
 ghost use Rattle.off_outside.specs.KeeperCalls.{Reads};
-ghost use Rattle.off_office.specs.Acting.{Acts, Handled, NotStarted, start_err, desk_at};
+ghost use Rattle.off_office.specs.Acting.{Acts, Handled, NotStarted, desk_at};
 ghost use Rattle.off_office.specs.Answering.{forgets};
 ghost use Rattle.off_office.specs.Conditions.{Mirrors, Fits};
 ghost use Rattle.off_office.specs.Saying.{SaysTime};
@@ -29,6 +29,20 @@ pub enum StartErr {
     Failed,
     /// Memory was wanted, and refused.
     Memory,
+}
+
+impl From<KeepErr> for StartErr {
+    ghost use Rattle.std.specs.Prelude.{◌≡◌};
+    ghost use Rattle.off_office.specs.Acting.{start_err};
+
+    ghost from_gives = { λ kept err. err ≡ start_err kept };
+
+    fn from(kept: KeepErr) -> StartErr {
+        match kept {
+            KeepErr::Memory => StartErr::Memory,
+            KeepErr::Failed => StartErr::Failed,
+        }
+    }
 }
 
 /// The office between two events: the moment of its latest event, how many rows the tables have,
@@ -70,12 +84,9 @@ impl Office {
             (λ err. NotStarted err (K.seen keeper.old) (K.seen keeper.new)) }
         ensures held { IfOk result (λ office. office.held ≡ held_at_start) }
     {
-        match open_tables(alloc, keeper) {
-            Ok(opening) => match opening {
-                Opening::Good(counts) => Office::empty(alloc, counts),
-                Opening::Bad(key) => Err(StartErr::Bad(key)),
-            },
-            Err(err) => Err(not_started(err)),
+        match open_tables(alloc, keeper)? {
+            Opening::Good(counts) => Office::empty(alloc, counts),
+            Opening::Bad(key) => Err(StartErr::Bad(key)),
         }
     }
 
@@ -161,16 +172,6 @@ impl Office {
             Service::Time => tell_time(self.alloc, self.now, from, out),
             Service::Tftp => self.take_packet(keeper, from, bytes, out),
         }
-    }
-}
-
-// The keeper's error, as why an office doesn't start.
-fn not_started(err: KeepErr) -> StartErr
-    ensures { result ≡ start_err err }
-{
-    match err {
-        KeepErr::Memory => StartErr::Memory,
-        KeepErr::Failed => StartErr::Failed,
     }
 }
 

@@ -187,8 +187,5 @@ impl Office {
 fn had_memory(done: Result<(), NoMemory>) -> Result<(), KeepErr>
     ensures { result ≡ had_memory done }
 {
-    match done {
-        Ok(()) => Ok(()),
-        Err(NoMemory) => Err(KeepErr::Memory),
-    }
+    Ok(done?)
 }
