@@ -51,10 +51,7 @@ fn found_in(kept: &Kept, mac: Mac) -> Result<Option<KeptBody>, KeepErr>
     ensures { MatchResult result (λ found. found ≡ kept_of mac kept.now)
         (λ err. err ≡ Memory) }
 {
-    match kept.find(mac) {
-        Ok(found) => Ok(found),
-        Err(NoMemory) => Err(KeepErr::Memory),
-    }
+    Ok(kept.find(mac)?)
 }
 
 // The body of a modem, built of the rows of the tables.
@@ -91,14 +88,12 @@ fn spelled(
     if spelled_len(profile).is_none() {
         return Ok(None);
     }
-    match spell(alloc, site, profile) {
-        Ok(body) => Ok(Some(KeptBody {
-            subscriber: modem.subscriber,
-            class: modem.class,
-            body,
-        })),
-        Err(NoMemory) => Err(KeepErr::Memory),
-    }
+    let body = spell(alloc, site, profile)?;
+    Ok(Some(KeptBody {
+        subscriber: modem.subscriber,
+        class: modem.class,
+        body,
+    }))
 }
 
 // The spelling of a profile, with the digests of its files begun under the site's secret.

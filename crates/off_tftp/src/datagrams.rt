@@ -194,8 +194,5 @@ fn settled(word: Result<TftpWord, NoMemory>) -> Result<TftpWord, KeepErr>
     ensures { MatchResult result (λ settled. word ≡ Ok settled)
         (λ err. (err ≡ Memory) × (is_ok word ≡ false)) }
 {
-    match word {
-        Ok(word) => Ok(word),
-        Err(NoMemory) => Err(KeepErr::Memory),
-    }
+    Ok(word?)
 }

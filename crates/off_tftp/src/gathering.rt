@@ -16,7 +16,7 @@ ghost use Rattle.off_outside.specs.KeeperCalls.{Looks, Spent};
 
 use crate::bodies::kept_or_built;
 use crate::judging::names_file;
-use off_base::{Ip4, Mac, Moment, NoMemory, Settings};
+use off_base::{Ip4, Mac, Moment, Settings};
 use off_defs::{Class, Lease, Modem, Site, Subscriber};
 use off_kept::{Kept, KeptBody};
 use off_outside::{KeepErr, Keeper};
@@ -166,10 +166,8 @@ fn profile_from(
     let Some(class) = class else {
         return Ok(None);
     };
-    match profile_of(alloc, who, &class.settings, add_ons) {
-        Ok(profile) => Ok(Some(profile)),
-        Err(NoMemory) => Err(KeepErr::Memory),
-    }
+    let profile = profile_of(alloc, who, &class.settings, add_ons)?;
+    Ok(Some(profile))
 }
 
 // A subscriber's add-ons, in ascending number. It's eight calls.
@@ -199,8 +197,5 @@ fn push_some(number: u8, settings: Option<Settings>, out: &mut AddOns) -> Result
     let Some(settings) = settings else {
         return Ok(());
     };
-    match out.push(number, settings) {
-        Ok(()) => Ok(()),
-        Err(NoMemory) => Err(KeepErr::Memory),
-    }
+    Ok(out.push(number, settings)?)
 }
