@@ -12,7 +12,7 @@ use Rattle.off_tlv.specs.Walk.{Walk, TakesSetting}
 use Rattle.off_tlv.proofs.ReadingLemmas.{front_is, not_short_by}
 use Rattle.std.proofs.lemmas.List.{take_more, take_all}
 use Rattle.off_mic.specs.declared.feeding.Wanted.TheVariants.{OfCode}
-use Rattle.off_mic.specs.Mic.{of_code, text_of_codes, digest_order, digest_text}
+use Rattle.off_mic.specs.Mic.{of_code, text_of_codes}
 use Rattle.off_mic.specs.Feed.{Came, Fed, Copied, is_fed, wanted_text}
 use Rattle.off_mic.specs.declared.feeding.Wanted.{Wanted}
 

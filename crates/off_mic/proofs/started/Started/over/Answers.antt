@@ -1,4 +1,4 @@
-use Rattle.std.proofs.Common.{◌≡◌, ℕ, List, [], ◌++◌, refl, sym, subst, ap, ◌∙◌, append-nil}
+use Rattle.std.proofs.Common.{ℕ, List, [], ◌++◌, refl, sym, subst, ◌∙◌, append-nil}
 use Rattle.off_base.specs.Tree.{Tree}
 use Rattle.off_mic.specs.Hmac.{HoldsKeyed}
 use Rattle.off_mic.specs.Mic.{text_of_codes}

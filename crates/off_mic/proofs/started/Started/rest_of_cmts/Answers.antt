@@ -1,4 +1,4 @@
-use Rattle.std.proofs.Common.{◌++◌, sym, subst, ap, ◌∙◌}
+use Rattle.std.proofs.Common.{sym, subst, ap, ◌∙◌}
 use Rattle.off_mic.specs.Hmac.{hmac, HoldsKeyed}
 use Rattle.off_mic.specs.Mic.{text_of_codes}
 use Rattle.off_mic.specs.Started.{codes_first}
