@@ -19,13 +19,13 @@ pub fn reply_json(alloc: Global, r: &Reply) -> Result<Bytes, NoMemory>
     ensures { IfOk result (λ text. text ≡ reply_text r.now) }
 {
     match r {
-        Reply::Done => done(alloc),
-        Reply::Shown(_, row) => shown(alloc, row),
-        Reply::Rows(count) => counted(alloc, *count),
+        Reply::Done => done_json(alloc),
+        Reply::Shown(_, row) => row_json(alloc, row),
+        Reply::Rows(count) => count_json(alloc, *count),
     }
 }
 
-fn done(alloc: Global) -> Result<Bytes, NoMemory>
+fn done_json(alloc: Global) -> Result<Bytes, NoMemory>
     ensures { IfOk result (λ text. text ≡ codes "{\"ok\":true}") }
 {
     let mut text = Bytes::new(alloc);
@@ -33,7 +33,7 @@ fn done(alloc: Global) -> Result<Bytes, NoMemory>
     Ok(text)
 }
 
-fn counted(alloc: Global, count: u32) -> Result<Bytes, NoMemory>
+fn count_json(alloc: Global, count: u32) -> Result<Bytes, NoMemory>
     ensures { IfOk result (λ text. text ≡ codes "{\"rows\":" ++ decimal count ++ codes "}") }
 {
     let mut text = Bytes::new(alloc);
@@ -43,7 +43,7 @@ fn counted(alloc: Global, count: u32) -> Result<Bytes, NoMemory>
     Ok(text)
 }
 
-fn shown(alloc: Global, row: &Row) -> Result<Bytes, NoMemory>
+fn row_json(alloc: Global, row: &Row) -> Result<Bytes, NoMemory>
     requires { IsSeen row.now }
     ensures { IfOk result (λ text. text ≡ row_text row.now) }
 {
