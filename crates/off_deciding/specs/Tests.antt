@@ -135,6 +135,15 @@ site_tests site =
     ∷ no_test
     ∷ []
 
+abbrev pub pool_tests : Counts → Moment → Subject → ℕ → Pool → List Test
+pool_tests counts now subject n pool =
+    Tested (when (not (has_pool_size pool)) rule.PoolSize)
+    ∷ FindsNone (Overlapping n pool)
+    ∷ FindsNone (WithRelay n pool)
+    ∷ live_test now subject.pool (Some pool)
+    ∷ limit_test counts Pools subject
+    ∷ []
+
 abbrev pub tests_of : Counts → Moment → Subject → Command → List Test
 tests_of counts now subject (SetSite site) = site_tests site
 tests_of counts now subject (PutSubscriber n subscriber) =
@@ -148,13 +157,7 @@ tests_of counts now subject (PutModem mac modem) =
 tests_of counts now subject (PutClass n class) =
     Tested (option_map rule.Tree (first_fault tree.Class class.settings))
     ∷ limit_test counts Classes subject ∷ no_test ∷ no_test ∷ no_test ∷ []
-tests_of counts now subject (PutPool n pool) =
-    Tested (when (not (has_pool_size pool)) rule.PoolSize)
-    ∷ FindsNone (Overlapping n pool)
-    ∷ FindsNone (WithRelay n pool)
-    ∷ live_test now subject.pool (Some pool)
-    ∷ limit_test counts Pools subject
-    ∷ []
+tests_of counts now subject (PutPool n pool) = pool_tests counts now subject n pool
 tests_of counts now subject (Remove removed) = removal_tests now subject removed
 tests_of counts now subject (Show shown) =
     row_test subject ∷ no_test ∷ no_test ∷ no_test ∷ no_test ∷ []

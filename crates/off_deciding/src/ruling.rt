@@ -1,8 +1,8 @@
 //! The rules of each command, in their order.
 
 ghost use Rattle.std.specs.Prelude.{◌≡◌};
-ghost use Rattle.off_deciding.specs.Tests.{tests_of, removal_tests, site_tests, live_test};
-ghost use Rattle.off_deciding.specs.Tests.{limit_test, row_test};
+ghost use Rattle.off_deciding.specs.Tests.{tests_of, pool_tests, removal_tests, site_tests};
+ghost use Rattle.off_deciding.specs.Tests.{live_test, limit_test, row_test};
 
 use crate::limits::limit_rule;
 use crate::lost::Lost;
@@ -52,17 +52,23 @@ pub(crate) fn tests_of(asked: &Asked, subject: &Subject, c: &Command) -> [Test; 
             NO_TEST,
             NO_TEST,
         ],
-        Command::PutPool(n, pool) => [
-            Test::Tested(unless(has_pool_size(pool), Rule::PoolSize)),
-            Test::FindsNone(Sought::Overlapping(*n, *pool)),
-            Test::FindsNone(Sought::WithRelay(*n, *pool)),
-            live_test(asked.at, subject.pool, Some(*pool)),
-            limit_test(asked, Kind::Pools, subject),
-        ],
+        Command::PutPool(n, pool) => pool_tests(asked, subject, *n, pool),
         Command::Remove(key) => removal_tests(asked.at, subject, key),
         Command::Show(_) => [row_test(subject), NO_TEST, NO_TEST, NO_TEST, NO_TEST],
         Command::Import { .. } => [NO_TEST, NO_TEST, NO_TEST, NO_TEST, NO_TEST],
     }
+}
+
+fn pool_tests(asked: &Asked, subject: &Subject, n: u32, pool: &Pool) -> [Test; 5]
+    ensures { result ≡ pool_tests asked.now.counts asked.now.at subject.now n pool.now }
+{
+    [
+        Test::Tested(unless(has_pool_size(pool), Rule::PoolSize)),
+        Test::FindsNone(Sought::Overlapping(n, *pool)),
+        Test::FindsNone(Sought::WithRelay(n, *pool)),
+        live_test(asked.at, subject.pool, Some(*pool)),
+        limit_test(asked, Kind::Pools, subject),
+    ]
 }
 
 fn removal_tests(at: Moment, subject: &Subject, key: &Key) -> [Test; 5]
