@@ -2,7 +2,7 @@
 -- to come, the bytes written, ..) or keep it to itself, so such a meaning is a relation to values:
 -- it holds of the one value that is told, or of none.
 use Rattle.std.specs.Prelude.{◌≡◌}
-use Rattle.std.proofs.Common.{sym, ◌∙◌, subst}
+use Rattle.std.proofs.Common.{sym, ◌∙◌}
 
 -- a value that is told, of which P holds
 pub record Goes {X : Type 0} (tells : X → Type 0) (P : X → Type 0) : Type 0 where
@@ -30,8 +30,3 @@ one_exact n x y p q = p ∙ sym q
 -- what tells nothing tells no two values
 pub one_none : {X : Type 0} → IsOne {X = X} (λ x. ⊥)
 one_none x y p q = absurd p
-
--- so P relates the very values that are told
-pub told_exact : {X : Type 0} {old new : X → Type 0} {P : X → X → Type 0} → IsOne new →
-    Told old new P → (x y : X) → old x → new y → P x y
-told_exact {P = P} one t x y p q = let g = t.each x p in subst (P x) (one g.value y g.told q) g.fits
