@@ -2,7 +2,7 @@ ghost use Rattle.std.specs.Prelude.{◌≡◌, ◌<◌, ◌≤◌, true, length,
 ghost use Rattle.off_base.specs.Parts.{parts_in};
 ghost use Rattle.off_base.specs.Walk.{all_values, CursorStands, Holds, Finds};
 
-use crate::joined::counted;
+use crate::joined::len_if;
 use crate::parts::{Step, next_in, next_part};
 use crate::readable::Readable;
 use std::marker::Model;
@@ -98,7 +98,7 @@ fn holder(options: &[u8], wanted: u8, from: Cursor, i: usize) -> Cursor
     'options: loop {
         match next_part(options, at, true) {
             Step::Found(code, place, len) => {
-                let here = counted(code == wanted, len);
+                let here = len_if(code == wanted, len);
                 if i - before < here {
                     return Cursor { at: place, before };
                 }

@@ -107,17 +107,17 @@ fn spelled_address(text: &[u8]) -> u32
     let mut last: u32 = 0;
     for byte in text {
         if *byte == b'.' {
-            whole = joined(whole, last);
+            whole = append_octet(whole, last);
             last = 0;
         } else {
             last = (last * 10 + u32::from(*byte % 16)) % 256;
         }
     }
-    joined(whole, last)
+    append_octet(whole, last)
 }
 
 // The bytes so far with one more behind them, of which the last four stay.
-fn joined(whole: u32, last: u32) -> u32
+fn append_octet(whole: u32, last: u32) -> u32
     requires { last < 256 }
     ensures { result ≡ whole % 2 ^ 24 * 256 + last }
 {

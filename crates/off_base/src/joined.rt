@@ -121,7 +121,7 @@ fn joined_len(options: &[u8], wanted: u8) -> usize
     'parts: loop {
         match next_part(options, at, true) {
             Step::Found(code, place, len) => {
-                total += counted(code == wanted, len);
+                total += len_if(code == wanted, len);
                 at = place + 2 + len;
             }
             Step::End => return total,
@@ -141,7 +141,7 @@ fn joined_byte(options: &[u8], wanted: u8, i: usize) -> u8
     'parts: loop {
         match next_part(options, at, true) {
             Step::Found(code, place, len) => {
-                let here = counted(code == wanted, len);
+                let here = len_if(code == wanted, len);
                 if left < here {
                     return options[place + 2 + left];
                 }
@@ -155,7 +155,7 @@ fn joined_byte(options: &[u8], wanted: u8, i: usize) -> u8
 }
 
 // The length, where it counts.
-pub(crate) fn counted(counts: bool, len: usize) -> usize
+pub(crate) fn len_if(counts: bool, len: usize) -> usize
     ensures { result ≡ (if counts then len else 0) }
 {
     if counts { len } else { 0 }

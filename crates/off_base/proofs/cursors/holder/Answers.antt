@@ -4,7 +4,7 @@ use Rattle.off_base.proofs.cursors.holder.Goals as goal
 
 pub options-preserved : goal.options-preserved
 options-preserved c = (
-  rw c.counted-here.ensures (stands_on c.args.options.now c.args.wanted c.options.at c.options.before c.in-Found.code c.in-Found.place c.in-Found.len c.options.invariant.0 c.in-Found.ensures),
+  rw c.len_if-here.ensures (stands_on c.args.options.now c.args.wanted c.options.at c.options.before c.in-Found.code c.in-Found.place c.in-Found.len c.options.invariant.0 c.in-Found.ensures),
   omega arith,
 )
 
