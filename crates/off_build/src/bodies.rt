@@ -1,21 +1,21 @@
 ghost use Rattle.std.specs.Prelude.{◌≡◌, ◌==◌, ◌++◌, List, length, IfOk};
 ghost use Rattle.off_base.specs.Tree.{Tree, spelling, AllFit};
 ghost use Rattle.off_mic.specs.Mic.{cm_mic_of, cmts_mic_of};
-ghost use Rattle.off_mic.specs.Started.{NoneFirst};
+ghost use Rattle.off_mic.specs.Started.{Begun, NoneFirst};
 
 use off_base::{Bytes, NoMemory, Secret, Settings};
 use off_mic::Started;
 use off_tlv::write_settings;
 use std::alloc::Global;
 use std::marker::Model;
-use std::rc::RcSlice;
+use std::rc::{Rc, RcSlice};
 
 /// The spelling of a profile, which several owners share, and what the two values of its files take
 /// in of it, which no file so takes in anew. Contracts see its bytes.
 #[derive(Drop)]
 pub struct Body {
     spelling: RcSlice<u8>,
-    started: Started,
+    started: Rc<Started>,
 }
 
 impl Model for Body {
@@ -27,7 +27,7 @@ impl Model for Body {
 
     ghost view = { λ b. rc_slice_items b.spelling };
 
-    ghost invariant = { λ b. Begun b.started (rc_slice_items b.spelling) };
+    ghost invariant = { λ b. Begun b.started.value (rc_slice_items b.spelling) };
 }
 
 impl Body {
@@ -40,7 +40,7 @@ impl Body {
         let mut bytes = Bytes::new(alloc);
         write_settings(profile, &mut bytes)?;
         let spelling = RcSlice::from_slice(alloc, bytes.as_slice())?;
-        let started = Started::over(secret, bytes.as_slice());
+        let started = started_over(alloc, secret, bytes.as_slice())?;
         Ok(Body { spelling, started })
     }
 
@@ -49,7 +49,7 @@ impl Body {
         ensures { IfOk result (λ body. body ≡ self.now) }
     {
         let spelling = self.spelling.clone()?;
-        let started = self.started.copy();
+        let started = self.started.clone()?;
         Ok(Body { spelling, started })
     }
 
@@ -90,5 +90,15 @@ impl Body {
     {
         self.started
             .cmts_mic(secret, self.spelling.as_slice(), behind)
+    }
+}
+
+// Both values begun over bytes, for several owners.
+fn started_over(alloc: Global, secret: &Secret, bytes: &[u8]) -> Result<Rc<Started>, NoMemory>
+    ensures { IfOk result (λ started. Begun started.value bytes.now) }
+{
+    match Rc::new(alloc, Started::over(secret, bytes)) {
+        Ok(started) => Ok(started),
+        Err(_refused) => Err(NoMemory),
     }
 }

@@ -38,17 +38,6 @@ impl Started {
         }
     }
 
-    /// The same state again.
-    pub fn copy(&self) -> Started
-        ensures { result ≡ self.now }
-    {
-        Started {
-            secret: self.secret.copy(),
-            cm: copied(&self.cm),
-            cmts: self.cmts.copy(),
-        }
-    }
-
     /// The modem's value over the settings in front and these behind them (CM-SP-MULPIv3.1, annex
     /// C.1.1.6). It reads these alone.
     pub fn cm_mic(&self, behind: &[u8]) -> [u8; 16]
