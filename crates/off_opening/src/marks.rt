@@ -14,6 +14,7 @@ use off_defs::{Key, Pool, Row};
 use off_outside::{KeepErr, Keeper};
 use off_readers::{is_possible, next_behind, owner_of};
 use std::alloc::Global;
+use std::marker::Model;
 
 /// What of a row is compared with other rows.
 #[derive(Clone, Copy, Debug)]
@@ -37,6 +38,24 @@ pub(crate) struct Mark {
     /// Whether the row may stand at its key, whatever the other rows are.
     pub fits: bool,
     pub tie: Tie,
+}
+
+/// A pool with the number that it stands under. Contracts see the two as a pair.
+#[derive(Clone, Copy, Debug)]
+pub(crate) struct NumberedPool {
+    pub number: u32,
+    pub pool: Pool,
+}
+
+impl Model for NumberedPool {
+    ghost use Rattle.std.specs.Prelude.{ℕ};
+    ghost use Rattle.off_defs.specs.declared.tables.Pool.{Pool};
+
+    ghost Value = { ℕ × Pool };
+
+    ghost view = { λ p. (p.number, p.pool) };
+
+    ghost inverse = { λ v. record { number = v.0; pool = v.1 } };
 }
 
 /// The marks of all rows, in the order of keys. It changes nothing, and walks once.
@@ -98,7 +117,7 @@ pub(crate) fn tie_at(marks: &[Mark], key: Key) -> Option<Tie>
 
 /// All rows that are pools at the key of a pool, whatever their values, with their numbers, in the
 /// order of keys.
-pub(crate) fn pools_in(alloc: Global, marks: &[Mark]) -> Result<Vec<(u32, Pool)>, KeepErr>
+pub(crate) fn pools_in(alloc: Global, marks: &[Mark]) -> Result<Vec<NumberedPool>, KeepErr>
     ensures ok { IfOk result (λ pools. pools.items ≡ filter_map marked_pool marks.now) }
     ensures err { IfErr result (λ err. err ≡ KeepErr.Memory) }
 {
@@ -108,12 +127,12 @@ pub(crate) fn pools_in(alloc: Global, marks: &[Mark]) -> Result<Vec<(u32, Pool)>
     }
 }
 
-fn pool_in(mark: &Mark) -> Option<(u32, Pool)>
+fn pool_in(mark: &Mark) -> Option<NumberedPool>
     ensures { result ≡ marked_pool mark.now }
 {
     match mark.key {
         Key::Pool(number) => match mark.tie {
-            Tie::Pool(pool) => Some((number, pool)),
+            Tie::Pool(pool) => Some(NumberedPool { number, pool }),
             _ => None,
         },
         _ => None,

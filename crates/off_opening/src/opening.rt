@@ -6,9 +6,9 @@ ghost use Rattle.off_opening.specs.Marks.{marks_of};
 ghost use Rattle.off_opening.specs.Standing.{Opens};
 
 use crate::counting::counts_in;
-use crate::marks::{Mark, pools_in, read_marks};
+use crate::marks::{Mark, NumberedPool, pools_in, read_marks};
 use crate::standing::keeps;
-use off_defs::{Key, Pool};
+use off_defs::Key;
 use off_outside::{KeepErr, Keeper};
 use off_rules::Counts;
 use std::alloc::Global;
@@ -78,7 +78,7 @@ fn bad_in(alloc: Global, marks: &[Mark]) -> Result<Option<Key>, KeepErr>
 }
 
 // Likewise, where these are the tables' pools.
-fn least_bad(marks: &[Mark], pools: &[(u32, Pool)]) -> Option<Key>
+fn least_bad(marks: &[Mark], pools: &[NumberedPool]) -> Option<Key>
     ensures { (t : Tables) → marks.now ≡ marks_of t → pools.now ≡ raw_pools t → Judged t result }
 {
     for mark in marks {

@@ -9,21 +9,21 @@ ghost use Rattle.off_rules.specs.Good.{owner_holds, owns};
 ghost use Rattle.off_opening.specs.Marks.{marks_of};
 ghost use Rattle.off_opening.specs.Standing.{tie_stands, lease_tied, modem_tied, is_kept};
 
-use crate::marks::{Mark, Tie, tie_at};
+use crate::marks::{Mark, NumberedPool, Tie, tie_at};
 use off_base::{Ip4, Mac};
 use off_defs::{Key, Pool};
 use off_readers::{has_address, overlaps};
 use std::cmp::Ordering;
 
 /// Whether the row of a mark keeps its line, in tables that have these marks and these pools.
-pub(crate) fn keeps(marks: &[Mark], pools: &[(u32, Pool)], mark: &Mark) -> bool
+pub(crate) fn keeps(marks: &[Mark], pools: &[NumberedPool], mark: &Mark) -> bool
     ensures { (t : Tables) → marks.now ≡ marks_of t → pools.now ≡ raw_pools t
         → result ≡ is_kept t mark.now }
 {
     mark.fits && stands_right(marks, pools, mark)
 }
 
-fn stands_right(marks: &[Mark], pools: &[(u32, Pool)], mark: &Mark) -> bool
+fn stands_right(marks: &[Mark], pools: &[NumberedPool], mark: &Mark) -> bool
     ensures { (t : Tables) → marks.now ≡ marks_of t → pools.now ≡ raw_pools t
         → result ≡ tie_stands t mark.now.key mark.now.tie }
 {
@@ -63,20 +63,20 @@ fn modem_stands(marks: &[Mark], subscriber: u32, class: u32) -> bool
 }
 
 // No other pool has an address of this one or its relay.
-fn pool_stands(pools: &[(u32, Pool)], number: u32, pool: &Pool) -> bool
+fn pool_stands(pools: &[NumberedPool], number: u32, pool: &Pool) -> bool
     ensures { result ≡ list_all (is_apart number pool.now) pools.now }
 {
     pools.iter().all(|other| is_apart(number, pool, other))
 }
 
-fn is_apart(number: u32, pool: &Pool, other: &(u32, Pool)) -> bool
+fn is_apart(number: u32, pool: &Pool, other: &NumberedPool) -> bool
     ensures { result ≡ is_apart number pool.now other.now }
 {
-    other.0 == number || (!overlaps(pool, &other.1) && other.1.relay.0 != pool.relay.0)
+    other.number == number || (!overlaps(pool, &other.pool) && other.pool.relay.0 != pool.relay.0)
 }
 
 // A lease has its site and its one pool, and who has it holds its address.
-fn lease_stands(marks: &[Mark], pools: &[(u32, Pool)], address: Ip4, owner: Option<Mac>) -> bool
+fn lease_stands(marks: &[Mark], pools: &[NumberedPool], address: Ip4, owner: Option<Mac>) -> bool
     ensures { (t : Tables) → marks.now ≡ marks_of t → pools.now ≡ raw_pools t
         → result ≡ lease_tied t address owner }
 {
@@ -84,19 +84,19 @@ fn lease_stands(marks: &[Mark], pools: &[(u32, Pool)], address: Ip4, owner: Opti
 }
 
 // Whether exactly one pool has the address.
-fn is_in_one(pools: &[(u32, Pool)], address: Ip4) -> bool
+fn is_in_one(pools: &[NumberedPool], address: Ip4) -> bool
     ensures { result ≡ (count_by (λ other. has_address other.1 address) pools.now == 1) }
 {
     pools_with(pools, address) == 1
 }
 
 // How many pools have the address.
-fn pools_with(pools: &[(u32, Pool)], address: Ip4) -> usize
+fn pools_with(pools: &[NumberedPool], address: Ip4) -> usize
     ensures { result ≡ count_by (λ other. has_address other.1 address) pools.now }
 {
     pools
         .iter()
-        .filter(|other| has_address(&other.1, address))
+        .filter(|other| has_address(&other.pool, address))
         .count()
 }
 
