@@ -1,9 +1,10 @@
 -- A request that is accepted.
-use Rattle.std.proofs.Common.{◌≡◌, ℕ, ◌&&◌, not, Bool, true, false, cond, is_some, List, Option, Some, None, option_map, Result, Ok, Err, IfOk, OnOk, IfSome, refl, sym, ap, ◌∙◌, subst}
+use Rattle.std.proofs.Common.{◌≡◌, ℕ, ◌&&◌, not, Bool, true, false, cond, is_some, List, Option, Some, None, option_map, Result, Ok, Err, IfOk, OnOk, IfSome, MatchOption, refl, sym, ap, ◌∙◌, subst}
 use Rattle.std.specs.FinMap as map
 use Rattle.off_base.specs.Tree.{Tree, spelling}
 use Rattle.off_base.specs.declared.octets.NoMemory.{NoMemory}
 use Rattle.off_base.specs.declared.addresses.Peer.{Peer}
+use Rattle.off_base.specs.declared.addresses.Ip4.{Ip4}
 use Rattle.off_base.specs.declared.macs.Mac.{Mac}
 use Rattle.off_defs.specs.declared.tables.Site.{Site}
 use Rattle.off_defs.specs.declared.tables.Modem.{Modem}
@@ -12,11 +13,13 @@ use Rattle.off_rules.specs.Rows.{passes}
 use Rattle.off_kept.specs.declared.bodies.KeptBody.{KeptBody}
 use Rattle.off_kept.specs.Entries.{Entries, with_first}
 use Rattle.off_transfer_rules.specs.Transfers.{Transfers, begun, first_word}
-use Rattle.off_transfer_rules.specs.View.{IsBuiltBy, is_own_name}
+use Rattle.off_transfer_rules.specs.View.{View, IsBuiltBy, is_own_name}
 use Rattle.off_transfer_rules.specs.Steps.{Way, Accepts, Denies, gives, way_for_modem, file_not_found, too_many_transfers, last_to}
 use Rattle.off_transfer_rules.specs.declared.words.TftpWord.{TftpWord}
 use Rattle.off_tftp.specs.declared.gathering.Seen.{Seen}
 use Rattle.off_tftp.specs.Keeping.{entry_of, entry_for, kept_with, Serves}
+use Rattle.off_file_rules.specs.File.{IsBuilt}
+use Rattle.off_tftp.specs.Built.{CanBuild}
 use Rattle.off_tftp.specs.Opened.{IsBegun}
 use Rattle.off_tftp.specs.Saying.{says_more}
 use Rattle.off_tftp.specs.Seen.{view_with, HasName, CanServe}
@@ -25,6 +28,29 @@ use Rattle.off_tftp.specs.Seen.{view_with, HasName, CanServe}
 site_there : (o : Option Site) (f : Site → Bool) → passes f o ≡ true → is_some o ≡ true
 site_there None f is = cc
 site_there (Some site) f is = refl
+
+-- the file that a profile's body gives, where there are a site and a profile
+signed_by : (v : View) (site : Site) (secret body : List ℕ) (now : ℕ) (ip : Ip4) (file : Option (List ℕ)) (o : Option (List Tree)) → v.site ≡ Some site → secret ≡ site.secret → v.profile ≡ o
+    → ((profile : List Tree) → body ≡ spelling profile → CanBuild secret profile now ip → MatchOption file ⊥ (λ f. IsBuilt secret profile now ip f))
+    → option_map spelling o ≡ Some body → CanServe v now ip → IsBegun v now ip file
+signed_by v site secret body now ip file None s same p signed spells can = cc
+signed_by v site secret body now ip None (Some profile) s same p signed spells can =
+    let body_is : body ≡ spelling profile = cc in
+    absurd (signed profile body_is (subst (λ (x : List ℕ). CanBuild x profile now ip) (sym same) (can site profile s p)))
+signed_by v site secret body now ip (Some f) (Some profile) s same p signed spells can =
+    let body_is : body ≡ spelling profile = cc in
+    record {
+      site = site;
+      profile = profile;
+      site_is = s;
+      profile_is = p;
+      built = subst (λ (x : List ℕ). IsBuilt x profile now ip f) same (signed profile body_is (subst (λ (x : List ℕ). CanBuild x profile now ip) (sym same) (can site profile s p)));
+    }
+
+pub signed_is_begun : (v : View) (site : Site) (secret body : List ℕ) (now : ℕ) (ip : Ip4) (file : Option (List ℕ)) → v.site ≡ Some site → secret ≡ site.secret
+    → ((profile : List Tree) → body ≡ spelling profile → CanBuild secret profile now ip → MatchOption file ⊥ (λ f. IsBuilt secret profile now ip f))
+    → option_map spelling v.profile ≡ Some body → CanServe v now ip → IsBegun v now ip file
+signed_is_begun v site secret body now ip file s same signed spells can = signed_by v site secret body now ip file v.profile s same refl signed spells can
 
 -- the body of an entry is what its profile spells
 body_of : (modem : Modem) (profile : Option (List Tree)) (found : KeptBody) → Some found ≡ option_map (entry_of modem) profile → option_map spelling profile ≡ Some found.body

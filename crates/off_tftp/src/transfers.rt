@@ -8,7 +8,7 @@ ghost use Rattle.std.specs.FinMap as map;
 ghost use Rattle.off_defs.specs.State.{peer_cmp};
 ghost use Rattle.off_transfer_rules.specs.Transfers.{has_no_room, is_at_last, gone_on};
 ghost use Rattle.off_transfer_rules.specs.Transfers.{asked_again};
-ghost use Rattle.off_tftp.specs.Kept.{place_of, is_in_front, HasPlaceFor, changed};
+ghost use Rattle.off_tftp.specs.Kept.{AreKept, place_of, is_in_front, HasPlaceFor, changed};
 
 use crate::live::Live;
 use off_base::{Moment, NoMemory, Peer};
@@ -136,14 +136,15 @@ impl Transfers {
 
 // Where a peer's transfer stands, or is to be put.
 fn place_of(entries: &Vec<(Peer, Live)>, peer: Peer) -> usize
+    requires { AreKept entries.now.items }
     ensures place { result ≡ place_of peer entries.now.items }
     ensures within { result ≤ vec_len entries.now }
 {
-    let mut place = 0;
-    'places: while place < entries.len() && is_above(peer, entries[place].0) {
-        place += 1;
-    }
-    place
+    entries.partition_point(
+        |entry: &(Peer, Live)| -> bool
+            ensures { result ≡ is_gt (peer_cmp peer entry.now.0) }
+        { is_above(peer, entry.0) },
+    )
 }
 
 // Whether the peer's own transfer stands at the place.
