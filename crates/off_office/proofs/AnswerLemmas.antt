@@ -74,14 +74,6 @@ pub in_hand : (r : Result (Unit {0}) NoMemory) (said other : Said) → is_err r 
 in_hand (Ok u) said other none is = is
 in_hand (Err e) said other none is = cc
 
--- what a commit answers, behind an answer in hand
-pub carried_by : (q : Result (Unit {0}) KeepErr) (planned : Planned) (conn : ℕ) (said : Said) (before after : Desk) (a b : KeeperSeen)
-    → MatchResult q (λ _. Settled planned.writes a b) (λ err. NotCommitted (IsWritten planned.writes) err a b) → OnOk q (after ≡ desk_behind before planned)
-    → MatchResult q (λ _. Unit {0}) (λ _. after ≡ before) → said ≡ reply_said conn planned.reply
-    → MatchResult q (λ _. CarriedOut planned conn said before after a b) (λ err. NotCarriedOut planned err before after a b)
-carried_by (Ok u) planned conn said before after a b done counts none is = record { answer = is; counts = counts; done = done }
-carried_by (Err err) planned conn said before after a b not none same is = record { same = same; keeper = not }
-
 -- what a rule refuses is answered by the rule
 answered_refused : (command : Command) (now : ℕ) (desk : Desk) (row : ℕ) (rule : Rule) (conn : ℕ) (said : Said) (a b : KeeperSeen) → Rests a
     → Reads (λ t. Mirrors desk t → clerk_step t now command ≡ step_refused t row rule) a b

@@ -1,11 +1,10 @@
 -- A piece of a connection, by what the bytes so far say.
-use Rattle.std.proofs.Common.{◌≡◌, ℕ, Bool, true, false, ◌&&◌, cond, List, [], ◌++◌, codes, Option, Some, None, is_none, Result, Ok, Err, OnOk, MatchResult, refl, sym, ap, ◌∙◌, subst}
+use Rattle.std.proofs.Common.{◌≡◌, ℕ, Bool, true, false, ◌&&◌, cond, List, [], ◌++◌, codes, Option, Some, None, is_none, Result, Ok, Err, MatchResult, refl, sym, ap, ◌∙◌, subst}
 use Rattle.std.specs.Ordering.{nat_cmp, eq_by_cmp, is_eq}
 use Rattle.std.specs.Cmp.{nat_cmp_total}
 use Rattle.std.specs.declared.cmp.Ordering.{Ordering}
 use Rattle.std.specs.declared.cmp.Ordering.TheVariants.{Less, Equal, Greater}
 use Rattle.std.specs.FinMap as map
-use Rattle.off_base.specs.declared.octets.NoMemory.{NoMemory}
 use Rattle.off_http.specs.declared.answers.HttpFault.{HttpFault}
 use Rattle.off_http.specs.Request.{Meaning, Waits, Refused, Asked, RequestIs}
 use Rattle.off_http.specs.Heard.{IsAsked}
@@ -26,7 +25,7 @@ use Rattle.off_office.specs.Desk.{Desk}
 use Rattle.off_office.specs.Asking.{Asks, PieceAsks, SpentWithin, meaning_calls}
 use Rattle.off_office.proofs.CommandLemmas.{nothing_spent}
 use Rattle.off_office.proofs.StepLemmas.{StaysAs, stays_self, stays_by, kept_unwritten}
-use Rattle.off_office.specs.Answering.{said_to, fault_said, busy_said, failed_said, had_memory, forgets, answer_asked, IsAnswered, WaitsFor, PieceOn, HeardPiece, NotHeard}
+use Rattle.off_office.specs.Answering.{said_to, fault_said, busy_said, failed_said, IsSaid, forgets, answer_asked, IsAnswered, WaitsFor, PieceOn, HeardPiece, NotHeard}
 
 abbrev Connections : Type 0
 Connections = map.FinMap nat_cmp (List ℕ)
@@ -83,19 +82,18 @@ heard_quietly conn piece said before after k stays moment does = record {
   moment = moment;
 }
 
-busy_by : (conn : ℕ) (piece : List ℕ) (said : Said) (before : Desk) (k : KeeperSeen) (r : Result (Unit {0}) NoMemory)
-    → is_full before.held.connections conn ≡ true → OnOk r (said ≡ busy_said conn) → Hears conn piece said before before k k (had_memory r)
-busy_by conn piece said before k (Ok u) full is = heard_quietly conn piece said before before k (stays_self before) refl (λ t.
+-- memory was wanted: the connection is forgotten
+forgotten : (conn : ℕ) (piece : List ℕ) (before after : Desk) (k : KeeperSeen) (err : KeepErr) → err ≡ keep.Memory → after ≡ forgets before conn → NotHeard err conn piece before after k k
+forgotten conn piece before after k err memory is = subst (λ (e : KeepErr). NotHeard e conn piece before after k k) (sym memory) (record { forgotten = is; keeper = nothing_begun k })
+
+pub busy_hears : (conn : ℕ) (piece : List ℕ) (said : Said) (before : Desk) (k : KeeperSeen) (r : Result (Unit {0}) KeepErr)
+    → is_full before.held.connections conn ≡ true → IsSaid r said (busy_said conn) → Hears conn piece said before before k k r
+busy_hears conn piece said before k (Ok u) full is = heard_quietly conn piece said before before k (stays_self before) refl (λ t.
     subst (λ b. TakesPiece b (state_of t before.held) conn piece (record { said = said; commit = []; after = state_of t before.held })) (sym full)
     (ap (λ (x : Said). record { said = x; commit = []; after = state_of t before.held }) is))
-busy_by conn piece said before k (Err e) full is = record {
-  forgotten = ap (λ (m : Connections). record before { held = record before.held { connections = m } }) (sym (remove_absent before.held.connections conn (full_absent before.held.connections conn full)));
-  keeper = nothing_begun k;
-}
-
-pub busy_hears : (conn : ℕ) (piece : List ℕ) (said : Said) (before : Desk) (k : KeeperSeen) (r : Result (Unit {0}) NoMemory) (q : Result (Unit {0}) KeepErr)
-    → is_full before.held.connections conn ≡ true → OnOk r (said ≡ busy_said conn) → q ≡ had_memory r → Hears conn piece said before before k k q
-busy_hears conn piece said before k r q full is same = subst (Hears conn piece said before before k k) (sym same) (busy_by conn piece said before k r full is)
+busy_hears conn piece said before k (Err err) full is =
+    forgotten conn piece before before k err is
+    (ap (λ (m : Connections). record before { held = record before.held { connections = m } }) (sym (remove_absent before.held.connections conn (full_absent before.held.connections conn full))))
 
 -- what is heard where there is room
 pub record Read (conn : ℕ) (piece bytes : List ℕ) (meaning : Meaning) (before : Desk) : Type 0 where
@@ -113,11 +111,8 @@ takes conn piece bytes meaning before t effect read does =
       does = subst (λ (x : List ℕ). effect ≡ by_meaning (state_of t before.held) conn x meaning) read.joins does;
     })
 
-forgotten : (conn : ℕ) (piece : List ℕ) (before after : Desk) (k : KeeperSeen) → after ≡ forgets before conn → NotHeard keep.Memory conn piece before after k k
-forgotten conn piece before after k is = record { forgotten = is; keeper = nothing_begun k }
-
-wait_by : (conn : ℕ) (piece bytes : List ℕ) (said : Said) (before after : Desk) (k : KeeperSeen) (r : Result (Unit {0}) NoMemory)
-    → Read conn piece bytes Waits before → WaitsFor conn bytes r said (forgets before conn) after → Hears conn piece said before after k k (had_memory r)
+wait_by : (conn : ℕ) (piece bytes : List ℕ) (said : Said) (before after : Desk) (k : KeeperSeen) (r : Result (Unit {0}) KeepErr)
+    → Read conn piece bytes Waits before → WaitsFor conn bytes r said (forgets before conn) after → Hears conn piece said before after k k r
 wait_by conn piece bytes said before after k (Ok u) read waits =
     heard_quietly conn piece said before after k
     (stays_by before (record (forgets before conn) { held = with_connection (forgets before conn).held conn bytes }) after waits.1 (record { counts = refl; kept = refl }))
@@ -126,29 +121,27 @@ wait_by conn piece bytes said before after k (Ok u) read waits =
     (ap (λ (x : Said). record { said = x; commit = []; after = state_of t after.held }) waits.0
     ∙ (ap (λ (x : Desk). record { said = failed_said (codes "http wait"); commit = []; after = state_of t x.held }) waits.1
     ∙ ap (λ (m : Connections). record { said = failed_said (codes "http wait"); commit = []; after = state_of t (record before.held { connections = m }) }) (insert_removed before.held.connections conn bytes))))
-wait_by conn piece bytes said before after k (Err e) read waits = forgotten conn piece before after k waits
+wait_by conn piece bytes said before after k (Err err) read waits = forgotten conn piece before after k err waits.0 waits.1
 
-pub wait_hears : (conn : ℕ) (piece bytes : List ℕ) (meaning : Meaning) (said : Said) (before mid after : Desk) (k : KeeperSeen) (r : Result (Unit {0}) NoMemory) (q : Result (Unit {0}) KeepErr)
-    → Read conn piece bytes meaning before → meaning ≡ Waits → mid ≡ forgets before conn → WaitsFor conn bytes r said mid after → q ≡ had_memory r
-    → Hears conn piece said before after k k q
-wait_hears conn piece bytes meaning said before mid after k r q read is left waits same =
-    subst (Hears conn piece said before after k k) (sym same)
+pub wait_hears : (conn : ℕ) (piece bytes : List ℕ) (meaning : Meaning) (said : Said) (before mid after : Desk) (k : KeeperSeen) (r : Result (Unit {0}) KeepErr)
+    → Read conn piece bytes meaning before → meaning ≡ Waits → mid ≡ forgets before conn → WaitsFor conn bytes r said mid after
+    → Hears conn piece said before after k k r
+wait_hears conn piece bytes meaning said before mid after k r read is left waits =
     (wait_by conn piece bytes said before after k r (subst (λ (m : Meaning). Read conn piece bytes m before) is read) (subst (λ (x : Desk). WaitsFor conn bytes r said x after) left waits))
 
-bad_by : (conn : ℕ) (piece bytes : List ℕ) (f : HttpFault) (said : Said) (before : Desk) (k : KeeperSeen) (r : Result (Unit {0}) NoMemory)
-    → Read conn piece bytes (Refused f) before → OnOk r (said ≡ fault_said conn (fault.Http f)) → Hears conn piece said before (forgets before conn) k k (had_memory r)
+bad_by : (conn : ℕ) (piece bytes : List ℕ) (f : HttpFault) (said : Said) (before : Desk) (k : KeeperSeen) (r : Result (Unit {0}) KeepErr)
+    → Read conn piece bytes (Refused f) before → IsSaid r said (fault_said conn (fault.Http f)) → Hears conn piece said before (forgets before conn) k k r
 bad_by conn piece bytes f said before k (Ok u) read is = heard_quietly conn piece said before (forgets before conn) k (record { counts = refl; kept = refl }) refl (λ t.
     takes conn piece bytes (Refused f) before t (record { said = said; commit = []; after = state_of t (without_connection before.held conn) }) read
     (ap (λ (x : Said). record { said = x; commit = []; after = state_of t (without_connection before.held conn) }) is))
-bad_by conn piece bytes f said before k (Err e) read is = forgotten conn piece before (forgets before conn) k refl
+bad_by conn piece bytes f said before k (Err err) read is = forgotten conn piece before (forgets before conn) k err is refl
 
-pub bad_hears : (conn : ℕ) (piece bytes : List ℕ) (meaning : Meaning) (f : HttpFault) (said : Said) (before after : Desk) (k : KeeperSeen) (r : Result (Unit {0}) NoMemory) (q : Result (Unit {0}) KeepErr)
-    → Read conn piece bytes meaning before → meaning ≡ Refused f → after ≡ forgets before conn → OnOk r (said ≡ fault_said conn (fault.Http f)) → q ≡ had_memory r
-    → Hears conn piece said before after k k q
-bad_hears conn piece bytes meaning f said before after k r q read is left told same =
-    subst (λ (x : Desk). Hears conn piece said before x k k q) (sym left)
-    (subst (Hears conn piece said before (forgets before conn) k k) (sym same)
-    (bad_by conn piece bytes f said before k r (subst (λ (m : Meaning). Read conn piece bytes m before) is read) told))
+pub bad_hears : (conn : ℕ) (piece bytes : List ℕ) (meaning : Meaning) (f : HttpFault) (said : Said) (before after : Desk) (k : KeeperSeen) (r : Result (Unit {0}) KeepErr)
+    → Read conn piece bytes meaning before → meaning ≡ Refused f → after ≡ forgets before conn → IsSaid r said (fault_said conn (fault.Http f))
+    → Hears conn piece said before after k k r
+bad_hears conn piece bytes meaning f said before after k r read is left told =
+    subst (λ (x : Desk). Hears conn piece said before x k k r) (sym left)
+    (bad_by conn piece bytes f said before k r (subst (λ (m : Meaning). Read conn piece bytes m before) is read) told)
 
 asked_by : (conn : ℕ) (piece bytes m p b : List ℕ) (said : Said) (before after : Desk) (k l : KeeperSeen) (q : Result (Unit {0}) KeepErr)
     → Read conn piece bytes (Asked m p b) before

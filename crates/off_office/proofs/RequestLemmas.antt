@@ -1,6 +1,5 @@
 -- A request that was read, and its answer.
-use Rattle.std.proofs.Common.{◌≡◌, ℕ, List, [], Result, Ok, Err, OnOk, refl, sym, ap, ◌∙◌, subst}
-use Rattle.off_base.specs.declared.octets.NoMemory.{NoMemory}
+use Rattle.std.proofs.Common.{◌≡◌, ℕ, List, [], Result, Ok, Err, refl, sym, ap, ◌∙◌, subst}
 use Rattle.off_defs.specs.declared.orders.Command.{Command}
 use Rattle.off_defs.specs.State.{Said}
 use Rattle.off_clerk_rules.specs.declared.faults.ClerkErr.{ClerkErr}
@@ -15,7 +14,7 @@ use Rattle.off_office.specs.Desk.{Desk}
 use Rattle.off_http.specs.Request.{Meaning, Waits, Refused, Asked}
 use Rattle.off_http.specs.Heard.{IsAsked, asked_method, asked_target, asked_body}
 use Rattle.off_office.specs.Asking.{SpentWithin, command_calls, request_calls, meaning_calls}
-use Rattle.off_office.specs.Answering.{fault_said, had_memory, IsAnswered, answer_to}
+use Rattle.off_office.specs.Answering.{fault_said, IsSaid, NotAnswered, IsAnswered, answer_to}
 use Rattle.off_outside.proofs.KeeperLemmas.{settled_none, nothing_begun}
 use Rattle.off_office.proofs.AnswerLemmas.{not_answered}
 use Rattle.off_office.proofs.StepLemmas.{kept_unwritten}
@@ -40,8 +39,8 @@ command_ends method target body m p b command now conn said before after k l q p
     subst (λ r. ReadEnds r now conn said before after k l q) (sym (read_as method target body m p b parts ∙ is)) ends
 
 -- a request at fault is answered so, whatever the tables
-fault_by : (err : ClerkErr) (now conn : ℕ) (said : Said) (desk : Desk) (k : KeeperSeen) (r : Result (Unit {0}) NoMemory)
-    → OnOk r (said ≡ fault_said conn (fault.Clerk err)) → ReadEnds (Err err) now conn said desk desk k k (had_memory r)
+fault_by : (err : ClerkErr) (now conn : ℕ) (said : Said) (desk : Desk) (k : KeeperSeen) (r : Result (Unit {0}) KeepErr)
+    → IsSaid r said (fault_said conn (fault.Clerk err)) → ReadEnds (Err err) now conn said desk desk k k r
 fault_by err now conn said desk k (Ok u) is = record {
   writes = [];
   tables = told_self (λ t. record { holds = λ mirrors. ((is, refl, refl), mirrors) });
@@ -49,14 +48,15 @@ fault_by err now conn said desk k (Ok u) is = record {
   kept = kept_unwritten desk desk refl;
   settled = settled_none [] k refl;
 }
-fault_by err now conn said desk k (Err e) is = not_answered (λ t. answer_command t now (Err err)) keep.Memory desk k k (nothing_begun k)
+fault_by err now conn said desk k (Err e) is =
+    subst (λ (x : KeepErr). NotAnswered (λ t. answer_command t now (Err err)) x desk desk k k) (sym is)
+    (not_answered (λ t. answer_command t now (Err err)) keep.Memory desk k k (nothing_begun k))
 
-pub fault_ends : (method target body m p b : List ℕ) (err : ClerkErr) (now conn : ℕ) (said : Said) (desk : Desk) (k : KeeperSeen) (r : Result (Unit {0}) NoMemory) (q : Result (Unit {0}) KeepErr)
-    → Parts method target body m p b → command_read method target body ≡ Err err → OnOk r (said ≡ fault_said conn (fault.Clerk err)) → q ≡ had_memory r
-    → IsAnswered q (λ t. answer_request t now m p b) conn said desk desk k k
-fault_ends method target body m p b err now conn said desk k r q parts is told same =
-    subst (λ x. ReadEnds x now conn said desk desk k k q) (sym (read_as method target body m p b parts ∙ is))
-    (subst (ReadEnds (Err err) now conn said desk desk k k) (sym same) (fault_by err now conn said desk k r told))
+pub fault_ends : (method target body m p b : List ℕ) (err : ClerkErr) (now conn : ℕ) (said : Said) (desk : Desk) (k : KeeperSeen) (r : Result (Unit {0}) KeepErr)
+    → Parts method target body m p b → command_read method target body ≡ Err err → IsSaid r said (fault_said conn (fault.Clerk err))
+    → IsAnswered r (λ t. answer_request t now m p b) conn said desk desk k k
+fault_ends method target body m p b err now conn said desk k r parts is told =
+    subst (λ x. ReadEnds x now conn said desk desk k k r) (sym (read_as method target body m p b parts ∙ is)) (fault_by err now conn said desk k r told)
 
 -- a request asks what its command does, and nothing where it's at fault
 pub command_asks : (meaning : Meaning) (method target body : List ℕ) (command : Command) (a b : KeeperSeen) → IsAsked meaning

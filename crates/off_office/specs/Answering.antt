@@ -1,6 +1,5 @@
 -- What a clerk is told, and what comes of a piece of a clerk's connection.
-use Rattle.std.specs.Prelude.{◌≡◌, ℕ, List, [], ◌∷◌, ◌++◌, codes, decimal, Result, Ok, Err, MatchResult}
-use Rattle.off_base.specs.declared.octets.NoMemory.{NoMemory}
+use Rattle.std.specs.Prelude.{◌≡◌, ℕ, List, [], ◌∷◌, ◌++◌, codes, decimal, Result, Err, MatchResult}
 use Rattle.off_http.specs.Reply.{reply}
 use Rattle.off_http.specs.Request.{Meaning}
 use Rattle.off_http.specs.Heard.{asked_method, asked_target, asked_body}
@@ -188,24 +187,22 @@ pub record NotHeard (err : KeepErr) (conn : ℕ) (piece : List ℕ) (before afte
 abbrev pub failed_said : List ℕ → Said
 failed_said line = record { items = []; line = line }
 
--- want of memory, as the keeper has it
-abbrev pub had_memory : Result (Unit {0}) NoMemory → Result (Unit {0}) KeepErr
-had_memory (Ok done) = Ok done
-had_memory (Err refused) = Err keep.Memory
+-- this was said, or memory was wanted
+abbrev pub IsSaid : Result (Unit {0}) KeepErr → Said → Said → Type 0
+IsSaid result said what = MatchResult result (λ _. said ≡ what) (λ err. err ≡ keep.Memory)
 
 -- a connection of which more must come was kept, or memory was wanted and nothing changed
-abbrev pub WaitsFor : ℕ → List ℕ → Result (Unit {0}) NoMemory → Said → Desk → Desk → Type 0
+abbrev pub WaitsFor : ℕ → List ℕ → Result (Unit {0}) KeepErr → Said → Desk → Desk → Type 0
 WaitsFor conn bytes result said before after =
     MatchResult result
     (λ _. (said ≡ failed_said (codes "http wait"))
     × (after ≡ record before { held = with_connection before.held conn bytes }))
-    (λ _. after ≡ before)
+    (λ err. (err ≡ keep.Memory) × (after ≡ before))
 
 -- why a command wasn't done is answered, or handed on
 abbrev pub Refuses : ℕ → AccountErr → Result (Unit {0}) KeepErr → Said → Type 0
 Refuses conn (Refused row rule) result said =
-    MatchResult result (λ _. said ≡ fault_said conn (fault.Rule row rule))
-    (λ err. err ≡ keep.Memory)
+    IsSaid result said (fault_said conn (fault.Rule row rule))
 Refuses conn Failed result said = result ≡ Err keep.Failed
 Refuses conn Memory result said = result ≡ Err keep.Memory
 

@@ -1,14 +1,13 @@
-ghost use Rattle.std.specs.Prelude.{◌≡◌, ◌≤◌, ◌<◌, ◌^◌, length, OnOk, IsTrue, codes};
+ghost use Rattle.std.specs.Prelude.{◌≡◌, ◌≤◌, ◌<◌, ◌^◌, length, IsTrue, codes};
 ghost use Rattle.off_defs.specs.State.{says_nothing};
 ghost use Rattle.off_http.specs.Reply.{is_reply_status};
 ghost use Rattle.off_clerk_rules.specs.Faults.{IsTold};
 ghost use Rattle.off_clerk_rules.specs.Replies.{IsRightReply};
 ghost use Rattle.off_office.specs.Answering.{said_as, fault_said, fault_line, reply_said};
-ghost use Rattle.off_office.specs.Answering.{busy_said, Fails};
+ghost use Rattle.off_office.specs.Answering.{busy_said, IsSaid, Fails};
 
 use arrayvec::ArrayVec;
 use itoa::Buffer;
-use off_base::NoMemory;
 use off_clerk::{Fault, fault_json, fault_status, fault_word, reply_json};
 use off_defs::Reply;
 use off_http::reply_bytes;
@@ -21,10 +20,10 @@ pub(crate) fn answer_fault(
     conn: u32,
     f: &Fault,
     out: &mut Replies,
-) -> Result<(), NoMemory>
+) -> Result<(), KeepErr>
     requires told { IsTold f.now }
     requires clean { out.old ≡ says_nothing }
-    ensures { OnOk result (out.new ≡ fault_said conn f.now) }
+    ensures { IsSaid result out.new (fault_said conn f.now) }
 {
     let body = fault_json(alloc, f)?;
     let status = fault_status(f);
@@ -38,19 +37,19 @@ pub(crate) fn answer_reply(
     conn: u32,
     r: &Reply,
     out: &mut Replies,
-) -> Result<(), NoMemory>
+) -> Result<(), KeepErr>
     requires right { IsRightReply r.now }
     requires clean { out.old ≡ says_nothing }
-    ensures { OnOk result (out.new ≡ reply_said conn r.now) }
+    ensures { IsSaid result out.new (reply_said conn r.now) }
 {
     let body = reply_json(alloc, r)?;
     answer_with(alloc, conn, 200, body.as_slice(), b"http 200", out)
 }
 
 /// Closes a connection that is one too many.
-pub(crate) fn close_busy(conn: u32, out: &mut Replies) -> Result<(), NoMemory>
+pub(crate) fn close_busy(conn: u32, out: &mut Replies) -> Result<(), KeepErr>
     requires clean { out.old ≡ says_nothing }
-    ensures { OnOk result (out.new ≡ busy_said conn) }
+    ensures { IsSaid result out.new (busy_said conn) }
 {
     out.push(Sent::Close { conn })?;
     out.set_line(b"http busy");
@@ -65,11 +64,11 @@ fn answer_with(
     body: &[u8],
     line: &[u8],
     out: &mut Replies,
-) -> Result<(), NoMemory>
+) -> Result<(), KeepErr>
     requires known { IsTrue (is_reply_status status) }
     requires short { length line.now ≤ 80 }
     requires clean { out.old ≡ says_nothing }
-    ensures { OnOk result (out.new ≡ said_as conn status body.now line.now) }
+    ensures { IsSaid result out.new (said_as conn status body.now line.now) }
 {
     let bytes = reply_bytes(alloc, status, body)?;
     out.push(Sent::Answer { conn, bytes })?;

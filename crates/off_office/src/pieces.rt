@@ -7,7 +7,7 @@ ghost use Rattle.off_clerk_rules.specs.Replies.{IsRightReply};
 ghost use Rattle.off_book.specs.Http.{is_full, heard_of};
 ghost use Rattle.off_office.specs.Answering.{forgets, answer_asked, answer_to, IsAnswered};
 ghost use Rattle.off_office.specs.Answering.{CarriedOut, NotCarriedOut, HeardPiece, NotHeard};
-ghost use Rattle.off_office.specs.Answering.{WaitsFor, Refuses, had_memory};
+ghost use Rattle.off_office.specs.Answering.{WaitsFor, Refuses};
 ghost use Rattle.off_office.specs.Acting.{Handled};
 ghost use Rattle.off_office.specs.Asking.{Asks, SpentWithin, commit_calls, command_calls};
 ghost use Rattle.off_office.specs.Asking.{meaning_calls};
@@ -16,7 +16,6 @@ ghost use Rattle.off_outside.specs.KeeperCalls.{Spent};
 use crate::answers::{answer_fault, answer_reply, close_busy, fail};
 use crate::office::Office;
 use off_accounts::{AccountErr, Planned};
-use off_base::NoMemory;
 use off_clerk::{ClerkErr, Fault, command_of};
 use off_defs::Command;
 use off_http::{Fed, Session};
@@ -60,15 +59,15 @@ impl Office {
             (K.seen keeper.old) (K.seen keeper.new) }
     {
         if self.is_full_for(conn) {
-            return had_memory(close_busy(conn, out));
+            return close_busy(conn, out);
         }
         let mut session = self.resume(conn);
         let Ok(fed) = session.feed(piece) else {
             return Err(KeepErr::Memory);
         };
         match fed {
-            Fed::Wait => had_memory(self.wait_for(conn, session, out)),
-            Fed::Bad(fault) => had_memory(answer_fault(self.alloc, conn, &Fault::Http(fault), out)),
+            Fed::Wait => self.wait_for(conn, session, out),
+            Fed::Bad(fault) => answer_fault(self.alloc, conn, &Fault::Http(fault), out),
             Fed::Whole => self.answer_request(keeper, conn, &session, out),
         }
     }
@@ -90,7 +89,7 @@ impl Office {
     }
 
     // Keeps a connection of which more must come.
-    fn wait_for(&mut self, conn: u32, session: Session, out: &mut Replies) -> Result<(), NoMemory>
+    fn wait_for(&mut self, conn: u32, session: Session, out: &mut Replies) -> Result<(), KeepErr>
         requires waits { session.answer ≡ Waits }
         requires clean { out.old ≡ says_nothing }
         ensures { WaitsFor conn session.bytes result out.new self.old self.new }
@@ -119,7 +118,7 @@ impl Office {
         match command_of(self.alloc, session.method(), session.path(), session.body()) {
             Ok(command) => self.answer_command(keeper, conn, &command, out),
             Err(ClerkErr::Memory) => Err(KeepErr::Memory),
-            Err(err) => had_memory(answer_fault(self.alloc, conn, &Fault::Clerk(err), out)),
+            Err(err) => answer_fault(self.alloc, conn, &Fault::Clerk(err), out),
         }
     }
 
@@ -162,9 +161,7 @@ impl Office {
         ensures spent { Spent (commit_calls planned.now.writes)
             (K.seen keeper.old) (K.seen keeper.new) }
     {
-        if answer_reply(self.alloc, conn, &planned.reply, out).is_err() {
-            return Err(KeepErr::Memory);
-        }
+        answer_reply(self.alloc, conn, &planned.reply, out)?;
         self.settle(keeper, &planned.writes, &planned.counts)
     }
 
@@ -175,17 +172,10 @@ impl Office {
     {
         match err {
             AccountErr::Refused { row, rule } => {
-                had_memory(answer_fault(self.alloc, conn, &Fault::Rule { row, rule }, out))
+                answer_fault(self.alloc, conn, &Fault::Rule { row, rule }, out)
             }
             AccountErr::Failed => Err(KeepErr::Failed),
             AccountErr::Memory => Err(KeepErr::Memory),
         }
     }
-}
-
-// Want of memory, as the keeper has it.
-fn had_memory(done: Result<(), NoMemory>) -> Result<(), KeepErr>
-    ensures { result ≡ had_memory done }
-{
-    Ok(done?)
 }

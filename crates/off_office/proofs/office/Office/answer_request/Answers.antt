@@ -17,9 +17,9 @@ returns-in-Ok-clause-spent g c =
 
 pub returns-in-Err-clause-told : goal.returns-in-Err-clause-told
 returns-in-Err-clause-told g c =
-    fault_ends c.method.result.now c.path.result.now c.body.result.now _ _ _ c.in-Err.err _ _ _ _ _ c.answer_fault.result c.had_memory.result
+    fault_ends c.method.result.now c.path.result.now c.body.result.now _ _ _ c.in-Err.err _ _ _ _ _ c.answer_fault.result
     (record { method_is = c.method.ensures.value; target_is = c.path.ensures.value; body_is = c.body.ensures.value })
-    (c.in-Err.ensures.exact (search rules)) c.answer_fault.ensures c.had_memory.ensures
+    (c.in-Err.ensures.exact (search rules)) c.answer_fault.ensures
 
 pub returns-in-Err-clause-spent : goal.returns-in-Err-clause-spent
 returns-in-Err-clause-spent g c = nothing_spent _ _

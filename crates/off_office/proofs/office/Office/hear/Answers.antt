@@ -6,27 +6,27 @@ use Rattle.off_office.proofs.office.Office.hear.Goals as goal
 
 pub returns-then-is_full_for-clause-told : goal.returns-then-is_full_for-clause-told
 returns-then-is_full_for-clause-told g c =
-    busy_hears c.args.conn _ _ c.args.self.now _ c.close_busy.result c.had_memory.result (sym c.is_full_for.ensures ∙ c.if-is_full_for.true) c.close_busy.ensures c.had_memory.ensures
+    busy_hears c.args.conn _ _ c.args.self.now _ c.close_busy.result (sym c.is_full_for.ensures ∙ c.if-is_full_for.true) c.close_busy.ensures
 
 pub returns-in-Wait-clause-told : goal.returns-in-Wait-clause-told
 returns-in-Wait-clause-told g c =
-    wait_hears c.args.conn c.args.piece.now c.feed.new.self.bytes c.feed.new.self.answer _ c.args.self.now c.resume-session.new.self _ _ c.wait_for.result c.had_memory-in-Wait.result
+    wait_hears c.args.conn c.args.piece.now c.feed.new.self.bytes c.feed.new.self.answer _ c.args.self.now c.resume-session.new.self _ _ c.wait_for.result
     (record {
       room = sym c.is_full_for.ensures ∙ c.if-is_full_for.false;
       joins = c.in-Ok.ensures.joins ∙ ap (λ (x : List ℕ). x ++ c.args.piece.now) c.resume-session.ensures.bytes;
       says = c.in-Ok.ensures.says;
     })
-    (subst (λ (f : Fed). Answers f c.feed.new.self.answer) c.in-Wait.is c.in-Ok.ensures.answers) c.resume-session.ensures.left c.wait_for.ensures c.had_memory-in-Wait.ensures
+    (subst (λ (f : Fed). Answers f c.feed.new.self.answer) c.in-Wait.is c.in-Ok.ensures.answers) c.resume-session.ensures.left c.wait_for.ensures
 
 pub returns-in-Bad-clause-told : goal.returns-in-Bad-clause-told
 returns-in-Bad-clause-told g c =
-    bad_hears c.args.conn c.args.piece.now c.feed.new.self.bytes c.feed.new.self.answer c.in-Bad.fault _ c.args.self.now c.resume-session.new.self _ c.answer_fault.result c.had_memory-in-Bad.result
+    bad_hears c.args.conn c.args.piece.now c.feed.new.self.bytes c.feed.new.self.answer c.in-Bad.fault _ c.args.self.now c.resume-session.new.self _ c.answer_fault.result
     (record {
       room = sym c.is_full_for.ensures ∙ c.if-is_full_for.false;
       joins = c.in-Ok.ensures.joins ∙ ap (λ (x : List ℕ). x ++ c.args.piece.now) c.resume-session.ensures.bytes;
       says = c.in-Ok.ensures.says;
     })
-    (subst (λ (f : Fed). Answers f c.feed.new.self.answer) c.in-Bad.is c.in-Ok.ensures.answers) c.resume-session.ensures.left c.answer_fault.ensures c.had_memory-in-Bad.ensures
+    (subst (λ (f : Fed). Answers f c.feed.new.self.answer) c.in-Bad.is c.in-Ok.ensures.answers) c.resume-session.ensures.left c.answer_fault.ensures
 
 pub returns-in-Whole-clause-told : goal.returns-in-Whole-clause-told
 returns-in-Whole-clause-told g c =
