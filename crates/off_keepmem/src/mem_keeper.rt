@@ -190,10 +190,7 @@ impl MemKeeper {
         ensures { MemLooks result self.old self.new (λ row tables. row ≡ row_at tables key) }
     {
         self.count_call()?;
-        match self.row(alloc, key) {
-            Ok(row) => Ok(row),
-            Err(_refused) => Err(KeepErr::Memory),
-        }
+        Ok(self.row(alloc, key)?)
     }
 
     fn walk_on(&mut self, alloc: Global, place: Option<Key>) -> Result<Option<(Key, Row)>, KeepErr>
@@ -201,10 +198,7 @@ impl MemKeeper {
             (λ entry tables. entry ≡ next_entry place tables) }
     {
         self.count_call()?;
-        match self.entry_behind(alloc, place) {
-            Ok(entry) => Ok(entry),
-            Err(_refused) => Err(KeepErr::Memory),
-        }
+        Ok(self.entry_behind(alloc, place)?)
     }
 
     #[tactic(auto, using(crate::proofs::MemKeeperLemmas::shallow_same))]
@@ -213,9 +207,7 @@ impl MemKeeper {
         ensures shallow { IsShallow self.new }
     {
         self.count_call()?;
-        let Ok(plan) = self.plan(alloc, writes) else {
-            return Err(KeepErr::Memory);
-        };
+        let plan = self.plan(alloc, writes)?;
         self.apply(plan);
         self.commits = one_more(self.commits);
         Ok(())
