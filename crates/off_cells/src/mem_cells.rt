@@ -93,10 +93,7 @@ impl MemCells {
         ensures { MemCellLooks result self.old self.new (λ val cells. val ≡ cell_at cells key) }
     {
         self.count_call()?;
-        match self.value(key) {
-            Ok(val) => Ok(val),
-            Err(_refused) => Err(KeepErr::Memory),
-        }
+        Ok(self.value(key)?)
     }
 
     fn walk_on(&mut self, place: Option<KeyBytes>) -> Result<Option<(KeyBytes, Bytes)>, KeepErr>
@@ -104,22 +101,15 @@ impl MemCells {
             (λ cell cells. cell ≡ next_cell place cells) }
     {
         self.count_call()?;
-        match self.cell_behind(place) {
-            Ok(cell) => Ok(cell),
-            Err(_refused) => Err(KeepErr::Memory),
-        }
+        Ok(self.cell_behind(place)?)
     }
 
     fn do_all(&mut self, alloc: Global, writes: &CellWrites) -> Result<(), KeepErr>
         ensures { MemCellCommits result self.old self.new writes.now }
     {
         self.count_call()?;
-        let Ok(copies) = copied(alloc, writes) else {
-            return Err(KeepErr::Memory);
-        };
-        let Ok(()) = self.cells.reserve(copies.len()) else {
-            return Err(KeepErr::Memory);
-        };
+        let copies = copied(alloc, writes)?;
+        self.cells.reserve(copies.len())?;
         write_all(&mut self.cells, copies);
         Ok(())
     }
