@@ -1,7 +1,6 @@
-ghost use Rattle.std.specs.Prelude.{◌≡◌, ◌↔◌, ◌++◌, ◌∷◌, [], IsTrue, MatchResult};
+ghost use Rattle.std.specs.Prelude.{◌≡◌, ◌↔◌, IsTrue};
 ghost use Rattle.off_base.specs.Tree.{AllFit};
 ghost use Rattle.off_defs.specs.declared.orders.Write.TheVariants as write;
-ghost use Rattle.off_outside.specs.declared.keeper.KeepErr.TheVariants.{Memory};
 ghost use Rattle.off_rows.specs.KeyBytes.{kind_of};
 ghost use Rattle.off_rows.specs.RowBytes.{IsOfKind, SettingsStand, IsShortSpelling};
 ghost use Rattle.off_tlv.specs.Grammar.{in_file, AllStand};
@@ -31,18 +30,9 @@ pub(crate) fn spell_all(
     let mut cells = CellWrites::new(alloc);
     for i in 0..writes.len() {
         let write = spell(alloc, writes.get(i), own)?;
-        append(&mut cells, write)?;
+        cells.push(write)?;
     }
     Ok(cells)
-}
-
-fn append(cells: &mut CellWrites, write: CellWrite) -> Result<(), KeepErr>
-    ensures { MatchResult result (λ _. cells.new ≡ cells.old ++ write ∷ []) (λ err. err ≡ Memory) }
-{
-    match cells.push(write) {
-        Ok(()) => Ok(()),
-        Err(_refused) => Err(KeepErr::Memory),
-    }
 }
 
 fn spell(alloc: Global, write: &Write, own: &mut u64) -> Result<CellWrite, KeepErr>
@@ -61,9 +51,7 @@ fn spell_put(alloc: Global, key: &Key, row: &Row, own: &mut u64) -> Result<CellW
         count_fault(own);
         return Err(KeepErr::Failed);
     }
-    let Ok(val) = encode(alloc, row) else {
-        return Err(KeepErr::Memory);
-    };
+    let val = encode(alloc, row)?;
     Ok(CellWrite::Put(encode_key(key), val))
 }
 

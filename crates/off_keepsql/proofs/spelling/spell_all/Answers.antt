@@ -10,7 +10,7 @@ returns-in_err-write c =
 
 pub loop-i-preserved : goal.loop-i-preserved
 loop-i-preserved c = record {
-  cells = c.in_ok-append.ensures ∙ cells_more _ _ _ _ _ c.get.ensures c.loop-i.invariant.cells c.in_ok-write.ensures.1;
+  cells = c.in_ok-push.ensures.ok ∙ cells_more _ _ _ _ _ c.get.ensures c.loop-i.invariant.cells c.in_ok-write.ensures.1;
   spelled = spelled_more _ _ _ c.get.ensures c.loop-i.invariant.spelled c.in_ok-write.ensures.0;
   own = c.in_ok-write.ensures.2 ∙ c.loop-i.invariant.own;
 }
