@@ -32,9 +32,7 @@ pub(crate) fn drop_lost<K: Keeper>(
         if is_past_lost(lost, &key) {
             return Ok(());
         }
-        let Ok(()) = push_drops(lost, &key, &row, writes) else {
-            return Err(KeepErr::Memory);
-        };
+        push_drops(lost, &key, &row, writes)?;
         place = key;
     }
 }
@@ -52,9 +50,7 @@ pub(crate) fn with_drops<K: Keeper>(
         (λ writes t. writes ≡ write ∷ flat_map lease_drops (lost_from old new t)) }
 {
     let mut writes = Writes::new(alloc);
-    let Ok(()) = writes.push(write) else {
-        return Err(KeepErr::Memory);
-    };
+    writes.push(write)?;
     let Some(old) = old else {
         return Ok(writes);
     };

@@ -84,10 +84,8 @@ fn one_write(alloc: Global, write: Write) -> Result<Writes, KeepErr>
     ensures { MatchResult result (λ writes. writes ≡ write ∷ []) (λ err. err ≡ Memory) }
 {
     let mut writes = Writes::new(alloc);
-    match writes.push(write) {
-        Ok(()) => Ok(writes),
-        Err(_refused) => Err(KeepErr::Memory),
-    }
+    writes.push(write)?;
+    Ok(writes)
 }
 
 // The drops of a subscriber and of all add-ons that it may have.
@@ -97,13 +95,9 @@ fn subscriber_drops(alloc: Global, n: u32) -> Result<Writes, KeepErr>
         (λ err. err ≡ Memory) }
 {
     let mut writes = Writes::new(alloc);
-    let Ok(()) = writes.push(Write::Drop(Key::Subscriber(n))) else {
-        return Err(KeepErr::Memory);
-    };
+    writes.push(Write::Drop(Key::Subscriber(n)))?;
     for number in 0..ADD_ONS {
-        let Ok(()) = writes.push(Write::Drop(Key::AddOn(n, number))) else {
-            return Err(KeepErr::Memory);
-        };
+        writes.push(Write::Drop(Key::AddOn(n, number)))?;
     }
     Ok(writes)
 }
@@ -111,17 +105,11 @@ fn subscriber_drops(alloc: Global, n: u32) -> Result<Writes, KeepErr>
 fn add_on_row(settings: &Settings) -> Result<Row, KeepErr>
     ensures { MatchResult result (λ made. made ≡ row.AddOn settings.now) (λ err. err ≡ Memory) }
 {
-    match settings.copy() {
-        Ok(settings) => Ok(Row::AddOn(settings)),
-        Err(_refused) => Err(KeepErr::Memory),
-    }
+    Ok(Row::AddOn(settings.copy()?))
 }
 
 fn class_row(class: &Class) -> Result<Row, KeepErr>
     ensures { MatchResult result (λ made. made ≡ row.Class class.now) (λ err. err ≡ Memory) }
 {
-    match class.copy() {
-        Ok(class) => Ok(Row::Class(class)),
-        Err(_refused) => Err(KeepErr::Memory),
-    }
+    Ok(Row::Class(class.copy()?))
 }

@@ -16,17 +16,17 @@ returns-then-is_past_lost g c =
     drop_past c.args.lost.now c.args.writes.now c.walk.writes c.walk.place (c.in-Some.key, c.in-Some.row) t left (sym c.in-Some.is ∙ next)
     (c.is_past_lost.ensures.here c.in-Some.row c.if-is_past_lost.true) (λ other after. c.is_past_lost.ensures.later other c.if-is_past_lost.true after))
 
-pub walk-preserved-in-Ok : goal.walk-preserved-in-Ok
-walk-preserved-in-Ok g c =
+pub walk-preserved-in_ok-push_drops : goal.walk-preserved-in_ok-push_drops
+walk-preserved-in_ok-push_drops g c =
     reads_then c.walk.invariant c.in_ok-key.ensures.told (λ t left next.
-    drop_on c.args.lost.now c.args.writes.now c.walk.writes c.push_drops.new.writes c.walk.place (c.in-Some.key, c.in-Some.row) t left (sym c.in-Some.is ∙ next) c.in-Ok.ensures)
+    drop_on c.args.lost.now c.args.writes.now c.walk.writes c.push_drops.new.writes c.walk.place (c.in-Some.key, c.in-Some.row) t left (sym c.in-Some.is ∙ next) c.in_ok-push_drops.ensures)
 
-pub walk-preserved-in-Ok-2 : goal.walk-preserved-in-Ok-2
-walk-preserved-in-Ok-2 g c =
+pub walk-preserved-in_ok-push_drops-2 : goal.walk-preserved-in_ok-push_drops-2
+walk-preserved-in_ok-push_drops-2 g c =
     reads_then c.walk.invariant c.in_ok-key.ensures.told (λ t left next.
-    drop_on c.args.lost.now c.args.writes.now c.walk.writes c.push_drops.new.writes c.walk.place (c.in-Some.key, c.in-Some.row) t left (sym c.in-Some.is ∙ next) c.in-Ok.ensures)
+    drop_on c.args.lost.now c.args.writes.now c.walk.writes c.push_drops.new.writes c.walk.place (c.in-Some.key, c.in-Some.row) t left (sym c.in-Some.is ∙ next) c.in_ok-push_drops.ensures)
 
 pub walk-preserved : goal.walk-preserved
 walk-preserved g c =
     reads_then c.walk.invariant c.in_ok-key.ensures.told (λ t left next.
-    drop_on c.args.lost.now c.args.writes.now c.walk.writes c.push_drops.new.writes c.walk.place (c.in-Some.key, c.in-Some.row) t left (sym c.in-Some.is ∙ next) c.in-Ok.ensures)
+    drop_on c.args.lost.now c.args.writes.now c.walk.writes c.push_drops.new.writes c.walk.place (c.in-Some.key, c.in-Some.row) t left (sym c.in-Some.is ∙ next) c.in_ok-push_drops.ensures)
