@@ -94,9 +94,7 @@ fn finish(so_far: Progress, number: u64, batch: &Batch) -> Result<Result<Planned
         Err(rule) => return Ok(Err(refused(rule))),
     };
     let mut writes = so_far.writes;
-    let Ok(()) = writes.push(Write::Put(Key::Batch(number), Row::Batch(*batch))) else {
-        return Err(KeepErr::Memory);
-    };
+    writes.push(Write::Put(Key::Batch(number), Row::Batch(*batch)))?;
     Ok(Ok(Planned {
         writes,
         reply: Reply::Rows(batch.rows),

@@ -65,10 +65,10 @@ fn step<K: Keeper>(
     ensures spent { Spent 3 (K.seen keeper.old) (K.seen keeper.new) }
 {
     match judge(alloc, keeper, so_far, row)? {
-        Ok(counts) => match put_row(so_far, row, &counts) {
-            Ok(()) => Ok(Ok(())),
-            Err(_refused) => Err(KeepErr::Memory),
-        },
+        Ok(counts) => {
+            put_row(so_far, row, &counts)?;
+            Ok(Ok(()))
+        }
         Err(rule) => Ok(Err(rule)),
     }
 }
