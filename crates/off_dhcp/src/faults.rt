@@ -57,7 +57,7 @@ pub(crate) fn fixed_fault(bytes: &[u8]) -> Option<DhcpFault>
     if bytes.len() > MOST_BYTES {
         return Some(DhcpFault::Long);
     }
-    if bytes[0] != BOOTREQUEST {
+    if !is_request(bytes[0]) {
         return Some(DhcpFault::NotRequest);
     }
     if !is_ethernet(bytes[1], bytes[2]) {
@@ -67,6 +67,12 @@ pub(crate) fn fixed_fault(bytes: &[u8]) -> Option<DhcpFault>
         return Some(DhcpFault::Cookie);
     }
     None
+}
+
+fn is_request(operation: u8) -> bool
+    ensures { result ≡ (operation == 1) }
+{
+    operation == BOOTREQUEST
 }
 
 fn is_ethernet(kind: u8, length: u8) -> bool

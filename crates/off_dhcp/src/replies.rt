@@ -1,6 +1,6 @@
 ghost use Rattle.std.specs.Prelude.{◌≡◌, ◌≤◌, ◌+◌, ◌-◌, ◌*◌, ◌/◌, ◌==◌, ◌++◌, ◌⊎◌};
 ghost use Rattle.std.specs.Prelude.{if◌then◌else◌, length, [], ◌∷◌, OnOk, IfOk};
-ghost use Rattle.off_dhcp.specs.Reply.{zeros, four, head, option, padded, nak_flags};
+ghost use Rattle.off_dhcp.specs.Reply.{zeros, four, head, option, padded, nak_flags, confirmed};
 ghost use Rattle.off_dhcp.specs.Reply.{nak_bytes, reply_bytes, mask, log_option};
 
 use crate::faults::{MAGIC_COOKIE, MESSAGE_TYPE};
@@ -57,15 +57,11 @@ pub fn write_reply(alloc: Global, m: &Message<'_>, r: &Offer) -> Result<Bytes, N
     requires prefix { (8 ≤ r.now.pool.prefix) × (r.now.pool.prefix ≤ 30) }
     ensures { IfOk result (λ bytes. bytes ≡ reply_bytes m.now r.now) }
 {
-    let ciaddr = confirmed_address(m, r.kind);
     let server = r.site.server;
-    let lease = r.site.lease;
-    let mut out = write_head(alloc, m, m.flags(), ciaddr, r.yiaddr, server, &r.name)?;
+    let mut out = write_reply_head(alloc, m, r)?;
     push_option(&mut out, MESSAGE_TYPE, &[r.kind])?;
     push_number(&mut out, SERVER_IDENTIFIER, server.0)?;
-    push_number(&mut out, LEASE_TIME, lease)?;
-    push_number(&mut out, RENEWAL_TIME, lease / 2)?;
-    push_number(&mut out, REBINDING_TIME, seven_eighths(lease))?;
+    push_times(&mut out, r.site.lease)?;
     push_number(&mut out, SUBNET_MASK, mask_of(r.pool.prefix))?;
     push_number(&mut out, ROUTER, r.pool.router.0)?;
     push_number(&mut out, TIME_OFFSET, r.site.offset.cast_unsigned())?;
@@ -74,6 +70,23 @@ pub fn write_reply(alloc: Global, m: &Message<'_>, r: &Offer) -> Result<Bytes, N
     push_relay(&mut out, m)?;
     finish(&mut out)?;
     Ok(out)
+}
+
+// The fixed part of an OFFER or an ACK, with the request's flags.
+fn write_reply_head(alloc: Global, m: &Message<'_>, r: &Offer) -> Result<Bytes, NoMemory>
+    ensures { IfOk result (λ bytes. bytes ≡ head m.now m.now.flags (confirmed m.now r.now)
+        r.now.yiaddr.0 r.now.site.server.0 r.now.name) }
+{
+    let ciaddr = confirmed_address(m, r.kind);
+    write_head(
+        alloc,
+        m,
+        m.flags(),
+        ciaddr,
+        r.yiaddr,
+        r.site.server,
+        &r.name,
+    )
 }
 
 // The fixed part and the cookie, with a name in `file`.
@@ -123,6 +136,16 @@ fn confirmed_address(m: &Message<'_>, kind: u8) -> Ip4
     ensures { result.0 ≡ (if kind == 5 then m.now.ciaddr else 0) }
 {
     if kind == ACK { m.ciaddr() } else { Ip4(0) }
+}
+
+// How long the lease lasts, and when the client is to renew and to rebind it.
+fn push_times(out: &mut Bytes, lease: u32) -> Result<(), NoMemory>
+    ensures { OnOk result (out.new ≡ out.old ++ option 51 (four lease)
+        ++ option 58 (four (lease / 2)) ++ option 59 (four (7 * lease / 8))) }
+{
+    push_number(out, LEASE_TIME, lease)?;
+    push_number(out, RENEWAL_TIME, lease / 2)?;
+    push_number(out, REBINDING_TIME, seven_eighths(lease))
 }
 
 fn seven_eighths(lease: u32) -> u32
