@@ -21,10 +21,3 @@ pub fn is_past_pools(key: &Key) -> bool
 {
     is_past_modems(key) && !matches!(*key, Key::Class(_) | Key::Pool(_))
 }
-
-/// Whether all keys of leases are below this one.
-pub fn is_past_leases(key: &Key) -> bool
-    ensures { result ≡ nat_lt 7 (kind_of key.now) }
-{
-    is_past_pools(key) && !matches!(*key, Key::Lease(_))
-}
