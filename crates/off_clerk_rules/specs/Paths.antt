@@ -4,7 +4,7 @@ use Rattle.std.specs.Prelude.{ℕ, ◌-◌, ◌^◌, ◌==◌, true, false, List
 use Rattle.std.specs.List.{starts_with, position_or_len, fold}
 use Rattle.std.specs.Option.{option_or}
 use Rattle.off_base.specs.AddressText.{ip_of, mac_of}
-use Rattle.off_base.specs.Number.{number_read}
+use Rattle.off_base.specs.Number.{number_read, greatest_u64}
 use Rattle.off_base.specs.declared.addresses.Ip4.{Ip4}
 use Rattle.off_base.specs.declared.macs.Mac.{Mac}
 use Rattle.off_defs.specs.Bounds.{last_add_on}
@@ -87,12 +87,8 @@ lease_at path =
     read_behind (codes "/leases/")
     (λ text. option_map (λ number. only_shown (key.Lease (ip_with number))) (ip_of text)) path
 
--- the greatest number of an import
-abbrev pub last_batch : ℕ
-last_batch = 2 ^ 64 - 1
-
 abbrev pub import_named : ImportKind → List ℕ → Option Place
-import_named kind text = option_map (λ batch. at.Import kind batch) (number_read last_batch text)
+import_named kind text = option_map (λ batch. at.Import kind batch) (number_read greatest_u64 text)
 
 abbrev pub subscribers_at : List ℕ → Option Place
 subscribers_at path = read_behind (codes "/imports/subscribers/") (import_named Subscribers) path

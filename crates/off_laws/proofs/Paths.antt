@@ -1,12 +1,12 @@
 -- What a path names is a row that a clerk may be shown, and may remove where the path has DELETE.
 use Rattle.std.proofs.Common.{◌≡◌, ℕ, Bool, true, false, cond, ◌&&◌, List, codes, length, take, drop, Option, Some, None, option_map, option_and_then, IfSome, nat_le, refl}
 use Rattle.off_base.specs.AddressText.{ip_of, mac_of}
-use Rattle.off_base.specs.Number.{number_of, is_number_text, number_read}
+use Rattle.off_base.specs.Number.{number_of, is_number_text, number_read, greatest_u64}
 use Rattle.off_defs.specs.declared.keys.Key.TheVariants as key
 use Rattle.off_defs.specs.declared.tables.ImportKind.TheVariants.{Subscribers, Modems}
 use Rattle.off_clerk_rules.specs.declared.places.Place.{Place}
 use Rattle.off_clerk_rules.specs.declared.places.Place.TheVariants as at
-use Rattle.off_clerk_rules.specs.Paths.{length_before, last_number, mac_with, ip_with, add_on_named, site_at, subscriber_at, add_on_at, modem_at, class_at, pool_at, lease_at, subscribers_at, modems_at, place_at, last_batch, only_shown, kept, removable, IsNamed}
+use Rattle.off_clerk_rules.specs.Paths.{length_before, last_number, mac_with, ip_with, add_on_named, site_at, subscriber_at, add_on_at, modem_at, class_at, pool_at, lease_at, subscribers_at, modems_at, place_at, only_shown, kept, removable, IsNamed}
 use Rattle.off_clerk_rules.proofs.PathLemmas.{NamesOne, either_named}
 
 within_if : (text : Bool) (n most : ℕ) (b : Bool) → nat_le n most ≡ b → IfSome (cond (text && b) (Some n) None) (λ (m : ℕ). nat_le m most ≡ true)
@@ -60,5 +60,5 @@ path_named path =
     (if_begins _ _ (of_read (number_read last_number _) (λ n. removable (key.Class n)) (λ n. (refl, λ _. refl)))))
     (if_begins _ _ (of_read (number_read last_number _) (λ n. removable (key.Pool n)) (λ n. (refl, λ _. refl)))))
     (if_begins _ _ (of_read (ip_of _) (λ number. only_shown (key.Lease (ip_with number))) (λ number. (refl, λ h. h)))))
-    (if_begins _ _ (of_read (number_read last_batch _) (λ batch. at.Import Subscribers batch) (λ batch. tt))))
-    (if_begins _ _ (of_read (number_read last_batch _) (λ batch. at.Import Modems batch) (λ batch. tt)))
+    (if_begins _ _ (of_read (number_read greatest_u64 _) (λ batch. at.Import Subscribers batch) (λ batch. tt))))
+    (if_begins _ _ (of_read (number_read greatest_u64 _) (λ batch. at.Import Modems batch) (λ batch. tt)))

@@ -1,5 +1,6 @@
 -- What a connection gives.
-use Rattle.std.specs.Prelude.{◌≡◌, ℕ, ◌+◌, ◌-◌, ◌^◌, ◌<◌, List, Bool, true, min}
+use Rattle.std.specs.Prelude.{◌≡◌, ℕ, ◌+◌, ◌<◌, List, Bool, true, min}
+use Rattle.off_base.specs.Number.{greatest_u64}
 use Rattle.off_peers.specs.declared.connection.Heard.{Heard}
 use Rattle.off_peers.specs.declared.connection.Heard.TheVariants.{Piece, Quiet, Dropped, Over}
 
@@ -40,4 +41,4 @@ IsHeardAt Over now before after = Unit {0}
 
 -- the moment that is so much later
 abbrev pub later : ℕ → ℕ → ℕ
-later now span = min (now + span) (2 ^ 64 - 1)
+later now span = min (now + span) greatest_u64

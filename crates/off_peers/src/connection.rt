@@ -1,5 +1,8 @@
-ghost use Rattle.std.specs.Prelude.{◌≡◌, ◌≢◌, ◌<◌, ◌≤◌, ◌↔◌, ◌⊎◌, ◌+◌, ◌-◌, ◌^◌, length, min, IsTrue, true, false, Some, MatchOption};
-ghost use Rattle.off_peers.specs.Connections.{GivesNothing, IsInTime, IsPieceOf, IsSpoken, IsHeardAt, later};
+ghost use Rattle.std.specs.Prelude.{◌≡◌, ◌≢◌, ◌<◌, ◌≤◌, ◌↔◌, ◌⊎◌, ◌+◌, ◌-◌, length, min, IsTrue};
+ghost use Rattle.std.specs.Prelude.{true, false, Some, MatchOption};
+ghost use Rattle.off_base.specs.Number.{greatest_u64};
+ghost use Rattle.off_peers.specs.Connections.{GivesNothing, IsInTime, IsPieceOf, IsSpoken};
+ghost use Rattle.off_peers.specs.Connections.{IsHeardAt, later};
 ghost use Rattle.mio.specs.Event.{is_readable, is_read_closed, is_error};
 ghost use Rattle.off_peers.specs.declared.connection.Heard.TheVariants as heard;
 ghost use Rattle.off_peers.specs.declared.connection.Stage.TheVariants as stage;
@@ -147,7 +150,7 @@ impl Connection {
         ensures dripping { self.now.stage ≡ stage.Waiting → self.now.readable ≡ true
             → self.now.drips ≡ true → result ≡ 1 }
         ensures more { self.now.stage ≡ stage.Waiting → self.now.readable ≡ true
-            → self.now.drips ≡ false → result ≡ min (self.now.counted + 2) (2 ^ 64 - 1) }
+            → self.now.drips ≡ false → result ≡ min (self.now.counted + 2) greatest_u64 }
     {
         if self.stage != Stage::Waiting || !self.readable {
             return 0;

@@ -17,7 +17,7 @@ ghost use Rattle.off_outside.specs.KeeperCalls.{Looks, Spent};
 use crate::bodies::kept_or_built;
 use crate::judging::names_file;
 use off_base::{Ip4, Mac, Moment, Settings};
-use off_defs::{Class, Lease, Modem, Site, Subscriber};
+use off_defs::{ADD_ONS, Class, Lease, Modem, Site, Subscriber};
 use off_kept::{Kept, KeptBody};
 use off_outside::{KeepErr, Keeper};
 use off_profile::{AddOns, profile_of};
@@ -25,9 +25,6 @@ use off_readers::{
     owner_of, read_add_on, read_class, read_lease, read_modem, read_site, read_subscriber,
 };
 use std::alloc::Global;
-
-// How many add-ons a subscriber may have.
-const ADD_ONS: u8 = 8;
 
 /// The site, the lease of the peer's address, of the modem that owns it the row, and the body of
 /// its file with the row's numbers.

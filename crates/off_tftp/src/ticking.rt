@@ -1,8 +1,8 @@
 //! What a Tick does: packets that weren't answered are sent again, and transfers of which nothing
 //! came for too long are closed.
 
-ghost use Rattle.std.specs.Prelude.{◌≡◌, ◌+◌, ◌≤◌, ◌<◌, ◌++◌, suc, take, drop, vec_len, Ok, IfOk, OnOk};
-ghost use Rattle.std.specs.Prelude.{OnErr, slice_index_or};
+ghost use Rattle.std.specs.Prelude.{◌≡◌, ◌+◌, ◌≤◌, ◌<◌, ◌++◌, suc, take, drop, vec_len, Ok};
+ghost use Rattle.std.specs.Prelude.{IfOk, OnOk, OnErr, slice_index_or};
 ghost use Rattle.std.specs.List.{flat_map};
 ghost use Rattle.std.specs.Vec.{vec_capacity};
 ghost use Rattle.std.specs.FinMap as map;
