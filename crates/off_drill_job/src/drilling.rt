@@ -42,8 +42,8 @@ pub fn drill<L: Link, K: Keeper, W: Sink>(
     ensures { Drills count result (K.seen keeper.old) (K.seen keeper.new)
         (L.seen link.old) (L.seen link.new) (W.seen out.old) (W.seen out.new) }
 {
-    let ended = come_to_end(alloc, count, link, keeper);
-    tell_end(count, ended, out)
+    let end = come_to_end(alloc, count, link, keeper);
+    tell_end(count, end, out)
 }
 
 // Opens the tables, and goes on where they have no rows.

@@ -58,16 +58,16 @@ fn serve_modem<L: Link, K: Keeper>(
         (λ err. Stopped err count (Waits k) office.old
         (K.seen keeper.old) (K.seen keeper.new) (L.seen link.old) (L.seen link.new)) }
 {
-    let offered = ask(alloc, k + 1, Ask::Offer, office, keeper, link, tally)?;
-    if !offered {
+    let is_offered = ask(alloc, k + 1, Ask::Offer, office, keeper, link, tally)?;
+    if !is_offered {
         return Ok(());
     }
-    let leased = ask(alloc, k + 1, Ask::Lease, office, keeper, link, tally)?;
-    if !leased {
+    let is_leased = ask(alloc, k + 1, Ask::Lease, office, keeper, link, tally)?;
+    if !is_leased {
         return Ok(());
     }
-    let begun = ask(alloc, k + 1, Ask::File, office, keeper, link, tally)?;
-    if !begun {
+    let is_begun = ask(alloc, k + 1, Ask::File, office, keeper, link, tally)?;
+    if !is_begun {
         return Ok(());
     }
     get_file(alloc, count, k, office, keeper, link, tally)

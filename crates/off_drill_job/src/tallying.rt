@@ -24,14 +24,14 @@ pub(crate) fn count_said(tally: Tally, said: &Replies) -> Tally
     ensures { result ≡ raised_by tally (tally_of said.now) }
 {
     let line = said.line();
-    let counted = Tally {
+    let of_line = Tally {
         offers: tally.offers.saturating_add(one_for(b"dhcp offer", line)),
         acks: tally.acks.saturating_add(one_for(b"dhcp ack", line)),
         files: tally.files.saturating_add(one_for(b"tftp done", line)),
         blocks: tally.blocks,
         octets: tally.octets,
     };
-    count_data(counted, said)
+    count_data(of_line, said)
 }
 
 // A line of these words counts as one.
@@ -45,11 +45,11 @@ fn one_for(words: &[u8], line: &[u8]) -> u64
 fn count_data(tally: Tally, said: &Replies) -> Tally
     ensures { result ≡ raised_by tally (data_tally said.now.items) }
 {
-    let mut counted = tally;
+    let mut sum = tally;
     for i in 0..said.len() {
-        counted = count_item(counted, said.get(i));
+        sum = count_item(sum, said.get(i));
     }
-    counted
+    sum
 }
 
 fn count_item(tally: Tally, item: &Sent) -> Tally

@@ -12,7 +12,7 @@ loop-i-init c = (counted_none _, c.len-i-end.ensures)
 pub loop-i-preserved : goal.loop-i-preserved
 loop-i-preserved c =
     let items = c.args.said.now.items in (
-      counted_more _ _ _ _ _ c.get.result.now c.loop-i.invariant.0 c.count_item-counted.ensures
+      counted_more _ _ _ _ _ c.get.result.now c.loop-i.invariant.0 c.count_item-sum.ensures
           (one_more_item items c.loop-i.i c.get.result.now (omega (arith, c.loop-i-test.true, c.len-i-end.ensures)) c.get.ensures),
       c.loop-i.invariant.1,
     )
