@@ -5,7 +5,7 @@ use off_outside::{Calls, KeepErr, Keeper};
 use off_rows::KeyBytes;
 use office_stage::Kept;
 use script_words::Unread;
-use sqlite::{Connection, MemStore};
+use sqlite::MemStore;
 use std::alloc::Global;
 
 /// A keeper, and how many calls it has had.
@@ -83,10 +83,7 @@ impl Kept for InCells {
 impl Kept for InDatabase {
     // Its calls can't be made to fail.
     fn made(alloc: Global, _fails: Calls) -> Result<InDatabase, Unread> {
-        let Ok(conn) = Connection::open_in_memory(alloc) else {
-            return Err(Unread::Memory);
-        };
-        match SqlKeeper::begin(alloc, conn) {
+        match SqlKeeper::in_memory(alloc) {
             Ok(keeper) => Ok(Counted { keeper, calls: 0 }),
             Err(_refused) => Err(Unread::Memory),
         }
