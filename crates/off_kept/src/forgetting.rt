@@ -52,6 +52,7 @@ fn turn(cache: &mut LruCache<Mac, KeptBody>, writes: &Writes)
         → cache.new.entries ≡ (if is_written writes.now last then front else last ∷ front) }
     ensures cap { cache.new.cap ≡ cache.old.cap }
 {
+    // That the keys of the cache differ is told by its length.
     let _len = cache.len();
     let Some((modem, is_gone)) = last_written(cache, writes) else {
         return;

@@ -66,6 +66,7 @@ impl Kept {
         ensures ok { OnOk result (self.new ≡ with_first modem kept self.old) }
         ensures err { OnErr result (self.new ≡ self.old) }
     {
+        // That the keys of the cache differ is told by its length.
         let _len = self.cache.len();
         let is_put = self.cache.put(modem, kept).is_ok();
         if is_put {

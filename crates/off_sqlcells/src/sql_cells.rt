@@ -38,6 +38,7 @@ impl<S: Ordered + Drop> SqlCells<S> {
     {
         let mut conn = conn;
         make_table(&mut conn)?;
+        // That the tables obey the schema is told by the call that shows it.
         let _schema = conn.schema();
         if !conn.is_autocommit() {
             return Err(KeepErr::Failed);
