@@ -80,8 +80,8 @@ impl Connections {
         ensures ok { OnOk result (self.new ≡ map.insert self.old conn session.bytes) }
         ensures err { OnErr result (self.new ≡ self.old) }
     {
-        let kept = self.live.insert(conn, session).is_ok();
-        if kept {
+        let is_kept = self.live.insert(conn, session).is_ok();
+        if is_kept {
             return Ok(());
         }
         Err(NoMemory)

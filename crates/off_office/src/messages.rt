@@ -96,9 +96,7 @@ impl Office {
             reply,
             word,
         } = step;
-        if say_step(reply, word, out).is_err() {
-            return Err(KeepErr::Memory);
-        }
+        say_step(reply, word, out)?;
         // A message changes no count of rows.
         let counts = self.counts;
         self.settle(keeper, &writes, &counts)

@@ -62,10 +62,7 @@ impl Office {
             return close_busy(conn, out);
         }
         let mut session = self.resume(conn);
-        let Ok(fed) = session.feed(piece) else {
-            return Err(KeepErr::Memory);
-        };
-        match fed {
+        match session.feed(piece)? {
             Fed::Wait => self.wait_for(conn, session, out),
             Fed::Bad(fault) => answer_fault(self.alloc, conn, &Fault::Http(fault), out),
             Fed::Whole => self.answer_request(keeper, conn, &session, out),

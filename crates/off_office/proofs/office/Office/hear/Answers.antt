@@ -13,30 +13,30 @@ returns-in-Wait-clause-told g c =
     wait_hears c.args.conn c.args.piece.now c.feed.new.self.bytes c.feed.new.self.answer _ c.args.self.now c.resume-session.new.self _ _ c.wait_for.result
     (record {
       room = sym c.is_full_for.ensures ∙ c.if-is_full_for.false;
-      joins = c.in-Ok.ensures.joins ∙ ap (λ (x : List ℕ). x ++ c.args.piece.now) c.resume-session.ensures.bytes;
-      says = c.in-Ok.ensures.says;
+      joins = c.in_ok-feed.ensures.joins ∙ ap (λ (x : List ℕ). x ++ c.args.piece.now) c.resume-session.ensures.bytes;
+      says = c.in_ok-feed.ensures.says;
     })
-    (subst (λ (f : Fed). Answers f c.feed.new.self.answer) c.in-Wait.is c.in-Ok.ensures.answers) c.resume-session.ensures.left c.wait_for.ensures
+    (subst (λ (f : Fed). Answers f c.feed.new.self.answer) c.in-Wait.is c.in_ok-feed.ensures.answers) c.resume-session.ensures.left c.wait_for.ensures
 
 pub returns-in-Bad-clause-told : goal.returns-in-Bad-clause-told
 returns-in-Bad-clause-told g c =
     bad_hears c.args.conn c.args.piece.now c.feed.new.self.bytes c.feed.new.self.answer c.in-Bad.fault _ c.args.self.now c.resume-session.new.self _ c.answer_fault.result
     (record {
       room = sym c.is_full_for.ensures ∙ c.if-is_full_for.false;
-      joins = c.in-Ok.ensures.joins ∙ ap (λ (x : List ℕ). x ++ c.args.piece.now) c.resume-session.ensures.bytes;
-      says = c.in-Ok.ensures.says;
+      joins = c.in_ok-feed.ensures.joins ∙ ap (λ (x : List ℕ). x ++ c.args.piece.now) c.resume-session.ensures.bytes;
+      says = c.in_ok-feed.ensures.says;
     })
-    (subst (λ (f : Fed). Answers f c.feed.new.self.answer) c.in-Bad.is c.in-Ok.ensures.answers) c.resume-session.ensures.left c.answer_fault.ensures
+    (subst (λ (f : Fed). Answers f c.feed.new.self.answer) c.in-Bad.is c.in_ok-feed.ensures.answers) c.resume-session.ensures.left c.answer_fault.ensures
 
 pub returns-in-Whole-clause-told : goal.returns-in-Whole-clause-told
 returns-in-Whole-clause-told g c =
     asked_hears c.args.conn c.args.piece.now c.feed.new.self.bytes c.feed.new.self.answer _ c.args.self.now c.resume-session.new.self _ _ _ c.answer_request.result
     (record {
       room = sym c.is_full_for.ensures ∙ c.if-is_full_for.false;
-      joins = c.in-Ok.ensures.joins ∙ ap (λ (x : List ℕ). x ++ c.args.piece.now) c.resume-session.ensures.bytes;
-      says = c.in-Ok.ensures.says;
+      joins = c.in_ok-feed.ensures.joins ∙ ap (λ (x : List ℕ). x ++ c.args.piece.now) c.resume-session.ensures.bytes;
+      says = c.in_ok-feed.ensures.says;
     })
-    (subst (λ (f : Fed). Answers f c.feed.new.self.answer) c.in-Whole.is c.in-Ok.ensures.answers) c.resume-session.ensures.left c.answer_request.ensures.told
+    (subst (λ (f : Fed). Answers f c.feed.new.self.answer) c.in-Whole.is c.in_ok-feed.ensures.answers) c.resume-session.ensures.left c.answer_request.ensures.told
 
 pub returns-then-is_full_for-clause-asks : goal.returns-then-is_full_for-clause-asks
 returns-then-is_full_for-clause-asks g c = full_asks _ _ c.args.self.now.held _ (sym c.is_full_for.ensures ∙ c.if-is_full_for.true)
@@ -52,7 +52,7 @@ returns-in-Whole-clause-asks g c =
     read_asks c.args.conn c.args.piece.now c.feed.new.self.bytes c.feed.new.self.answer c.args.self.now _ _
     (record {
       room = sym c.is_full_for.ensures ∙ c.if-is_full_for.false;
-      joins = c.in-Ok.ensures.joins ∙ ap (λ (x : List ℕ). x ++ c.args.piece.now) c.resume-session.ensures.bytes;
-      says = c.in-Ok.ensures.says;
+      joins = c.in_ok-feed.ensures.joins ∙ ap (λ (x : List ℕ). x ++ c.args.piece.now) c.resume-session.ensures.bytes;
+      says = c.in_ok-feed.ensures.says;
     })
     c.answer_request.ensures.spent
