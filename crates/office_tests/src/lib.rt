@@ -1,9 +1,10 @@
-//! What no script can say of the office: a keeper that tells nothing and whose entries don't rise,
-//! impossible rows behind the opening test, drills over a keeper that forgets, `Office::command` by
-//! itself, and a commit for which memory is refused.
+//! What no script can say: a keeper that tells nothing and whose entries don't rise, impossible
+//! rows behind the opening test, drills over a keeper that forgets, `Office::command` by itself, a
+//! commit for which memory is refused; the service of leases by itself; and a modem's name and
+//! file, with their bytes as another program gives them.
 //!
-//! There is nothing here but tests. All other examples are data: `office_script`, `format_script`,
-//! `clerk_script`.
+//! There is nothing here but tests. They show that calls succeed with ample memory, which no
+//! contract can say. All other examples are data: `office_script`, `format_script`, `clerk_script`.
 #![tactic(auto)]
 
 #[cfg(test)]
@@ -11,10 +12,18 @@ mod commands;
 #[cfg(test)]
 mod desk;
 #[cfg(test)]
+mod files;
+#[cfg(test)]
 mod forgetting;
 #[cfg(test)]
 mod kept;
 #[cfg(test)]
+mod lease_rows;
+#[cfg(test)]
 mod lying;
 #[cfg(test)]
+mod offering;
+#[cfg(test)]
 mod silence;
+#[cfg(test)]
+mod straying;

@@ -1,4 +1,4 @@
-use crate::rows::{AT, RELAY, discover, office_rows};
+use crate::lease_rows::{AT, RELAY, discover, office_rows};
 use off_base::{Bytes, Peer};
 use off_defs::Sent;
 use off_dhcp::Message;
