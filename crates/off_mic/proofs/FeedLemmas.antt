@@ -1,5 +1,5 @@
 -- Taking in wanted settings one by one.
-use Rattle.std.proofs.Common.{◌≡◌, ℕ, ◌+◌, ◌<◌, ◌≤◌, Bool, true, false, cond, List, [], ◌∷◌, ◌++◌, length, get_or, take, refl, sym, ap, subst, ◌∙◌, append-nil, append_assoc}
+use Rattle.std.proofs.Common.{◌≡◌, ℕ, ◌+◌, ◌<◌, ◌≤◌, Bool, true, false, cond, List, [], ◌∷◌, ◌++◌, length, get_or, take, refl, sym, ap, subst, ◌∙◌, append-nil, append_assoc, ◌≢◌, ◌==◌, true≢false, slice_index_or, slice_set}
 use Rattle.std.specs.List.{filter}
 use Rattle.std.proofs.lemmas.List.Elements.{filter-append}
 use Rattle.std.proofs.lemmas.List.Concat.{flat_map-append}
@@ -10,10 +10,12 @@ use Rattle.off_tlv.specs.Grammar.{in_file}
 use Rattle.off_tlv.specs.Fault.{IsShort}
 use Rattle.off_tlv.specs.Walk.{Walk, TakesSetting}
 use Rattle.off_tlv.proofs.ReadingLemmas.{front_is, not_short_by}
-use Rattle.std.proofs.lemmas.List.{take_more, take_all}
-use Rattle.off_mic.specs.declared.feeding.Wanted.TheVariants.{OfCode}
+use Rattle.std.proofs.lemmas.List.{take_more, take_all, length-set, get_or-set_other}
+use Rattle.std.proofs.lemmas.Grind.{get_or-set_at}
+use Rattle.std.proofs.lemmas.Bool.{eqb-true, eq-eqb}
+use Rattle.off_mic.specs.declared.feeding.Wanted.TheVariants.{OfCode, ButMics}
 use Rattle.off_mic.specs.Mic.{of_code, text_of_codes}
-use Rattle.off_mic.specs.Feed.{Came, Fed, Copied, is_fed, wanted_text}
+use Rattle.off_mic.specs.Feed.{Came, Fed, Copied, Marked, MarksCodes, is_fed, wanted_text}
 use Rattle.off_mic.specs.declared.feeding.Wanted.{Wanted}
 
 pub wanted_text-append : (wanted : Wanted) (ts us : List Tree) → wanted_text wanted (ts ++ us) ≡ wanted_text wanted ts ++ wanted_text wanted us
@@ -129,3 +131,42 @@ more_behind message codes i front back at =
 
 pub all_behind : (message codes : List ℕ) (i : ℕ) (trees : List Tree) → length codes ≤ i → message ++ text_of_codes (take i codes) trees ≡ message ++ text_of_codes codes trees
 all_behind message codes i trees all = ap (λ (x : List ℕ). message ++ text_of_codes x trees) (take_all i codes all)
+
+-- ---- the codes that settings have
+
+-- none is passed before the first
+pub marked_none : (trees : List Tree) (bytes rest : List ℕ) (marks : List Bool) → bytes ≡ spelling trees → rest ≡ bytes → length marks ≡ 256 → Marked trees rest marks
+marked_none trees bytes rest marks e same all = record {
+  all = all;
+  text = [];
+  came = record { before = []; behind = trees; split = refl; left = same ∙ e; passed = refl };
+  none = λ code within unset. record { before = []; behind = trees; split = refl; left = same ∙ e; passed = refl };
+}
+
+pub marked_all : (trees : List Tree) (rest : List ℕ) (marks : List Bool) → Marked trees rest marks → rest ≡ [] → MarksCodes marks trees
+marked_all trees rest marks f e = λ code within unset. sym (came_all (OfCode code) trees rest [] (f.none code within unset) e)
+
+other_code : (trees : List Tree) (old new : Walk) (code wanted : ℕ) (value : List ℕ) (marks : List Bool) (same : Bool) → (code == wanted) ≡ same → code < length marks
+    → slice_index_or (slice_set marks code true) wanted false ≡ false → (slice_index_or marks wanted false ≡ false → Came (OfCode wanted) trees old.rest [])
+    → TakesSetting old code value new → Came (OfCode wanted) trees new.rest []
+other_code trees old new code wanted value marks true same within unset had takes =
+    let is : wanted ≡ code = sym (eqb-true code wanted same) in
+    absurd (true≢false (sym (get_or-set_at marks code wanted true false is within) ∙ unset))
+other_code trees old new code wanted value marks false same within unset had takes =
+    let apart : wanted ≢ code = λ e. true≢false (sym (eq-eqb code wanted (sym e)) ∙ same) in
+    subst (λ b. Came (OfCode wanted) trees new.rest (cond b (code ∷ length value ∷ value) [])) same
+    (came_more (OfCode wanted) trees old new code value [] (had (sym (get_or-set_other marks code wanted true false apart) ∙ unset)) takes)
+
+pub marked_more : (trees : List Tree) (old new : Walk) (code : ℕ) (value : List ℕ) (marks after : List Bool) → Marked trees old.rest marks → TakesSetting old code value new → code < 256
+    → after ≡ slice_set marks code true → Marked trees new.rest after
+marked_more trees old new code value marks after f takes within made =
+    subst (Marked trees new.rest) (sym made) (record {
+      all = length-set marks code true ∙ f.all;
+      text = f.text ++ cond (is_fed ButMics code) (code ∷ length value ∷ value) [];
+      came = came_more ButMics trees old new code value f.text f.came takes;
+      none = λ wanted few unset. other_code trees old new code wanted value marks (code == wanted) refl (subst (λ (n : ℕ). code < n) (sym f.all) within) unset (f.none wanted few) takes;
+    })
+
+-- a code without settings is as if it had been taken
+pub no_more : (message text : List ℕ) → text ≡ [] → message ≡ message ++ text
+no_more message text none = sym (append-nil message) ∙ ap (λ (x : List ℕ). message ++ x) (sym none)
