@@ -37,6 +37,15 @@ impl Bytes {
         }
     }
 
+    /// An empty list with room for so many bytes.
+    pub fn with_capacity(alloc: Global, capacity: usize) -> Result<Bytes, NoMemory>
+        ensures { IfOk result (λ bytes. bytes ≡ []) }
+    {
+        Ok(Bytes {
+            items: Vec::with_capacity(alloc, capacity)?,
+        })
+    }
+
     /// Appends a piece. After `NoMemory` the list is as before.
     pub fn push_all(&mut self, piece: &[u8]) -> Result<(), NoMemory>
         ensures ok { OnOk result (self.new ≡ self.old ++ piece.now) }

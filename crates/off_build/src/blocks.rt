@@ -5,14 +5,19 @@ ghost use Rattle.off_build.specs.Written.{StandsInFront};
 use crate::bodies::Body;
 use crate::tails::FileTail;
 
-/// Writes block `n` of a file to the front of `out`, and answers its length (RFC 1350, section 2).
-/// The file is the body with the tail behind it; blocks count from 1. It takes no memory.
-pub fn block(body: &Body, tail: &FileTail, size: u16, n: u32, out: &mut [u8]) -> usize
-    requires room { size ≤ length out.old }
-    requires counted { 1 ≤ n }
-    ensures written { StandsInFront (block (body.now ++ tail.now) size n) out.old out.new }
-    ensures len { result ≡ length (block (body.now ++ tail.now) size n) }
-    ensures few { result ≤ size }
+/// A block of a file: what the body has of it, and what the tail has of it behind that.
+#[derive(Clone, Copy, Debug)]
+pub struct BlockPieces<'a> {
+    pub first: &'a [u8],
+    pub rest: &'a [u8],
+}
+
+/// Block `n` of a file in its two pieces (RFC 1350, section 2). The file is the body with the tail
+/// behind it; blocks count from 1. It takes no memory.
+pub fn pieces<'a>(body: &'a Body, tail: &'a FileTail, size: u16, n: u32) -> BlockPieces<'a>
+    requires { 1 ≤ n }
+    ensures bytes { result.first.now ++ result.rest.now ≡ block (body.now ++ tail.now) size n }
+    ensures few { length result.first.now + length result.rest.now ≤ size }
 {
     let size = usize::from(size);
     let start = (n as usize - 1) * size;
@@ -22,7 +27,20 @@ pub fn block(body: &Body, tail: &FileTail, size: u16, n: u32, out: &mut [u8]) ->
         start.saturating_sub(body.len()),
         size - first.len(),
     );
-    put_two(first, rest, out)
+    BlockPieces { first, rest }
+}
+
+/// Writes block `n` of a file to the front of `out`, and answers its length (RFC 1350, section 2).
+/// The file is the body with the tail behind it; blocks count from 1. It takes no memory.
+pub fn block(body: &Body, tail: &FileTail, size: u16, n: u32, out: &mut [u8]) -> usize
+    requires room { size ≤ length out.old }
+    requires counted { 1 ≤ n }
+    ensures written { StandsInFront (block (body.now ++ tail.now) size n) out.old out.new }
+    ensures len { result ≡ length (block (body.now ++ tail.now) size n) }
+    ensures few { result ≤ size }
+{
+    let block = pieces(body, tail, size, n);
+    put_two(block.first, block.rest, out)
 }
 
 // At most so many of the bytes from a place on.

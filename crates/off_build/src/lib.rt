@@ -10,6 +10,6 @@ mod bodies;
 mod held;
 mod tails;
 
-pub use blocks::block;
+pub use blocks::{BlockPieces, block, pieces};
 pub use bodies::Body;
 pub use tails::{FileTail, tail};

@@ -2,11 +2,10 @@ ghost use Rattle.std.specs.Prelude.{◌≡◌, ◌+◌, ◌++◌, ◌≤◌, ◌
 ghost use Rattle.off_base.specs.Tree.{Tree, spelling};
 ghost use Rattle.off_file_rules.specs.Block.{block};
 ghost use Rattle.off_file_rules.specs.File.{IsBuilt};
-ghost use Rattle.off_build.specs.Written.{StandsInFront};
 ghost use Rattle.off_tftp.specs.Built.{CanBuild};
 
 use off_base::{Ip4, Moment};
-use off_build::{Body, FileTail, block, tail};
+use off_build::{BlockPieces, Body, FileTail, pieces, tail};
 use std::marker::Model;
 
 // A file has at most so many bytes.
@@ -52,15 +51,12 @@ impl File {
         self.body.len() + self.tail.len()
     }
 
-    /// Writes block `n` to the front of `out`, and answers its length.
-    pub(crate) fn block(&self, size: u16, n: u16, out: &mut [u8]) -> usize
-        requires room { size ≤ length out.old }
-        requires counted { 1 ≤ n }
-        ensures written { StandsInFront (block self.now size n) out.old out.new }
-        ensures len { result ≡ length (block self.now size n) }
-        ensures few { result ≤ size }
+    /// Block `n` in its two pieces.
+    pub(crate) fn block(&self, size: u16, n: u16) -> BlockPieces<'_>
+        requires { 1 ≤ n }
+        ensures { result.first.now ++ result.rest.now ≡ block self.now size n }
     {
-        block(&self.body, &self.tail, size, u32::from(n), out)
+        pieces(&self.body, &self.tail, size, u32::from(n))
     }
 }
 

@@ -9,8 +9,8 @@ use itoa::Buffer;
 use off_base::{Bytes, NoMemory};
 use std::alloc::Global;
 
-// The most bytes of a block.
-const MOST: usize = 1_428;
+// The bytes in front of a block: the kind of the packet and the block's number.
+const HEADER: usize = 4;
 
 /// A block of a file, which it counts from 1.
 pub(crate) fn data_packet(
@@ -19,16 +19,15 @@ pub(crate) fn data_packet(
     size: u16,
     number: u16,
 ) -> Result<Bytes, NoMemory>
-    requires room { size ≤ 1428 }
-    requires counted { 1 ≤ number }
+    requires { 1 ≤ number }
     ensures { IfOk result (λ packet. packet ≡ data_packet number (block file.now size number)) }
 {
-    let mut held = [0; MOST];
-    let length = file.block(size, number, &mut held);
-    let mut packet = Bytes::new(alloc);
+    let block = file.block(size, number);
+    let mut packet = Bytes::with_capacity(alloc, HEADER + usize::from(size))?;
     packet.push_all(&[0, 3])?;
     packet.push_all(&number.to_be_bytes())?;
-    packet.push_all(&held[..length])?;
+    packet.push_all(block.first)?;
+    packet.push_all(block.rest)?;
     Ok(packet)
 }
 
