@@ -36,6 +36,8 @@ pub enum Asked {
 struct Port {
     socket: UdpSocket,
     may_have: bool,
+    // Where a datagram is put that is read.
+    room: [u8; ROOM],
 }
 
 /// One UDP socket for each service.
@@ -102,12 +104,11 @@ impl Datagrams {
     pub fn ask(&mut self, alloc: Global, service: Service, now: Moment) -> Result<Asked, Failed> {
         let own = self.own;
         let port = self.port_mut(service);
-        let mut room = [0u8; ROOM];
         for _attempt in 0..MOST_DROPPED {
-            match port.socket.recv_from(&mut room) {
+            match port.socket.recv_from(&mut port.room) {
                 Ok((count, SocketAddr::V4(address))) => {
                     let from = peer_at(address);
-                    let datagram = &room[..count];
+                    let datagram = &port.room[..count];
                     if takes(service, from, datagram, own, now) {
                         return Ok(gave(alloc, service, from, datagram));
                     }
@@ -166,6 +167,7 @@ impl Port {
         Ok(Port {
             socket,
             may_have: true,
+            room: [0; ROOM],
         })
     }
 }

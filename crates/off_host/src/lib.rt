@@ -5,10 +5,12 @@
 mod addresses;
 mod clerks;
 mod datagrams;
+mod log;
 mod socket_link;
 mod standard;
 mod system;
 
 pub use addresses::Addresses;
+pub use log::{Log, LogSink};
 pub use socket_link::{OpenErr, SocketLink};
 pub use standard::{StandardInput, StandardOutput};

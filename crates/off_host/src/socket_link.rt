@@ -5,8 +5,9 @@ ghost use Rattle.off_host.specs.Untold.{link_counts};
 use crate::addresses::Addresses;
 use crate::clerks::Clerks;
 use crate::datagrams::{Asked, Datagrams};
+use crate::log::Log;
 use mio::{Events, Poll};
-use off_base::{Moment, Peer};
+use off_base::{Moment, NoMemory, Peer};
 use off_outside::{Event, Failed, Link, LinkErr, Service, What};
 use off_peers::OwnPorts;
 use std::alloc::Global;
@@ -32,6 +33,12 @@ pub enum OpenErr {
     Socket,
 }
 
+impl From<NoMemory> for OpenErr {
+    fn from(_refused: NoMemory) -> OpenErr {
+        OpenErr::Memory
+    }
+}
+
 /// The real link: a UDP socket for each service and a TCP listener for clerks. It tells its counts
 /// alone.
 #[derive(Drop)]
@@ -43,11 +50,13 @@ pub struct SocketLink {
 }
 
 impl SocketLink {
-    /// Opens the sockets on these addresses, on ports in the order DHCP, time, TFTP, HTTP.
+    /// Opens the sockets on these addresses, on ports in the order DHCP, time, TFTP, HTTP. The link
+    /// has the log written each time before it asks the system what has come.
     pub fn open(
         rt: &HostRuntime,
         addresses: Addresses,
         ports: &[u16; 4],
+        log: Log,
     ) -> Result<SocketLink, OpenErr>
         ensures none_missed { IfOk result (λ link. (⟦<SocketLink as Link>⟧.seen link).missed ≡ 0) }
         ensures up { IfOk result (λ link. (⟦<SocketLink as Link>⟧.seen link).up) }
@@ -55,7 +64,7 @@ impl SocketLink {
         let Ok(ready) = Events::with_capacity(rt.alloc(), MOST_READY) else {
             return Err(OpenErr::Memory);
         };
-        match Asking::open(rt, ready, addresses, ports) {
+        match Asking::open(rt, ready, addresses, ports, log) {
             Ok(asking) => Ok(SocketLink {
                 asking,
                 missed: 0,
@@ -137,6 +146,7 @@ struct Asking {
     ready: Events,
     datagrams: Datagrams,
     clerks: Clerks,
+    log: Log,
     turn: Turn,
     // How many times sockets were asked since the system was.
     asked: u32,
@@ -155,6 +165,7 @@ impl Asking {
         ready: Events,
         addresses: Addresses,
         ports: &[u16; 4],
+        log: Log,
     ) -> io::Result<Asking> {
         let poll = Poll::new(rt)?;
         let own = OwnPorts {
@@ -170,6 +181,7 @@ impl Asking {
             ready,
             datagrams,
             clerks,
+            log,
             turn: Turn::Port(Service::Dhcp),
             asked: 0,
             looked: 0,
@@ -220,8 +232,9 @@ impl Asking {
     }
 
     // Asks the system which sockets may have something, and waits for one so many milliseconds at
-    // most.
+    // most. The log is written before: where it can't be, the next line fails.
     fn look(&mut self, sleep: u64) -> Result<(), Failed> {
+        let _is_whole = self.log.flush();
         self.asked = 0;
         let Ok(()) = self
             .poll

@@ -15,7 +15,7 @@ use Rattle.std.proofs.lemmas.Grind.{get_or-set_at}
 use Rattle.std.proofs.lemmas.Bool.{eqb-true, eq-eqb}
 use Rattle.off_mic.specs.declared.feeding.Wanted.TheVariants.{OfCode, ButMics}
 use Rattle.off_mic.specs.Mic.{of_code, text_of_codes}
-use Rattle.off_mic.specs.Feed.{Came, Fed, Copied, Marked, MarksCodes, is_fed, wanted_text}
+use Rattle.off_mic.specs.Feed.{Came, Fed, Copied, MarksCodes, is_fed, wanted_text}
 use Rattle.off_mic.specs.declared.feeding.Wanted.{Wanted}
 
 pub wanted_text-append : (wanted : Wanted) (ts us : List Tree) → wanted_text wanted (ts ++ us) ≡ wanted_text wanted ts ++ wanted_text wanted us
@@ -133,6 +133,15 @@ pub all_behind : (message codes : List ℕ) (i : ℕ) (trees : List Tree) → le
 all_behind message codes i trees all = ap (λ (x : List ℕ). message ++ text_of_codes x trees) (take_all i codes all)
 
 -- ---- the codes that settings have
+
+-- a walk over settings has come to the rest of the bytes, and those before it have none of the codes
+-- that aren't marked
+pub record Marked (trees : List Tree) (rest : List ℕ) (marks : List Bool) : Type 0 where
+  pub all : length marks ≡ 256
+  pub text : List ℕ
+  pub came : Came ButMics trees rest text
+  pub none :
+      (code : ℕ) → code < 256 → slice_index_or marks code false ≡ false → Came (OfCode code) trees rest []
 
 -- none is passed before the first
 pub marked_none : (trees : List Tree) (bytes rest : List ℕ) (marks : List Bool) → bytes ≡ spelling trees → rest ≡ bytes → length marks ≡ 256 → Marked trees rest marks

@@ -1,5 +1,5 @@
 -- What is wanted of a list of settings, and how far a walk over them has come.
-use Rattle.std.specs.Prelude.{◌≡◌, ℕ, ◌<◌, Bool, false, ◌==◌, not, List, [], ◌∷◌, ◌++◌, length, slice_index_or}
+use Rattle.std.specs.Prelude.{◌≡◌, ℕ, ◌<◌, Bool, false, ◌==◌, not, List, [], ◌∷◌, ◌++◌, slice_index_or}
 use Rattle.std.specs.List.{filter}
 use Rattle.md5.specs.Md5.{Holds}
 use Rattle.md5.specs.declared.Md5.{Md5}
@@ -43,15 +43,6 @@ abbrev pub MarksCodes : List Bool → List Tree → Type 0
 MarksCodes marks trees =
     (code : ℕ) → code < 256 → slice_index_or marks code false ≡ false
     → wanted_text (OfCode code) trees ≡ []
-
--- a walk over settings has come to the rest of the bytes, and those before it have none of the codes
--- that aren't marked
-pub record Marked (trees : List Tree) (rest : List ℕ) (marks : List Bool) : Type 0 where
-  pub all : length marks ≡ 256
-  pub text : List ℕ
-  pub came : Came ButMics trees rest text
-  pub none :
-      (code : ℕ) → code < 256 → slice_index_or marks code false ≡ false → Came (OfCode code) trees rest []
 
 -- of the settings that a walk had before it, these are left, and all of a code are among them
 pub record Passed (code : ℕ) (trees : List Tree) (rest : List ℕ) : Type 0 where

@@ -1,5 +1,5 @@
 use off_base::Ip4;
-use off_host::{Addresses, OpenErr, SocketLink};
+use off_host::{Addresses, Log, OpenErr, SocketLink};
 use off_outside::{Link, Service, What};
 use std::alloc::Global;
 use std::io::{self, Write};
@@ -33,7 +33,8 @@ fn opened(rt: &HostRuntime, ports: &[u16; 4]) -> Option<SocketLink> {
         udp: LOOPBACK,
         http: LOOPBACK,
     };
-    match SocketLink::open(rt, addresses, ports) {
+    let Ok(log) = Log::new(rt) else { return None };
+    match SocketLink::open(rt, addresses, ports, log) {
         Ok(link) => Some(link),
         Err(OpenErr::Memory | OpenErr::Socket) => None,
     }

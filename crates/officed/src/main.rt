@@ -7,7 +7,7 @@ ghost use Rattle.std.specs.Prelude.{◌≡◌, IfOk};
 #[cfg(test)]
 mod hearing;
 
-use off_host::{Addresses, OpenErr, SocketLink, StandardInput, StandardOutput};
+use off_host::{Addresses, Log, LogSink, OpenErr, SocketLink, StandardInput, StandardOutput};
 use off_keepmem::MemKeeper;
 use off_outside::{Calls, Events, Keeper, Link, MemLink, Sink};
 use off_serve::{Wanted, place, run};
@@ -20,6 +20,9 @@ use std::process::ExitCode;
 const DRILLED_ITEMS: usize = 24_000;
 
 const DRILLED_OCTETS: usize = 3_200_000;
+
+// A status that stands for lines that couldn't be written.
+const NO_OUTPUT: u8 = 4;
 
 // A status that stands for want of memory outside of an event.
 const MEMORY: u8 = 6;
@@ -97,11 +100,26 @@ fn run_over<K: Keeper>(
     if ports[0] == 0 {
         return run_alone(rt, words, keeper, input, output);
     }
-    match open_link(rt, ports) {
-        Ok(mut link) => run(rt.alloc(), words, &mut link, keeper, input, output),
+    match run_on_sockets(rt, words, ports, keeper, input) {
+        Ok(status) => status,
         Err(OpenErr::Memory) => no_memory(rt),
         Err(OpenErr::Socket) => NO_SOCKET,
     }
+}
+
+// Runs on sockets, with a log whose lines wait while there is more to be read.
+fn run_on_sockets<K: Keeper>(
+    rt: &HostRuntime,
+    words: &[String],
+    ports: &[u16; 4],
+    keeper: &mut K,
+    input: &mut StandardInput,
+) -> Result<u8, OpenErr> {
+    let log = Log::new(rt)?;
+    let mut lines = LogSink::new(log.share()?);
+    let mut link = open_link(rt, ports, log.share()?)?;
+    let status = run(rt.alloc(), words, &mut link, keeper, input, &mut lines);
+    Ok(if log.flush() { status } else { NO_OUTPUT })
 }
 
 // Runs what takes no events: an import, a drill, a job over the streams, or words that fit no form.
@@ -131,11 +149,11 @@ fn room_for(words: &[String]) -> (usize, usize) {
 }
 
 // Opens the sockets on the addresses that the environment names.
-fn open_link(rt: &HostRuntime, ports: &[u16; 4]) -> Result<SocketLink, OpenErr>
+fn open_link(rt: &HostRuntime, ports: &[u16; 4], log: Log) -> Result<SocketLink, OpenErr>
     ensures { IfOk result (λ link. (⟦<SocketLink as Link>⟧.seen link).missed ≡ 0) }
 {
     let addresses = Addresses::wanted(rt)?;
-    SocketLink::open(rt, addresses, ports)
+    SocketLink::open(rt, addresses, ports, log)
 }
 
 // Says that memory was refused.

@@ -1,6 +1,6 @@
 use Rattle.std.proofs.Common.{◌≡◌, List, length}
 use Rattle.off_base.specs.Tree.{Tree, spelling}
-use Rattle.off_mic.specs.Feed.{Marked}
+use Rattle.off_mic.proofs.FeedLemmas.{Marked}
 use Rattle.off_mic.proofs.digests.codes_in.Given as goal
 
 abbrev pub invariant-settings : goal.invariant-settings
