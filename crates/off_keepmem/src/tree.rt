@@ -1,11 +1,14 @@
-ghost use Rattle.std.specs.Prelude.{◌≡◌, ◌≤◌, MatchOption};
+ghost use Rattle.std.specs.Prelude.{◌≡◌, ◌≤◌, ◌∷◌, MatchOption};
+ghost use Rattle.std.specs.Ordering.{nat_cmp};
+ghost use Rattle.std.specs.Cmp.Lexicographic.{slice_cmp};
+ghost use Rattle.std.specs.Int.{to_be_bytes, w64};
 ghost use Rattle.std.specs.Option.{option_map};
 ghost use Rattle.off_keepmem.specs.Heights.{bare, FitsDepth, Near};
 ghost use Rattle.off_keepmem.specs.Nodes.{branch_held, branch_depth, node_held, SidesEven};
 ghost use Rattle.off_keepmem.specs.Nodes.{IsBalanced};
 ghost use Rattle.off_keepmem.specs.Trees.{Rises, row_in, next_in, compared, key_after, lent_entry};
 
-use off_base::Ip4;
+use off_base::{Ip4, Mac};
 use off_defs::{Key, Row};
 use std::cmp::Ordering;
 use std::marker::Model;
@@ -188,12 +191,32 @@ fn lies_after(place: &Option<Key>, key: &Key) -> bool
     }
 }
 
-/// How two keys stand to each other.
+/// How two keys stand to each other. Hardware addresses, which most keys have, are compared as
+/// numbers: what an array's own order does byte by byte costs several times as much.
 #[tactic(auto, unfolding(crate::specs::Trees::compared))]
 pub(crate) fn compared(a: &Key, b: &Key) -> Ordering
     ensures { result ≡ compared a.now b.now }
 {
-    a.cmp(b)
+    match (*a, *b) {
+        (Key::Modem(one), Key::Modem(other)) => compared_macs(one, other),
+        (Key::Held(one), Key::Held(other)) => compared_macs(one, other),
+        _ => a.cmp(b),
+    }
+}
+
+// How two hardware addresses stand to each other.
+fn compared_macs(a: Mac, b: Mac) -> Ordering
+    ensures { result ≡ slice_cmp nat_cmp a.0 b.0 }
+{
+    number_of(&a.0).cmp(&number_of(&b.0))
+}
+
+// The number that six bytes spell, the first the highest.
+fn number_of(bytes: &[u8; 6]) -> u64
+    ensures { to_be_bytes w64 result ≡ 0 ∷ 0 ∷ bytes.now }
+{
+    let [a, b, c, d, e, f] = *bytes;
+    u64::from_be_bytes([0, 0, a, b, c, d, e, f])
 }
 
 /// What a box holds that isn't in use.
