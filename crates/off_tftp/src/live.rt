@@ -34,9 +34,16 @@ pub(crate) struct Named {
     pub(crate) ip: Ip4,
 }
 
-/// A live transfer, which owns its file.
+/// A live transfer, which owns its file. It stands in a box of its own, so that others are put in
+/// front of it and taken from there at little cost.
 #[derive(Drop)]
 pub struct Live {
+    held: Box<Held>,
+}
+
+/// What a live transfer holds.
+#[derive(Drop)]
+struct Held {
     name: Bytes,
     named: Named,
     modem: Mac,
@@ -61,21 +68,22 @@ impl Model for Live {
     ghost coded = { transfer_code };
 
     ghost view = { λ l. record {
-      name = l.name;
-      modem = l.modem;
-      subscriber = l.subscriber;
-      file = l.file;
-      size = l.size;
-      request = l.request;
-      sent = l.sent;
-      is_acknowledged = l.is_acknowledged;
-      last_send = l.last_send.0;
-      resends = l.resends;
+      name = l.held.value.name;
+      modem = l.held.value.modem;
+      subscriber = l.held.value.subscriber;
+      file = l.held.value.file;
+      size = l.held.value.size;
+      request = l.held.value.request;
+      sent = l.held.value.sent;
+      is_acknowledged = l.held.value.is_acknowledged;
+      last_send = l.held.value.last_send.0;
+      resends = l.held.value.resends;
     } };
 
-    ghost invariant = { λ l. (8 ≤ l.size) × (l.size ≤ 1428)
-        × (length l.file ≤ 6200)
-        × (l.name ≡ name_of l.named.secret l.modem l.named.ip) };
+    ghost invariant = { λ l. (8 ≤ l.held.value.size) × (l.held.value.size ≤ 1428)
+        × (length l.held.value.file ≤ 6200)
+        × (l.held.value.name
+        ≡ name_of l.held.value.named.secret l.held.value.modem l.held.value.named.ip) };
 }
 
 impl Live {
@@ -101,7 +109,7 @@ impl Live {
         kept.push_all(name)?;
         let mut asked = Bytes::new(alloc);
         asked.push_all(request)?;
-        Ok(Live {
+        let held = Held {
             name: kept,
             named,
             modem,
@@ -113,7 +121,11 @@ impl Live {
             is_acknowledged: false,
             last_send: now,
             resends: 0,
-        })
+        };
+        match Box::new(alloc, held) {
+            Ok(held) => Ok(Live { held }),
+            Err(_refused) => Err(NoMemory),
+        }
     }
 
     /// Whether the request is the one with which the transfer began, and nothing was acknowledged
@@ -121,27 +133,27 @@ impl Live {
     pub(crate) fn is_repeated(&self, request: &[u8]) -> bool
         ensures { result ≡ is_repeated request.now self.now }
     {
-        !self.is_acknowledged && self.request.as_slice() == request
+        !self.held.is_acknowledged && self.held.request.as_slice() == request
     }
 
     /// The number of the packet that was sent last.
     pub(crate) fn sent(&self) -> u16
         ensures { result ≡ self.now.sent }
     {
-        self.sent
+        self.held.sent
     }
 
     /// For whom the transfer began.
     pub(crate) fn modem(&self) -> Mac
         ensures { result ≡ self.now.modem }
     {
-        self.modem
+        self.held.modem
     }
 
     pub(crate) fn subscriber(&self) -> u32
         ensures { result ≡ self.now.subscriber }
     {
-        self.subscriber
+        self.held.subscriber
     }
 
     /// Whether the name is that of its modem's file at an address. It's computed anew only where
@@ -149,27 +161,27 @@ impl Live {
     pub(crate) fn has_own_name(&self, site: &Site, ip: Ip4) -> bool
         ensures { result ≡ is_own_name self.now.name self.now.modem ip site.now }
     {
-        if self.named.ip == ip && self.named.secret.as_slice() == site.secret.as_slice() {
+        if self.held.named.ip == ip && self.held.named.secret.as_slice() == site.secret.as_slice() {
             return true;
         }
-        is_own_name(site, self.name.as_slice(), self.modem, ip)
+        is_own_name(site, self.held.name.as_slice(), self.held.modem, ip)
     }
 
     /// Whether the last block was sent.
     pub(crate) fn is_at_last(&self) -> bool
         ensures { result ≡ is_at_last self.now }
     {
-        if self.sent == 0 {
+        if self.held.sent == 0 {
             return false;
         }
-        self.file.len() < usize::from(self.sent) * usize::from(self.size)
+        self.held.file.len() < usize::from(self.held.sent) * usize::from(self.held.size)
     }
 
     /// The packet that was sent last.
     pub(crate) fn last_packet(&self, alloc: Global) -> Result<Bytes, NoMemory>
         ensures { IfOk result (λ packet. packet ≡ last_packet self.now) }
     {
-        self.packet(alloc, self.sent)
+        self.packet(alloc, self.held.sent)
     }
 
     /// The packet behind it.
@@ -186,7 +198,7 @@ impl Live {
         requires { is_at_last self.now ≡ false }
         ensures { result ≡ suc self.now.sent }
     {
-        self.sent + 1
+        self.held.sent + 1
     }
 
     fn packet(&self, alloc: Global, number: u16) -> Result<Bytes, NoMemory>
@@ -194,9 +206,9 @@ impl Live {
             (λ packet. packet ≡ packet_of_number self.now.file self.now.size number) }
     {
         if number == 0 {
-            oack_packet(alloc, self.size)
+            oack_packet(alloc, self.held.size)
         } else {
-            data_packet(alloc, &self.file, self.size, number)
+            data_packet(alloc, &self.held.file, self.held.size, number)
         }
     }
 
@@ -205,17 +217,17 @@ impl Live {
         requires { is_at_last self.old ≡ false }
         ensures { self.new ≡ gone_on now.0 self.old }
     {
-        self.sent += 1;
-        self.is_acknowledged = true;
-        self.last_send = now;
-        self.resends = 0;
+        self.held.sent += 1;
+        self.held.is_acknowledged = true;
+        self.held.last_send = now;
+        self.held.resends = 0;
     }
 
     /// Its first packet was sent again, since its read request came again.
     pub(crate) fn ask_again(&mut self, again: Moment)
         ensures { self.new ≡ asked_again again.0 self.old }
     {
-        self.last_send = again;
+        self.held.last_send = again;
     }
 
     /// Its last packet was sent again, since nothing came.
@@ -223,22 +235,22 @@ impl Live {
         requires { has_resend self.old ≡ true }
         ensures { self.new ≡ sent_again now.0 self.old }
     {
-        self.last_send = now;
-        self.resends += 1;
+        self.held.last_send = now;
+        self.held.resends += 1;
     }
 
     /// Whether nothing came for long enough.
     pub(crate) fn is_due(&self, now: Moment) -> bool
         ensures { result ≡ is_due now.0 self.now }
     {
-        self.last_send.0.saturating_add(PATIENCE) <= now.0
+        self.held.last_send.0.saturating_add(PATIENCE) <= now.0
     }
 
     /// Whether it may be sent again.
     pub(crate) fn has_resend(&self) -> bool
         ensures { result ≡ has_resend self.now }
     {
-        self.resends < MOST_RESENDS
+        self.held.resends < MOST_RESENDS
     }
 }
 
