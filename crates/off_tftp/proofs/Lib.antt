@@ -1,5 +1,4 @@
 pub mod PacketLemmas
-pub mod BlockLemmas
 pub mod KeptLemmas
 pub mod EntryLemmas
 pub mod TickedLemmas
