@@ -82,10 +82,10 @@ def while_it_runs():
         log.close()
 
 
-def asked_to_its_end(output):
-    """The status of an office that takes ten events, and how many of them were answers."""
+def asked_to_its_end(output, turns):
+    """The status of an office that takes so many events, and how many of them were answers."""
     ports = free_ports()
-    program = start(ports, 10, output)
+    program = start(ports, turns, output)
     answers = 0
     with socket.socket(socket.AF_INET, socket.SOCK_DGRAM) as client:
         client.settimeout(0.2)
@@ -103,14 +103,21 @@ def asked_to_its_end(output):
 
 def at_its_end():
     log, end = socket.socketpair(socket.AF_UNIX, socket.SOCK_SEQPACKET)
-    status, answers = asked_to_its_end(end)
+    status, answers = asked_to_its_end(end, 10)
     end.close()
     told = list(numbers(all_taken(log, 0.3)))
     check((status, len(told)) == (0, answers), f"status {status}, {len(told)} lines of {answers} answers")
     log.close()
     with open("/dev/full", "wb") as full:
-        status, answers = asked_to_its_end(full)
-    check(status == 4 and answers <= 2, f"a full disk: status {status} behind {answers} answers")
+        status, answers = asked_to_its_end(full, 1000)
+        check(status == 4 and answers <= TOGETHER + 1, f"a full disk: status {status} behind {answers} answers")
+        # The first event is a tick, and the second too where a second has passed.
+        for _ in range(10):
+            status, answers = asked_to_its_end(full, 2)
+            check(status == (4 if answers else 0), f"a last line that is lost: status {status} behind {answers} answers")
+            if answers:
+                break
+        check(answers == 1, f"an answer before the end: {answers}")
 
 
 def main():

@@ -72,16 +72,17 @@ impl Waiting {
         if line.len() > self.bytes.remaining_capacity() {
             self.flush();
         }
-        if self.bytes.try_extend_from_slice(line).is_err() {
-            self.is_lost |= self.output.write(line).is_err();
+        if !self.is_lost && self.bytes.try_extend_from_slice(line).is_err() {
+            self.is_lost = self.output.write(line).is_err();
         }
         !self.is_lost
     }
 
-    // Has all that waits written, and tells whether nothing is lost so far.
+    // Has all that waits written, and tells whether nothing is lost so far. Behind a write that
+    // failed there is none.
     fn flush(&mut self) -> bool {
-        if !self.bytes.is_empty() {
-            self.is_lost |= self.output.write(self.bytes.as_slice()).is_err();
+        if !self.is_lost && !self.bytes.is_empty() {
+            self.is_lost = self.output.write(self.bytes.as_slice()).is_err();
             self.bytes.clear();
         }
         !self.is_lost
