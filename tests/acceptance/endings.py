@@ -27,11 +27,18 @@ def ended(program, seconds):
         return None
 
 
+def as_usual():
+    """What a signal does isn't inherited, as by `nohup`."""
+    for sent in ENDING:
+        if sent != signal.SIGKILL:
+            signal.signal(sent, signal.SIG_DFL)
+
+
 def by_signals():
     for sent in (*ENDING, signal.SIGPIPE):
         ports = free_ports()
         with tempfile.TemporaryFile() as log:
-            program = start(ports, 10**6, log)
+            program = start(ports, 10**6, log, limits=as_usual)
             try:
                 wait_for(ports[3])
                 program.send_signal(sent)
