@@ -8,13 +8,12 @@ together, by its `use` lines or beside a definition of its own, and each word fo
 where there is one of these. It is no part of the gate.
 """
 import collections
-import pathlib
 import re
 import sys
 
-TOP = pathlib.Path(__file__).resolve().parents[2]
+from definitions import ROOT as TOP, spec_files
+
 ROOT = TOP / "crates"
-HEAD = re.compile(r"^(?:abbrev |unfoldable )*pub (?:record |data )?([A-Za-z_][A-Za-z0-9_'-]*)\b.* : ")
 USE = re.compile(r"\buse Rattle\.(\w+)\.specs\.([\w.]+)\.\{([^}]*)\}")
 
 
@@ -25,9 +24,10 @@ def place_of(path):
 def shared_words():
     """The files that define a word, for each that two define."""
     places = collections.defaultdict(list)
-    for path in sorted(ROOT.glob("*/specs/**/*.antt")):
-        for word in {m.group(1) for line in path.read_text(encoding="utf8").split("\n") if (m := HEAD.match(line))}:
-            places[word].append(place_of(path))
+    for file in spec_files().values():
+        for word in file.words.values():
+            if word.public:
+                places[word.name].append(place_of(file.path))
     return {word: where for word, where in sorted(places.items()) if len(where) > 1}
 
 
