@@ -138,7 +138,7 @@ def resets(port):
     for count in (0, 1, 40, None):
         peer = connect(port)
         peer.sendall(request("GET", "/subscribers/7")[:count])
-        time.sleep(0.02)
+        time.sleep(0.3)
         reset(peer)
     for _ in range(20):
         peer = connect(port)

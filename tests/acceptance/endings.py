@@ -42,7 +42,7 @@ def by_signals():
             try:
                 wait_for(ports[3])
                 program.send_signal(sent)
-                status = ended(program, 2 if sent in ENDING else 0.3)
+                status = ended(program, 20 if sent in ENDING else 0.3)
                 check(status == (-sent if sent in ENDING else None), f"{sent.name}: {status}")
             finally:
                 stop(program)

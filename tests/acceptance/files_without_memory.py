@@ -11,6 +11,7 @@ import collections
 import mmap
 import os
 import shutil
+import socket
 import struct
 import subprocess
 import sys
@@ -96,10 +97,21 @@ class Trial:
         while time.time() < began + 3:
             came = next((packet for where, packet in self.talk.take(0.02) if where == at and is_like(packet, wanted)), came)
             said = self.words(service)[before:]
-            # What is dropped before it's an event has neither answer nor line, and nothing tells when.
-            if said and (came or not wanted or said == ["memory"]) or self.refuser.is_done() and not said and time.time() > began + 0.5:
+            if said and (came or not wanted or said == ["memory"]):
                 break
+            # What is dropped before it's an event has neither answer nor line.
+            if self.refuser.is_done() and not said and time.time() > began + 0.5:
+                self.settles()
+                return came, self.words(service)[before:]
         return came, said
+
+    def settles(self):
+        """Has the office ask each of its ports, and write what lines wait: it answers two questions for the time, one after the other."""
+        with socket.socket(socket.AF_INET, socket.SOCK_DGRAM) as client:
+            client.settimeout(10)
+            for _ in range(2):
+                client.sendto(b"", (office.SERVER, office.PORTS[1]))
+                client.recv(64)
 
     def goes(self, at, packet):
         """Sends a packet until none of its growths is left to be refused; then it's done as the model says, and answered so."""

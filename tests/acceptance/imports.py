@@ -15,9 +15,9 @@ import tempfile
 
 sys.path.insert(0, os.path.dirname(os.path.abspath(__file__)))
 from listening import stop  # noqa: E402
-from time_service import PROGRAM, check, failures, start, wait_until_ready  # noqa: E402
+from time_service import PROGRAM, check, failures, free_ports, start, wait_until_ready  # noqa: E402
 
-PORTS = [6767, 3737, 6969, 8080]
+PORTS = free_ports()
 MOST = 1_048_576
 
 
