@@ -62,7 +62,7 @@ def sections(script, office):
     """Writes the sections; `office` are rows of another office."""
     section, run = script.section, script.run
     section("a drill founds an office, boots its modems, and tells their numbers", "By the models of leases and of transfers.")
-    for count in (1, 10, 100):
+    for count in (1, 9, 10, 23, 100):
         made = played(rows(count), events(count))
         run("", ["show tables", f"words drill {count}"], outcome(wrote=[summary(count)], sent=made.sent, tables=made.office.rows()))
     section("what fails in a drill", "Each call of the keeper fails in turn: status 3, and what was sent by then; a lost item is passed over; each call of the sink.")

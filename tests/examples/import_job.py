@@ -176,10 +176,12 @@ def failing(player):
     whole = outcome(wrote=["rows 2"], tables=tables)
     player.play("subscribers", 9, data, whole, outcome(7, ["source refused"], tables=player.rows), more=["fails each source"])
     player.play("subscribers", 9, data, whole, outcome(3, ["keeper refused"], tables=player.rows), more=["fails each keeper"])
-    player.script.section("a sink that fails is told by status 4, and what was done stays done", "It takes a front of the line.")
+    player.script.section("a sink that fails is told by status 4, and what was done stays done", "It takes a front of the line, also of the one that tells of the source.")
     player.play("subscribers", 9, data, outcome(4, tables=tables), more=["fails sink 1"])
     player.play("subscribers", 9, data, outcome(4, cut="rows", tables=tables), more=["room sink 4"])
     player.play("modems", 9, data, outcome(4, cut="refused", tables=player.rows), more=["room sink 7"])
+    player.play("subscribers", 9, data, outcome(4, tables=player.rows), more=["fails source 1", "fails sink 1"])
+    player.play("subscribers", 9, data, outcome(4, cut="source", tables=player.rows), more=["fails source 1", "room sink 6"])
     player.script.section("the tables are opened before the source is read", "Bad tables are told although the source fails, and are left.")
     bad = f"lease 10.64.0.10 bound 02aabbccdd05 {T}"
     player.play("subscribers", 9, data, outcome(2, ["tables refused lease 10.64.0.10"], tables=player.rows + [bad]), rows=[bad], more=["fails source 1"])

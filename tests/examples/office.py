@@ -179,6 +179,9 @@ def telling():
     run("the sink has five bytes of room", [turns(5), time(0), "room sink 5"], outcome(4, cut="1 tim", sent=[told(0)]))
     run("the sink has no room for the status's line", [turns(5), f"fails link {in_a_row}", "room sink 4"], outcome(4, cut="link"))
     run("the link has no room", [turns(5), time(0), time(0), "room link 1 4"], outcome(wrote=["1 time sent", "2 time link"], sent=[told(0)]))
+    run("a send fails in the last turn", [turns(1), time(0), "fails link 2"], outcome(wrote=["1 time link"]))
+    run("a send fails and so does its line", [turns(5), time(0), time(0), "fails link 2", "fails sink 1"], outcome(4))
+    run("a send fails and its line is cut", [turns(5), time(0), time(0), "fails link 2", "room sink 10"], outcome(4, cut="1 time lin"))
     run("each call of the sink", [turns(5), time(0), time(0), "fails each sink"], outcome(wrote=["1 time sent", "2 time sent"], sent=[told(0)] * 2),
         outcome(4, sent=[told(0)]), outcome(4, ["1 time sent"], sent=[told(0)] * 2))
     # A failure of `next` isn't an event, and is tried again; one of a send is told by the line.
@@ -236,11 +239,14 @@ def jobs():
     does("", "seal", bytes(65536), source="65536* 00")
     for command, status in (("check", 8), ("seal", 9)):
         run("", [f"words {command} {SECRET}", "source 65537* 00"], outcome(status, ["refused too-long"]))
-    section("streams that fail", "A source's failure has status 7, a sink's 4.")
+    section("streams that fail", "A source's failure has status 7, a sink's 4. Where the line of the first can't be written the status is 4.")
     run("each call of the source", job("check", SECRET, whole, ["fails each source"]), outcome(0, ["cm good", "cmts good"]), outcome(7, ["source refused"]))
     run("each call of the source", job("seal", SECRET, plain, ["fails each source"]), outcome(raw=sealed(plain, b"secret")), outcome(7, ["source refused"]))
     run("the sink has four bytes of room", job("check", SECRET, plain, ["room sink 4"]), outcome(4, cut="refu"))
     run("the sink fails", job("seal", SECRET, plain, ["fails sink 1"]), outcome(4))
+    for command in ("check", "seal"):
+        run("the source fails, and then the sink", job(command, SECRET, plain, ["fails source 1", "fails sink 1"]), outcome(4))
+        run("the source fails, and its line is cut", job(command, SECRET, plain, ["fails source 1", "room sink 6"]), outcome(4, cut="source"))
     section("a secret has 1 to 64 bytes in hexadecimal digits of either case", "The empty file is refused behind a secret that is read.")
     for secret in ("00", "aF", "00" * 64):
         run("", [f"words seal {secret}"], outcome(9, ["refused no-end"]))
