@@ -38,13 +38,13 @@ def reply(status, body):
 DONE = reply(200, b'{"ok":true}')
 
 
-def connect(port, room=None):
+def connect(port, room=None, patience=5):
     """A connection; with `room` one that takes few bytes at a time."""
     peer = socket.socket(socket.AF_INET, socket.SOCK_STREAM)
     if room is not None:
         peer.setsockopt(socket.SOL_SOCKET, socket.SO_RCVBUF, room)
         peer.setsockopt(socket.IPPROTO_TCP, socket.TCP_MAXSEG, 536)
-    peer.settimeout(5)
+    peer.settimeout(patience)
     peer.connect(("127.0.0.1", port))
     peer.setsockopt(socket.IPPROTO_TCP, socket.TCP_NODELAY, 1)
     return peer

@@ -156,6 +156,8 @@ def serve_and_ask():
             delays = [delay for delay in delays if delay is not None]
             print(f"idle: {idle:.3f} s of processor in 5 s; delay: median {statistics.median(delays) * 1000:.2f} ms, "
                   f"greatest {max(delays) * 1000:.2f} ms; reflected: {'not tried' if reflected is None else reflected}")
+            # A signal may take the lines of the last 32 events with it.
+            time.sleep(1)
         finally:
             program.send_signal(signal.SIGTERM)
             program.wait(timeout=10)
