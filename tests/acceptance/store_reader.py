@@ -11,6 +11,7 @@ import csv
 import io
 import ipaddress
 import os
+import signal
 import sqlite3
 import subprocess
 import sys
@@ -163,6 +164,16 @@ def refusals(folder):
         check(asked(bad, *words)[0] == 2, f"a row of another form: {words}")
 
 
+def to_no_reader(path):
+    """What is said, and the status, where the reader of the answer has gone, as `head` does."""
+    reading, writing = os.pipe()
+    os.close(reading)
+    done = subprocess.run([READER, "--at", str(NOW), path, "free", "1"], timeout=30,
+                          stdout=writing, stderr=subprocess.PIPE)
+    os.close(writing)
+    return done.returncode, done.stderr
+
+
 def serving(path, turns):
     """The program over a store, and its clerks' port."""
     ports = free_ports()
@@ -206,6 +217,8 @@ def main():
         lines = ["address     last modem    ended (UTC)", f"10.64.0.11  02aabbccddf0  {MOMENT}",
                  f"10.64.0.13                {BEFORE}", "10.64.0.14"]
         check((status, came.splitlines()) == (0, lines), f"as text: {came}")
+        found = to_no_reader(os.path.join(folder, "office.db"))
+        check(found == (-signal.SIGPIPE, b""), f"a reader that has gone: {found}")
     print(f"acceptance: {len(failures)} failed")
     return 1 if failures else 0
 
