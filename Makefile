@@ -1,4 +1,4 @@
-# Builds the office by bin/officed, and installs it with what belongs to it:
+# Proves and builds the office by bin/office-build, and installs it with what belongs to it:
 #
 #     make
 #     make install [PREFIX=/usr/local] [DESTDIR=]
@@ -14,9 +14,8 @@ pages = docs/OPERATING.md docs/MESSAGES.md docs/CLERK_API.md docs/openapi.json p
 example = examples/first-office
 helpers = office-clerk office-copy office-counts office-sql
 
-# The program refuses these words with status 1, once it is built.
 build:
-	bin/officed build-only >/dev/null || test $$? -eq 1
+	@bin/office-build proved
 
 install:
 	@test -x $(OFFICED) || { echo "make install: there is no $(OFFICED): make it first" >&2; exit 1; }
