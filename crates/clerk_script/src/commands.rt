@@ -1,12 +1,11 @@
 ghost use Rattle.std.specs.Prelude.{IsTrue};
 ghost use Rattle.off_rows.specs.Sound.{is_sound};
-ghost use Rattle.off_clerk_rules.specs.Replies.{IsRightReply};
 
 use crate::faults::show_fault;
 use off_base::{Bytes, NoMemory};
-use off_clerk::{ClerkErr, Fault, command_of, reply_json};
-use off_defs::{Command, Hold, ImportKind, Key, Lease, Reply, Row};
-use script_words::{Line, Page, Unread, show_key, show_row};
+use off_clerk::{CommandErr, Fault, command_of, reply_json};
+use off_defs::{Command, Hold, ImportKind, Key, Lease, Reply, ShownRow};
+use script_words::{Line, Page, Unread, show_key, show_seen};
 use std::alloc::Global;
 
 /// `ask PUT /site {"server":..}`: what is asked, and for a row that is put how it is shown again,
@@ -41,8 +40,8 @@ fn answer(
 ) -> Result<(), Unread> {
     match command_of(alloc, meant(method), meant(path), body) {
         Ok(command) => show_command(alloc, page, command),
-        Err(ClerkErr::Memory) => Err(Unread::Memory),
-        Err(err) => show_fault(alloc, page, &Fault::Clerk(err)),
+        Err(CommandErr::Fault(err)) => show_fault(alloc, page, &Fault::Clerk(err)),
+        Err(CommandErr::Memory) => Err(Unread::Memory),
     }
 }
 
@@ -89,31 +88,29 @@ fn show_import(
 // The row that the command puts, as it is shown; other commands have nothing to show.
 fn as_shown(command: Command) -> Reply
     requires { IsTrue (is_sound command) }
-    ensures { IsRightReply result }
 {
     match command {
-        Command::SetSite(site) => Reply::Shown(Key::Site, Row::Site(site)),
+        Command::SetSite(site) => Reply::Shown(Key::Site, ShownRow::Site(site)),
         Command::PutSubscriber(number, row) => {
-            Reply::Shown(Key::Subscriber(number), Row::Subscriber(row))
+            Reply::Shown(Key::Subscriber(number), ShownRow::Subscriber(row))
         }
         Command::PutAddOn(owner, number, row) => {
-            Reply::Shown(Key::AddOn(owner, number), Row::AddOn(row))
+            Reply::Shown(Key::AddOn(owner, number), ShownRow::AddOn(row))
         }
-        Command::PutModem(mac, row) => Reply::Shown(Key::Modem(mac), Row::Modem(row)),
-        Command::PutClass(number, row) => Reply::Shown(Key::Class(number), Row::Class(row)),
-        Command::PutPool(number, row) => Reply::Shown(Key::Pool(number), Row::Pool(row)),
+        Command::PutModem(mac, row) => Reply::Shown(Key::Modem(mac), ShownRow::Modem(row)),
+        Command::PutClass(number, row) => Reply::Shown(Key::Class(number), ShownRow::Class(row)),
+        Command::PutPool(number, row) => Reply::Shown(Key::Pool(number), ShownRow::Pool(row)),
         _ => Reply::Done,
     }
 }
 
 fn show_put(alloc: Global, page: &mut Page, reply: &Reply) -> Result<(), Unread>
-    requires { IsRightReply reply.now }
 {
     let Reply::Shown(key, row) = reply else {
         return Err(Unread::Words);
     };
     page.text("put ")?;
-    show_row(page, key, row)?;
+    show_seen(page, key, row)?;
     page.text("; ")?;
     show_reply(page, reply_json(alloc, reply))
 }
@@ -135,7 +132,7 @@ pub fn lease(alloc: Global, page: &mut Page, line: Line<'_>) -> Result<(), Unrea
         hold,
         expiry: line.moment()?,
     };
-    let reply = Reply::Shown(Key::Lease(address), Row::Lease(lease));
+    let reply = Reply::Shown(Key::Lease(address), ShownRow::Lease(lease));
     show_reply(page, reply_json(alloc, &reply))
 }
 

@@ -9,7 +9,7 @@ use off_clerk::Fault;
 use off_defs::{Command, Reply, Write};
 use off_keepmem::MemKeeper;
 use off_rows::sound;
-use script_words::{Line, Page, Unread, read_command, show_key, show_row};
+use script_words::{Line, Page, Unread, read_command, show_key, show_row, show_seen};
 use std::alloc::Global;
 
 /// `decide t remove pool 1; ROW; ROW`: what is to be written at a command over these rows, what is
@@ -103,7 +103,7 @@ fn show_answer(page: &mut Page, reply: &Reply) -> Result<(), NoMemory> {
         Reply::Done => page.text("done"),
         Reply::Shown(key, row) => {
             page.text("shown ")?;
-            show_row(page, key, row)
+            show_seen(page, key, row)
         }
         Reply::Rows(count) => page.number(u64::from(*count)),
     }

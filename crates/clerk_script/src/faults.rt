@@ -1,5 +1,3 @@
-ghost use Rattle.off_clerk_rules.specs.Faults.{IsTold};
-
 use off_clerk::{Fault, fault_json, fault_status, fault_word};
 use off_defs::{Kind, Rule};
 use off_http::HttpFault;
@@ -9,7 +7,6 @@ use std::alloc::Global;
 
 /// Prints the status, the word and the JSON text of a fault.
 pub fn show_fault(alloc: Global, page: &mut Page, fault: &Fault) -> Result<(), Unread>
-    requires { IsTold fault.now }
 {
     page.number(u64::from(fault_status(fault)))?;
     page.text(" ")?;

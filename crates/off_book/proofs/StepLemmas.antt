@@ -34,11 +34,13 @@ does_keeper s (Closed conn) effect does = absurd does
 does_keeper s Tick effect does = absurd does
 does_keeper s End effect does = absurd does
 
-pub step_tells : (s : State) (event : Event) (outcome : Outcome) (effect : Effect) → Step s event outcome effect → TellsOutcome event.what outcome effect.said.line
+-- an event that wasn't acted on says why
+pub failure_tells : (s : State) (event : Event) (outcome : Outcome) (effect : Effect) → Step s event outcome effect → (outcome ≡ Did → ⊥)
+    → TellsOutcome event.what outcome effect.said.line
 unfolding Step
-step_tells s event Did effect step = tt
-step_tells s event Memory effect step = does_memory _ event.what effect step
-step_tells s event Keeper effect step = does_keeper _ event.what effect step
+failure_tells s event Did effect step failed = absurd (failed refl)
+failure_tells s event Memory effect step failed = does_memory _ event.what effect step
+failure_tells s event Keeper effect step failed = does_keeper _ event.what effect step
 
 -- an outcome that is no failure of the keeper and no want of memory
 did_of : (o : Outcome) → keeper_failures o ≡ 0 → ¬ (o ≡ Memory) → o ≡ Did

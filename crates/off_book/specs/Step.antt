@@ -1,7 +1,7 @@
 -- One event of the office. Step relates a state, an event and its outcome to what is said and to
 -- the state after it; each pair of an event and an outcome has a line here, and ⊥ where the pair
 -- can't be.
-use Rattle.std.specs.Prelude.{◌≡◌, ◌++◌, List, [], ℕ, codes}
+use Rattle.std.specs.Prelude.{◌≡◌, ◌≢◌, ◌++◌, List, [], ℕ, codes}
 use Rattle.off_defs.specs.declared.events.Service.TheVariants.{Dhcp, Time, Tftp}
 use Rattle.off_defs.specs.declared.events.What.{What}
 use Rattle.off_defs.specs.declared.events.What.TheVariants.{Datagram, Piece, Closed, Tick, End}
@@ -73,9 +73,9 @@ added_items what outcome = []
 abbrev pub completed : What → Outcome → Said → Said
 completed what outcome said = record said { items = said.items ++ added_items what outcome }
 
--- an event that was acted on says so by its line, if by anything; want of memory and a failing
--- keeper are always said
+-- The line says that memory was wanted, or that the keeper failed, exactly where it was so.
 abbrev pub TellsOutcome : What → Outcome → List ℕ → Type 0
-TellsOutcome what Did line = Unit {0}
+TellsOutcome what Did line =
+    (line ≢ service_word what ++ codes " memory") × (line ≢ service_word what ++ codes " keeper")
 TellsOutcome what Memory line = line ≡ service_word what ++ codes " memory"
 TellsOutcome what Keeper line = line ≡ service_word what ++ codes " keeper"

@@ -24,6 +24,7 @@ use Rattle.off_defs.specs.declared.keys.Key.TheVariants as key
 use Rattle.off_defs.specs.declared.tables.Modem.{Modem}
 use Rattle.off_defs.specs.declared.tables.Subscriber.{Subscriber}
 use Rattle.off_defs.specs.declared.tables.Row.TheVariants as row
+use Rattle.off_defs.specs.declared.shown.ShownRow.TheVariants as seen
 use Rattle.off_defs.specs.declared.orders.Command.TheVariants.{PutSubscriber, PutModem}
 use Rattle.off_rows.specs.RowBytes.{RowRanged}
 use Rattle.off_rows.specs.Sound.{is_sound_subscriber}
@@ -81,11 +82,11 @@ abbrev modem_pieces : Modem → List (List ℕ)
 modem_pieces held =
     codes "{\"class\":" ∷ decimal held.class ∷ codes ",\"serial\":" ∷ quoted held.serial ∷ codes ",\"subscriber\":" ∷ decimal held.subscriber ∷ codes "}" ∷ []
 
-modem_compact : (held : Modem) → row_text (row.Modem held) ≡ compact_text (modem_data held)
+modem_compact : (held : Modem) → row_text (seen.Modem held) ≡ compact_text (modem_data held)
 unfolding escape_byte
 modem_compact held = seven (codes "{\"class\":") (decimal held.class) (codes ",\"serial\":") (quoted held.serial) (codes ",\"subscriber\":") (decimal held.subscriber) (codes "}")
 
-modem_joined : (held : Modem) → row_text (row.Modem held) ≡ concat (modem_pieces held)
+modem_joined : (held : Modem) → row_text (seen.Modem held) ≡ concat (modem_pieces held)
 modem_joined held = seven (codes "{\"class\":") (decimal held.class) (codes ",\"serial\":") (quoted held.serial) (codes ",\"subscriber\":") (decimal held.subscriber) (codes "}")
 
 modem_converted : (held : Modem) → held.class < 2 ^ 64 → held.subscriber < 2 ^ 64 → of_json (outline (modem_data held)) ≡ Some (modem_data held)
@@ -95,14 +96,14 @@ modem_printed : (held : Modem) → held.class < 2 ^ 64 → held.subscriber < 2 ^
 unfolding ArePrintable
 modem_printed held a b = (tt, (tt, (IsNumber-decimal held.class a, (tt, (tt, (tt, (IsNumber-decimal held.subscriber b, (tt, tt))))))))
 
-modem_object : (held : Modem) → RowRanged (row.Modem held) → object_in (row_text (row.Modem held)) ≡ Ok (modem_data held)
+modem_object : (held : Modem) → RowRanged (row.Modem held) → object_in (row_text (seen.Modem held)) ≡ Ok (modem_data held)
 modem_object held ranged =
     let a : held.class < 2 ^ 64 = omega (arith, ranged.1) in
     let b : held.subscriber < 2 ^ 64 = omega (arith, ranged.0) in
-    let utf8 : IsUtf8 (row_text (row.Modem held)) = subst IsUtf8 (sym (modem_joined held))
+    let utf8 : IsUtf8 (row_text (seen.Modem held)) = subst IsUtf8 (sym (modem_joined held))
     (all_utf8 (modem_pieces held)
     (IsUtf8-are_ascii _ refl, (decimal_utf8 held.class a, (IsUtf8-are_ascii _ refl, (IsUtf8-quoted held.serial ranged.2.1, (IsUtf8-are_ascii _ refl, (decimal_utf8 held.subscriber b, (IsUtf8-are_ascii _ refl, tt)))))))) in
-    let back : read (row_text (row.Modem held)) ≡ Some (modem_data held) = ap read (modem_compact held) ∙ read_compact (modem_data held) (modem_printed held a b) (modem_converted held a b) (omega arith) in
+    let back : read (row_text (seen.Modem held)) ≡ Some (modem_data held) = ap read (modem_compact held) ∙ read_compact (modem_data held) (modem_printed held a b) (modem_converted held a b) (omega arith) in
     an_object _ (modem_data held) utf8 back refl
 
 modem_fields : (held : Modem) → RowRanged (row.Modem held) → modem_in (modem_data held) ≡ Ok held
@@ -112,7 +113,7 @@ modem_fields held ranged =
     (ap (λ (o : Option ℕ). ok_or o (Value field.Class)) (number_read 0 last_number held.class (within 0 last_number held.class (omega arith) (omega (arith, ranged.1)))))
     (ap (λ (o : Option (List ℕ)). ok_or o (Value field.Serial)) (text_read held.serial ranged.2.0))
 
-modem_back : (mac : Mac) (held : Modem) → RowRanged (row.Modem held) → put_read (key.Modem mac) (row_text (row.Modem held)) ≡ Ok (PutModem mac held)
+modem_back : (mac : Mac) (held : Modem) → RowRanged (row.Modem held) → put_read (key.Modem mac) (row_text (seen.Modem held)) ≡ Ok (PutModem mac held)
 modem_back mac held ranged =
     ap (λ (r : Result Data ClerkErr). r >>= (λ fields. modem_in fields >>= (λ modem. Ok (PutModem mac modem)))) (modem_object held ranged)
     ∙ ap (λ (r : Result Modem ClerkErr). r >>= (λ modem. Ok (PutModem mac modem))) (modem_fields held ranged)
@@ -133,12 +134,12 @@ abbrev subscriber_of : Bool → ℕ → List ℕ → Subscriber
 subscriber_of active cpes text = record { active = active; cpes = cpes; name = text }
 
 subscriber_compact : (active : Bool) (cpes : ℕ) (text : List ℕ)
-    → row_text (row.Subscriber (subscriber_of active cpes text)) ≡ compact_text (subscriber_data (subscriber_of active cpes text))
+    → row_text (seen.Subscriber (subscriber_of active cpes text)) ≡ compact_text (subscriber_data (subscriber_of active cpes text))
 unfolding escape_byte
 subscriber_compact true cpes text = seven (codes "{\"active\":") (flag_text true) (codes ",\"cpes\":") (decimal cpes) (codes ",\"name\":") (quoted text) (codes "}")
 subscriber_compact false cpes text = seven (codes "{\"active\":") (flag_text false) (codes ",\"cpes\":") (decimal cpes) (codes ",\"name\":") (quoted text) (codes "}")
 
-subscriber_joined : (held : Subscriber) → row_text (row.Subscriber held) ≡ concat (subscriber_pieces held)
+subscriber_joined : (held : Subscriber) → row_text (seen.Subscriber held) ≡ concat (subscriber_pieces held)
 subscriber_joined held = seven (codes "{\"active\":") (flag_text held.active) (codes ",\"cpes\":") (decimal held.cpes) (codes ",\"name\":") (quoted held.name) (codes "}")
 
 subscriber_converted : (held : Subscriber) → held.cpes < 2 ^ 64 → of_json (outline (subscriber_data held)) ≡ Some (subscriber_data held)
@@ -148,13 +149,13 @@ subscriber_printed : (held : Subscriber) → held.cpes < 2 ^ 64 → ArePrintable
 unfolding ArePrintable
 subscriber_printed held a = (tt, (tt, (tt, (tt, (IsNumber-decimal held.cpes a, (tt, (tt, (tt, tt))))))))
 
-subscriber_object : (held : Subscriber) → RowRanged (row.Subscriber held) → object_in (row_text (row.Subscriber held)) ≡ Ok (subscriber_data held)
+subscriber_object : (held : Subscriber) → RowRanged (row.Subscriber held) → object_in (row_text (seen.Subscriber held)) ≡ Ok (subscriber_data held)
 subscriber_object held ranged =
     let a : held.cpes < 2 ^ 64 = omega (arith, ranged.0) in
-    let utf8 : IsUtf8 (row_text (row.Subscriber held)) = subst IsUtf8 (sym (subscriber_joined held))
+    let utf8 : IsUtf8 (row_text (seen.Subscriber held)) = subst IsUtf8 (sym (subscriber_joined held))
     (all_utf8 (subscriber_pieces held)
     (IsUtf8-are_ascii _ refl, (flag_utf8 held.active, (IsUtf8-are_ascii _ refl, (decimal_utf8 held.cpes a, (IsUtf8-are_ascii _ refl, (IsUtf8-quoted held.name ranged.1.1, (IsUtf8-are_ascii _ refl, tt)))))))) in
-    let back : read (row_text (row.Subscriber held)) ≡ Some (subscriber_data held) = ap read (subscriber_compact held.active held.cpes held.name)
+    let back : read (row_text (seen.Subscriber held)) ≡ Some (subscriber_data held) = ap read (subscriber_compact held.active held.cpes held.name)
     ∙ read_compact (subscriber_data held) (subscriber_printed held a) (subscriber_converted held a) (omega arith) in
     an_object _ (subscriber_data held) utf8 back refl
 
@@ -164,7 +165,7 @@ subscriber_fields held ranged sound =
     (ap (λ (o : Option ℕ). ok_or o (Value field.Cpes)) (number_read 1 254 held.cpes sound)) (ap (λ (o : Option (List ℕ)). ok_or o (Value field.Name)) (text_read held.name ranged.1.0))
 
 subscriber_back : (n : ℕ) (held : Subscriber) → RowRanged (row.Subscriber held) → IsTrue (is_sound_subscriber held)
-    → put_read (key.Subscriber n) (row_text (row.Subscriber held)) ≡ Ok (PutSubscriber n held)
+    → put_read (key.Subscriber n) (row_text (seen.Subscriber held)) ≡ Ok (PutSubscriber n held)
 subscriber_back n held ranged sound =
     ap (λ (r : Result Data ClerkErr). r >>= (λ fields. subscriber_in fields >>= (λ subscriber. Ok (PutSubscriber n subscriber)))) (subscriber_object held ranged)
     ∙ ap (λ (r : Result Subscriber ClerkErr). r >>= (λ subscriber. Ok (PutSubscriber n subscriber))) (subscriber_fields held ranged sound)

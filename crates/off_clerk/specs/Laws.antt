@@ -5,6 +5,7 @@ use Rattle.off_defs.specs.declared.keys.Key.TheVariants as key
 use Rattle.off_defs.specs.declared.tables.Modem.{Modem}
 use Rattle.off_defs.specs.declared.tables.Subscriber.{Subscriber}
 use Rattle.off_defs.specs.declared.tables.Row.TheVariants as row
+use Rattle.off_defs.specs.declared.shown.ShownRow.TheVariants as seen
 use Rattle.off_defs.specs.declared.orders.Command.TheVariants.{PutSubscriber, PutModem}
 use Rattle.off_rows.specs.RowBytes.{RowRanged}
 use Rattle.off_rows.specs.Sound.{is_sound_subscriber}
@@ -16,8 +17,8 @@ pub record ShownReadBack : Type 0 where
   pub subscriber :
       (number : ℕ) (held : Subscriber) → RowRanged (row.Subscriber held) →
       IsTrue (is_sound_subscriber held)
-      → put_read (key.Subscriber number) (row_text (row.Subscriber held))
+      → put_read (key.Subscriber number) (row_text (seen.Subscriber held))
       ≡ Ok (PutSubscriber number held)
   pub modem :
       (mac : Mac) (held : Modem) → RowRanged (row.Modem held) →
-      put_read (key.Modem mac) (row_text (row.Modem held)) ≡ Ok (PutModem mac held)
+      put_read (key.Modem mac) (row_text (seen.Modem held)) ≡ Ok (PutModem mac held)

@@ -9,5 +9,5 @@ mod laws;
 
 pub use laws::a_shown_row_is_read_back;
 pub use off_clerk_read::command_of;
-pub use off_clerk_rules::{ClerkErr, Fault, Name};
+pub use off_clerk_rules::{ClerkErr, CommandErr, Fault, Name};
 pub use off_clerk_write::{fault_json, fault_status, fault_word, reply_json};

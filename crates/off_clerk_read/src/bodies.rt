@@ -1,36 +1,36 @@
-ghost use Rattle.std.specs.Prelude.{◌≡◌, ◌≢◌, MatchResult, Ok, Err, IsTrue, IfOk};
+ghost use Rattle.std.specs.Prelude.{◌≡◌, MatchResult, Ok, IsTrue, IfOk};
 ghost use Rattle.serde_json.specs.View.{view};
 ghost use Rattle.off_rows.specs.Sound.{is_sound_subscriber, is_sound_pool};
-ghost use Rattle.off_clerk_rules.specs.declared.faults.ClerkErr.TheVariants.{Memory};
-ghost use Rattle.off_clerk_rules.specs.Commands.{GivesWanted, object_in, site_in, subscriber_in};
+ghost use Rattle.off_clerk_rules.specs.Commands.{GivesWanted, GivesFault, object_in, site_in};
+ghost use Rattle.off_clerk_rules.specs.Commands.{subscriber_in};
 ghost use Rattle.off_clerk_rules.specs.Commands.{add_on_in, modem_in, class_in, pool_in};
 
 use crate::fields::{address, flag, number, offset, relay, secret, small, text};
 use crate::trees::settings;
 use off_base::Settings;
-use off_clerk_rules::{ClerkErr, Name};
+use off_clerk_rules::{ClerkErr, CommandErr, Name};
 use off_defs::{Class, LEAST_PREFIX, MOST_DEVICES, MOST_PREFIX, Modem, Pool, Site, Subscriber};
 use serde_json::Value;
 use std::alloc::Global;
 
 // The JSON object that a body is.
-pub(crate) fn object_of(alloc: Global, body: &[u8]) -> Result<Value, ClerkErr>
+pub(crate) fn object_of(alloc: Global, body: &[u8]) -> Result<Value, CommandErr>
     ensures { MatchResult result (λ value. object_in body.now ≡ Ok (view value))
-        (λ err. err ≢ Memory → object_in body.now ≡ Err err) }
+        (GivesFault (object_in body.now)) }
 {
     match Value::from_slice(alloc, body) {
         Ok(value) => {
             if value.is_object() {
                 Ok(value)
             } else {
-                Err(ClerkErr::NotJson)
+                Err(CommandErr::Fault(ClerkErr::NotJson))
             }
         }
         Err(err) => {
             if err.is_memory() {
-                Err(ClerkErr::Memory)
+                Err(CommandErr::Memory)
             } else {
-                Err(ClerkErr::NotJson)
+                Err(CommandErr::Fault(ClerkErr::NotJson))
             }
         }
     }
@@ -65,7 +65,7 @@ pub(crate) fn subscriber_of(body: &Value) -> Result<Subscriber, ClerkErr>
     Ok(Subscriber { active, cpes, name })
 }
 
-pub(crate) fn add_on_of(alloc: Global, body: &Value) -> Result<Settings, ClerkErr>
+pub(crate) fn add_on_of(alloc: Global, body: &Value) -> Result<Settings, CommandErr>
     ensures { GivesWanted (add_on_in (view body.now)) result }
 {
     settings(alloc, body, Name::Settings)
@@ -84,7 +84,7 @@ pub(crate) fn modem_of(body: &Value) -> Result<Modem, ClerkErr>
     })
 }
 
-pub(crate) fn class_of(alloc: Global, body: &Value) -> Result<Class, ClerkErr>
+pub(crate) fn class_of(alloc: Global, body: &Value) -> Result<Class, CommandErr>
     ensures { GivesWanted (class_in (view body.now)) result }
 {
     let name = text(body, Name::Name)?;

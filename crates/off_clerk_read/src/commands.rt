@@ -9,7 +9,7 @@ ghost use Rattle.off_defs.specs.declared.keys.Key.TheVariants as key;
 use crate::bodies::{add_on_of, class_of, modem_of, object_of, pool_of, site_of, subscriber_of};
 use crate::paths::{path_of, place_at};
 use off_base::Mac;
-use off_clerk_rules::{ClerkErr, Place};
+use off_clerk_rules::{ClerkErr, CommandErr, Place};
 use off_defs::{Command, ImportKind, Key};
 use off_import::read_import;
 use off_import_rules::ImportErr;
@@ -28,18 +28,18 @@ pub fn command_of(
     method: &[u8],
     path: &[u8],
     body: &[u8],
-) -> Result<Command, ClerkErr>
+) -> Result<Command, CommandErr>
     ensures exact { GivesWanted (command_read method.now path.now body.now) result }
     ensures sound { IfOk result (λ command. IsTrue (is_sound command)) }
 {
     match place_at(path_of(path)) {
         Some(place) => asked(alloc, place, method, body),
-        None => Err(ClerkErr::NoPath),
+        None => Err(CommandErr::Fault(ClerkErr::NoPath)),
     }
 }
 
 // What a method asks at the place that a path names.
-fn asked(alloc: Global, place: Place, method: &[u8], body: &[u8]) -> Result<Command, ClerkErr>
+fn asked(alloc: Global, place: Place, method: &[u8], body: &[u8]) -> Result<Command, CommandErr>
     requires { IsNamed place }
     ensures exact { GivesWanted (asked_of place method.now body.now) result }
     ensures sound { IfOk result (λ command. IsTrue (is_sound command)) }
@@ -55,29 +55,29 @@ fn asked(alloc: Global, place: Place, method: &[u8], body: &[u8]) -> Result<Comm
             if method == b"DELETE".as_slice() && deletes {
                 return Ok(Command::Remove(key));
             }
-            Err(ClerkErr::NoMethod)
+            Err(CommandErr::Fault(ClerkErr::NoMethod))
         }
         Place::Import { kind, batch } => {
             if method == b"PUT".as_slice() {
                 return import(alloc, kind, batch, body);
             }
-            Err(ClerkErr::NoMethod)
+            Err(CommandErr::Fault(ClerkErr::NoMethod))
         }
     }
 }
 
-fn import(alloc: Global, kind: ImportKind, batch: u64, body: &[u8]) -> Result<Command, ClerkErr>
+fn import(alloc: Global, kind: ImportKind, batch: u64, body: &[u8]) -> Result<Command, CommandErr>
     ensures exact { GivesWanted (as_import (import_in kind batch body.now)) result }
     ensures sound { IfOk result (λ command. IsTrue (is_sound command)) }
 {
     match read_import(alloc, kind, batch, body) {
         Ok(command) => Ok(command),
-        Err(ImportErr::Fault(fault)) => Err(ClerkErr::Import(fault)),
-        Err(ImportErr::Memory) => Err(ClerkErr::Memory),
+        Err(ImportErr::Fault(fault)) => Err(CommandErr::Fault(ClerkErr::Import(fault))),
+        Err(ImportErr::Memory) => Err(CommandErr::Memory),
     }
 }
 
-fn put(alloc: Global, key: Key, body: &[u8]) -> Result<Command, ClerkErr>
+fn put(alloc: Global, key: Key, body: &[u8]) -> Result<Command, CommandErr>
     requires { IsTrue (is_shown key) }
     ensures exact { GivesWanted (put_read key body.now) result }
     ensures sound { IfOk result (λ command. IsTrue (is_sound command)) }
@@ -89,13 +89,13 @@ fn put(alloc: Global, key: Key, body: &[u8]) -> Result<Command, ClerkErr>
         Key::Modem(mac) => put_modem(alloc, mac, body),
         Key::Class(number) => put_class(alloc, number, body),
         Key::Pool(number) => put_pool(alloc, number, body),
-        Key::Lease(_) => Err(ClerkErr::NoMethod),
-        Key::Held(_) => Err(ClerkErr::NoMethod),
-        Key::Batch(_) => Err(ClerkErr::NoMethod),
+        Key::Lease(_) => Err(CommandErr::Fault(ClerkErr::NoMethod)),
+        Key::Held(_) => Err(CommandErr::Fault(ClerkErr::NoMethod)),
+        Key::Batch(_) => Err(CommandErr::Fault(ClerkErr::NoMethod)),
     }
 }
 
-fn put_site(alloc: Global, body: &[u8]) -> Result<Command, ClerkErr>
+fn put_site(alloc: Global, body: &[u8]) -> Result<Command, CommandErr>
     ensures exact { GivesWanted (put_read key.Site body.now) result }
     ensures sound { IfOk result (λ command. IsTrue (is_sound command)) }
 {
@@ -104,7 +104,7 @@ fn put_site(alloc: Global, body: &[u8]) -> Result<Command, ClerkErr>
     Ok(Command::SetSite(site))
 }
 
-fn put_subscriber(alloc: Global, number: u32, body: &[u8]) -> Result<Command, ClerkErr>
+fn put_subscriber(alloc: Global, number: u32, body: &[u8]) -> Result<Command, CommandErr>
     ensures exact { GivesWanted (put_read (key.Subscriber number) body.now) result }
     ensures sound { IfOk result (λ command. IsTrue (is_sound command)) }
 {
@@ -113,7 +113,7 @@ fn put_subscriber(alloc: Global, number: u32, body: &[u8]) -> Result<Command, Cl
     Ok(Command::PutSubscriber(number, subscriber))
 }
 
-fn put_add_on(alloc: Global, owner: u32, number: u8, body: &[u8]) -> Result<Command, ClerkErr>
+fn put_add_on(alloc: Global, owner: u32, number: u8, body: &[u8]) -> Result<Command, CommandErr>
     requires { IsTrue (is_add_on_number number) }
     ensures exact { GivesWanted (put_read (key.AddOn owner number) body.now) result }
     ensures sound { IfOk result (λ command. IsTrue (is_sound command)) }
@@ -123,7 +123,7 @@ fn put_add_on(alloc: Global, owner: u32, number: u8, body: &[u8]) -> Result<Comm
     Ok(Command::PutAddOn(owner, number, settings))
 }
 
-fn put_modem(alloc: Global, mac: Mac, body: &[u8]) -> Result<Command, ClerkErr>
+fn put_modem(alloc: Global, mac: Mac, body: &[u8]) -> Result<Command, CommandErr>
     ensures exact { GivesWanted (put_read (key.Modem mac) body.now) result }
     ensures sound { IfOk result (λ command. IsTrue (is_sound command)) }
 {
@@ -132,7 +132,7 @@ fn put_modem(alloc: Global, mac: Mac, body: &[u8]) -> Result<Command, ClerkErr>
     Ok(Command::PutModem(mac, modem))
 }
 
-fn put_class(alloc: Global, number: u32, body: &[u8]) -> Result<Command, ClerkErr>
+fn put_class(alloc: Global, number: u32, body: &[u8]) -> Result<Command, CommandErr>
     ensures exact { GivesWanted (put_read (key.Class number) body.now) result }
     ensures sound { IfOk result (λ command. IsTrue (is_sound command)) }
 {
@@ -141,7 +141,7 @@ fn put_class(alloc: Global, number: u32, body: &[u8]) -> Result<Command, ClerkEr
     Ok(Command::PutClass(number, class))
 }
 
-fn put_pool(alloc: Global, number: u32, body: &[u8]) -> Result<Command, ClerkErr>
+fn put_pool(alloc: Global, number: u32, body: &[u8]) -> Result<Command, CommandErr>
     ensures exact { GivesWanted (put_read (key.Pool number) body.now) result }
     ensures sound { IfOk result (λ command. IsTrue (is_sound command)) }
 {

@@ -10,7 +10,7 @@ ghost use Rattle.off_clerk_rules.specs.Commands.{GivesWanted};
 use crate::fields::member;
 use crate::values::{hex_into, number_of};
 use off_base::{Bytes, NoMemory, Setting, Settings};
-use off_clerk_rules::{ClerkErr, Name};
+use off_clerk_rules::{ClerkErr, CommandErr, Name};
 use serde_json::Value;
 use std::alloc::Global;
 
@@ -18,14 +18,14 @@ use std::alloc::Global;
 const DEPTH: u8 = 3;
 
 // Reads the field of a body that has settings.
-pub(crate) fn settings(alloc: Global, body: &Value, name: Name) -> Result<Settings, ClerkErr>
+pub(crate) fn settings(alloc: Global, body: &Value, name: Name) -> Result<Settings, CommandErr>
     ensures { GivesWanted (field_in name settings_in (view body.now)) result }
 {
     let value = member(body, name)?;
     match settings_within(alloc, DEPTH, value) {
         Ok(Some(settings)) => Ok(settings),
-        Ok(None) => Err(ClerkErr::Value(name)),
-        Err(NoMemory) => Err(ClerkErr::Memory),
+        Ok(None) => Err(CommandErr::Fault(ClerkErr::Value(name))),
+        Err(NoMemory) => Err(CommandErr::Memory),
     }
 }
 

@@ -12,7 +12,7 @@ use Rattle.off_base.specs.Number.{number_read}
 use Rattle.off_base.specs.Tree.{leaf, group, followed, no_more}
 use Rattle.off_defs.specs.declared.keys.Key.TheVariants as key
 use Rattle.off_defs.specs.declared.tables.ImportKind.TheVariants.{Subscribers}
-use Rattle.off_defs.specs.declared.tables.Row.TheVariants as row
+use Rattle.off_defs.specs.declared.shown.ShownRow.TheVariants as row
 use Rattle.off_defs.specs.declared.orders.Command.TheVariants.{PutSubscriber, PutAddOn, Remove, Import}
 use Rattle.off_defs.specs.declared.orders.Reply.TheVariants.{Shown}
 use Rattle.off_defs.specs.declared.rules.Rule.TheVariants as rule

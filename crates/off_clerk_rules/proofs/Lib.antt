@@ -1,4 +1,3 @@
 pub mod PathLemmas
 pub mod BodyLemmas
-pub mod ReplyLemmas
 mod Examples

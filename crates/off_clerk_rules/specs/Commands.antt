@@ -1,5 +1,5 @@
 -- What a request means: a command, or the first fault.
-use Rattle.std.specs.Prelude.{◌≡◌, ◌≢◌, ℕ, ◌&&◌, List, codes, bytes_eq, is_some, Option, Some, None, Result, Ok, Err, MatchResult, if◌then◌else◌}
+use Rattle.std.specs.Prelude.{◌≡◌, ℕ, ◌&&◌, List, codes, bytes_eq, is_some, Option, Some, None, Result, Ok, Err, MatchResult, if◌then◌else◌}
 use Rattle.std.specs.Str.{is_utf8}
 use Rattle.serde_json.specs.Data.{Data}
 use Rattle.serde_json.specs.Read.{read}
@@ -17,15 +17,16 @@ use Rattle.off_defs.specs.declared.tables.ImportKind.{ImportKind}
 use Rattle.off_defs.specs.declared.orders.Command.{Command}
 use Rattle.off_defs.specs.declared.orders.Command.TheVariants.{SetSite, PutSubscriber, PutAddOn, PutModem, PutClass, PutPool, Remove, Show}
 use Rattle.off_import_rules.specs.Reading.{import_in}
-use Rattle.off_import_rules.specs.declared.faults.ImportErr.{ImportErr}
-use Rattle.off_import_rules.specs.declared.faults.ImportErr.TheVariants as imported
+use Rattle.off_import_rules.specs.declared.faults.ImportFault.{ImportFault}
 use Rattle.off_clerk_rules.specs.Paths.{path_of, place_at, last_number}
 use Rattle.off_clerk_rules.specs.declared.places.Place.{Place}
 use Rattle.off_clerk_rules.specs.declared.places.Place.TheVariants as at
 use Rattle.off_clerk_rules.specs.Fields.{field_in, number_in, offset_in, text_in, address_in, relay_in, hex_in, settings_in}
 use Rattle.off_clerk_rules.specs.declared.names.Name.TheVariants as field
 use Rattle.off_clerk_rules.specs.declared.faults.ClerkErr.{ClerkErr}
-use Rattle.off_clerk_rules.specs.declared.faults.ClerkErr.TheVariants.{NoPath, NoMethod, NotJson, Import, Memory}
+use Rattle.off_clerk_rules.specs.declared.faults.ClerkErr.TheVariants.{NoPath, NoMethod, NotJson, Import}
+use Rattle.off_clerk_rules.specs.declared.faults.CommandErr.{CommandErr}
+use Rattle.off_clerk_rules.specs.declared.faults.CommandErr.TheVariants.{Fault, Memory}
 
 -- the second step, if the first gave a value: `do` reads fields in order, and ends at the first
 -- fault
@@ -118,13 +119,9 @@ put_read (key.Held mac) body = Err NoMethod
 put_read (key.Batch number) body = Err NoMethod
 
 -- the body of an import isn't JSON
-abbrev pub import_fault : ImportErr → ClerkErr
-import_fault (imported.Fault fault) = Import fault
-import_fault imported.Memory = Memory
-
-abbrev pub as_import : Result Command ImportErr → Result Command ClerkErr
+abbrev pub as_import : Result Command ImportFault → Result Command ClerkErr
 as_import (Ok command) = Ok command
-as_import (Err err) = Err (import_fault err)
+as_import (Err fault) = Err (Import fault)
 
 -- GET and DELETE (RFC 9110, sections 9.3.1 and 9.3.5) have no body
 abbrev pub asked_of : Place → List ℕ → List ℕ → Result Command ClerkErr
@@ -145,6 +142,9 @@ abbrev pub command_read : List ℕ → List ℕ → List ℕ → Result Command 
 command_read method target body = asked_at (place_at (path_of target)) method body
 
 -- this is what was wanted, or memory was wanted
-abbrev pub GivesWanted : {A : Type 0} → Result A ClerkErr → Result A ClerkErr → Type 0
-GivesWanted wanted result =
-    MatchResult result (λ x. wanted ≡ Ok x) (λ err. err ≢ Memory → wanted ≡ Err err)
+abbrev pub GivesFault : {A : Type 0} → Result A ClerkErr → CommandErr → Type 0
+GivesFault wanted (Fault err) = wanted ≡ Err err
+GivesFault wanted Memory = Unit {0}
+
+abbrev pub GivesWanted : {A : Type 0} → Result A ClerkErr → Result A CommandErr → Type 0
+GivesWanted wanted result = MatchResult result (λ x. wanted ≡ Ok x) (GivesFault wanted)

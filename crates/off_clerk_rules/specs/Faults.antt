@@ -1,6 +1,6 @@
 -- What a clerk is told of a fault: its word, where it is, and the status of the answer (RFC 9110,
 -- section 15).
-use Rattle.std.specs.Prelude.{◌≢◌, ℕ, ◌==◌, List, [], ◌++◌, codes, decimal, Option, Some, None, if◌then◌else◌}
+use Rattle.std.specs.Prelude.{ℕ, ◌==◌, List, [], ◌++◌, codes, decimal, Option, Some, None, if◌then◌else◌}
 use Rattle.off_base.specs.AddressText.{ip_text_of}
 use Rattle.off_tree.specs.declared.paths.TreeFault.{TreeFault}
 use Rattle.off_tree.specs.declared.paths.TreeFault.TheVariants as tree
@@ -15,10 +15,6 @@ use Rattle.off_clerk_rules.specs.declared.faults.Fault.TheVariants as fault
 use Rattle.off_import_rules.specs.Faults.{fault_word, fault_detail, fault_status}
 use Rattle.off_clerk_rules.specs.Names.{name_text}
 
--- a clerk isn't told of want of memory
-abbrev pub IsTold : Fault → Type 0
-IsTold f = f ≢ fault.Clerk clerk.Memory
-
 abbrev pub clerk_word : ClerkErr → List ℕ
 clerk_word clerk.NoPath = codes "no-path"
 clerk_word clerk.NoMethod = codes "no-method"
@@ -26,7 +22,6 @@ clerk_word clerk.NotJson = codes "not-json"
 clerk_word (clerk.Field missing) = codes "field"
 clerk_word (clerk.Value wrong) = codes "value"
 clerk_word (clerk.Import f) = fault_word f
-clerk_word clerk.Memory = []
 
 abbrev pub http_word : HttpFault → List ℕ
 http_word http.Head = codes "head"
@@ -60,7 +55,6 @@ clerk_status clerk.NotJson = 400
 clerk_status (clerk.Field missing) = 400
 clerk_status (clerk.Value wrong) = 400
 clerk_status (clerk.Import f) = fault_status f
-clerk_status clerk.Memory = 0
 
 abbrev pub http_status : HttpFault → ℕ
 http_status http.Head = 400
@@ -108,7 +102,6 @@ clerk_detail clerk.NotJson = None
 clerk_detail (clerk.Field missing) = Some (name_text missing)
 clerk_detail (clerk.Value wrong) = Some (name_text wrong)
 clerk_detail (clerk.Import f) = fault_detail f
-clerk_detail clerk.Memory = None
 
 -- what stands against a command: another pool, a leased address, a batch, a rule of settings, a
 -- limit, a field

@@ -8,11 +8,10 @@ use Rattle.serde_json.specs.Data.{string}
 use Rattle.serde_json.specs.Written.{compact_text}
 use Rattle.off_base.specs.AddressText.{ip_text_of, mac_text_of}
 use Rattle.off_base.specs.Tree.{Tree, Row, leaf, group, no_more, followed}
-use Rattle.off_rows.specs.RowBytes.{IsOfKind}
 use Rattle.off_defs.specs.declared.tables.Hold.{Hold}
 use Rattle.off_defs.specs.declared.tables.Hold.TheVariants.{Offered, Bound, Declined}
-use Rattle.off_defs.specs.declared.tables.Row.{Row as TableRow}
-use Rattle.off_defs.specs.declared.tables.Row.TheVariants as row
+use Rattle.off_defs.specs.declared.shown.ShownRow.{ShownRow}
+use Rattle.off_defs.specs.declared.shown.ShownRow.TheVariants as row
 use Rattle.off_defs.specs.declared.orders.Reply.{Reply}
 use Rattle.off_defs.specs.declared.orders.Reply.TheVariants.{Done, Shown, Rows}
 
@@ -55,7 +54,7 @@ state_text (Bound owner) = codes "bound"
 state_text Declined = codes "declined"
 
 -- a row as a clerk sees it: the fields of the body that puts such a row, but a site's secret
-abbrev pub row_text : TableRow → List ℕ
+abbrev pub row_text : ShownRow → List ℕ
 row_text (row.Site site) =
     codes "{\"lease\":" ++ decimal site.lease ++ codes ",\"log\":\"" ++ ip_text_of site.log.0
     ++ codes "\",\"offset\":" ++ signed_decimal site.offset ++ codes ",\"server\":\""
@@ -79,29 +78,7 @@ row_text (row.Pool pool) =
 row_text (row.Lease lease) =
     codes "{\"expiry\":" ++ decimal lease.expiry.0 ++ codes ",\"owner\":\"" ++ owner_text lease.hold
     ++ codes "\",\"state\":\"" ++ state_text lease.hold ++ codes "\"}"
--- a clerk sees neither of these
-row_text (row.Held address) = []
-row_text (row.Batch batch) = []
-
 abbrev pub reply_text : Reply → List ℕ
 reply_text Done = codes "{\"ok\":true}"
 reply_text (Shown key row) = row_text row
 reply_text (Rows count) = codes "{\"rows\":" ++ decimal count ++ codes "}"
-
--- a clerk may see rows of these kinds
-abbrev pub IsSeen : TableRow → Type 0
-IsSeen (row.Site site) = Unit {0}
-IsSeen (row.Subscriber subscriber) = Unit {0}
-IsSeen (row.AddOn settings) = Unit {0}
-IsSeen (row.Modem modem) = Unit {0}
-IsSeen (row.Class class) = Unit {0}
-IsSeen (row.Pool pool) = Unit {0}
-IsSeen (row.Lease lease) = Unit {0}
-IsSeen (row.Held address) = ⊥
-IsSeen (row.Batch batch) = ⊥
-
--- a shown row is of its key's kind, and of one that a clerk may see
-abbrev pub IsRightReply : Reply → Type 0
-IsRightReply Done = Unit {0}
-IsRightReply (Shown key row) = IsSeen row × IsOfKind key row
-IsRightReply (Rows count) = Unit {0}

@@ -1,3 +1,6 @@
+ghost use Rattle.std.specs.Prelude.{◌≡◌};
+ghost use Rattle.off_clerk_rules.specs.declared.faults.CommandErr.TheVariants.{Fault};
+
 use crate::names::Name;
 use off_defs::Rule;
 use off_http::HttpFault;
@@ -18,8 +21,23 @@ pub enum ClerkErr {
     Value(Name),
     /// The body of an import can't be read.
     Import(ImportFault),
-    /// Memory was wanted, and refused. A clerk isn't told so.
+}
+
+/// Why a request gives no command.
+#[derive(Clone, Copy, Debug, PartialEq, Eq)]
+pub enum CommandErr {
+    /// It is none, and the clerk is told so.
+    Fault(ClerkErr),
+    /// Memory was wanted, and refused.
     Memory,
+}
+
+impl From<ClerkErr> for CommandErr {
+    ghost from_gives = { λ fault err. err ≡ Fault fault };
+
+    fn from(fault: ClerkErr) -> CommandErr {
+        CommandErr::Fault(fault)
+    }
 }
 
 /// Why a clerk's request isn't done.

@@ -6,6 +6,6 @@ mod faults;
 mod names;
 mod places;
 
-pub use faults::{ClerkErr, Fault};
+pub use faults::{ClerkErr, CommandErr, Fault};
 pub use names::Name;
 pub use places::Place;

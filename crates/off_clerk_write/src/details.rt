@@ -1,6 +1,6 @@
 ghost use Rattle.std.specs.Prelude.{◌≡◌, ◌++◌, codes, option_map, IfOk, OnOk};
 ghost use Rattle.off_clerk_rules.specs.Faults.{fault_text, detail_of, clerk_detail};
-ghost use Rattle.off_clerk_rules.specs.Faults.{rule_detail, tree_number, IsTold};
+ghost use Rattle.off_clerk_rules.specs.Faults.{rule_detail, tree_number};
 ghost use Rattle.off_import_rules.specs.Faults.{fault_detail};
 ghost use Rattle.off_clerk_write.specs.Details.{detail_text};
 
@@ -27,7 +27,6 @@ enum Detail {
 ///
 /// The only error is want of memory.
 pub fn fault_json(alloc: Global, f: &Fault) -> Result<Bytes, NoMemory>
-    requires { IsTold f.now }
     ensures { IfOk result (λ text. text ≡ fault_text f.now) }
 {
     let word = fault_word(f);
@@ -94,7 +93,9 @@ fn field_of(err: ClerkErr) -> Option<Detail>
         ClerkErr::Field(name) => Some(Detail::Field(name)),
         ClerkErr::Value(name) => Some(Detail::Field(name)),
         ClerkErr::Import(fault) => place_in_import(fault),
-        _ => None,
+        ClerkErr::NoPath => None,
+        ClerkErr::NoMethod => None,
+        ClerkErr::NotJson => None,
     }
 }
 

@@ -1,12 +1,11 @@
 ghost use Rattle.std.specs.Prelude.{◌≡◌, ◌++◌, codes, decimal, IfOk, OnOk};
-ghost use Rattle.off_defs.specs.declared.tables.Row.TheVariants as row;
+ghost use Rattle.off_defs.specs.declared.shown.ShownRow.TheVariants as row;
 ghost use Rattle.off_clerk_rules.specs.Replies.{reply_text, row_text, owner_text, state_text};
-ghost use Rattle.off_clerk_rules.specs.Replies.{IsRightReply, IsSeen};
 
 use crate::arrays::push_settings;
 use crate::texts::{push_address, push_flag, push_mac, push_number, push_signed, push_text};
 use off_base::{Bytes, NoMemory, Settings};
-use off_defs::{Class, Hold, Lease, Modem, Pool, Reply, Row, Site, Subscriber};
+use off_defs::{Class, Hold, Lease, Modem, Pool, Reply, ShownRow, Site, Subscriber};
 use std::alloc::Global;
 
 /// The reply as a JSON object (RFC 8259) without white space, its keys in ascending order:
@@ -15,7 +14,6 @@ use std::alloc::Global;
 ///
 /// The only error is want of memory.
 pub fn reply_json(alloc: Global, r: &Reply) -> Result<Bytes, NoMemory>
-    requires { IsRightReply r.now }
     ensures { IfOk result (λ text. text ≡ reply_text r.now) }
 {
     match r {
@@ -43,20 +41,17 @@ fn count_json(alloc: Global, count: u32) -> Result<Bytes, NoMemory>
     Ok(text)
 }
 
-fn row_json(alloc: Global, row: &Row) -> Result<Bytes, NoMemory>
-    requires { IsSeen row.now }
+fn row_json(alloc: Global, row: &ShownRow) -> Result<Bytes, NoMemory>
     ensures { IfOk result (λ text. text ≡ row_text row.now) }
 {
     match row {
-        Row::Site(site) => site_json(alloc, site),
-        Row::Subscriber(subscriber) => subscriber_json(alloc, subscriber),
-        Row::AddOn(settings) => add_on_json(alloc, settings),
-        Row::Modem(modem) => modem_json(alloc, modem),
-        Row::Class(class) => class_json(alloc, class),
-        Row::Pool(pool) => pool_json(alloc, pool),
-        Row::Lease(lease) => lease_json(alloc, lease),
-        Row::Held(_) => unreachable!(),
-        Row::Batch(_) => unreachable!(),
+        ShownRow::Site(site) => site_json(alloc, site),
+        ShownRow::Subscriber(subscriber) => subscriber_json(alloc, subscriber),
+        ShownRow::AddOn(settings) => add_on_json(alloc, settings),
+        ShownRow::Modem(modem) => modem_json(alloc, modem),
+        ShownRow::Class(class) => class_json(alloc, class),
+        ShownRow::Pool(pool) => pool_json(alloc, pool),
+        ShownRow::Lease(lease) => lease_json(alloc, lease),
     }
 }
 

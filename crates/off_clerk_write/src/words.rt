@@ -1,8 +1,7 @@
-ghost use Rattle.std.specs.Prelude.{◌≡◌, ◌≢◌, ◌≤◌, length, IsTrue};
+ghost use Rattle.std.specs.Prelude.{◌≡◌, ◌≤◌, length, IsTrue};
 ghost use Rattle.off_http.specs.Reply.{is_reply_status};
-ghost use Rattle.off_clerk_rules.specs.Faults.{word_of, clerk_word, http_word, rule_word, IsTold};
+ghost use Rattle.off_clerk_rules.specs.Faults.{word_of, clerk_word, http_word, rule_word};
 ghost use Rattle.off_clerk_rules.specs.Faults.{status_of, clerk_status, http_status, rule_status};
-ghost use Rattle.off_clerk_rules.specs.declared.faults.ClerkErr.TheVariants.{Memory as wanted};
 
 use off_clerk_rules::{ClerkErr, Fault};
 use off_defs::Rule;
@@ -16,10 +15,7 @@ struct Told {
 }
 
 /// The fault's word, in lower-case letters and dashes.
-///
-/// Want of memory has none.
 pub fn fault_word(f: &Fault) -> &'static [u8]
-    requires { IsTold f.now }
     ensures word { result.now ≡ word_of f.now }
     ensures short { length result.now ≤ 40 }
 {
@@ -28,7 +24,6 @@ pub fn fault_word(f: &Fault) -> &'static [u8]
 
 /// The status of the answer to the fault (RFC 9110, section 15): 400, 404, 405, 409, 413 or 422.
 pub fn fault_status(f: &Fault) -> u16
-    requires { IsTold f.now }
     ensures exact { result ≡ status_of f.now }
     ensures known { IsTrue (is_reply_status result) }
 {
@@ -36,7 +31,6 @@ pub fn fault_status(f: &Fault) -> u16
 }
 
 fn answer_to(f: &Fault) -> Told
-    requires { IsTold f.now }
     ensures status { result.status ≡ status_of f.now }
     ensures word { result.word.now ≡ word_of f.now }
     ensures known { IsTrue (is_reply_status result.status) }
@@ -57,7 +51,6 @@ fn answer(status: u16, word: &'static [u8]) -> Told
 }
 
 fn clerk_answer(err: ClerkErr) -> Told
-    requires { err ≢ wanted }
     ensures status { result.status ≡ clerk_status err }
     ensures word { result.word.now ≡ clerk_word err }
     ensures known { IsTrue (is_reply_status result.status) }
@@ -70,7 +63,6 @@ fn clerk_answer(err: ClerkErr) -> Told
         ClerkErr::Field(_) => answer(400, b"field"),
         ClerkErr::Value(_) => answer(400, b"value"),
         ClerkErr::Import(fault) => answer(fault.status(), fault.word()),
-        ClerkErr::Memory => unreachable!(),
     }
 }
 

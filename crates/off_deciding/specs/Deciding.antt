@@ -6,6 +6,9 @@ use Rattle.off_defs.specs.declared.keys.Key.{Key}
 use Rattle.off_defs.specs.declared.keys.Key.TheVariants as key
 use Rattle.off_defs.specs.declared.orders.Reply.TheVariants.{Done, Shown}
 use Rattle.off_defs.specs.declared.tables.Row.{Row}
+use Rattle.off_defs.specs.declared.shown.ShownRow.{ShownRow}
+use Rattle.off_defs.specs.declared.orders.Reply.{Reply}
+use Rattle.off_defs.specs.Shown.{shown_row}
 use Rattle.off_defs.specs.State.{Tables}
 use Rattle.off_defs.specs.Tables.{write_all}
 use Rattle.off_rules.specs.declared.counts.Counts.{Counts}
@@ -23,7 +26,14 @@ use Rattle.off_deciding.specs.declared.results.AccountErr.TheVariants.{Refused, 
 -- imports are decided elsewhere
 abbrev pub is_import : Command → Bool
 is_import (Import kind batch digest rows) = true
-is_import command = false
+is_import (SetSite site) = false
+is_import (PutSubscriber n subscriber) = false
+is_import (PutAddOn n number settings) = false
+is_import (PutModem mac modem) = false
+is_import (PutClass n class) = false
+is_import (PutPool n pool) = false
+is_import (Remove key) = false
+is_import (Show key) = false
 
 -- how many calls of the keeper a command makes at most; the others walk the tables, and have no
 -- bound
@@ -87,11 +97,24 @@ NotDecided counts now command (Refused row broken) old new =
 NotDecided counts now command Failed old new = NotDone keeper.Failed old new
 NotDecided counts now command Memory old new = NotDone keeper.Memory old new
 
--- What a command is answered that is done, whatever the tables: a row of the key's kind where it
--- shows one, and then nothing is written; for any other command just that it was done.
+-- the row of a key as a clerk is shown it, which is of the key's kind
+pub record ShowsRow (key : Key) (reply : Reply) : Type 0 where
+  pub held : Row
+  pub seen : ShownRow
+  pub possible : IsTrue (is_possible key held)
+  pub seen_is : shown_row held ≡ Some seen
+  pub answers : reply ≡ Shown key seen
+
+-- What a command is answered that is done, whatever the tables: one that shows a row shows it, and
+-- then nothing is written; any other just says that it was done. What an import answers, the crate
+-- of imports says.
 abbrev pub AnswersCommand : Command → Planned → Type 0
-AnswersCommand (Show key) planned =
-    ((held : Row) × (planned.reply ≡ Shown key held) × IsTrue (is_possible key held))
-    × (planned.writes ≡ [])
+AnswersCommand (Show key) planned = ShowsRow key planned.reply × (planned.writes ≡ [])
 AnswersCommand (Import kind batch digest rows) planned = Unit {0}
-AnswersCommand command planned = planned.reply ≡ Done
+AnswersCommand (SetSite site) planned = planned.reply ≡ Done
+AnswersCommand (PutSubscriber n subscriber) planned = planned.reply ≡ Done
+AnswersCommand (PutAddOn n number settings) planned = planned.reply ≡ Done
+AnswersCommand (PutModem mac modem) planned = planned.reply ≡ Done
+AnswersCommand (PutClass n class) planned = planned.reply ≡ Done
+AnswersCommand (PutPool n pool) planned = planned.reply ≡ Done
+AnswersCommand (Remove key) planned = planned.reply ≡ Done

@@ -82,7 +82,13 @@ IsSubject (Import kind batch digest rows) subject t = Unit {0}
 abbrev pub calls_for_subject : Command → ℕ
 calls_for_subject (SetSite site) = 0
 calls_for_subject (Import kind batch digest rows) = 0
-calls_for_subject command = 1
+calls_for_subject (PutSubscriber n subscriber) = 1
+calls_for_subject (PutAddOn n number settings) = 1
+calls_for_subject (PutModem mac modem) = 1
+calls_for_subject (PutClass n class) = 1
+calls_for_subject (PutPool n pool) = 1
+calls_for_subject (Remove removed) = 1
+calls_for_subject (Show shown) = 1
 
 -- the limit of a kind, where the counts and whether the key is there are known
 abbrev pub limit_rule : Counts → Kind → Bool → Option Rule

@@ -14,7 +14,7 @@ use crate::ruling::tests_of;
 use crate::subject::subject_of;
 use crate::testing::first_broken;
 use off_base::Moment;
-use off_defs::{Command, Key, Reply, Rule, Writes};
+use off_defs::{Command, Key, Reply, Rule, ShownRow, Writes};
 use off_outside::{KeepErr, Keeper};
 use off_readers::read_row;
 use off_rules::Counts;
@@ -100,6 +100,9 @@ fn show<K: Keeper>(
     ensures spent { Spent 1 (K.seen keeper.old) (K.seen keeper.new) }
 {
     let Some(row) = read_row(alloc, keeper, key)? else {
+        return Ok(Err(Rule::NoRow));
+    };
+    let Some(row) = ShownRow::of(row) else {
         return Ok(Err(Rule::NoRow));
     };
     Ok(Ok(Planned {

@@ -1,5 +1,5 @@
 -- The order of keys is total, and keys that it takes for equal are equal.
-use Rattle.std.proofs.Common.{◌≡◌, ℕ, List, refl, ap}
+use Rattle.std.proofs.Common.{◌≡◌, ℕ, List, refl, ap, subst}
 use Rattle.std.specs.Cmp.{IsTotalOrder}
 use Rattle.std.specs.Ordering.{ordering_then, nat_cmp}
 use Rattle.std.specs.Cmp.Lexicographic.{slice_cmp}
@@ -8,12 +8,30 @@ use Rattle.std.specs.declared.cmp.Ordering.TheVariants.{Less, Equal, Greater}
 use Rattle.std.specs.FinMap.{IsAntisymmetric, nat_cmp-IsAntisymmetric, slice_cmp-IsAntisymmetric}
 use Rattle.off_base.specs.declared.macs.Mac.{Mac}
 use Rattle.off_base.specs.declared.addresses.Ip4.{Ip4}
+use Rattle.off_defs.specs.declared.keys.Key.{Key}
 use Rattle.off_defs.specs.declared.keys.Key.TheVariants.{Site, Subscriber, AddOn, Modem, Class, Pool, Lease, Held, Batch}
 use Rattle.off_defs.specs.Keys.{key_cmp}
+use Rattle.off_defs.specs.contracts.keys.KeyOrd.TheImpl as derived
 use Rattle.off_defs.specs.contracts.keys.KeyOrd.TheImpl.Laws.{total-law}
 
+-- the derived order of keys is this one
+derived_at : (a b : Key) → (derived.ghosts).cmp a b ≡ key_cmp a b
+derived_at Site Site = refl
+derived_at (Subscriber a) (Subscriber b) = refl
+derived_at (AddOn a i) (AddOn b j) = refl
+derived_at (Modem a) (Modem b) = refl
+derived_at (Class a) (Class b) = refl
+derived_at (Pool a) (Pool b) = refl
+derived_at (Lease a) (Lease b) = refl
+derived_at (Held a) (Held b) = refl
+derived_at (Batch a) (Batch b) = refl
+derived_at _ _ = refl
+
+pub derived_is : (derived.ghosts).cmp ≡ key_cmp
+derived_is = λ i a b. derived_at a b i
+
 pub key_total : IsTotalOrder key_cmp
-key_total = total-law
+key_total = subst IsTotalOrder derived_is total-law
 
 -- two comparisons in a row that find nothing differ in neither
 both_equal : (a b : Ordering) → ordering_then a b ≡ Equal → (a ≡ Equal) × (b ≡ Equal)

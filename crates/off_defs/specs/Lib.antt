@@ -9,3 +9,4 @@ pub mod Bounds
 pub mod Clock
 pub mod KeyText
 pub mod Kinds
+pub mod Shown

@@ -14,6 +14,7 @@ mod labels;
 mod orders;
 mod results;
 mod rules;
+mod shown;
 mod tables;
 
 pub use bounds::{ADD_ONS, LAST_ADD_ON, LEAST_PREFIX, MOST_DEVICES, MOST_PREFIX};
@@ -25,4 +26,5 @@ pub use labels::{KeyText, key_text};
 pub use orders::{Command, ImportRow, ImportRows, Kind, Reply, Write, Writes};
 pub use results::{Outcome, Sent};
 pub use rules::Rule;
+pub use shown::ShownRow;
 pub use tables::{Batch, Class, Hold, ImportKind, Lease, Modem, Pool, Row, Site, Subscriber};

@@ -2,6 +2,7 @@ ghost use Rattle.std.specs.Prelude.{◌≡◌, ◌==◌, ◌<◌, ◌++◌, [], 
 ghost use Rattle.std.specs.Prelude.{OnOk, OnErr};
 
 use crate::keys::Key;
+use crate::shown::ShownRow;
 use crate::tables::{Class, ImportKind, Modem, Pool, Row, Site, Subscriber};
 use off_base::{Mac, NoMemory, Settings};
 use std::alloc::Global;
@@ -185,7 +186,7 @@ pub enum Command {
 pub enum Reply {
     Done,
     /// The row of the key.
-    Shown(Key, Row),
+    Shown(Key, ShownRow),
     /// How many rows the import put.
     Rows(u32),
 }

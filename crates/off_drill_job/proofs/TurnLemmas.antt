@@ -52,6 +52,7 @@ sent_nothing l = record {
   unsent = tallied_none l.unsent;
   up = λ up. inl up;
   missed = refl;
+  longest = refl;
   faults = refl;
 }
 
@@ -64,6 +65,7 @@ sent_turns {turns} {more} {a} {b} {c} p q = record {
   unsent = subst (λ (n : ℕ). Tallied n a.unsent c.unsent) (sym (lost_append turns more)) (tallied_then p.unsent q.unsent);
   up = up_chain p.unsent.grew.later q.unsent.grew.later p.up q.up;
   missed = q.missed ∙ p.missed;
+  longest = q.longest ∙ p.longest;
   faults = q.faults ∙ p.faults;
 }
 
@@ -75,11 +77,12 @@ sent_unasked {turns} {a} {b} {c} p q = record {
   unsent = tallied_stays p.unsent q.unsent;
   up = up_chain p.unsent.grew.later (let e = q.unsent in omega (arith, e)) p.up (λ up. inl (q.up up));
   missed = q.missed ∙ p.missed;
+  longest = q.longest ∙ p.longest;
   faults = q.faults ∙ p.faults;
 }
 
 pub link_unasked : (l : LinkSeen) → LinkUnasked l l
-link_unasked l = record { left = stays_self; sent = stays_self; up = λ up. up; missed = refl; faults = refl; unsent = refl }
+link_unasked l = record { left = stays_self; sent = stays_self; up = λ up. up; missed = refl; longest = refl; faults = refl; unsent = refl }
 
 -- ---- one turn
 
@@ -115,6 +118,7 @@ took event words said all same before after a b l m c d acts sending counts says
         unsent = (let one : lost_in turn ≡ lost_in turn + 0 = omega arith in subst (λ (n : ℕ). Tallied n l.unsent m.unsent) one sending.unsent);
         up = sending.up;
         missed = sending.missed;
+        longest = sending.longest;
         faults = sending.faults;
       };
       counts = counts;

@@ -32,6 +32,7 @@ pub record SentTurns (turns : List Turn) (old new : LinkSeen) : Type 0 where
   pub unsent : Tallied (lost_by turns) old.unsent new.unsent
   pub up : old.up → new.up ⊎ Grew 1 old.unsent new.unsent
   pub missed : new.missed ≡ old.missed
+  pub longest : new.longest ≡ old.longest
   pub faults : new.faults ≡ old.faults
 
 -- an event was acted on, and its line has these words or not

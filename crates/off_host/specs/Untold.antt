@@ -3,13 +3,14 @@ use Rattle.std.specs.Prelude.{ℕ}
 use Rattle.off_outside.specs.LinkSeen.{LinkSeen}
 use Rattle.off_outside.specs.Streams.{SourceSeen, SinkSeen}
 
-abbrev pub link_counts : ℕ → ℕ → ℕ → LinkSeen
-link_counts missed faults unsent =
+abbrev pub link_counts : ℕ → ℕ → ℕ → ℕ → LinkSeen
+link_counts missed longest faults unsent =
     record {
       left = λ _. ⊥;
       sent = λ _. ⊥;
       up = Unit {0};
       missed = missed;
+      longest = longest;
       faults = faults;
       unsent = unsent;
     }

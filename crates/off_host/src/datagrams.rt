@@ -1,3 +1,9 @@
+ghost use Rattle.std.specs.Prelude.{◌≡◌, false};
+ghost use Rattle.std.specs.Net.Addr.{ipv4_bits};
+ghost use Rattle.std.specs.Net.Socket.{v4_ip, v4_port};
+ghost use Rattle.off_peers.specs.Reflections.{IsReflection};
+ghost use Rattle.off_host.specs.Heard.{is_of_service, GivesDatagram, IsSocketAddress};
+
 use crate::addresses::Addresses;
 use crate::system::ask_for_room;
 use mio::net::UdpSocket;
@@ -173,11 +179,16 @@ impl Port {
 }
 
 /// An address and a port as std has them.
-pub fn socket_address(ip: Ip4, port: u16) -> SocketAddr {
+pub fn socket_address(ip: Ip4, port: u16) -> SocketAddr
+    ensures { IsSocketAddress result ip port }
+{
     SocketAddr::V4(SocketAddrV4::new(Ipv4Addr::from_bits(ip.0), port))
 }
 
-fn peer_at(address: SocketAddrV4) -> Peer {
+fn peer_at(address: SocketAddrV4) -> Peer
+    ensures ip { result.ip.0 ≡ ipv4_bits (v4_ip address) }
+    ensures port { result.port ≡ v4_port address }
+{
     Peer {
         ip: Ip4(address.ip().to_bits()),
         port: address.port(),
@@ -185,7 +196,11 @@ fn peer_at(address: SocketAddrV4) -> Peer {
 }
 
 // Whether a datagram becomes an event.
-fn takes(service: Service, from: Peer, datagram: &[u8], own: OwnPorts, now: Moment) -> bool {
+fn takes(service: Service, from: Peer, datagram: &[u8], own: OwnPorts, now: Moment) -> bool
+    ensures refused { IsReflection service from own → result ≡ false }
+    ensures taken { ¬ (IsReflection service from own)
+        → result ≡ is_of_service service datagram.now now.0 }
+{
     if is_reflection(service, from, own) {
         return false;
     }
@@ -197,7 +212,9 @@ fn takes(service: Service, from: Peer, datagram: &[u8], own: OwnPorts, now: Mome
     }
 }
 
-fn gave(alloc: Global, service: Service, from: Peer, datagram: &[u8]) -> Asked {
+fn gave(alloc: Global, service: Service, from: Peer, datagram: &[u8]) -> Asked
+    ensures { GivesDatagram service from datagram.now result }
+{
     let mut bytes = Bytes::new(alloc);
     match bytes.push_all(datagram) {
         Ok(()) => Asked::Gave(What::Datagram {

@@ -1,3 +1,4 @@
+ghost use Rattle.std.specs.Prelude.{◌≡◌, ◌+◌, ◌≤◌, ◌++◌, [], length, not, true, false};
 ghost use Rattle.off_host.specs.Untold.{sink_counts};
 ghost use Rattle.off_defs.specs.Told.{one_none};
 
@@ -67,8 +68,16 @@ impl Log {
 }
 
 impl Waiting {
-    // Takes a line, and tells whether nothing is lost so far.
-    fn take(&mut self, line: &[u8]) -> bool {
+    // Takes a line, and tells whether nothing is lost so far. Where there is room it waits behind
+    // those that wait already, and nothing is written.
+    fn take(&mut self, line: &[u8]) -> bool
+        ensures tells { result ≡ not self.new.is_lost }
+        ensures lost { self.old.is_lost ≡ true → self.new.is_lost ≡ true }
+        ensures waits { self.old.is_lost ≡ false
+            → length self.old.bytes.items + length line.now ≤ 4096
+            → (self.new.is_lost ≡ false)
+            × (self.new.bytes.items ≡ self.old.bytes.items ++ line.now) }
+    {
         if line.len() > self.bytes.remaining_capacity() {
             self.flush();
         }
@@ -80,7 +89,11 @@ impl Waiting {
 
     // Has all that waits written, and tells whether nothing is lost so far. Behind a write that
     // failed there is none.
-    fn flush(&mut self) -> bool {
+    fn flush(&mut self) -> bool
+        ensures tells { result ≡ not self.new.is_lost }
+        ensures lost { self.old.is_lost ≡ true → self.new.is_lost ≡ true }
+        ensures empties { self.old.is_lost ≡ false → self.new.bytes.items ≡ [] }
+    {
         if !self.is_lost && !self.bytes.is_empty() {
             self.is_lost = self.output.write(self.bytes.as_slice()).is_err();
             self.bytes.clear();

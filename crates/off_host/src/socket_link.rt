@@ -45,6 +45,7 @@ impl From<NoMemory> for OpenErr {
 pub struct SocketLink {
     asking: Asking,
     missed: u64,
+    longest: u64,
     faults: u64,
     unsent: u64,
 }
@@ -68,6 +69,7 @@ impl SocketLink {
             Ok(asking) => Ok(SocketLink {
                 asking,
                 missed: 0,
+                longest: 0,
                 faults: 0,
                 unsent: 0,
             }),
@@ -77,7 +79,7 @@ impl SocketLink {
 }
 
 impl Link for SocketLink {
-    ghost seen = { λ s. link_counts s.missed s.faults s.unsent };
+    ghost seen = { λ s. link_counts s.missed s.longest s.faults s.unsent };
 
     fn next(&mut self, alloc: Global) -> Result<Event, LinkErr> {
         match self.asking.next(alloc) {
@@ -87,6 +89,7 @@ impl Link for SocketLink {
             }
             Err(Failed) => {
                 self.missed = self.missed.saturating_add(1);
+                self.longest = self.longest.max(self.missed);
                 self.faults = self.faults.saturating_add(1);
                 Err(LinkErr::Failed)
             }

@@ -124,10 +124,10 @@ pub all_left : (reader : SliceReader) (text : List ℕ) → source reader ≡ So
 all_left reader text known start = left_is reader (strip_bom text) known ∙ ap (λ (s : State). all_from s (strip_bom text)) start
 
 -- what a read does
-pub next_is : (found : Bool) (a b : SliceReader) (fields : List (List ℕ)) → StandsBetween a → ReadRecord slice_rest a b found fields → b.first ≡ true
+pub next_is : (found : Bool) (a b : SliceReader) (fields : List (List ℕ)) → StandsBetween a → ReadRecord slice_rest a b found fields → b.first ≡ true → b.flexible ≡ a.flexible
     → IsNext found fields a b
 unfolding Reached
-next_is true a b fields h read first =
+next_is true a b fields h read first flexible =
     let more = rows-more slice_rest a b fields default_config a.state h.text h.text [] h.defaults h.known (refl, refl) read in
     let (z, known, reached) = more in
     let (p, e, same, ends) = reached in
@@ -135,10 +135,10 @@ next_is true a b fields h read first =
     let between = subst (λ (s : State). ends_at_end s ≡ false) state (taken a.state [] [] h.text p e).0 in
     let left : records_left a ≡ p.0 ∷ all_from p.1 p.2 = left_is a h.text h.known ∙ one_left a.state h.text p h.between e in
     let after : records_left b ≡ all_from p.1 p.2 = rw (state, rest) (left_is b z known) in (
-      record { untrimmed = read.3 ∙ h.untrimmed; ready = inl first; defaults = read.2 ∙ h.defaults; between = between; text = z; known = known },
+      record { untrimmed = read.3 ∙ h.untrimmed; flexible = flexible ∙ h.flexible; ready = inl first; defaults = read.2 ∙ h.defaults; between = between; text = z; known = known },
       left ∙ cc,
     )
-next_is false a b fields h read first =
+next_is false a b fields h read first flexible =
     left_is a h.text h.known ∙ none_left a.state h.text (rows-end slice_rest a b fields default_config h.text h.defaults h.known read)
 
 -- a record was found

@@ -8,13 +8,12 @@ use Rattle.off_rows.specs.Sound.{is_row_of}
 use Rattle.off_defs.specs.declared.tables.ImportKind.{ImportKind}
 use Rattle.off_defs.specs.declared.orders.ImportRow.{ImportRow}
 use Rattle.off_import_rules.specs.Reading.{rows_of_records, row_of_record, ◌>>=◌, most_import_rows}
-use Rattle.off_import_rules.specs.declared.faults.ImportErr.{ImportErr}
-use Rattle.off_import_rules.specs.declared.faults.ImportErr.TheVariants.{Fault}
+use Rattle.off_import_rules.specs.declared.faults.ImportFault.{ImportFault}
 use Rattle.off_import_rules.specs.declared.faults.ImportFault.TheVariants.{TooMany}
 
 -- rows, and those that are read behind them
 abbrev pub Rows : Type 0
-Rows = Result (List ImportRow) ImportErr
+Rows = Result (List ImportRow) ImportFault
 
 abbrev pub rows_after : List ImportRow → Rows → Rows
 rows_after done (Ok rest) = Ok (done ++ rest)
@@ -23,7 +22,7 @@ rows_after done (Err err) = Err err
 few : (n : ℕ) → n ≤ 2000 → nat_lt most_import_rows n ≡ false
 few n h = grind (arith, nat_tests)
 
-abbrev with_row : Result ImportRow ImportErr → Rows → Rows
+abbrev with_row : Result ImportRow ImportFault → Rows → Rows
 with_row first rest = do
   row ← first
   rows ← rest
@@ -32,7 +31,7 @@ with_row first rest = do
 -- a row that may stand there
 row_then : (kind : ImportKind) (n : ℕ) (fields : List (List ℕ)) (more : List (List (List ℕ))) → n ≤ 2000
     → rows_of_records kind n (fields ∷ more) ≡ with_row (row_of_record kind n fields) (rows_of_records kind (n + 1) more)
-row_then kind n fields more h = ap (λ (b : Bool). cond b (Err (Fault TooMany)) (with_row (row_of_record kind n fields) (rows_of_records kind (n + 1) more))) (few n h)
+row_then kind n fields more h = ap (λ (b : Bool). cond b (Err TooMany) (with_row (row_of_record kind n fields) (rows_of_records kind (n + 1) more))) (few n h)
 
 pushed : (done : List ImportRow) (row : ImportRow) (rest : Rows) → rows_after done (with_row (Ok row) rest) ≡ rows_after (done ++ row ∷ []) rest
 pushed done row (Ok rows) = ap (λ (l : List ImportRow). let got : Rows = Ok l in got) (sym (append_assoc done (row ∷ []) rows))
@@ -43,7 +42,7 @@ pub goes_on : (kind : ImportKind) (n : ℕ) (left : List (List (List ℕ))) (fie
     → rows_after done (rows_of_records kind n left) ≡ rows_after (done ++ row ∷ []) (rows_of_records kind (n + 1) more)
 goes_on kind n left fields more done row e h good =
     ap (λ (l : List (List (List ℕ))). rows_after done (rows_of_records kind n l)) e ∙ ap (rows_after done) (row_then kind n fields more h)
-    ∙ ap (λ (first : Result ImportRow ImportErr). rows_after done (with_row first (rows_of_records kind (n + 1) more))) good ∙ pushed done row (rows_of_records kind (n + 1) more)
+    ∙ ap (λ (first : Result ImportRow ImportFault). rows_after done (with_row first (rows_of_records kind (n + 1) more))) good ∙ pushed done row (rows_of_records kind (n + 1) more)
 
 both : (a b : Bool) → a ≡ true → IsTrue b → (a && (b && true)) ≡ true
 both true true x y = refl

@@ -13,9 +13,10 @@ SliceReader = Reader (Bor (List ℕ))
 abbrev pub source : SliceReader → Option (List ℕ)
 source reader = source_of (λ s. Some s.now) reader
 
--- it stands between two records, and reads by the defaults of `csv`
+-- it stands between two records, reads by the defaults of `csv`, and takes records of any length
 pub record StandsBetween (reader : SliceReader) : Type 0 where
   pub untrimmed : reader.trim ≡ trim.None
+  pub flexible : reader.flexible ≡ true
   pub ready : Ready reader
   pub defaults : reader.config ≡ default_config
   pub between : ends_at_end reader.state ≡ false

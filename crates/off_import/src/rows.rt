@@ -10,7 +10,7 @@ ghost use Rattle.off_import_rules.specs.Reading.{row_of_record};
 use crate::values::{devices, flag, mac, number, short};
 use csv::ByteRecord;
 use off_defs::{ImportKind, ImportRow, Modem, Subscriber};
-use off_import_rules::{ImportErr, ImportFault};
+use off_import_rules::ImportFault;
 
 // The fields of a record that has one for each column.
 #[derive(Clone, Copy)]
@@ -57,12 +57,12 @@ pub(crate) fn read_row(
     kind: ImportKind,
     row: u32,
     held: &ByteRecord,
-) -> Result<ImportRow, ImportErr>
+) -> Result<ImportRow, ImportFault>
     ensures exact { result ≡ row_of_record kind row (fields_of held.now) }
     ensures sound { IfOk result (λ row. IsTrue (is_row_of kind row)) }
 {
     let Some(fields) = four_fields(held) else {
-        return Err(ImportErr::Fault(ImportFault::Width(row)));
+        return Err(ImportFault::Width(row));
     };
     match kind {
         ImportKind::Subscribers => read_subscriber(row, fields),
@@ -70,7 +70,7 @@ pub(crate) fn read_row(
     }
 }
 
-fn read_subscriber(row: u32, fields: Fields<'_>) -> Result<ImportRow, ImportErr>
+fn read_subscriber(row: u32, fields: Fields<'_>) -> Result<ImportRow, ImportFault>
     ensures exact { result ≡ row_of_record Subscribers row (four_listed fields.entry) }
     ensures sound { IfOk result (λ row. IsTrue (is_row_of Subscribers row)) }
 {
@@ -81,7 +81,7 @@ fn read_subscriber(row: u32, fields: Fields<'_>) -> Result<ImportRow, ImportErr>
     Ok(ImportRow::Subscriber(number, Subscriber { active, cpes, name }))
 }
 
-fn read_modem(row: u32, fields: Fields<'_>) -> Result<ImportRow, ImportErr>
+fn read_modem(row: u32, fields: Fields<'_>) -> Result<ImportRow, ImportFault>
     ensures exact { result ≡ row_of_record Modems row (four_listed fields.entry) }
     ensures sound { IfOk result (λ row. IsTrue (is_row_of Modems row)) }
 {

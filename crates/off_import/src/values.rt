@@ -2,16 +2,15 @@ ghost use Rattle.std.specs.Prelude.{◌≡◌, ◌≤◌, IfOk};
 ghost use Rattle.off_import_rules.specs.Columns.{number_cell, flag_cell, devices_cell};
 ghost use Rattle.off_import_rules.specs.Columns.{text_cell, mac_cell};
 ghost use Rattle.off_import_rules.specs.Reading.{cell_in};
-ghost use Rattle.off_import_rules.specs.declared.faults.ImportErr.TheVariants.{Fault};
 ghost use Rattle.off_import_rules.specs.declared.faults.ImportFault.TheVariants.{Field};
 
 use off_base::{Mac, Short, read_mac, read_number};
 use off_defs::MOST_DEVICES;
-use off_import_rules::{ImportErr, ImportFault};
+use off_import_rules::ImportFault;
 
 // Each of these reads the text of the field that stands in a row and a column.
 
-pub(crate) fn number(row: u32, column: u32, text: &[u8]) -> Result<u32, ImportErr>
+pub(crate) fn number(row: u32, column: u32, text: &[u8]) -> Result<u32, ImportFault>
     ensures { result ≡ cell_in row column number_cell text.now }
 {
     match read_number(text, u64::from(u32::MAX)) {
@@ -20,7 +19,7 @@ pub(crate) fn number(row: u32, column: u32, text: &[u8]) -> Result<u32, ImportEr
     }
 }
 
-pub(crate) fn flag(row: u32, column: u32, text: &[u8]) -> Result<bool, ImportErr>
+pub(crate) fn flag(row: u32, column: u32, text: &[u8]) -> Result<bool, ImportFault>
     ensures { result ≡ cell_in row column flag_cell text.now }
 {
     if text == b"yes".as_slice() {
@@ -32,7 +31,7 @@ pub(crate) fn flag(row: u32, column: u32, text: &[u8]) -> Result<bool, ImportErr
     Err(unread(row, column))
 }
 
-pub(crate) fn devices(row: u32, column: u32, text: &[u8]) -> Result<u8, ImportErr>
+pub(crate) fn devices(row: u32, column: u32, text: &[u8]) -> Result<u8, ImportFault>
     ensures exact { result ≡ cell_in row column devices_cell text.now }
     ensures least { IfOk result (λ count. 1 ≤ count) }
     ensures most { IfOk result (λ count. count ≤ 254) }
@@ -43,7 +42,7 @@ pub(crate) fn devices(row: u32, column: u32, text: &[u8]) -> Result<u8, ImportEr
     }
 }
 
-pub(crate) fn short(row: u32, column: u32, text: &[u8]) -> Result<Short, ImportErr>
+pub(crate) fn short(row: u32, column: u32, text: &[u8]) -> Result<Short, ImportFault>
     ensures { result ≡ cell_in row column text_cell text.now }
 {
     match Short::read(text) {
@@ -52,7 +51,7 @@ pub(crate) fn short(row: u32, column: u32, text: &[u8]) -> Result<Short, ImportE
     }
 }
 
-pub(crate) fn mac(row: u32, column: u32, text: &[u8]) -> Result<Mac, ImportErr>
+pub(crate) fn mac(row: u32, column: u32, text: &[u8]) -> Result<Mac, ImportFault>
     ensures { result ≡ cell_in row column mac_cell text.now }
 {
     match read_mac(text) {
@@ -61,8 +60,8 @@ pub(crate) fn mac(row: u32, column: u32, text: &[u8]) -> Result<Mac, ImportErr>
     }
 }
 
-fn unread(row: u32, column: u32) -> ImportErr
-    ensures { result ≡ Fault (Field row column) }
+fn unread(row: u32, column: u32) -> ImportFault
+    ensures { result ≡ Field row column }
 {
-    ImportErr::Fault(ImportFault::Field(row, column))
+    ImportFault::Field(row, column)
 }

@@ -2,3 +2,4 @@ mod ProgressLemmas
 mod JudgeLemmas
 mod RowsLemmas
 mod ImportLemmas
+pub mod GoodLemmas

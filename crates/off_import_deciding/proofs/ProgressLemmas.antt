@@ -2,6 +2,7 @@
 use Rattle.std.proofs.Common.{◌≡◌, ℕ, Bool, true, false, cond, ◌||◌, Option, Some, None, is_some, List, [], ◌∷◌, ◌++◌, refl, sym, ap, subst, ◌∙◌}
 use Rattle.std.specs.List.{list_any}
 use Rattle.std.specs.Ordering.{eq_by_cmp}
+use Rattle.std.specs.declared.cmp.Ordering.{Ordering}
 use Rattle.std.specs.Cmp.{eq_by_cmp_equiv}
 use Rattle.std.specs.BTreeMap.{is_at}
 use Rattle.std.specs.BTreeSet.{BTreeSet, contains}
@@ -14,7 +15,8 @@ use Rattle.off_defs.specs.declared.orders.Write.{Write}
 use Rattle.off_defs.specs.Keys.{key_cmp}
 use Rattle.off_defs.specs.State.{Tables}
 use Rattle.off_defs.specs.Tables.{row_at, with_row, written, write_all}
-use Rattle.off_defs.proofs.KeyLemmas.{key_total}
+use Rattle.off_defs.specs.contracts.keys.KeyOrd.TheImpl as derived
+use Rattle.off_defs.proofs.KeyLemmas.{derived_is, key_total}
 use Rattle.off_defs.proofs.TableLemmas.{same_key, row_with}
 use Rattle.off_rules.specs.declared.counts.Counts.{Counts}
 use Rattle.off_rules.specs.Rows.{is_possible, possible, seen_at}
@@ -73,9 +75,15 @@ is_put old new put sound writes marked batches = record {
 }
 
 -- the set that stands below
-pub is_marked : (k : Key) (old new : BTreeSet Key) → ((q : Key) → contains key_cmp new q ≡ cond (is_at (key_cmp k) q) true (contains key_cmp old q)) → Marked k old new
+marked_by : (k : Key) (old new : BTreeSet Key) → ((q : Key) → contains key_cmp new q ≡ cond (is_at (key_cmp k) q) true (contains key_cmp old q)) → Marked k old new
 unfolding was_put
-is_marked k old new updates q = updates q ∙ ap (λ b. cond b true (contains key_cmp old q)) ((eq_by_cmp_equiv key_total).symm k q)
+marked_by k old new updates q = updates q ∙ ap (λ b. cond b true (contains key_cmp old q)) ((eq_by_cmp_equiv key_total).symm k q)
+
+-- which goes by the derived order
+pub is_marked : (k : Key) (old new : BTreeSet Key)
+    → ((q : Key) → contains (derived.ghosts).cmp new q ≡ cond (is_at ((derived.ghosts).cmp k) q) true (contains (derived.ghosts).cmp old q)) → Marked k old new
+is_marked k old new updates =
+    marked_by k old new (subst (λ (r : Key → Key → Ordering). (q : Key) → contains r new q ≡ cond (is_at (r k) q) true (contains r old q)) derived_is updates)
 
 none_put : (keys : BTreeSet Key) (q : Key) → keys.keys ≡ [] → was_put keys q ≡ false
 unfolding was_put

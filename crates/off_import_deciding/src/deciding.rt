@@ -3,7 +3,8 @@ ghost use Rattle.off_rows.specs.Sound.{is_sound};
 ghost use Rattle.off_rules.specs.Rows.{counts_of};
 ghost use Rattle.off_outside.specs.KeeperCalls.{Reads, Spent};
 ghost use Rattle.off_deciding.specs.Deciding.{most_calls, IsDecided, NotDecided, AnswersCommand};
-ghost use Rattle.off_import_deciding.specs.Deciding.{AnswersImport, most_import_calls};
+ghost use Rattle.off_import_deciding.specs.Deciding.{AnswersImport, KeepsGood};
+ghost use Rattle.off_import_deciding.specs.Deciding.{most_import_calls};
 ghost use Rattle.off_import_deciding.specs.Imports.{import_answer};
 
 use crate::importing::import;
@@ -38,6 +39,8 @@ pub fn decide<K: Keeper>(
         (λ err. NotDecided counts.now now.0 c.now err (K.seen keeper.old) (K.seen keeper.new)) }
     ensures answers { IfOk result (λ planned. AnswersCommand c.now planned) }
     ensures rows { IfOk result (λ planned. AnswersImport c.now planned) }
+    ensures good { IfOk result (λ planned. KeepsGood counts.now c.now planned
+        (K.seen keeper.old)) }
     ensures spent { IfSome (most_calls c.now)
         (λ n. Spent n (K.seen keeper.old) (K.seen keeper.new)) }
     ensures importing { IfSome (most_import_calls c.now)

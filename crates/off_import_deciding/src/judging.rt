@@ -5,7 +5,7 @@ ghost use Rattle.off_defs.specs.Tables.{write_all};
 ghost use Rattle.off_defs.specs.declared.orders.ImportRow.TheVariants as imported;
 ghost use Rattle.off_rules.specs.Rows.{seen_at, counts_of};
 ghost use Rattle.off_outside.specs.KeeperCalls.{Looks, Spent};
-ghost use Rattle.off_import_deciding.specs.Imports.{Shows, IsJudged, is_sound_row};
+ghost use Rattle.off_import_deciding.specs.Imports.{Shows, IsJudged, is_sound_row, was_put};
 
 use crate::counting::count_put;
 use crate::progress::{Progress, was_put};
@@ -80,6 +80,8 @@ fn is_there<K: Keeper>(
     ensures told { Looks result (K.seen keeper.old) (K.seen keeper.new)
         (λ there t. there ≡ is_some (seen_at (write_all t so_far.now.writes) key.now)) }
     ensures spent { Spent 1 (K.seen keeper.old) (K.seen keeper.new) }
+    ensures own { was_put so_far.now.keys key.now ≡ true
+        → Spent 0 (K.seen keeper.old) (K.seen keeper.new) }
 {
     if was_put(&so_far.keys, key) {
         return Ok(true);

@@ -4,6 +4,8 @@ use Rattle.std.specs.Prelude.{nat_lt, ◌≤◌, length, IsTrue}
 use Rattle.std.proofs.lemmas.Bool.Decides.{nat_tests}
 use Rattle.md5.specs.Md5.{md5}
 use Rattle.csv.specs.Reading.{default_config, records, strip_bom}
+use Rattle.off_defs.specs.Told.{Told}
+use Rattle.off_defs.proofs.ToldLemmas.{told_weaker}
 use Rattle.off_defs.specs.Counts.{Grew, most_count}
 use Rattle.off_defs.specs.State.{Tables, Held, held_at, held_at_start}
 use Rattle.off_defs.specs.declared.tables.ImportKind.{ImportKind}
@@ -22,7 +24,7 @@ use Rattle.off_defs.specs.declared.orders.Write.{Write}
 use Rattle.off_defs.specs.declared.keys.Key.{Key}
 use Rattle.off_defs.specs.Tables.{write_all}
 use Rattle.off_import_rules.specs.Reading.{◌>>=◌, import_in, table_of_records}
-use Rattle.off_import_rules.specs.declared.faults.ImportErr.{ImportErr}
+use Rattle.off_import_rules.specs.declared.faults.ImportFault.{ImportFault}
 use Rattle.off_import_rules.specs.declared.faults.ImportErr.TheVariants as import_err
 use Rattle.off_deciding.specs.declared.results.AccountErr.{AccountErr}
 use Rattle.off_deciding.specs.declared.results.AccountErr.TheVariants as account_err
@@ -48,14 +50,14 @@ pub at_zero : (a b : Held) → b ≡ held_at a 0 → a ≡ held_at_start → b.n
 at_zero a b came fresh = ap (λ (h : Held). h.now) came ∙ ap (λ (h : Held). (held_at h 0).now) fresh
 
 -- what bytes are read as is an import, and is answered with its number of rows
-abbrev NumbersRows : Reply → Result Command ImportErr → Type 0
+abbrev NumbersRows : Reply → Result Command ImportFault → Type 0
 NumbersRows reply (Ok command) = CountsRows command reply → (n : ℕ) × (reply ≡ Rows n)
 NumbersRows reply (Err err) = Unit {0}
 
-abbrev rows_as : ImportKind → ℕ → List ℕ → List ImportRow → Result Command ImportErr
+abbrev rows_as : ImportKind → ℕ → List ℕ → List ImportRow → Result Command ImportFault
 rows_as kind batch digest rows = Ok (Import kind batch digest rows)
 
-table_numbers : (kind : ImportKind) (batch : ℕ) (digest : List ℕ) (reply : Reply) (table : Result (List ImportRow) ImportErr)
+table_numbers : (kind : ImportKind) (batch : ℕ) (digest : List ℕ) (reply : Reply) (table : Result (List ImportRow) ImportFault)
     → NumbersRows reply (table >>= rows_as kind batch digest)
 table_numbers kind batch digest reply (Ok rows) = λ counts. counts
 table_numbers kind batch digest reply (Err err) = tt
@@ -70,11 +72,11 @@ numbered kind batch bytes command reply is counts =
     let f : NumbersRows reply (Ok command) = subst (NumbersRows reply) is (import_numbers kind batch bytes reply) in f counts
 
 -- what bytes are read as leaves good tables good
-abbrev KeepsGood : Result Command ImportErr → Type 0
+abbrev KeepsGood : Result Command ImportFault → Type 0
 KeepsGood (Ok command) = IsTrue (secret_fits command)
 KeepsGood (Err err) = Unit {0}
 
-table_keeps : (kind : ImportKind) (batch : ℕ) (digest : List ℕ) (table : Result (List ImportRow) ImportErr)
+table_keeps : (kind : ImportKind) (batch : ℕ) (digest : List ℕ) (table : Result (List ImportRow) ImportFault)
     → KeepsGood (table >>= rows_as kind batch digest)
 table_keeps kind batch digest (Ok rows) = refl
 table_keeps kind batch digest (Err err) = tt
@@ -241,12 +243,28 @@ source_kept (NoImport err) kind batch k k' s s' t t' ends none up = ends.1.took.
 source_kept (NotDone err) kind batch k k' s s' t t' ends none up = ends.read.took.took.up up
 source_kept (Done rows) kind batch k k' s s' t t' ends none up = ends.read.took.took.up up
 
+-- good tables stay good, whatever became of the import
+stays_as : (k k' : KeeperSeen) → ((t : Tables) → k.tables t → k'.tables t) → Told k.tables k'.tables (λ t u. Good t → Good u)
+stays_as k k' stay = record { each = λ t told. record { value = t; told = stay t told; fits = λ good. good } }
+
+good_of : (ended : Ended) (kind : ImportKind) (batch : ℕ) (k k' : KeeperSeen) (s s' : SourceSeen) → Ends ended kind batch k k' s s'
+    → Told k.tables k'.tables (λ t u. Good t → Good u)
+good_of (Closed (start_err.Bad key)) kind batch k k' s s' ends = stays_as k k' (λ t told. (ends.0.tables t told).0)
+good_of (Closed start_err.Failed) kind batch k k' s s' ends = stays_as k k' ends.0.tables
+good_of (Closed start_err.Memory) kind batch k k' s s' ends = stays_as k k' ends.0.tables
+good_of (Unread err) kind batch k k' s s' ends = stays_as k k' (λ t told. (ends.0.tables t told).0)
+good_of (NoImport err) kind batch k k' s s' ends = stays_as k k' (λ t told. (ends.0.tables t told).0)
+good_of (NotDone (account_err.Refused row broken)) kind batch k k' s s' ends = stays_as k k' (λ t told. (ends.undone.tables t told).0)
+good_of (NotDone account_err.Failed) kind batch k k' s s' ends = stays_as k k' ends.undone.tables
+good_of (NotDone account_err.Memory) kind batch k k' s s' ends = stays_as k k' ends.undone.tables
+good_of (Done rows) kind batch k k' s s' ends = told_weaker ends.stays_good (λ t u good was. good)
+
 -- tables that are good have no bad key
 not_bad : (t : Tables) (key : Key) → Good t → IsLeastBad t key → ⊥
 not_bad t key good bad = let e : true ≡ false = sym (good key bad.held bad.there) ∙ bad.breaks in cc
 
 -- bytes are one command
-abbrev StepsTo : Tables → Stepped → Result Command ImportErr → Type 0
+abbrev StepsTo : Tables → Stepped → Result Command ImportFault → Type 0
 StepsTo t s (Ok command) = clerk_step t 0 command ≡ s
 StepsTo t s (Err err) = ⊥
 
@@ -256,7 +274,7 @@ same_step kind batch bytes other command given t s is means same step =
     let e : Ok command ≡ import_in kind batch other = sym is ∙ ap (import_in kind batch) same in
     let f : StepsTo t s (Ok given) = subst (StepsTo t s) (e ∙ means) step in f
 
-no_fault : (kind : ImportKind) (batch : ℕ) (bytes other : List ℕ) (command : Command) (err : ImportErr) → import_in kind batch bytes ≡ Ok command → bytes ≡ other
+no_fault : (kind : ImportKind) (batch : ℕ) (bytes other : List ℕ) (command : Command) (err : ImportFault) → import_in kind batch bytes ≡ Ok command → bytes ≡ other
     → import_in kind batch other ≡ Err err → ⊥
 no_fault kind batch bytes other command err is same fault = let e : Ok command ≡ Err err = sym is ∙ (ap (import_in kind batch) same ∙ fault) in cc
 
@@ -274,8 +292,8 @@ done_of (Unread input_err.TooLong) kind batch status k k' s s' t t' ends can non
 done_of (Unread input_err.Failed) kind batch status k k' s s' t t' ends can none other is = absurd (source_held ends.1 none.streams)
 done_of (Unread input_err.Memory) kind batch status k k' s s' t t' ends can none other is = absurd (other is)
 done_of (NoImport (import_err.Fault fault)) kind batch status k k' s s' t t' ends can none other is =
-    absurd (no_fault kind batch can.bytes ends.1.bytes can.command (import_err.Fault fault) can.means (told_file ends.1.took can.held)
-    (ends.1.why (λ e. let f : import_err.Fault fault ≡ import_err.Memory = e in cc)))
+    absurd (no_fault kind batch can.bytes ends.1.bytes can.command fault can.means (told_file ends.1.took can.held)
+    ends.1.why)
 done_of (NoImport import_err.Memory) kind batch status k k' s s' t t' ends can none other is = absurd (other is)
 done_of (NotDone (account_err.Refused row broken)) kind batch status k k' s s' t t' ends can none other is =
     let step = same_step kind batch can.bytes ends.read.bytes can.command ends.command can.tables _ can.means ends.read.means (told_file ends.read.took can.held) can.step in
@@ -291,6 +309,7 @@ imports_by ended kind batch status k k' s s' t t' ends told = record {
   ends = ends;
   told = told;
   complete = λ can none other. done_of ended kind batch status k k' s s' t t' ends can none other (told_whole told none.streams);
+  stays_good = good_of ended kind batch k k' s s' ends;
   statuses = λ none. few_of ended kind batch status k k' s s' t t' ends none (told_whole told none.streams);
   up = λ none. record {
     keeper_up = keeper_kept ended kind batch k k' s s' ends none.keeper_same none.keeper_count;

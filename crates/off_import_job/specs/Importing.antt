@@ -14,7 +14,6 @@ use Rattle.off_rules.specs.Good.{Good}
 use Rattle.off_rules.specs.Clerk.{clerk_step, step_done, step_refused}
 use Rattle.off_import_rules.specs.Reading.{import_in}
 use Rattle.off_import_rules.specs.declared.faults.ImportErr.{ImportErr}
-use Rattle.off_import_rules.specs.declared.faults.ImportErr.TheVariants as import_err
 use Rattle.off_deciding.specs.declared.results.AccountErr.{AccountErr}
 use Rattle.off_deciding.specs.declared.results.AccountErr.TheVariants as account_err
 use Rattle.off_outside.specs.KeeperSeen.{KeeperSeen}
@@ -46,7 +45,7 @@ pub record ReadAsNone (err : ImportErr) (kind : ImportKind) (batch : ℕ) (old n
     Type 0 where
   pub bytes : List ℕ
   pub took : TookAll most_import_bytes bytes old new
-  pub why : err ≢ import_err.Memory → import_in kind batch bytes ≡ Err err
+  pub why : GivesFault (import_in kind batch bytes) err
 
 -- no import was taken from the source
 abbrev pub NotTaken : Ended → ImportKind → ℕ → SourceSeen → SourceSeen → Type 0
@@ -152,13 +151,14 @@ pub record AllUp (old new : KeeperSeen) (source source' : SourceSeen) (sink sink
   pub both_up : BothUp source source' sink sink'
 
 -- What `import` did. Where the sink failed the status is 4, and a front of the text is there; else
--- the text was written. Where no count rose and no memory was wanted, the status is 0, or 2, where
+-- the text was written. Good tables stay good, whatever the status. Where no count rose and no memory was wanted, the status is 0, or 2, where
 -- the tables aren't good, or 9, where the import is refused; and what can be done is done.
 pub record Imports (kind : ImportKind) (batch : ℕ) (status : ℕ) (old new : KeeperSeen)
     (source source' : SourceSeen) (sink sink' : SinkSeen) : Type 0 where
   pub ended : Ended
   pub ends : Ends ended kind batch old new source source'
   pub told : Tells (ended_status ended) (ended_text ended) status sink sink'
+  pub stays_good : Told old.tables new.tables (λ t u. Good t → Good u)
   pub statuses : NoneFailed old new source source' sink sink'
       → (status ≡ 0) ⊎ ((status ≡ 2) ⊎ ((status ≡ 6) ⊎ (status ≡ 9)))
   pub up : NoneFailed old new source source' sink sink'

@@ -12,7 +12,6 @@ use Rattle.off_defs.specs.declared.tables.ImportKind.TheVariants.{Subscribers, M
 use Rattle.off_defs.specs.declared.orders.ImportRow.TheVariants as imported
 use Rattle.off_defs.specs.declared.orders.Command.TheVariants.{Import}
 use Rattle.off_import_rules.specs.Reading.{import_in}
-use Rattle.off_import_rules.specs.declared.faults.ImportErr.TheVariants.{Fault}
 use Rattle.off_import_rules.specs.declared.faults.ImportFault.TheVariants.{Header, Width, Field}
 
 two_modems : import_in Modems 9 (codes "mac,subscriber,class,serial\n02:aa:bb:cc:dd:f0,7,1,\n02:aa:bb:cc:dd:f1,7,1,SN02\n")
@@ -29,19 +28,19 @@ a_quoted_comma : import_in Subscribers 1 (codes "subscriber,active,cpes,name\r\n
 unfolding next_record records_from strip_bom block_words rounds compress hash_after digest_bytes md5 number_read is_utf8 chars encode
 a_quoted_comma = refl
 
-nothing : import_in Subscribers 1 [] ≡ Err (Fault Header)
+nothing : import_in Subscribers 1 [] ≡ Err Header
 unfolding next_record records_from strip_bom
 nothing = refl
 
-a_second_mark : import_in Modems 1 (0xEF ∷ 0xBB ∷ 0xBF ∷ 0xEF ∷ 0xBB ∷ 0xBF ∷ codes "mac,subscriber,class,serial\n") ≡ Err (Fault Header)
+a_second_mark : import_in Modems 1 (0xEF ∷ 0xBB ∷ 0xBF ∷ 0xEF ∷ 0xBB ∷ 0xBF ∷ codes "mac,subscriber,class,serial\n") ≡ Err Header
 unfolding next_record records_from strip_bom
 a_second_mark = refl
 
 -- the row behind it is wrong too, and has the later number
-the_first_fault : import_in Subscribers 1 (codes "subscriber,active,cpes,name\n\n7,yes,2,Ann\n8,no,255,Bob\n9,no\n") ≡ Err (Fault (Field 2 3))
+the_first_fault : import_in Subscribers 1 (codes "subscriber,active,cpes,name\n\n7,yes,2,Ann\n8,no,255,Bob\n9,no\n") ≡ Err (Field 2 3)
 unfolding next_record records_from strip_bom number_read is_utf8 chars encode
 the_first_fault = refl
 
-a_row_of_one_field : import_in Subscribers 1 (codes "subscriber,active,cpes,name\n\"\"\n") ≡ Err (Fault (Width 1))
+a_row_of_one_field : import_in Subscribers 1 (codes "subscriber,active,cpes,name\n\"\"\n") ≡ Err (Width 1)
 unfolding next_record records_from strip_bom
 a_row_of_one_field = refl

@@ -6,8 +6,7 @@ use Rattle.std.proofs.lemmas.Bool.Decides.{nat_tests}
 use Rattle.std.proofs.lemmas.Str.{IsUtf8-from_is_utf8, is_utf8-from_IsUtf8}
 use Rattle.off_import_rules.specs.Columns.{text_cell}
 use Rattle.off_import_rules.specs.Reading.{cell_in}
-use Rattle.off_import_rules.specs.declared.faults.ImportErr.{ImportErr}
-use Rattle.off_import_rules.specs.declared.faults.ImportErr.TheVariants.{Fault}
+use Rattle.off_import_rules.specs.declared.faults.ImportFault.{ImportFault}
 use Rattle.off_import_rules.specs.declared.faults.ImportFault.TheVariants.{Field}
 
 short_test : (n : ℕ) → n ≤ 64 → nat_le n 64 ≡ true
@@ -33,15 +32,15 @@ no_text : (text : List ℕ) → ((length text ≤ 64) → IsUtf8 text → ⊥) �
 no_text text none =
     left_if (nat_le (length text) 64) (is_utf8 text) text (λ short utf8. none (short_tested (length text) short) (IsUtf8-from_is_utf8 text utf8))
 
-abbrev given : Option (List ℕ) → ImportErr → Result (List ℕ) ImportErr
+abbrev given : Option (List ℕ) → ImportFault → Result (List ℕ) ImportFault
 given found err = ok_or found err
 
-pub a_short : (short text : List ℕ) (row column : ℕ) → short ≡ text → length text ≤ 64 → IsUtf8 text → given (Some short) (Fault (Field row column)) ≡ cell_in row column text_cell text
+pub a_short : (short text : List ℕ) (row column : ℕ) → short ≡ text → length text ≤ 64 → IsUtf8 text → given (Some short) (Field row column) ≡ cell_in row column text_cell text
 a_short short text row column same fits utf8 =
-    ap (λ (t : List ℕ). given (Some t) (Fault (Field row column))) same
-    ∙ sym (ap (λ (o : Option (List ℕ)). given o (Fault (Field row column))) (a_text text fits utf8))
+    ap (λ (t : List ℕ). given (Some t) (Field row column)) same
+    ∙ sym (ap (λ (o : Option (List ℕ)). given o (Field row column)) (a_text text fits utf8))
 
-pub no_short : (text : List ℕ) (row column : ℕ) (err : ImportErr) → err ≡ Fault (Field row column) → ((length text ≤ 64) → IsUtf8 text → ⊥)
+pub no_short : (text : List ℕ) (row column : ℕ) (err : ImportFault) → err ≡ (Field row column) → ((length text ≤ 64) → IsUtf8 text → ⊥)
     → given None err ≡ cell_in row column text_cell text
 no_short text row column err same none =
-    ap (given None) same ∙ sym (ap (λ (o : Option (List ℕ)). given o (Fault (Field row column))) (no_text text none))
+    ap (given None) same ∙ sym (ap (λ (o : Option (List ℕ)). given o (Field row column)) (no_text text none))

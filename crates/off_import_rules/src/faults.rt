@@ -1,5 +1,6 @@
 ghost use Rattle.std.specs.Prelude.{◌≡◌, ◌≤◌, length};
 ghost use Rattle.off_import_rules.specs.Faults.{fault_word, fault_status};
+ghost use Rattle.off_import_rules.specs.declared.faults.ImportErr.TheVariants.{Fault};
 
 /// The first fault of an import, in the order of reading.
 #[derive(Clone, Copy, Debug, PartialEq, Eq)]
@@ -21,6 +22,14 @@ pub enum ImportErr {
     Fault(ImportFault),
     /// Memory was wanted, and refused.
     Memory,
+}
+
+impl From<ImportFault> for ImportErr {
+    ghost from_gives = { λ fault err. err ≡ Fault fault };
+
+    fn from(fault: ImportFault) -> ImportErr {
+        ImportErr::Fault(fault)
+    }
 }
 
 impl ImportFault {

@@ -18,6 +18,8 @@ use Rattle.off_defs.specs.declared.orders.Write.{Write}
 use Rattle.off_defs.specs.declared.orders.Write.TheVariants.{Put}
 use Rattle.off_defs.specs.declared.rules.Rule.{Rule}
 use Rattle.off_defs.specs.Keys.{key_cmp}
+use Rattle.off_defs.specs.declared.shown.ShownRow.{ShownRow}
+use Rattle.off_defs.specs.Shown.{shown_row}
 use Rattle.off_defs.specs.State.{Tables}
 use Rattle.off_defs.specs.Tables.{row_at, write_all}
 use Rattle.off_defs.proofs.TableLemmas.{same_key, own_key}
@@ -130,7 +132,7 @@ module _ (n : ℕ) where
     ruled_aside : is_sound command ≡ true → DecisionFate (by_rule 0 (accepted (writes_of t command) Done) (first_broken (rules_of t now command)))
     ruled_aside sound = ruled (writes_of t command) Done (first_broken (rules_of t now command)) (aside_fate (writes_of t command) (command_aside t command sound))
 
-    shown_fate : (q : Key) (o : Option Row) → DecisionFate (shown q o)
+    shown_fate : (q : Key) (o : Option ShownRow) → DecisionFate (shown q o)
     shown_fate q None = tt
     shown_fate q (Some held) = aside_fate [] refl
 
@@ -159,7 +161,7 @@ module _ (n : ℕ) where
     import_fate None is = imported_fate (rows_written t now 1 read) (rows_aside now read t 1) is
 
   pub command_fate : (t : Tables) (now : ℕ) (command : Command) → is_sound command ≡ true → DecisionFate t now command (decided t now command)
-  command_fate t now (Show q) sound = shown_fate t now (Show q) q (seen_at t q)
+  command_fate t now (Show q) sound = shown_fate t now (Show q) q (option_and_then shown_row (seen_at t q))
   command_fate t now (Import kind batch digest read) sound = import_fate t now kind batch digest read (batch_in t batch) refl
   command_fate t now (SetSite site) sound = ruled_aside t now (SetSite site) sound
   command_fate t now (PutSubscriber m subscriber) sound = ruled_aside t now (PutSubscriber m subscriber) sound

@@ -1,7 +1,7 @@
--- When two addresses of modems are the same, as the cache compares them.
+-- When two hardware addresses are the same: byte by byte.
 use Rattle.std.specs.Prelude.{Bool}
+use Rattle.std.specs.Str.{bytes_eq}
 use Rattle.off_base.specs.declared.macs.Mac.{Mac}
-use Rattle.off_base.specs.contracts.macs.MacPartialEq.TheImpl as equality
 
 abbrev pub is_same_mac : Mac → Mac → Bool
-is_same_mac = (equality.ghosts).eq
+is_same_mac a b = bytes_eq a.0 b.0

@@ -40,7 +40,6 @@ clerk_small clerk.NotJson = omega arith
 clerk_small (clerk.Field missing) = omega arith
 clerk_small (clerk.Value wrong) = omega arith
 clerk_small (clerk.Import f) = omega arith
-clerk_small clerk.Memory = omega arith
 
 http_small : (f : HttpFault) → http_status f < 1000
 http_small http.Head = omega arith

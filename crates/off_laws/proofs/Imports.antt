@@ -19,8 +19,7 @@ use Rattle.off_defs.specs.declared.orders.Command.TheVariants.{Import}
 use Rattle.off_rows.specs.Sound.{is_sound, is_row_of}
 use Rattle.off_import_rules.specs.Columns.{columns, number_cell, flag_cell, devices_cell, text_cell, mac_cell}
 use Rattle.off_import_rules.specs.Reading.{◌>>=◌, cell_in, row_of_record, rows_of_records, table_of_records, import_in}
-use Rattle.off_import_rules.specs.declared.faults.ImportErr.{ImportErr}
-use Rattle.off_import_rules.specs.declared.faults.ImportErr.TheVariants.{Fault}
+use Rattle.off_import_rules.specs.declared.faults.ImportFault.{ImportFault}
 use Rattle.off_import_rules.specs.declared.faults.ImportFault.TheVariants.{Header, Field, TooMany}
 use Rattle.off_table_laws.specs.Laws.{secret_fits}
 use Rattle.off_laws.proofs.Paths.{number_within}
@@ -39,16 +38,16 @@ devices_of : (read : Option ℕ) → IfSome read (λ (n : ℕ). nat_le n 254 ≡
 devices_of (Some n) within = devices_if n _ refl within
 devices_of None within = tt
 
-given : (P : ℕ → Type 0) (read : Option ℕ) (err : ImportErr) → IfSome read P → IfOk (ok_or read err) P
+given : (P : ℕ → Type 0) (read : Option ℕ) (err : ImportFault) → IfSome read P → IfOk (ok_or read err) P
 given P (Some n) err h = h
 given P None err h = tt
 
 devices_fit : (row column : ℕ) (text : List ℕ) → IfOk (cell_in row column devices_cell text) (λ (m : ℕ). is_in_range 1 254 m ≡ true)
 devices_fit row column text =
-    given (λ m. is_in_range 1 254 m ≡ true) (devices_cell text) (Fault (Field row column)) (devices_of (number_read 254 text) (number_within 254 text))
+    given (λ m. is_in_range 1 254 m ≡ true) (devices_cell text) (Field row column) (devices_of (number_read 254 text) (number_within 254 text))
 
 -- a row, by the fields that are read of it
-subscriber_with : (number : Result ℕ ImportErr) (active : Result Bool ImportErr) (cpes : Result ℕ ImportErr) (text : Result (List ℕ) ImportErr)
+subscriber_with : (number : Result ℕ ImportFault) (active : Result Bool ImportFault) (cpes : Result ℕ ImportFault) (text : Result (List ℕ) ImportFault)
     → IfOk cpes (λ (m : ℕ). is_in_range 1 254 m ≡ true)
     → IfOk (number >>= (λ n. active >>= (λ a. cpes >>= (λ c. text >>= (λ t. Ok (imported.Subscriber n (record { active = a; cpes = c; name = t })))))))
     (λ (row : ImportRow). is_row_of Subscribers row ≡ true)
@@ -58,7 +57,7 @@ subscriber_with (Ok n) (Ok a) (Err e) text h = tt
 subscriber_with (Ok n) (Err e) cpes text h = tt
 subscriber_with (Err e) active cpes text h = tt
 
-modem_with : (mac : Result Mac ImportErr) (subscriber class : Result ℕ ImportErr) (text : Result (List ℕ) ImportErr)
+modem_with : (mac : Result Mac ImportFault) (subscriber class : Result ℕ ImportFault) (text : Result (List ℕ) ImportFault)
     → IfOk (mac >>= (λ m. subscriber >>= (λ s. class >>= (λ c. text >>= (λ t. Ok (imported.Modem m (record { subscriber = s; class = c; serial = t })))))))
     (λ (row : ImportRow). is_row_of Modems row ≡ true)
 modem_with (Ok m) (Ok s) (Ok c) (Ok t) = refl
@@ -78,18 +77,18 @@ row_fits _ row _ = tt
 abbrev Fit : ImportKind → ℕ → List ImportRow → Type 0
 Fit kind row rows = (length rows + row ≤ 2001) × (list_all (is_row_of kind) rows ≡ true)
 
-abbrev AllFit : ImportKind → ℕ → Result (List ImportRow) ImportErr → Type 0
+abbrev AllFit : ImportKind → ℕ → Result (List ImportRow) ImportFault → Type 0
 AllFit kind row read = IfOk read (Fit kind row)
 
-with_row : (kind : ImportKind) (row : ℕ) (first : Result ImportRow ImportErr) (rest : Result (List ImportRow) ImportErr)
+with_row : (kind : ImportKind) (row : ℕ) (first : Result ImportRow ImportFault) (rest : Result (List ImportRow) ImportFault)
     → IfOk first (λ (r : ImportRow). is_row_of kind r ≡ true) → AllFit kind (row + 1) rest → AllFit kind row (first >>= (λ f. rest >>= (λ rs. Ok (f ∷ rs))))
 with_row kind row (Ok first) (Ok rest) one more = (omega (arith, more.0), both (is_row_of kind first) (list_all (is_row_of kind) rest) one more.1)
 with_row kind row (Ok first) (Err e) one more = tt
 with_row kind row (Err e) rest one more = tt
 
-few_rows : (kind : ImportKind) (row : ℕ) (first : Result ImportRow ImportErr) (rest : Result (List ImportRow) ImportErr) (b : Bool) → nat_lt 2000 row ≡ b
+few_rows : (kind : ImportKind) (row : ℕ) (first : Result ImportRow ImportFault) (rest : Result (List ImportRow) ImportFault) (b : Bool) → nat_lt 2000 row ≡ b
     → IfOk first (λ (r : ImportRow). is_row_of kind r ≡ true) → (row + 1 ≤ 2001 → AllFit kind (row + 1) rest)
-    → AllFit kind row (cond b (Err (Fault TooMany)) (first >>= (λ f. rest >>= (λ rs. Ok (f ∷ rs)))))
+    → AllFit kind row (cond b (Err TooMany) (first >>= (λ f. rest >>= (λ rs. Ok (f ∷ rs)))))
 few_rows kind row first rest true e one more = tt
 few_rows kind row first rest false e one more = with_row kind row first rest one (more (omega (arith, ltb-false 2000 row e)))
 
@@ -98,7 +97,7 @@ rows_fit kind row [] few = (omega (arith, few), refl)
 rows_fit kind row (fields ∷ more) few =
     few_rows kind row (row_of_record kind row fields) (rows_of_records kind (row + 1) more) _ refl (row_fits kind row fields) (λ below. rows_fit kind (row + 1) more below)
 
-if_header : (kind : ImportKind) (rows : List (List (List ℕ))) (b : Bool) → AllFit kind 1 (cond b (rows_of_records kind 1 rows) (Err (Fault Header)))
+if_header : (kind : ImportKind) (rows : List (List (List ℕ))) (b : Bool) → AllFit kind 1 (cond b (rows_of_records kind 1 rows) (Err Header))
 if_header kind rows true = rows_fit kind 1 rows (omega arith)
 if_header kind rows false = tt
 
@@ -109,7 +108,7 @@ table_fits kind (header ∷ rows) = if_header kind rows (pointwise bytes_eq head
 at_most : (n : ℕ) → n + 1 ≤ 2001 → nat_le n 2000 ≡ true
 at_most n h = grind (arith, nat_tests)
 
-of_rows : (kind : ImportKind) (batch : ℕ) (digest : List ℕ) (rows : Result (List ImportRow) ImportErr) → AllFit kind 1 rows
+of_rows : (kind : ImportKind) (batch : ℕ) (digest : List ℕ) (rows : Result (List ImportRow) ImportFault) → AllFit kind 1 rows
     → IfOk (rows >>= (λ rs. Ok (Import kind batch digest rs))) (λ (command : Command). (is_sound command ≡ true) × (secret_fits command ≡ true))
 of_rows kind batch digest (Ok rows) fit =
     (both (nat_le (length rows) 2000) (list_all (is_row_of kind) rows) (at_most (length rows) fit.0) fit.1, refl)

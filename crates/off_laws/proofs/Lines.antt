@@ -23,12 +23,12 @@ use Rattle.off_transfer_rules.specs.Words.{tftp_line}
 use Rattle.off_lease_rules.specs.Steps.{dhcp_step}
 use Rattle.off_book.specs.Http.{by_meaning, is_full, TakesPiece}
 use Rattle.off_book.specs.Step.{Step, Does, TellsOutcome, service_word}
-use Rattle.off_book.proofs.StepLemmas.{step_tells}
+use Rattle.off_book.proofs.StepLemmas.{failure_tells}
 use Rattle.off_laws.specs.Laws.{LineTellsOutcome}
 use Rattle.off_laws.proofs.Answers.{BeginsWithDigit, fault_digit, request_digit}
 
 -- The line of an event that was acted on is no other line: their sixth bytes differ.
-abbrev NoFailure : List ℕ → What → Type 0
+abbrev pub NoFailure : List ℕ → What → Type 0
 NoFailure line what = (line ≡ service_word what ++ codes " memory" → ⊥) × (line ≡ service_word what ++ codes " keeper" → ⊥)
 
 -- two texts differ where they differ at some place
@@ -40,10 +40,14 @@ apart_at place xs ys apart same =
 pub other_byte : (xs ys : List ℕ) → nat_eq (slice_index xs 5) (slice_index ys 5) ≡ false → xs ≡ ys → ⊥
 other_byte xs ys apart same = let e : slice_index xs 5 ≡ slice_index ys 5 = ap (λ (zs : List ℕ). slice_index zs 5) same in grind (arith, nat_tests)
 
+says_line : (what : What) (said line : List ℕ) → nat_eq (slice_index line 5) (slice_index (service_word what ++ codes " memory") 5) ≡ false
+    → nat_eq (slice_index line 5) (slice_index (service_word what ++ codes " keeper") 5) ≡ false → said ≡ line → NoFailure said what
+says_line what said line memory keeper is =
+    (λ same. other_byte line (service_word what ++ codes " memory") memory (sym is ∙ same), λ same. other_byte line (service_word what ++ codes " keeper") keeper (sym is ∙ same))
+
 says : (what : What) (effect : Effect) (line : List ℕ) → nat_eq (slice_index line 5) (slice_index (service_word what ++ codes " memory") 5) ≡ false
     → nat_eq (slice_index line 5) (slice_index (service_word what ++ codes " keeper") 5) ≡ false → effect.said.line ≡ line → NoFailure effect.said.line what
-says what effect line memory keeper is =
-    (λ same. other_byte line (service_word what ++ codes " memory") memory (sym is ∙ same), λ same. other_byte line (service_word what ++ codes " keeper") keeper (sym is ∙ same))
+says what effect line memory keeper is = says_line what effect.said.line line memory keeper is
 
 pub line_is : (one other : Effect) → one ≡ other → one.said.line ≡ other.said.line
 line_is one other is = ap (λ (e : Effect). e.said.line) is
@@ -51,10 +55,14 @@ line_is one other is = ap (λ (e : Effect). e.said.line) is
 no_letter : (byte : ℕ) → digit_value byte < 10 → (nat_eq byte 109 ≡ false) × (nat_eq byte 107 ≡ false)
 no_letter byte small = (grind (arith, nat_tests), grind (arith, nat_tests))
 
-digit_says : (conn : ℕ) (piece words : List ℕ) (effect : Effect) → BeginsWithDigit words → effect.said.line ≡ codes "http " ++ words → NoFailure effect.said.line (Piece conn piece)
-digit_says conn piece words effect digit is =
+-- nor is the line of an answer to a clerk, which begins with its status
+pub status_tells : (conn : ℕ) (piece words line : List ℕ) → BeginsWithDigit words → line ≡ codes "http " ++ words → TellsOutcome (Piece conn piece) Did line
+status_tells conn piece words line digit is =
     let no = no_letter (slice_index words 0) digit in
-    says (Piece conn piece) effect (codes "http " ++ words) no.0 no.1 is
+    says_line (Piece conn piece) line (codes "http " ++ words) no.0 no.1 is
+
+digit_says : (conn : ℕ) (piece words : List ℕ) (effect : Effect) → BeginsWithDigit words → effect.said.line ≡ codes "http " ++ words → NoFailure effect.said.line (Piece conn piece)
+digit_says conn piece words effect digit is = status_tells conn piece words effect.said.line digit is
 
 meaning_line : (s : State) (conn : ℕ) (piece bytes : List ℕ) (effect : Effect) (meaning : Meaning) → effect ≡ by_meaning s conn bytes meaning
     → NoFailure effect.said.line (Piece conn piece)
@@ -112,8 +120,11 @@ tftp_apart packet.StaleAck = (apart_at 5 (codes "tftp stale-ack") (codes "tftp m
 tftp_apart packet.Done = (apart_at 5 (codes "tftp done") (codes "tftp memory") refl, apart_at 5 (codes "tftp done") (codes "tftp keeper") refl)
 tftp_apart packet.PeerError = (apart_at 5 (codes "tftp peer-error") (codes "tftp memory") refl, apart_at 5 (codes "tftp peer-error") (codes "tftp keeper") refl)
 
-packet_says : (from : Peer) (bytes : List ℕ) (effect : Effect) (w : TftpWord) → effect.said.line ≡ tftp_line w → NoFailure effect.said.line (Datagram Tftp from bytes)
-packet_says from bytes effect w is = (λ same. (tftp_apart w).0 (sym is ∙ same), λ same. (tftp_apart w).1 (sym is ∙ same))
+pub message_tells : (from : Peer) (bytes : List ℕ) (w : DhcpWord) (line : List ℕ) → line ≡ codes "dhcp " ++ word_text w → TellsOutcome (Datagram Dhcp from bytes) Did line
+message_tells from bytes w line is = says_line (Datagram Dhcp from bytes) line (codes "dhcp " ++ word_text w) (word_says w).0 (word_says w).1 is
+
+pub packet_tells : (from : Peer) (bytes : List ℕ) (w : TftpWord) (line : List ℕ) → line ≡ tftp_line w → TellsOutcome (Datagram Tftp from bytes) Did line
+packet_tells from bytes w line is = (λ same. (tftp_apart w).0 (sym is ∙ same), λ same. (tftp_apart w).1 (sym is ∙ same))
 
 abbrev tick_text : Bool → Ticked → List ℕ
 tick_text silent ticked = if silent then [] else codes "tick again " ++ decimal ticked.again ++ codes " closed " ++ decimal ticked.closed
@@ -122,12 +133,12 @@ tick_says : (effect : Effect) (ticked : Ticked) (silent : Bool) → effect.said.
 tick_says effect ticked true is = says Tick effect [] refl refl is
 tick_says effect ticked false is = says Tick effect (tick_text false ticked) refl refl is
 
-does_line : (s : State) (what : What) (effect : Effect) → Does s what Did effect → NoFailure effect.said.line what
+pub does_line : (s : State) (what : What) (effect : Effect) → Does s what Did effect → NoFailure effect.said.line what
 does_line s (Datagram Dhcp from bytes) effect p =
     let said = (dhcp_step s.tables s.held.now bytes).word in
-    says (Datagram Dhcp from bytes) effect (codes "dhcp " ++ word_text said) (word_says said).0 (word_says said).1 (line_is effect _ p)
+    message_tells from bytes said effect.said.line (line_is effect _ p)
 does_line s (Datagram Time from bytes) effect p = says (Datagram Time from bytes) effect (codes "time sent") refl refl (line_is effect _ p)
-does_line s (Datagram Tftp from bytes) effect p = packet_says from bytes effect p.given.word (line_is effect _ p.does)
+does_line s (Datagram Tftp from bytes) effect p = packet_tells from bytes p.given.word effect.said.line (line_is effect _ p.does)
 does_line s (Piece conn piece) effect p = piece_line (is_full s.held.connections conn) s conn piece effect p
 does_line s (Closed conn) effect p = says (Closed conn) effect (codes "http closed") refl refl (line_is effect _ p)
 does_line s Tick effect p = tick_says effect p.ticked (p.ticked.again == 0 && p.ticked.closed == 0) (line_is effect _ p.does)
@@ -150,13 +161,15 @@ ToldBy s event outcome effect =
 outcome_of : (s : State) (event : Event) (outcome : Outcome) (effect : Effect) → Step s event outcome effect → ToldBy s event outcome effect
 unfolding Step
 outcome_of s event Did effect p = let no = does_line _ event.what effect p in (λ line. absurd (no.0 line), λ line. absurd (no.1 line))
-outcome_of s event Memory effect p = (λ line. refl, λ line. absurd (front event.what (sym (step_tells s event Memory effect p) ∙ line)))
-outcome_of s event Keeper effect p = (λ line. absurd (front event.what (sym line ∙ step_tells s event Keeper effect p)), λ line. refl)
+outcome_of s event Memory effect p = (λ line. refl, λ line. absurd (front event.what (sym (failure_tells s event Memory effect p (λ did. cc)) ∙ line)))
+outcome_of s event Keeper effect p = (λ line. absurd (front event.what (sym line ∙ failure_tells s event Keeper effect p (λ did. cc))), λ line. refl)
 
-line_of : (s : State) (event : Event) (outcome other : Outcome) (effect : Effect) → Step s event outcome effect → outcome ≡ other → TellsOutcome event.what other effect.said.line
-line_of s event outcome other effect p is = subst (λ o. TellsOutcome event.what o effect.said.line) is (step_tells s event outcome effect p)
+line_of : (s : State) (event : Event) (outcome other : Outcome) (effect : Effect) → Step s event outcome effect → (other ≡ Did → ⊥) → outcome ≡ other
+    → TellsOutcome event.what other effect.said.line
+line_of s event outcome other effect p failed is =
+    subst (λ o. TellsOutcome event.what o effect.said.line) is (failure_tells s event outcome effect p (λ did. failed (sym is ∙ did)))
 
 pub line_tells_outcome : LineTellsOutcome
 line_tells_outcome s event outcome effect p =
     let told = outcome_of s event outcome effect p in
-    ((told.0, λ is. line_of s event outcome Memory effect p is), (told.1, λ is. line_of s event outcome Keeper effect p is))
+    ((told.0, λ is. line_of s event outcome Memory effect p (λ did. cc) is), (told.1, λ is. line_of s event outcome Keeper effect p (λ did. cc) is))

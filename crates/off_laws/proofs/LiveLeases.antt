@@ -22,6 +22,8 @@ use Rattle.off_defs.specs.declared.orders.Write.{Write}
 use Rattle.off_defs.specs.declared.orders.Write.TheVariants.{Put}
 use Rattle.off_defs.specs.declared.orders.Kind.TheVariants.{Batches}
 use Rattle.off_defs.specs.declared.rules.Rule.{Rule}
+use Rattle.off_defs.specs.declared.shown.ShownRow.{ShownRow}
+use Rattle.off_defs.specs.Shown.{shown_row}
 use Rattle.off_defs.specs.State.{Tables}
 use Rattle.off_defs.specs.Tables.{row_at, write_all}
 use Rattle.off_rows.specs.Sound.{is_sound, is_removable}
@@ -161,12 +163,12 @@ module _ (address : Ip4) where
     removal_fate (key.Pool n) sound whole = pool_fate n None (none_broken (removal_rules t now (key.Pool n)) whole).1.0
     removal_fate removed sound whole = cc
 
-    shown_leaves : (q : Key) (o : Option Row) → IfOk (shown q o) (λ (done : Accepted). Leaves (row_at t) done.writes)
+    shown_leaves : (q : Key) (o : Option ShownRow) → IfOk (shown q o) (λ (done : Accepted). Leaves (row_at t) done.writes)
     shown_leaves q None = tt
     shown_leaves q (Some held) = refl
 
     command_fate : (command : Command) → is_sound command ≡ true → DecisionFate (decided t now command)
-    command_fate (Show q) sound = stays_so (shown q (seen_at t q)) (shown_leaves q (seen_at t q))
+    command_fate (Show q) sound = let o : Option ShownRow = option_and_then shown_row (seen_at t q) in stays_so (shown q o) (shown_leaves q o)
     command_fate (Import kind batch digest read) sound =
         stays_so (import_decided t now kind batch digest read (batch_in t batch)) (import_leaves t now kind batch digest read (batch_in t batch))
     command_fate (SetSite site) sound = ruled_fate (writes_of t (SetSite site)) Done (first_broken (rules_of t now (SetSite site))) (λ _. inl refl)

@@ -9,7 +9,7 @@ use Rattle.off_defs.specs.declared.orders.Command.{Command}
 use Rattle.off_defs.specs.declared.orders.Command.TheVariants.{SetSite, PutSubscriber, PutAddOn, PutModem, PutClass, PutPool, Remove, Show}
 use Rattle.off_rows.specs.Sound.{is_sound, is_shown, is_removable}
 use Rattle.off_import_rules.specs.Reading.{import_in}
-use Rattle.off_import_rules.specs.declared.faults.ImportErr.{ImportErr}
+use Rattle.off_import_rules.specs.declared.faults.ImportFault.{ImportFault}
 use Rattle.off_clerk_rules.specs.declared.faults.ClerkErr.{ClerkErr}
 use Rattle.off_clerk_rules.specs.declared.faults.ClerkErr.TheVariants.{NoMethod}
 use Rattle.off_clerk_rules.specs.Commands.{◌>>=◌, site_in, subscriber_in, add_on_in, modem_in, class_in, pool_in, object_in, put_read, as_import, asked_at, command_read}
@@ -64,7 +64,7 @@ by_method row deletes body true put delete shown removable = (shown, refl)
 by_method row deletes body false true delete shown removable = put_may row body shown
 by_method row deletes body false false delete shown removable = delete_may row deletes delete removable
 
-import_may : (read : Result Command ImportErr) → IfOk read MayBe → IfOk (as_import read) MayBe
+import_may : (read : Result Command ImportFault) → IfOk read MayBe → IfOk (as_import read) MayBe
 import_may (Ok command) may = may
 import_may (Err e) may = tt
 

@@ -1,13 +1,19 @@
 -- From a command to what its clerk is told.
-use Rattle.std.proofs.Common.{◌≡◌, ℕ, Result, Ok, Err, OnOk, MatchResult, is_err, false, [], refl, sym, ap, ◌∙◌, subst}
+use Rattle.std.proofs.Common.{◌≡◌, ℕ, Result, Ok, Err, OnOk, MatchResult, is_err, false, [], codes, arith, refl, sym, ap, ◌∙◌, subst}
 use Rattle.off_base.specs.declared.octets.NoMemory.{NoMemory}
 use Rattle.off_defs.specs.declared.orders.Command.{Command}
 use Rattle.off_defs.specs.declared.rules.Rule.{Rule}
 use Rattle.off_defs.specs.State.{Tables, Said}
 use Rattle.off_defs.specs.Tables.{write_all}
 use Rattle.off_rules.specs.Clerk.{Stepped, clerk_step, step_refused}
+use Rattle.off_defs.specs.declared.events.What.TheVariants.{Piece}
+use Rattle.off_defs.specs.declared.results.Outcome.TheVariants.{Did}
+use Rattle.off_clerk_rules.specs.declared.faults.Fault.{Fault}
 use Rattle.off_clerk_rules.specs.declared.faults.Fault.TheVariants as fault
-use Rattle.off_book.specs.Http.{Answered, answer_step}
+use Rattle.off_book.specs.Http.{Answered, answer_step, answer_fault}
+use Rattle.off_book.specs.Step.{TellsOutcome}
+use Rattle.off_laws.proofs.Answers.{fault_digit}
+use Rattle.off_laws.proofs.Lines.{status_tells}
 use Rattle.off_outside.specs.declared.keeper.KeepErr.{KeepErr}
 use Rattle.off_outside.specs.declared.keeper.KeepErr.TheVariants as keep
 use Rattle.off_outside.specs.KeeperSeen.{KeeperSeen, Rests}
@@ -50,6 +56,7 @@ carried_done command planned conn said before after a b c rests reads did = reco
   held = ap (λ (d : Desk). d.held) did.counts;
   kept = ap (λ (d : Desk). d.kept) did.counts;
   settled = settled_then rests reads did.done;
+  tells = status_tells conn [] (codes "200") said.line (omega arith) (ap (λ (s : Said). s.line) did.answer);
 }
 
 -- the writes that were planned are those of the answer
@@ -74,6 +81,10 @@ pub in_hand : (r : Result (Unit {0}) NoMemory) (said other : Said) → is_err r 
 in_hand (Ok u) said other none is = is
 in_hand (Err e) said other none is = cc
 
+-- the line of a fault is no line of want of memory or of a failing keeper
+pub fault_tells : (conn : ℕ) (f : Fault) (said : Said) → said ≡ fault_said conn f → TellsOutcome (Piece conn []) Did said.line
+fault_tells conn f said is = status_tells conn [] (answer_fault f).words said.line (fault_digit f) (ap (λ (s : Said). s.line) is)
+
 -- what a rule refuses is answered by the rule
 answered_refused : (command : Command) (now : ℕ) (desk : Desk) (row : ℕ) (rule : Rule) (conn : ℕ) (said : Said) (a b : KeeperSeen) → Rests a
     → Reads (λ t. Mirrors desk t → clerk_step t now command ≡ step_refused t row rule) a b
@@ -93,6 +104,7 @@ answered_refused command now desk row rule conn said a b rests reads is = record
   held = refl;
   kept = kept_unwritten desk desk refl;
   settled = settled_then rests reads (settled_none [] b refl);
+  tells = fault_tells conn (fault.Rule row rule) said is;
 }
 
 -- an error, as nothing was done

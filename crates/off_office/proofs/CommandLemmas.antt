@@ -1,10 +1,18 @@
 -- A command: what was decided, and what its writes leave.
 use Rattle.std.proofs.Common.{◌≡◌, ℕ, ◌+◌, ◌≤◌, List, [], ◌∷◌, Option, Some, None, option_map, arith, Result, Ok, Err, MatchResult, length, refl, sym, ap, ◌∙◌, subst}
+use Rattle.std.specs.Prelude.{IsTrue}
 use Rattle.off_defs.specs.declared.orders.Command.{Command}
 use Rattle.off_defs.specs.declared.orders.Command.TheVariants.{SetSite, PutSubscriber, PutAddOn, PutModem, PutClass, PutPool, Remove, Show, Import}
 use Rattle.off_defs.specs.declared.orders.Write.{Write}
 use Rattle.off_defs.specs.State.{Tables}
 use Rattle.off_defs.specs.Tables.{write_all}
+use Rattle.off_defs.specs.Told.{Told}
+use Rattle.off_defs.proofs.ToldLemmas.{told_weaker}
+use Rattle.off_defs.specs.declared.orders.Reply.{Reply}
+use Rattle.off_rows.specs.Sound.{is_sound}
+use Rattle.off_rules.specs.Good.{Good}
+use Rattle.off_table_laws.specs.Laws.{secret_fits}
+use Rattle.off_table_laws.proofs.StepLaws.{step_keeps_good}
 use Rattle.off_rules.specs.Rows.{counts_of}
 use Rattle.off_rules.specs.Clerk.{Accepted, Refusal, accepted, refusal, decided, Stepped, stepped_by, clerk_step, step_done, step_refused}
 use Rattle.off_outside.specs.declared.keeper.KeepErr.{KeepErr}
@@ -21,7 +29,7 @@ use Rattle.off_kept.specs.Entries.{without_written}
 use Rattle.off_kept.proofs.RightLemmas.{kept_stays_right}
 use Rattle.off_office.specs.Desk.{Desk}
 use Rattle.off_office.specs.Acting.{desk_at}
-use Rattle.off_office.specs.Conditions.{Mirrors}
+use Rattle.off_office.specs.Conditions.{Mirrors, StaysFit}
 use Rattle.off_office.specs.Asking.{SpentWithin, commit_calls, most_commits}
 use Rattle.off_office.specs.Answering.{IsPlanned, NotPlanned, CommandBegins, Commanded, NotCommanded, CountsRows, desk_behind}
 
@@ -93,6 +101,15 @@ pub command_done : (command : Command) (planned : Planned) (at : ℕ) (before mi
     → Commanded command planned.reply after.held.now before after a c
 command_done command planned at before mid after a b c came rests reads done is =
     commanded command planned at after.held.now before mid after a b c came (sym (ap (λ (d : Desk). d.held.now) is)) rests reads done is
+
+-- where the office fitted the tables it fits them again: good tables stay good
+pub command_fits : (command : Command) (done : Reply) (now : ℕ) (before after : Desk) (a b : KeeperSeen) → IsTrue (is_sound command)
+    → Commanded command done now before after a b → IsTrue (secret_fits command) → Told a.tables b.tables (StaysFit before after)
+command_fits command done now before after a b sound did short = told_weaker did.tables (λ t u under fits.
+    let f = under.holds fits.mirrors in
+    let good : Good (step_done t did.writes done).tables =
+    subst (λ (s : Stepped). Good s.tables) f.0.0 (step_keeps_good t now command sound short fits.good) in
+    record { good = subst (λ (v : Tables). Good v) (sym f.0.1) good; mirrors = f.1 })
 
 -- it wasn't planned
 pub command_refused : (command : Command) (err : AccountErr) (at : ℕ) (before mid : Desk) (a b : KeeperSeen) → mid ≡ desk_at before at → Rests a

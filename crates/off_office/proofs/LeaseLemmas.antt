@@ -18,6 +18,7 @@ use Rattle.off_lease_rules.specs.Steps.{lease_step, step_of, dhcp_step}
 use Rattle.off_lease_laws.proofs.LawLemmas.{datagrams_leave_fit}
 use Rattle.off_book.specs.Dhcp.{dhcp_line, dhcp_said, dhcp_effect}
 use Rattle.off_book.specs.Step.{completed}
+use Rattle.off_laws.proofs.Lines.{message_tells}
 use Rattle.off_outside.specs.declared.keeper.KeepErr.{KeepErr}
 use Rattle.off_outside.specs.declared.keeper.KeepErr.TheVariants as keep
 use Rattle.off_outside.specs.KeeperSeen.{KeeperSeen, Rests}
@@ -54,6 +55,8 @@ step_did m before after step said a b c rests reads did = record {
   };
   desk = did.desk;
   settled = settled_then rests reads did.settled;
+  word = step.word;
+  says = ap (λ (x : Said). x.line) did.said_is;
 }
 
 pub step_serves : (q : Result (Unit {0}) KeepErr) (m : Received) (before after : Desk) (step : LeaseStep) (said : Said) (a b c : KeeperSeen) → Rests a
@@ -77,6 +80,8 @@ fault_serves read fault desk said k is says = subst (λ (r : Result Received Dhc
   tables = told_self (λ t. (says, refl, refl));
   desk = ap (λ (entries : Entries). record desk { kept = entries }) (sym (nothing_written desk.kept));
   settled = settled_none [] k refl;
+  word = unread fault;
+  says = ap (λ (x : Said). x.line) says;
 })
 
 -- a message changes no count
@@ -137,7 +142,8 @@ did_handled from bytes said desk after a b did spent = record {
   asks = spent;
   crash = did.settled.crash;
   doubts = did.settled.doubts;
-  tells = tt;
+  tells = message_tells from bytes did.word said.line did.says;
+  undone = tt;
   leaves = tt;
   quiet = λ other. absurd (let e : false ≡ true = other in cc);
   moment = refl;
@@ -160,13 +166,13 @@ memory_told : (from : Peer) (bytes : List ℕ) (said : Said) (desk : Desk) (a b 
     → NotCommitted (DoingBegins (Datagram Dhcp from bytes) desk) keep.Memory a b → SpentWithin (message_asks (message_of bytes)) a b
     → said ≡ failed_said (codes "dhcp memory") → Handled (Datagram Dhcp from bytes) Memory said desk desk a b
 memory_told from bytes said desk a b not spent is =
-    memory_leaves (Datagram Dhcp from bytes) (codes "dhcp memory") said desk a b refl refl (λ t. refl) not spent tt is
+    memory_leaves (Datagram Dhcp from bytes) (codes "dhcp memory") said desk a b refl refl refl (λ t. refl) not spent tt is
 
 keeper_told : (from : Peer) (bytes : List ℕ) (said : Said) (desk : Desk) (a b : KeeperSeen)
     → NotCommitted (DoingBegins (Datagram Dhcp from bytes) desk) keep.Failed a b → SpentWithin (message_asks (message_of bytes)) a b
     → said ≡ failed_said (codes "dhcp keeper") → Handled (Datagram Dhcp from bytes) Keeper said desk desk a b
 keeper_told from bytes said desk a b not spent is =
-    keeper_leaves (Datagram Dhcp from bytes) (codes "dhcp keeper") said desk a b refl refl (λ t. refl) not spent tt is
+    keeper_leaves (Datagram Dhcp from bytes) (codes "dhcp keeper") said desk a b refl refl refl (λ t. refl) not spent tt is
 
 pub message_failed : (from : Peer) (bytes : List ℕ) (err : KeepErr) (outcome : Outcome) (said : Said) (desk : Desk) (a b : KeeperSeen)
     → NotCommitted (MessageBegins (message_of bytes) desk.held.now) err a b → SpentWithin (message_asks (message_of bytes)) a b

@@ -25,7 +25,9 @@ use Rattle.off_office.specs.Desk.{Desk}
 use Rattle.off_office.specs.Asking.{Asks, PieceAsks, SpentWithin, meaning_calls}
 use Rattle.off_office.proofs.CommandLemmas.{nothing_spent}
 use Rattle.off_office.proofs.StepLemmas.{StaysAs, stays_self, stays_by, kept_unwritten}
-use Rattle.off_office.specs.Answering.{said_to, fault_said, busy_said, failed_said, IsSaid, forgets, answer_asked, IsAnswered, WaitsFor, PieceOn, HeardPiece, NotHeard}
+use Rattle.off_laws.proofs.Lines.{does_line}
+use Rattle.off_office.specs.Acting.{forgets}
+use Rattle.off_office.specs.Answering.{said_to, fault_said, busy_said, failed_said, IsSaid, answer_asked, IsAnswered, WaitsFor, PieceOn, HeardPiece, NotHeard}
 
 abbrev Connections : Type 0
 Connections = map.FinMap nat_cmp (List ℕ)
@@ -80,6 +82,7 @@ heard_quietly conn piece said before after k stays moment does = record {
   settled = settled_none [] k refl;
   kept = kept_unwritten before after stays.kept;
   moment = moment;
+  tells = does_line (state_of map.empty before.held) (Piece conn piece) (record { said = said; commit = []; after = state_of map.empty after.held }) (does map.empty);
 }
 
 -- memory was wanted: the connection is forgotten
@@ -163,6 +166,7 @@ asked_by conn piece bytes m p b said before after k l (Ok u) read ends = record 
   settled = ends.settled;
   kept = ends.kept;
   moment = ap (λ (h : Held). h.now) ends.held;
+  tells = ends.tells;
 }
 asked_by conn piece bytes m p b said before after k l (Err e) read ends = record {
   forgotten = ends.same;

@@ -16,7 +16,7 @@ use Rattle.off_http.specs.Heard.{IsAsked, asked_method, asked_target, asked_body
 use Rattle.off_office.specs.Asking.{SpentWithin, command_calls, request_calls, meaning_calls}
 use Rattle.off_office.specs.Answering.{fault_said, IsSaid, NotAnswered, IsAnswered, answer_to}
 use Rattle.off_outside.proofs.KeeperLemmas.{settled_none, nothing_begun}
-use Rattle.off_office.proofs.AnswerLemmas.{not_answered}
+use Rattle.off_office.proofs.AnswerLemmas.{not_answered, fault_tells}
 use Rattle.off_office.proofs.StepLemmas.{kept_unwritten}
 
 -- the parts of a request, as they were read
@@ -47,6 +47,7 @@ fault_by err now conn said desk k (Ok u) is = record {
   held = refl;
   kept = kept_unwritten desk desk refl;
   settled = settled_none [] k refl;
+  tells = fault_tells conn (fault.Clerk err) said is;
 }
 fault_by err now conn said desk k (Err e) is =
     subst (λ (x : KeepErr). NotAnswered (λ t. answer_command t now (Err err)) x desk desk k k) (sym is)

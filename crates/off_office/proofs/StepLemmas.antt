@@ -1,5 +1,6 @@
 -- From what an event comes to, to the step of the book.
 use Rattle.std.proofs.Common.{◌≡◌, ℕ, true, false, ◌⊎◌, List, [], ◌∷◌, ◌++◌, codes, refl, sym, ap, ◌∙◌, subst, inl, inr, append-nil}
+use Rattle.std.specs.FinMap as map
 use Rattle.off_base.specs.declared.addresses.Peer.{Peer}
 use Rattle.off_defs.specs.declared.events.Event.{Event}
 use Rattle.off_defs.specs.declared.events.What.{What}
@@ -26,12 +27,13 @@ use Rattle.off_outside.proofs.KeeperLemmas.{unasked_self, crash_self, crash_weak
 use Rattle.off_kept.specs.Entries.{without_written}
 use Rattle.off_kept.specs.Right.{AllRight}
 use Rattle.off_kept.proofs.RightLemmas.{nothing_written}
+use Rattle.off_laws.proofs.Lines.{does_line}
 use Rattle.off_office.specs.Desk.{Desk}
 use Rattle.off_office.specs.Conditions.{Mirrors, Fits, Under, StaysFit}
-use Rattle.off_office.specs.Acting.{Acts, Handled, StepOn, DoesOn, CountsFaults, LeavesNothing, EventBegins, DoingBegins, begun_in, is_quiet, desk_at, effect_of, kept_behind, KeepsBodies}
+use Rattle.off_office.specs.Acting.{Acts, Handled, forgets, desk_undone, IsUndone, StepOn, DoesOn, CountsFaults, LeavesNothing, EventBegins, DoingBegins, begun_in, is_quiet, desk_at, effect_of, kept_behind, KeepsBodies}
 use Rattle.off_office.specs.Asking.{Asks, AsksFew}
 use Rattle.off_office.specs.Saying.{SaysTime}
-use Rattle.off_office.specs.Answering.{failed_said, forgets, Fails, HeardPiece, NotHeard}
+use Rattle.off_office.specs.Answering.{failed_said, Fails, HeardPiece, NotHeard}
 
 -- nothing is added to what a piece did
 as_said : (conn : ℕ) (piece : List ℕ) (said : Said) → completed (Piece conn piece) Did said ≡ said
@@ -57,7 +59,8 @@ heard_handled conn piece said before after a b heard asks = record {
   asks = asks;
   crash = heard.settled.crash;
   doubts = heard.settled.doubts;
-  tells = tt;
+  tells = heard.tells;
+  undone = tt;
   leaves = tt;
   quiet = λ other. absurd (let e : false ≡ true = other in cc);
   moment = heard.moment;
@@ -132,6 +135,7 @@ memory_handled conn piece said before after a b not asks is = record {
   crash = not.keeper.crash;
   doubts = λ t told u doubt. only_doubt (not.keeper.crash.doubts t told u doubt);
   tells = ap (λ (x : Said). x.line) is;
+  undone = (refl, not.forgotten);
   leaves = ap (λ (x : Said). x.items) is;
   quiet = λ other. absurd (let e : false ≡ true = other in cc);
   moment = ap (λ (d : Desk). d.held.now) not.forgotten;
@@ -163,6 +167,7 @@ keeper_handled conn piece said before after a b not asks is = record {
   crash = not.keeper.crash;
   doubts = not.keeper.crash.doubts;
   tells = ap (λ (x : Said). x.line) is;
+  undone = (refl, not.forgotten);
   leaves = ap (λ (x : Said). x.items) is;
   quiet = λ other. absurd (let e : false ≡ true = other in cc);
   moment = ap (λ (d : Desk). d.held.now) not.forgotten;
@@ -181,10 +186,10 @@ loud_only what P loud quiet = cc
 
 -- an event that couldn't be acted on leaves the office as it was: memory was wanted, or the keeper failed
 pub memory_leaves : (what : What) (line : List ℕ) (said : Said) (desk : Desk) (a b : KeeperSeen)
-    → is_quiet what ≡ false → line ≡ service_word what ++ codes " memory" → ((t : Tables) → DoesOn what Memory (failed_said line) [] desk desk t t)
+    → is_quiet what ≡ false → desk_undone what desk ≡ desk → line ≡ service_word what ++ codes " memory" → ((t : Tables) → DoesOn what Memory (failed_said line) [] desk desk t t)
     → NotCommitted (DoingBegins what desk) keep.Memory a b → Asks what desk.held a b → AsksFew what desk desk a b → said ≡ failed_said line
     → Handled what Memory said desk desk a b
-memory_leaves what line said desk a b loud named does not asks few is = record {
+memory_leaves what line said desk a b loud stays named does not asks few is = record {
   commit = [];
   tables = record {
     each = λ t told. record {
@@ -203,16 +208,17 @@ memory_leaves what line said desk a b loud named does not asks few is = record {
   crash = not.crash;
   doubts = λ t told u doubt. only_doubt (not.crash.doubts t told u doubt);
   tells = ap (λ (x : Said). x.line) is ∙ named;
+  undone = (refl, sym stays);
   leaves = ap (λ (x : Said). x.items) is;
   quiet = λ is_so. loud_only what _ loud is_so;
   moment = refl;
 }
 
 pub keeper_leaves : (what : What) (line : List ℕ) (said : Said) (desk : Desk) (a b : KeeperSeen)
-    → is_quiet what ≡ false → line ≡ service_word what ++ codes " keeper" → ((t : Tables) → DoesOn what Keeper (failed_said line) [] desk desk t t)
+    → is_quiet what ≡ false → desk_undone what desk ≡ desk → line ≡ service_word what ++ codes " keeper" → ((t : Tables) → DoesOn what Keeper (failed_said line) [] desk desk t t)
     → NotCommitted (DoingBegins what desk) keep.Failed a b → Asks what desk.held a b → AsksFew what desk desk a b → said ≡ failed_said line
     → Handled what Keeper said desk desk a b
-keeper_leaves what line said desk a b loud named does not asks few is = record {
+keeper_leaves what line said desk a b loud stays named does not asks few is = record {
   commit = [];
   tables = record {
     each = λ t told. record {
@@ -231,6 +237,7 @@ keeper_leaves what line said desk a b loud named does not asks few is = record {
   crash = not.crash;
   doubts = not.crash.doubts;
   tells = ap (λ (x : Said). x.line) is ∙ named;
+  undone = (refl, sym stays);
   leaves = ap (λ (x : Said). x.items) is;
   quiet = λ is_so. loud_only what _ loud is_so;
   moment = refl;
@@ -324,6 +331,7 @@ acts_by event what outcome said before mid after a b is at handled =
       crash = crash_by event what outcome said now.commit before after a b is tables now.crash;
       doubts = λ t told u doubt. doubt_as now.commit (in_as outcome (a.doubt u) (event_begins event what before is t u)) (now.doubts t told u doubt);
       tells = subst (λ (w : What). TellsOutcome w outcome said.line) (sym is) now.tells;
+      undone = subst (λ (w : What). IsUndone outcome w now.commit (desk_at before event.at.0) after) (sym is) now.undone;
       leaves = now.leaves;
       quiet = λ is_so.
           let quietly = now.quiet (sym (ap is_quiet is) ∙ is_so) in
@@ -385,8 +393,9 @@ few_quietly End desk after k quiet = tt
 
 pub handled_quietly : (what : What) (outcome : Outcome) (said : Said) (before after : Desk) (k : KeeperSeen)
     → after.held.now ≡ before.held.now → StaysAs before after → is_quiet what ≡ true
-    → DoesQuietly what before after outcome said → Says what outcome said → Asks what before.held k k → Handled what outcome said before after k k
-handled_quietly what outcome said before after k same stays quiet does says asks = record {
+    → DoesQuietly what before after outcome said → Says what outcome said → IsUndone outcome what [] before after → Asks what before.held k k
+    → Handled what outcome said before after k k
+handled_quietly what outcome said before after k same stays quiet does says undone asks = record {
   commit = [];
   tables = told_self (λ t. record {
     holds = λ mirrors. (does t, record { counts = stays.counts ∙ mirrors.counts; kept = subst (AllRight t) (sym stays.kept) mirrors.kept });
@@ -401,19 +410,32 @@ handled_quietly what outcome said before after k same stays quiet does says asks
   crash = crash_self k;
   doubts = λ t told u doubt. kept_doubt outcome (k.doubt u) (DoingBegins what before t u) doubt;
   tells = says.tells;
+  undone = undone;
   leaves = says.leaves;
   quiet = λ is_so. record { does = does; counts = stays.counts; kept = stays.kept; keeper = unasked_self k };
   moment = same;
 }
 
-pub did_says : (what : What) (said : Said) → Says what Did said
-did_says what said = record { faults = λ n. refl; tells = tt; leaves = tt }
+-- what is done whatever the tables says so by its line
+pub did_says : (what : What) (before after : Desk) (said : Said) → DoesQuietly what before after Did said → Says what Did said
+did_says what before after said does = record {
+  faults = λ n. refl;
+  tells = does_line (state_of map.empty before.held) what (effect_of what Did said [] (state_of map.empty after.held)) (does map.empty);
+  leaves = tt;
+}
+
+-- an office that is as it was
+as_it_was : (outcome : Outcome) (what : What) (desk : Desk) → desk_undone what desk ≡ desk → IsUndone outcome what [] desk desk
+as_it_was Did what desk stays = tt
+as_it_was Memory what desk stays = (refl, sym stays)
+as_it_was Keeper what desk stays = (refl, sym stays)
 
 -- a datagram to the time port
 time_does : (from : Peer) (bytes : List ℕ) (desk : Desk) (outcome : Outcome) (said : Said) → SaysTime desk.held.now from outcome said
     → DoesQuietly (Datagram Time from bytes) desk desk outcome said × Says (Datagram Time from bytes) outcome said
 time_does from bytes desk Did said is =
-    (λ t. ap (λ (x : Said). effect_of (Datagram Time from bytes) Did x [] (state_of t desk.held)) is, did_says (Datagram Time from bytes) said)
+    let does : DoesQuietly (Datagram Time from bytes) desk desk Did said = λ t. ap (λ (x : Said). effect_of (Datagram Time from bytes) Did x [] (state_of t desk.held)) is in
+    (does, did_says (Datagram Time from bytes) desk desk said does)
 time_does from bytes desk Memory said is = (
   λ t. ap (λ (x : Said). effect_of (Datagram Time from bytes) Memory x [] (state_of t desk.held)) is,
   record { faults = grew_self; tells = ap (λ (x : Said). x.line) is; leaves = ap (λ (x : Said). x.items) is },
@@ -424,7 +446,7 @@ pub time_handled : (from : Peer) (bytes : List ℕ) (outcome : Outcome) (said : 
     → SaysTime desk.held.now from outcome said → Handled (Datagram Time from bytes) outcome said desk desk k k
 time_handled from bytes outcome said desk k is =
     let does = time_does from bytes desk outcome said is in
-    handled_quietly (Datagram Time from bytes) outcome said desk desk k refl (stays_self desk) refl does.0 does.1 (spent_none k)
+    handled_quietly (Datagram Time from bytes) outcome said desk desk k refl (stays_self desk) refl does.0 does.1 (as_it_was outcome (Datagram Time from bytes) desk refl) (spent_none k)
 
 -- an event of which a line is said, or nothing, and no more
 said_handled : (what : What) (outcome : Outcome) (said other : Said) (before after : Desk) (k : KeeperSeen)
@@ -433,7 +455,7 @@ said_handled : (what : What) (outcome : Outcome) (said other : Said) (before aft
 said_handled what outcome said other before after k same stays quiet did is does asks =
     subst (λ (o : Outcome). Handled what o said before after k k) (sym did)
     (subst (λ (x : Said). Handled what Did x before after k k) (sym is)
-    (handled_quietly what Did other before after k same stays quiet does (did_says what other) asks))
+    (handled_quietly what Did other before after k same stays quiet does (did_says what before after other does) tt asks))
 
 -- the same, by the service that a datagram is for
 pub by_service : (service known : Service) (from : Peer) (bytes : List ℕ) (outcome : Outcome) (said : Said) (before after : Desk) (j k : KeeperSeen)

@@ -22,6 +22,7 @@ use Rattle.off_outside.specs.declared.keeper.KeepErr.TheVariants as keep
 use Rattle.off_outside.specs.KeeperSeen.{KeeperSeen, Rests}
 use Rattle.off_outside.specs.KeeperCalls.{Reads, NotDone, Looks, Spent}
 use Rattle.off_outside.proofs.KeeperLemmas.{reads_as, reads_told, reads_forgotten, not_begun, still_crash, spent_none}
+use Rattle.off_laws.proofs.Lines.{packet_tells}
 use Rattle.off_tftp.specs.Calls.{datagram_calls}
 use Rattle.off_tftp.specs.Saying.{Ticks, says_more}
 use Rattle.off_tftp.specs.Keeping.{AnswersKeeping}
@@ -33,7 +34,7 @@ use Rattle.off_office.specs.Desk.{Desk}
 use Rattle.off_office.specs.Conditions.{Fits}
 use Rattle.off_office.specs.Acting.{Handled, DoesOn, NotStarted, effect_of}
 use Rattle.off_office.specs.Answering.{failed_said}
-use Rattle.off_office.specs.Transferring.{moved, moved_with, MovesTransfers, DidPacket, FailsPacket, DidTick, MissedTick, TakesTick}
+use Rattle.off_office.specs.Transferring.{moved, moved_with, MovesTransfers, DidPacket, SaysPacket, FailsPacket, DidTick, MissedTick, TakesTick}
 use Rattle.off_office.specs.declared.office.StartErr.{StartErr}
 use Rattle.off_office.specs.declared.office.StartErr.TheVariants as start
 use Rattle.off_office.proofs.StepLemmas.{DoesQuietly, did_says, stays_self, stays_by, handled_quietly, memory_leaves, keeper_leaves}
@@ -119,9 +120,9 @@ packet_does from bytes before after said t did = record {
 
 pub packet_handled : (from : Peer) (bytes : List ℕ) (said : Said) (before after : Desk) (a b : KeeperSeen) → Rests a
     → Reads (λ t. AllRight t before.kept → DidPacket from bytes before after said t) a b → MovesTransfers before after
-    → Spent (datagram_calls before.held.transfers from bytes) a b → FewCalls from bytes before after a b
+    → SaysPacket said → Spent (datagram_calls before.held.transfers from bytes) a b → FewCalls from bytes before after a b
     → Handled (Datagram Tftp from bytes) Did said before after a b
-packet_handled from bytes said before after a b rests reads moves spent few = record {
+packet_handled from bytes said before after a b rests reads moves says spent few = record {
   commit = [];
   tables = reads_told reads (λ t did. record {
     holds = λ mirrors. (
@@ -138,7 +139,8 @@ packet_handled from bytes said before after a b rests reads moves spent few = re
   asks = spent;
   crash = still_crash rests reads.quiet.still;
   doubts = λ t told u doubt. reads.quiet.still.doubts u doubt;
-  tells = tt;
+  tells = packet_tells from bytes says.word said.line says.says;
+  undone = tt;
   leaves = tt;
   quiet = λ other. absurd (let e : false ≡ true = other in cc);
   moment = ap (λ (d : Desk). d.held.now) moves;
@@ -149,10 +151,10 @@ packet_undone : (from : Peer) (bytes : List ℕ) (err : KeepErr) (outcome : Outc
     → Handled (Datagram Tftp from bytes) outcome said desk desk a b
 packet_undone from bytes keep.Memory outcome said desk a b rests not spent few is =
     subst (λ (o : Outcome). Handled (Datagram Tftp from bytes) o said desk desk a b) (sym is.0)
-    (memory_leaves (Datagram Tftp from bytes) (codes "tftp memory") said desk a b refl refl (λ t. refl) (not_begun rests not) spent few is.1)
+    (memory_leaves (Datagram Tftp from bytes) (codes "tftp memory") said desk a b refl refl refl (λ t. refl) (not_begun rests not) spent few is.1)
 packet_undone from bytes keep.Failed outcome said desk a b rests not spent few is =
     subst (λ (o : Outcome). Handled (Datagram Tftp from bytes) o said desk desk a b) (sym is.0)
-    (keeper_leaves (Datagram Tftp from bytes) (codes "tftp keeper") said desk a b refl refl (λ t. refl) (not_begun rests not) spent few is.1)
+    (keeper_leaves (Datagram Tftp from bytes) (codes "tftp keeper") said desk a b refl refl refl (λ t. refl) (not_begun rests not) spent few is.1)
 
 pub packet_failed : (from : Peer) (bytes : List ℕ) (err : KeepErr) (outcome : Outcome) (said : Said) (before after : Desk) (a b : KeeperSeen) → Rests a
     → NotDone err a b → Spent (datagram_calls before.held.transfers from bytes) a b → FewCalls from bytes before after a b → after ≡ before → FailsPacket err outcome said
@@ -220,10 +222,10 @@ pub tick_handled : (outcome : Outcome) (said : Said) (before after : Desk) (k : 
 tick_handled Did said before after k did =
     handled_quietly Tick Did said before after k (ap (λ (d : Desk). d.held.now) did.moves)
     (stays_by before (moved before did.transfers) after did.moves (record { counts = refl; kept = refl })) refl
-    (tick_does before after said did) (did_says Tick said) (spent_none k)
+    (tick_does before after said did) (did_says Tick before after said (tick_does before after said did)) tt (spent_none k)
 tick_handled Memory said before after k missed =
     handled_quietly Tick Memory said before after k (ap (λ (d : Desk). d.held.now) missed.stays) (stays_by before before after missed.stays (stays_self before)) refl
     (missed_does before after said missed)
     (record { faults = grew_self; tells = ap (λ (s : Said). s.line) missed.says; leaves = ap (λ (s : Said). s.items) missed.says })
-    (spent_none k)
+    (refl, missed.stays) (spent_none k)
 tick_handled Keeper said before after k none = absurd none

@@ -15,6 +15,7 @@ use Rattle.off_defs.specs.State.{Tables, State, Said, Effect, state_of, held_at}
 use Rattle.off_rules.specs.Good.{IsLeastBad}
 use Rattle.off_defs.specs.Tables.{doubt_behind}
 use Rattle.off_book.specs.Step.{Step, Does, TellsOutcome, completed}
+use Rattle.off_book.specs.Http.{without_connection}
 use Rattle.off_book.specs.Crashes.{Begins, doubt_in}
 use Rattle.off_outside.specs.KeeperSeen.{KeeperSeen}
 use Rattle.off_outside.specs.KeeperCalls.{Reads, NotDone, StaysUp, Unasked, Crash, IsWritten}
@@ -42,6 +43,25 @@ start_err keep.Memory = NoMemory
 -- an office that has come to a moment
 abbrev pub desk_at : Desk → ℕ → Desk
 desk_at desk at = record desk { held = held_at desk.held at }
+
+-- what an office keeps without a connection
+abbrev pub forgets : Desk → ℕ → Desk
+forgets desk conn = record desk { held = without_connection desk.held conn }
+
+-- an office that couldn't act on an event is as before, but that it forgets the connection of a
+-- piece
+abbrev pub desk_undone : What → Desk → Desk
+desk_undone (Datagram service from bytes) desk = desk
+desk_undone (Piece conn piece) desk = forgets desk conn
+desk_undone (Closed conn) desk = desk
+desk_undone Tick desk = desk
+desk_undone End desk = desk
+
+-- an event that wasn't acted on commits nothing, and leaves the office so
+abbrev pub IsUndone : Outcome → What → List Write → Desk → Desk → Type 0
+IsUndone Did what commit before after = Unit {0}
+IsUndone Memory what commit before after = (commit ≡ []) × (after ≡ desk_undone what before)
+IsUndone Keeper what commit before after = (commit ≡ []) × (after ≡ desk_undone what before)
 
 -- the effect of an event on the book's state: where it couldn't be acted on, the caller adds what
 -- is answered
@@ -157,6 +177,7 @@ pub record Handled (what : What) (outcome : Outcome) (said : Said) (before after
   pub crash : Crash (begun_in outcome (IsWritten commit) (DoingBegins what before)) old new
   pub doubts : LeavesDoubt outcome commit (DoingBegins what before) old new
   pub tells : TellsOutcome what outcome said.line
+  pub undone : IsUndone outcome what commit before after
   pub leaves : LeavesNothing outcome said.items
   pub quiet : is_quiet what ≡ true → HandledQuietly what outcome said before after old new
   pub moment : after.held.now ≡ before.held.now
@@ -173,7 +194,8 @@ pub record ActsQuietly (event : Event) (outcome : Outcome) (said : Said) (before
 -- One event. `commit` is what it wrote to the tables, in one commit, which the keeper has counted.
 -- Where the office mirrored the tables, it's the step of the book, and the office mirrors them
 -- again, and keeps of the bodies what `kept_behind` says; good tables stay good. A crash meanwhile
--- leaves the tables before it, the commit in doubt, or what the event would leave.
+-- leaves the tables before it, the commit in doubt, or what the event would leave. What of it is
+-- said of tables that are told has no say in `undone` and `tells`, which hold over any keeper.
 pub record Acts (event : Event) (outcome : Outcome) (said : Said) (before after : Desk)
     (old new : KeeperSeen) : Type 0 where
   pub commit : List Write
@@ -191,6 +213,7 @@ pub record Acts (event : Event) (outcome : Outcome) (said : Said) (before after 
   pub crash : Crash (EventBegins event before) old new
   pub doubts : LeavesDoubt outcome commit (EventBegins event before) old new
   pub tells : TellsOutcome event.what outcome said.line
+  pub undone : IsUndone outcome event.what commit (desk_at before event.at.0) after
   pub leaves : LeavesNothing outcome said.items
   pub quiet : is_quiet event.what ≡ true → ActsQuietly event outcome said before after old new
   pub moment : after.held.now ≡ (held_at before.held event.at.0).now

@@ -4,7 +4,7 @@ use Rattle.off_http.specs.Reply.{reply}
 use Rattle.off_http.specs.Request.{Meaning}
 use Rattle.off_http.specs.Heard.{asked_method, asked_target, asked_body}
 use Rattle.off_defs.specs.declared.orders.Command.{Command}
-use Rattle.off_defs.specs.declared.orders.Command.TheVariants.{Import}
+use Rattle.off_defs.specs.declared.orders.Command.TheVariants.{SetSite, PutSubscriber, PutAddOn, PutModem, PutClass, PutPool, Remove, Show, Import}
 use Rattle.off_defs.specs.declared.orders.Write.{Write}
 use Rattle.off_defs.specs.declared.orders.Reply.{Reply}
 use Rattle.off_defs.specs.declared.orders.Reply.TheVariants.{Rows}
@@ -31,7 +31,8 @@ use Rattle.off_deciding.specs.declared.results.AccountErr.TheVariants.{Refused, 
 use Rattle.off_kept.specs.Entries.{without_written}
 use Rattle.off_office.specs.Desk.{Desk}
 use Rattle.off_office.specs.Conditions.{Mirrors, Under}
-use Rattle.off_office.specs.Acting.{DoingBegins}
+use Rattle.off_office.specs.Acting.{forgets, DoingBegins}
+use Rattle.off_book.specs.Step.{TellsOutcome}
 
 -- an answer on a connection, its end, and the line of the log
 abbrev pub said_as : ℕ → ℕ → List ℕ → List ℕ → Said
@@ -56,7 +57,14 @@ busy_said conn = record { items = Close conn ∷ []; line = codes "http busy" }
 -- an import that is done is answered with a number of rows
 abbrev pub CountsRows : Command → Reply → Type 0
 CountsRows (Import kind batch digest rows) answer = (n : ℕ) × (answer ≡ Rows n)
-CountsRows command answer = Unit {0}
+CountsRows (SetSite site) answer = Unit {0}
+CountsRows (PutSubscriber n subscriber) answer = Unit {0}
+CountsRows (PutAddOn n number settings) answer = Unit {0}
+CountsRows (PutModem mac modem) answer = Unit {0}
+CountsRows (PutClass n class) answer = Unit {0}
+CountsRows (PutPool n pool) answer = Unit {0}
+CountsRows (Remove key) answer = Unit {0}
+CountsRows (Show key) answer = Unit {0}
 
 -- an office behind writes: it forgets the bodies of which they change a row
 abbrev pub desk_written : Desk → List Write → Desk
@@ -117,6 +125,8 @@ pub record AnsweredBy (answer : Tables → Answered) (conn : ℕ) (said : Said)
   pub held : after.held ≡ before.held
   pub kept : after.kept ≡ without_written writes before.kept
   pub settled : Settled writes old new
+  -- the line tells that it was done, whatever the tables
+  pub tells : TellsOutcome (Piece conn []) end.Did said.line
 
 -- the tables that a request would leave
 abbrev pub AnswerBegins : (Tables → Answered) → Desk → Tables → Tables → Type 0
@@ -157,10 +167,6 @@ pub record NotCarriedOut (planned : Planned) (err : KeepErr) (before after : Des
   pub same : after ≡ before
   pub keeper : NotCommitted (IsWritten planned.writes) err old new
 
--- what an office keeps without a connection
-abbrev pub forgets : Desk → ℕ → Desk
-forgets desk conn = record desk { held = without_connection desk.held conn }
-
 -- what a piece does by the book, over tables before and after
 abbrev pub PieceOn : ℕ → List ℕ → Said → List Write → Desk → Desk → Tables → Tables → Type 0
 PieceOn conn piece said commit before after t u =
@@ -176,6 +182,7 @@ pub record HeardPiece (conn : ℕ) (piece : List ℕ) (said : Said) (before afte
   pub settled : Settled commit old new
   pub kept : after.kept ≡ without_written commit before.kept
   pub moment : after.held.now ≡ before.held.now
+  pub tells : TellsOutcome (Piece conn piece) end.Did said.line
 
 -- it couldn't be acted on: its connection is forgotten, and all else is as before
 pub record NotHeard (err : KeepErr) (conn : ℕ) (piece : List ℕ) (before after : Desk)

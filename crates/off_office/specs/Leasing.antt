@@ -10,7 +10,8 @@ use Rattle.off_defs.specs.declared.results.Outcome.{Outcome}
 use Rattle.off_defs.specs.declared.results.Outcome.TheVariants as end
 use Rattle.off_lease_rules.specs.declared.results.LeaseStep.{LeaseStep}
 use Rattle.off_lease_rules.specs.Steps.{step_of}
-use Rattle.off_book.specs.Dhcp.{dhcp_said}
+use Rattle.off_lease_rules.specs.declared.words.DhcpWord.{DhcpWord}
+use Rattle.off_book.specs.Dhcp.{dhcp_said, dhcp_line}
 use Rattle.off_outside.specs.declared.keeper.KeepErr.{KeepErr}
 use Rattle.off_outside.specs.declared.keeper.KeepErr.TheVariants as keep
 use Rattle.off_outside.specs.KeeperSeen.{KeeperSeen}
@@ -27,6 +28,9 @@ pub record DidMessage (read : Result Received DhcpFault) (before after : Desk) (
       × (commit ≡ (step_of t before.held.now read).writes) × IsWritten commit t u)
   pub desk : after ≡ desk_written before commit
   pub settled : Settled commit old new
+  -- its line has a word of the service, whatever the tables
+  pub word : DhcpWord
+  pub says : said.line ≡ dhcp_line word
 
 -- the tables that it would leave
 abbrev pub MessageBegins : Result Received DhcpFault → ℕ → Tables → Tables → Type 0

@@ -9,6 +9,8 @@ use Rattle.off_transfer_rules.specs.Transfers.{Transfers}
 use Rattle.off_transfer_rules.specs.Steps.{Given, TftpStep}
 use Rattle.off_transfer_rules.specs.Ticks.{TickStep}
 use Rattle.off_transfer_rules.specs.declared.ticks.Ticked.{Ticked}
+use Rattle.off_transfer_rules.specs.Words.{tftp_line}
+use Rattle.off_transfer_rules.specs.declared.words.TftpWord.{TftpWord}
 use Rattle.off_book.specs.Tftp.{tftp_said, tick_said}
 use Rattle.off_outside.specs.declared.keeper.KeepErr.{KeepErr}
 use Rattle.off_outside.specs.declared.keeper.KeepErr.TheVariants as keep
@@ -40,6 +42,11 @@ pub record DidPacket (from : Peer) (bytes : List ℕ) (before after : Desk) (sai
   pub keeps : after.kept
       ≡ kept_after tables before.held.now before.held.transfers from bytes before.kept
   pub right : AllRight tables after.kept
+
+-- the line of a datagram that was acted on has a word of the service, whatever the tables
+pub record SaysPacket (said : Said) : Type 0 where
+  pub word : TftpWord
+  pub says : said.line ≡ tftp_line word
 
 -- why it couldn't be acted on is said
 abbrev pub FailsPacket : KeepErr → Outcome → Said → Type 0

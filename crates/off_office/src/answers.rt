@@ -1,8 +1,6 @@
 ghost use Rattle.std.specs.Prelude.{◌≡◌, ◌≤◌, ◌<◌, ◌^◌, length, IsTrue, codes};
 ghost use Rattle.off_defs.specs.State.{says_nothing};
 ghost use Rattle.off_http.specs.Reply.{is_reply_status};
-ghost use Rattle.off_clerk_rules.specs.Faults.{IsTold};
-ghost use Rattle.off_clerk_rules.specs.Replies.{IsRightReply};
 ghost use Rattle.off_office.specs.Answering.{said_as, fault_said, fault_line, reply_said};
 ghost use Rattle.off_office.specs.Answering.{busy_said, IsSaid, Fails};
 
@@ -21,8 +19,7 @@ pub(crate) fn answer_fault(
     f: &Fault,
     out: &mut Replies,
 ) -> Result<(), KeepErr>
-    requires told { IsTold f.now }
-    requires clean { out.old ≡ says_nothing }
+    requires { out.old ≡ says_nothing }
     ensures { IsSaid result out.new (fault_said conn f.now) }
 {
     let body = fault_json(alloc, f)?;
@@ -38,8 +35,7 @@ pub(crate) fn answer_reply(
     r: &Reply,
     out: &mut Replies,
 ) -> Result<(), KeepErr>
-    requires right { IsRightReply r.now }
-    requires clean { out.old ≡ says_nothing }
+    requires { out.old ≡ says_nothing }
     ensures { IsSaid result out.new (reply_said conn r.now) }
 {
     let body = reply_json(alloc, r)?;

@@ -1,11 +1,13 @@
 ghost use Rattle.std.specs.Prelude.{◌≡◌, ◌≤◌, IsTrue, MatchResult, IfOk, OnOk, OnErr};
 ghost use Rattle.off_defs.specs.State.{held_at};
+ghost use Rattle.off_defs.specs.Told.{Told};
 ghost use Rattle.off_rows.specs.Sound.{is_sound};
-ghost use Rattle.off_clerk_rules.specs.Replies.{IsRightReply};
+ghost use Rattle.off_table_laws.specs.Laws.{secret_fits};
 ghost use Rattle.off_deciding.specs.Deciding.{most_calls};
 ghost use Rattle.off_outside.specs.KeeperCalls.{Reads, Settled, NotCommitted, IsWritten, Spent};
 ghost use Rattle.off_office.specs.Asking.{SpentWithin, command_calls, most_commits};
 ghost use Rattle.off_office.specs.Asking.{commit_calls};
+ghost use Rattle.off_office.specs.Conditions.{StaysFit};
 ghost use Rattle.off_office.specs.Answering.{IsPlanned, NotPlanned, Commanded, NotCommanded};
 ghost use Rattle.off_office.specs.Answering.{CountsRows, desk_written};
 
@@ -39,8 +41,10 @@ impl Office {
         ensures held { self.new.held ≡ held_at self.old.held at.0 }
         ensures counts { OnErr result (self.new.counts ≡ self.old.counts) }
         ensures kept { OnErr result (self.new.kept ≡ self.old.kept) }
-        ensures right { IfOk result (λ done. IsRightReply done) }
         ensures rows { IfOk result (λ done. CountsRows c.now done) }
+        ensures good { OnOk result (IsTrue (secret_fits c.now)
+            → Told (K.seen keeper.old).tables (K.seen keeper.new).tables
+            (StaysFit self.old self.new)) }
         ensures spent { SpentWithin (command_calls c.now)
             (K.seen keeper.old) (K.seen keeper.new) }
     {
@@ -59,7 +63,6 @@ impl Office {
             (K.seen keeper.old) (K.seen keeper.new))
             (λ err. NotPlanned self.entry.now c.now err
             (K.seen keeper.old) (K.seen keeper.new)) }
-        ensures right { IfOk result (λ planned. IsRightReply planned.reply) }
         ensures rows { IfOk result (λ planned. CountsRows c.now planned.reply) }
         ensures commits { IfOk result
             (λ planned. commit_calls planned.writes ≤ most_commits c.now) }

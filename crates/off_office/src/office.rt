@@ -2,9 +2,9 @@ ghost use Rattle.std.specs.Prelude.{◌≡◌, ◌≤◌, ◌∷◌, ◌++◌, [
 ghost use Rattle.std.specs.Prelude.{MatchResult, IfErr};
 ghost use Rattle.off_defs.specs.State.{held_at_start, says_nothing};
 ghost use Rattle.off_book.specs.Time.{time_answer};
-ghost use Rattle.off_outside.specs.KeeperCalls.{Reads};
+ghost use Rattle.off_outside.specs.KeeperCalls.{Reads, WalksOnce};
 ghost use Rattle.off_office.specs.Acting.{Acts, Handled, NotStarted, desk_at};
-ghost use Rattle.off_office.specs.Answering.{forgets};
+ghost use Rattle.off_office.specs.Acting.{forgets};
 ghost use Rattle.off_office.specs.Conditions.{Mirrors, Fits};
 ghost use Rattle.off_office.specs.Saying.{SaysTime};
 ghost use Rattle.off_office.specs.declared.office.StartErr.TheVariants as start;
@@ -83,6 +83,8 @@ impl Office {
             (λ office. Reads (Fits office) (K.seen keeper.old) (K.seen keeper.new))
             (λ err. NotStarted err (K.seen keeper.old) (K.seen keeper.new)) }
         ensures held { IfOk result (λ office. office.held ≡ held_at_start) }
+        ensures kept { IfOk result (λ office. office.kept ≡ []) }
+        ensures walks { WalksOnce (K.seen keeper.old) (K.seen keeper.new) }
     {
         match open_tables(alloc, keeper)? {
             Opening::Good(counts) => Office::empty(alloc, counts),

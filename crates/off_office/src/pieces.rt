@@ -3,12 +3,11 @@ ghost use Rattle.off_defs.specs.State.{says_nothing};
 ghost use Rattle.off_http.specs.Heard.{IsAsked};
 ghost use Rattle.off_http.specs.Request.{Waits};
 ghost use Rattle.off_rows.specs.Sound.{is_sound};
-ghost use Rattle.off_clerk_rules.specs.Replies.{IsRightReply};
 ghost use Rattle.off_book.specs.Http.{is_full, heard_of};
-ghost use Rattle.off_office.specs.Answering.{forgets, answer_asked, answer_to, IsAnswered};
+ghost use Rattle.off_office.specs.Answering.{answer_asked, answer_to, IsAnswered};
 ghost use Rattle.off_office.specs.Answering.{CarriedOut, NotCarriedOut, HeardPiece, NotHeard};
 ghost use Rattle.off_office.specs.Answering.{WaitsFor, Refuses};
-ghost use Rattle.off_office.specs.Acting.{Handled};
+ghost use Rattle.off_office.specs.Acting.{forgets, Handled};
 ghost use Rattle.off_office.specs.Asking.{Asks, SpentWithin, commit_calls, command_calls};
 ghost use Rattle.off_office.specs.Asking.{meaning_calls};
 ghost use Rattle.off_outside.specs.KeeperCalls.{Spent};
@@ -16,7 +15,7 @@ ghost use Rattle.off_outside.specs.KeeperCalls.{Spent};
 use crate::answers::{answer_fault, answer_reply, close_busy, fail};
 use crate::office::Office;
 use off_accounts::{AccountErr, Planned};
-use off_clerk::{ClerkErr, Fault, command_of};
+use off_clerk::{CommandErr, Fault, command_of};
 use off_defs::Command;
 use off_http::{Fed, Session};
 use off_outside::{KeepErr, Keeper, Outcome, Replies, What};
@@ -114,8 +113,10 @@ impl Office {
     {
         match command_of(self.alloc, session.method(), session.path(), session.body()) {
             Ok(command) => self.answer_command(keeper, conn, &command, out),
-            Err(ClerkErr::Memory) => Err(KeepErr::Memory),
-            Err(err) => answer_fault(self.alloc, conn, &Fault::Clerk(err), out),
+            Err(CommandErr::Fault(err)) => {
+                answer_fault(self.alloc, conn, &Fault::Clerk(err), out)
+            }
+            Err(CommandErr::Memory) => Err(KeepErr::Memory),
         }
     }
 
@@ -148,8 +149,7 @@ impl Office {
         planned: &Planned,
         out: &mut Replies,
     ) -> Result<(), KeepErr>
-        requires right { IsRightReply planned.now.reply }
-        requires clean { out.old ≡ says_nothing }
+        requires { out.old ≡ says_nothing }
         ensures told { MatchResult result
             (λ _. CarriedOut planned.now conn out.new self.old self.new
             (K.seen keeper.old) (K.seen keeper.new))

@@ -1,4 +1,4 @@
-ghost use Rattle.std.specs.Prelude.{◌≡◌, [], ◌++◌, codes, decimal, OnErr};
+ghost use Rattle.std.specs.Prelude.{◌≡◌, [], ◌++◌, codes, decimal, OnOk, OnErr};
 ghost use Rattle.off_defs.specs.State.{says_nothing};
 ghost use Rattle.off_transfer_rules.specs.Words.{tftp_line, tick_line};
 ghost use Rattle.off_transfer_rules.specs.declared.words.TftpWord.TheVariants as word;
@@ -7,8 +7,8 @@ ghost use Rattle.off_kept.specs.Right.{AllRight};
 ghost use Rattle.off_tftp.specs.Calls.{datagram_calls};
 ghost use Rattle.off_office.specs.Acting.{Handled};
 ghost use Rattle.off_office.specs.Asking.{FewCalls};
-ghost use Rattle.off_office.specs.Transferring.{MovesTransfers, DidPacket, FailsPacket};
-ghost use Rattle.off_office.specs.Transferring.{TakesTick};
+ghost use Rattle.off_office.specs.Transferring.{MovesTransfers, DidPacket, SaysPacket};
+ghost use Rattle.off_office.specs.Transferring.{FailsPacket, TakesTick};
 
 use crate::office::Office;
 use arrayvec::ArrayVec;
@@ -49,6 +49,7 @@ impl Office {
             (λ _ t. AllRight t self.old.kept
             → DidPacket from bytes.now self.old self.new out.new t) }
         ensures moves { MovesTransfers self.old self.new }
+        ensures says { OnOk result (SaysPacket out.new) }
         ensures kept { OnErr result (self.new ≡ self.old) }
         ensures spent { Spent (datagram_calls self.old.held.transfers from bytes.now)
             (K.seen keeper.old) (K.seen keeper.new) }

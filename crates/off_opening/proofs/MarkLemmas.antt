@@ -1,11 +1,12 @@
 -- The marks of a walk, and what is found among them.
-use Rattle.std.proofs.Common.{◌≡◌, ℕ, ◌<◌, ◌≤◌, false, ◌⊎◌, inl, inr, Option, Some, None, List, [], ◌∷◌, ◌++◌, map, length, refl, sym, ap, subst, ◌∙◌, arith}
+use Rattle.std.proofs.Common.{◌≡◌, ℕ, ◌<◌, ◌≤◌, ◌+◌, false, ◌⊎◌, inl, inr, Option, Some, None, List, [], ◌∷◌, ◌++◌, map, length, length-append, refl, sym, ap, subst, ◌∙◌, arith}
 use Rattle.std.proofs.lemmas.List.{get_or-map, length-map}
 use Rattle.std.specs.Option.{option_map}
 use Rattle.std.specs.List.{filter_map}
 use Rattle.std.specs.Prelude.{slice_index_or}
 use Rattle.std.specs.List.Sorted.{IsPartitionPoint, IsNonDecreasingBy}
 use Rattle.std.specs.Ordering.{ordering_index, eq_by_cmp}
+use Rattle.std.specs.declared.cmp.Ordering.{Ordering}
 use Rattle.std.specs.declared.cmp.Ordering.TheVariants.{Less, Equal, Greater}
 use Rattle.std.specs.FinMap as map_of
 use Rattle.std.specs.FinMap.Entries as list
@@ -18,8 +19,8 @@ use Rattle.off_defs.specs.State.{Tables}
 use Rattle.off_defs.specs.Tables.{row_at}
 use Rattle.off_defs.proofs.KeyLemmas.{key_total, key_exact}
 use Rattle.off_outside.specs.KeeperSeen.{KeeperSeen}
-use Rattle.off_outside.specs.KeeperCalls.{Reads}
-use Rattle.off_outside.proofs.KeeperLemmas.{reads_none}
+use Rattle.off_outside.specs.KeeperCalls.{Reads, Spent, WasCounted, WalksOnce}
+use Rattle.off_outside.proofs.KeeperLemmas.{reads_none, spent_one, spent_then, spent_within}
 use Rattle.off_readers.proofs.GatherLemmas.{Gathered}
 use Rattle.off_readers.proofs.WalkLemmas.{left_of}
 use Rattle.off_readers.proofs.StepLemmas.{all_left}
@@ -42,6 +43,29 @@ no_marks_yet found a none = reads_none (λ t.
     sym (ap (λ (v : List Mark). v ++ left_of give_mark None t) none
     ∙ ap (λ (v : List (Key × Row)). filter_map give_mark v) (all_left (map_of.entries t))
     ∙ each_given (map_of.entries t)))
+
+-- ---- what the walk asks
+
+pub no_calls_yet : (found : List Mark) (a : KeeperSeen) → found ≡ [] → Spent (length found) a a
+no_calls_yet found a none = record { later = omega arith; most = omega arith }
+
+-- each row that was read was one call
+pub one_mark_more : (found more : List Mark) (mark : Mark) {a b c : KeeperSeen} → Spent (length found) a b → WasCounted b c → more ≡ found ++ mark ∷ []
+    → Spent (length more) a c
+one_mark_more found more mark {a} {b} {c} so_far one is =
+    subst (λ (n : ℕ). Spent n a c) (sym (ap (λ (v : List Mark). length v) is ∙ length-append found (mark ∷ []))) (spent_then so_far (spent_one one))
+
+-- there are as many rows as there are marks, and more
+few_found : (found : List Mark) (place : Option Key) (t : Tables) → Gathered give_mark marks_of found place t → length found ≤ map_of.len t
+few_found found place t gathered =
+    let all : length (marks_of t) ≡ length found + length (left_of give_mark place t) =
+    ap (λ (v : List Mark). length v) gathered ∙ length-append found (left_of give_mark place t) in
+    omega (arith, all, length-map (map_of.entries t) mark_of, map_of.len-entries t)
+
+pub walk_asks : (found : List Mark) (place : Option Key) {a b c : KeeperSeen} → Reads (Gathered give_mark marks_of found place) a b → Spent (length found) a b
+    → WasCounted b c → WalksOnce a c
+walk_asks found place read so_far one t told =
+    spent_within (spent_then so_far (spent_one one)) (let few = few_found found place t (read.tables t told).1 in omega (arith, few))
 
 -- ---- what is found
 
@@ -85,9 +109,18 @@ found_tie t marks key i d are within equal =
     subst (λ (v : List Mark). i < length v → key_cmp (slice_index_or v i d).key key ≡ Equal → Some (slice_index_or v i d).tie ≡ option_map tie_of (row_at t key))
     (sym are) (found_in t key i d) within equal
 
+-- the same by the order of the code, which is this one
+pub found_by : {R : Key → Key → Ordering} → R ≡ key_cmp → (t : Tables) (marks : List Mark) (key : Key) (i : ℕ) (d : Mark) → marks ≡ marks_of t → i < length marks
+    → R (slice_index_or marks i d).key key ≡ Equal → Some (slice_index_or marks i d).tie ≡ option_map tie_of (row_at t key)
+found_by is t marks key i d are within equal =
+    found_tie t marks key i d are within (subst (λ (r : Key → Key → Ordering). r (slice_index_or marks i d).key key ≡ Equal) is equal)
+
+abbrev pub PartedBy : (Key → Key → Ordering) → List Mark → Key → ℕ → Type 0
+PartedBy R marks key i = IsNonDecreasingBy (λ (m : Mark). ordering_index (R m.key key)) marks
+    → IsPartitionPoint (λ (m : Mark). R m.key key ≡ Less) (λ (m : Mark). R m.key key ≡ Greater) marks i
+
 abbrev pub Parted : List Mark → Key → ℕ → Type 0
-Parted marks key i = IsNonDecreasingBy (λ (m : Mark). ordering_index (key_cmp m.key key)) marks
-    → IsPartitionPoint (λ (m : Mark). key_cmp m.key key ≡ Less) (λ (m : Mark). key_cmp m.key key ≡ Greater) marks i
+Parted marks key i = PartedBy key_cmp marks key i
 
 apart_at : (t : Tables) (key : Key) (i j : ℕ) → Parted (marks_of t) key i → j < length (marks_of t) → (key_cmp (entry_at t j).0 key ≡ Less) ⊎ (key_cmp (entry_at t j).0 key ≡ Greater)
 apart_at t key i j parted within =
@@ -109,3 +142,7 @@ none_in t key i parted =
 
 pub no_tie : (t : Tables) (marks : List Mark) (key : Key) (i : ℕ) → marks ≡ marks_of t → Parted marks key i → None ≡ option_map tie_of (row_at t key)
 no_tie t marks key i are parted = none_in t key i (subst (λ (v : List Mark). Parted v key i) are parted)
+
+pub none_by : {R : Key → Key → Ordering} → R ≡ key_cmp → (t : Tables) (marks : List Mark) (key : Key) (i : ℕ) → marks ≡ marks_of t → PartedBy R marks key i
+    → None ≡ option_map tie_of (row_at t key)
+none_by is t marks key i are parted = no_tie t marks key i are (subst (λ (r : Key → Key → Ordering). PartedBy r marks key i) is parted)

@@ -1,6 +1,6 @@
 ghost use Rattle.std.specs.Prelude.{◌≡◌, ◌&&◌, count_by};
 ghost use Rattle.off_defs.specs.State.{Tables};
-ghost use Rattle.off_outside.specs.KeeperCalls.{Looks};
+ghost use Rattle.off_outside.specs.KeeperCalls.{Looks, WalksOnce};
 ghost use Rattle.off_rules.specs.Rows.{counts_of, is_of_kind};
 ghost use Rattle.off_opening.specs.Marks.{marks_of, is_marked};
 
@@ -16,8 +16,9 @@ use std::alloc::Global;
 /// Batches past the greatest `u64` count as that one. An error is that of `open_tables`.
 #[tactic(auto, using(off_outside::proofs::KeeperLemmas::reads_as))]
 pub fn count_rows<K: Keeper>(alloc: Global, keeper: &mut K) -> Result<Counts, KeepErr>
-    ensures { Looks result (K.seen keeper.old) (K.seen keeper.new)
+    ensures told { Looks result (K.seen keeper.old) (K.seen keeper.new)
         (λ counts t. counts ≡ counts_of t) }
+    ensures walks { WalksOnce (K.seen keeper.old) (K.seen keeper.new) }
 {
     let marks = read_marks(alloc, keeper)?;
     Ok(counts_in(&marks))

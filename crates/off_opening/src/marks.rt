@@ -6,7 +6,7 @@ ghost use Rattle.std.specs.Option.{option_map};
 ghost use Rattle.off_defs.specs.declared.keys.Key.{Key};
 ghost use Rattle.off_defs.specs.State.{Tables};
 ghost use Rattle.off_defs.specs.Tables.{row_at};
-ghost use Rattle.off_outside.specs.KeeperCalls.{Looks};
+ghost use Rattle.off_outside.specs.KeeperCalls.{Looks, WalksOnce};
 ghost use Rattle.off_opening.specs.Marks.{mark_of, marks_of, tie_of, marked_pool};
 
 use off_base::{Ip4, Mac};
@@ -60,8 +60,9 @@ impl Model for NumberedPool {
 
 /// The marks of all rows, in the order of keys. It changes nothing, and walks once.
 pub(crate) fn read_marks<K: Keeper>(alloc: Global, keeper: &mut K) -> Result<Vec<Mark>, KeepErr>
-    ensures { Looks result (K.seen keeper.old) (K.seen keeper.new)
+    ensures told { Looks result (K.seen keeper.old) (K.seen keeper.new)
         (λ marks t. marks.items ≡ marks_of t) }
+    ensures walks { WalksOnce (K.seen keeper.old) (K.seen keeper.new) }
 {
     let mut marks = Vec::new(alloc);
     let mut place = None;

@@ -1,6 +1,6 @@
 ghost use Rattle.std.specs.Prelude.{◌≡◌, IfOk, IfErr};
 ghost use Rattle.off_defs.specs.State.{Tables};
-ghost use Rattle.off_outside.specs.KeeperCalls.{Looks};
+ghost use Rattle.off_outside.specs.KeeperCalls.{Looks, WalksOnce};
 ghost use Rattle.off_rules.specs.Good.{raw_pools, Judged};
 ghost use Rattle.off_opening.specs.Marks.{marks_of};
 ghost use Rattle.off_opening.specs.Standing.{Opens};
@@ -30,6 +30,7 @@ pub enum Opening {
 pub fn open_tables<K: Keeper>(alloc: Global, keeper: &mut K) -> Result<Opening, KeepErr>
     ensures told { Looks result (K.seen keeper.old) (K.seen keeper.new)
         (λ opening t. Opens t opening) }
+    ensures walks { WalksOnce (K.seen keeper.old) (K.seen keeper.new) }
 {
     let marks = read_marks(alloc, keeper)?;
     opening_of(alloc, marks.as_slice())
@@ -42,6 +43,7 @@ pub fn open_tables<K: Keeper>(alloc: Global, keeper: &mut K) -> Result<Opening, 
 pub fn first_bad<K: Keeper>(alloc: Global, keeper: &mut K) -> Result<Option<Key>, KeepErr>
     ensures told { Looks result (K.seen keeper.old) (K.seen keeper.new)
         (λ bad t. Judged t bad) }
+    ensures walks { WalksOnce (K.seen keeper.old) (K.seen keeper.new) }
 {
     let marks = read_marks(alloc, keeper)?;
     bad_in(alloc, marks.as_slice())

@@ -1,5 +1,5 @@
 -- The forms in memory: what each holds, and exactly what each call makes of it.
-use Rattle.std.specs.Prelude.{◌≡◌, ℕ, ◌-◌, ◌<◌, ◌≤◌, List, [], ◌∷◌, ◌++◌, drop, take, length, min, Contains, ◌⊎◌, Result, MatchResult}
+use Rattle.std.specs.Prelude.{◌≡◌, ℕ, ◌-◌, ◌<◌, ◌≤◌, List, [], ◌∷◌, ◌++◌, drop, take, length, min, Contains, ◌⊎◌, Result, MatchResult, max}
 use Rattle.off_defs.specs.declared.events.Event.{Event}
 use Rattle.off_defs.specs.declared.results.Sent.{Sent}
 use Rattle.off_defs.specs.Counts.{one_more, most_count}
@@ -51,6 +51,7 @@ pub record MemLinkHeld : Type 0 where
   pub outbox : OutboxHeld
   pub calls : CallsHeld
   pub missed : ℕ
+  pub longest : ℕ
   pub faults : ℕ
   pub unsent : ℕ
 
@@ -61,6 +62,7 @@ link_seen m = record {
   sent = λ items. items ≡ m.outbox.sent;
   up = Unit {0};
   missed = m.missed;
+  longest = m.longest;
   faults = m.faults;
   unsent = m.unsent;
 }
@@ -71,6 +73,7 @@ pub record LinkTells (m : MemLinkHeld) (seen : LinkSeen) : Type 0 where
   pub sent : seen.sent m.outbox.sent
   pub up : seen.up
   pub missed : seen.missed ≡ m.missed
+  pub longest : seen.longest ≡ m.longest
   pub faults : seen.faults ≡ m.faults
   pub unsent : seen.unsent ≡ m.unsent
 
@@ -89,6 +92,7 @@ pub record MemNotTook (err : LinkErr) (old new : MemLinkHeld) : Type 0 where
   pub cause : err ≡ link_err.Failed
   pub after : new ≡ record (link_called old) {
     missed = one_more old.missed;
+    longest = max old.longest (one_more old.missed);
     faults = one_more old.faults;
   }
 
@@ -118,6 +122,7 @@ new_link events items octets fails = record {
   outbox = empty_outbox items octets;
   calls = record { listed = fails; made = 0 };
   missed = 0;
+  longest = 0;
   faults = 0;
   unsent = 0;
 }

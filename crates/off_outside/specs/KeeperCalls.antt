@@ -1,5 +1,6 @@
 -- What each call of a keeper does to each of its meanings.
 use Rattle.std.specs.Prelude.{◌≡◌, ℕ, ◌+◌, ◌<◌, ◌≤◌, ◌⊎◌, List, Result, MatchResult}
+use Rattle.std.specs.FinMap as map
 use Rattle.off_defs.specs.declared.orders.Write.{Write}
 use Rattle.off_defs.specs.State.{Tables}
 use Rattle.off_defs.specs.Tables.{write_all, doubt_behind}
@@ -98,6 +99,10 @@ Commits result old new writes =
 pub record Spent (n : ℕ) (old new : KeeperSeen) : Type 0 where
   pub later : old.calls ≤ new.calls
   pub most : new.calls ≤ old.calls + n
+
+-- one walk over all rows: a call for each of them at most, and one more that finds the end
+abbrev pub WalksOnce : KeeperSeen → KeeperSeen → Type 0
+WalksOnce old new = (t : Tables) → old.tables t → Spent (map.len t + 1) old new
 
 -- the call was counted, whatever it answered
 pub record WasCounted (old new : KeeperSeen) : Type 0 where

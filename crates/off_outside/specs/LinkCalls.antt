@@ -1,5 +1,5 @@
 -- What each call of a link does to each of its meanings.
-use Rattle.std.specs.Prelude.{◌≡◌, ℕ, ◌⊎◌, List, [], ◌∷◌, ◌++◌, drop, Result, MatchResult}
+use Rattle.std.specs.Prelude.{◌≡◌, ℕ, ◌⊎◌, List, [], ◌∷◌, ◌++◌, drop, max, Result, MatchResult}
 use Rattle.off_defs.specs.declared.events.Event.{Event}
 use Rattle.off_defs.specs.declared.results.Sent.{Sent}
 use Rattle.off_defs.specs.Told.{Told, Stays}
@@ -27,6 +27,7 @@ pub record Took (event : Event) (old new : LinkSeen) : Type 0 where
   pub sent : Stays old.sent new.sent
   pub up : old.up → new.up
   pub missed : new.missed ≡ 0
+  pub longest : new.longest ≡ old.longest
   pub faults : new.faults ≡ old.faults
   pub unsent : new.unsent ≡ old.unsent
 
@@ -40,12 +41,17 @@ abbrev pub missed_after : LinkErr → ℕ → ℕ
 missed_after link_err.Memory missed = missed
 missed_after link_err.Failed missed = one_more missed
 
+abbrev pub longest_after : LinkErr → ℕ → ℕ → ℕ
+longest_after link_err.Memory missed longest = longest
+longest_after link_err.Failed missed longest = max longest (one_more missed)
+
 -- no event was taken
 pub record NotTook (err : LinkErr) (old new : LinkSeen) : Type 0 where
   pub left : Stays old.left new.left
   pub sent : Stays old.sent new.sent
   pub up : old.up → new.up ⊎ Grew 1 old.faults new.faults
   pub missed : new.missed ≡ missed_after err old.missed
+  pub longest : new.longest ≡ longest_after err old.missed old.longest
   pub faults : Grew (faults_in err) old.faults new.faults
   pub unsent : new.unsent ≡ old.unsent
 
@@ -55,6 +61,7 @@ pub record WasSent (item : Sent) (old new : LinkSeen) : Type 0 where
   pub sent : Told old.sent new.sent (λ before after. after ≡ before ++ item ∷ [])
   pub up : old.up → new.up
   pub missed : new.missed ≡ old.missed
+  pub longest : new.longest ≡ old.longest
   pub faults : new.faults ≡ old.faults
   pub unsent : new.unsent ≡ old.unsent
 
@@ -64,6 +71,7 @@ pub record NotSent (old new : LinkSeen) : Type 0 where
   pub sent : Stays old.sent new.sent
   pub up : old.up → new.up ⊎ Grew 1 old.unsent new.unsent
   pub missed : new.missed ≡ old.missed
+  pub longest : new.longest ≡ old.longest
   pub faults : new.faults ≡ old.faults
   pub unsent : Grew 1 old.unsent new.unsent
 
@@ -73,6 +81,7 @@ pub record LinkUnasked (old new : LinkSeen) : Type 0 where
   pub sent : Stays old.sent new.sent
   pub up : old.up → new.up
   pub missed : new.missed ≡ old.missed
+  pub longest : new.longest ≡ old.longest
   pub faults : new.faults ≡ old.faults
   pub unsent : new.unsent ≡ old.unsent
 

@@ -22,6 +22,7 @@ pub struct MemLink {
     outbox: Outbox,
     failing: Failing,
     missed: u64,
+    longest: u64,
     faults: u64,
     unsent: u64,
 }
@@ -36,6 +37,7 @@ impl Model for MemLink {
       outbox = m.outbox;
       calls = m.failing;
       missed = m.missed;
+      longest = m.longest;
       faults = m.faults;
       unsent = m.unsent;
     } };
@@ -60,6 +62,7 @@ impl MemLink {
             outbox,
             failing: Failing::new(fails),
             missed: 0,
+            longest: 0,
             faults: 0,
             unsent: 0,
         })
@@ -101,6 +104,7 @@ impl Link for MemLink {
     {
         if self.failing.call() {
             self.missed = one_more(self.missed);
+            self.longest = self.longest.max(self.missed);
             self.faults = one_more(self.faults);
             return Err(LinkErr::Failed);
         }

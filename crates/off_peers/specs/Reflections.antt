@@ -1,5 +1,6 @@
 -- Where datagrams come from that no client sent.
-use Rattle.std.specs.Prelude.{◌≡◌, ℕ, ◌*◌, ◌^◌, ◌<◌, ◌≤◌, [], ◌∷◌, ◌⊎◌, Contains}
+use Rattle.std.specs.Prelude.{◌≡◌, ℕ, ◌+◌, ◌-◌, ◌*◌, ◌%◌, ◌^◌, ◌==◌, ◌<◌, ◌≤◌, Bool, ◌&&◌, ◌||◌, nat_le, List, [], ◌∷◌, length, ◌⊎◌, Contains}
+use Rattle.std.specs.Int.{from_be_bytes, w32}
 use Rattle.off_base.specs.declared.addresses.Peer.{Peer}
 use Rattle.off_defs.specs.declared.events.Service.{Service}
 use Rattle.off_defs.specs.declared.events.Service.TheVariants.{Dhcp, Time, Tftp}
@@ -27,3 +28,21 @@ IsReflection Time from own =
     ⊎ IsNoClient from.ip.0)
 IsReflection Tftp from own =
     AnswersByItself from.port ⊎ Contains (own.dhcp ∷ own.time ∷ []) from.port
+
+-- a moment on the clock of RFC 868, in seconds since 1900, which begin anew after 2^32
+abbrev pub clock_at : ℕ → ℕ
+clock_at now = (now % 2 ^ 32 + 2208988800) % 2 ^ 32
+
+-- how many seconds that clock goes from one time to another
+abbrev pub seconds_from : ℕ → ℕ → ℕ
+seconds_from one other = (other + (2 ^ 32 - one)) % 2 ^ 32
+
+-- two times that lie within a day of one another
+abbrev pub is_near : ℕ → ℕ → Bool
+is_near one other =
+    nat_le (seconds_from one other) 86400 || nat_le (seconds_from other one) 86400
+
+-- what a time service answers: four bytes that tell a time near to this moment
+abbrev pub is_time_answer : List ℕ → ℕ → Bool
+is_time_answer datagram now =
+    (length datagram == 4) && is_near (clock_at now) (from_be_bytes w32 datagram)

@@ -1,7 +1,8 @@
-ghost use Rattle.std.specs.Prelude.{◌≡◌, ◌≢◌, ◌==◌, ◌↔◌, [], ◌∷◌, length, Contains, IsTrue, false};
+ghost use Rattle.std.specs.Prelude.{◌≡◌, ◌==◌, ◌↔◌, [], ◌∷◌, Contains, IsTrue};
 ghost use Rattle.std.specs.List.{starts_with};
 ghost use Rattle.off_defs.specs.declared.events.Service.TheVariants as service;
 ghost use Rattle.off_peers.specs.Reflections.{IsReflection, AnswersByItself, IsNoClient};
+ghost use Rattle.off_peers.specs.Reflections.{is_time_answer};
 
 use off_base::{Moment, Peer};
 use off_outside::Service;
@@ -66,7 +67,7 @@ fn is_no_client(address: u32) -> bool
 /// packet but an acknowledgement; so two offices whose ports are no standard ones don't answer each
 /// other.
 pub fn is_time_answer(datagram: &[u8], now: Moment) -> bool
-    ensures { length datagram.now ≢ 4 → result ≡ false }
+    ensures { result ≡ is_time_answer datagram.now now.0 }
 {
     let &[first, second, third, fourth] = datagram else {
         return false;

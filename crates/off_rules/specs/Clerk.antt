@@ -1,6 +1,6 @@
 -- What a clerk's command does. Its rules are tested in order, and the first that is broken is the
 -- answer; then nothing changes. Else the command's writes are done, all of them.
-use Rattle.std.specs.Prelude.{ℕ, ◌+◌, ◌==◌, Bool, true, false, not, ◌&&◌, nat_le, nat_lt, List, [], ◌∷◌, ◌++◌, length, map, Option, Some, None, is_none, option_map, Result, Ok, Err}
+use Rattle.std.specs.Prelude.{ℕ, ◌+◌, ◌==◌, Bool, true, false, not, ◌&&◌, nat_le, nat_lt, List, [], ◌∷◌, ◌++◌, length, map, Option, Some, None, is_none, option_map, option_and_then, Result, Ok, Err}
 use Rattle.std.specs.List.{find, filter, flat_map, list_any}
 use Rattle.std.specs.Ordering.{eq_by_cmp, nat_cmp}
 use Rattle.std.specs.Cmp.Lexicographic.{slice_cmp}
@@ -12,6 +12,7 @@ use Rattle.off_defs.specs.Bounds.{add_on_numbers}
 use Rattle.off_defs.specs.declared.keys.Key.{Key}
 use Rattle.off_defs.specs.declared.keys.Key.TheVariants as key
 use Rattle.off_defs.specs.declared.tables.Row.{Row}
+use Rattle.off_defs.specs.declared.shown.ShownRow.{ShownRow}
 use Rattle.off_defs.specs.declared.tables.Row.TheVariants as row
 use Rattle.off_defs.specs.declared.tables.Pool.{Pool}
 use Rattle.off_defs.specs.declared.tables.Lease.{Lease}
@@ -30,6 +31,7 @@ use Rattle.off_defs.specs.declared.orders.Write.{Write}
 use Rattle.off_defs.specs.declared.orders.Write.TheVariants.{Put, Drop}
 use Rattle.off_defs.specs.declared.rules.Rule.{Rule}
 use Rattle.off_defs.specs.declared.rules.Rule.TheVariants as rule
+use Rattle.off_defs.specs.Shown.{shown_row}
 use Rattle.off_defs.specs.State.{Tables}
 use Rattle.off_defs.specs.Tables.{write_all}
 use Rattle.off_rules.specs.Rows.{is_offset, is_lease_time, has_pool_size, seen_at, subscriber_in, class_in, pool_in, batch_in, modems, pools, leases, has_address, overlaps, count_of}
@@ -217,7 +219,8 @@ abbrev pub by_rule : ℕ → Accepted → Option Rule → Decision
 by_rule at wanted None = Ok wanted
 by_rule at wanted (Some broken) = Err (refusal at broken)
 
-abbrev pub shown : Key → Option Row → Decision
+-- a row that clerks aren't shown is none to them
+abbrev pub shown : Key → Option ShownRow → Decision
 shown key None = Err (refusal 0 rule.NoRow)
 shown key (Some held) = Ok (accepted [] (Shown key held))
 
@@ -281,7 +284,7 @@ import_decided tables now kind batch digest rows None =
 
 -- what becomes of a command
 abbrev pub decided : Tables → ℕ → Command → Decision
-decided tables now (Show key) = shown key (seen_at tables key)
+decided tables now (Show key) = shown key (option_and_then shown_row (seen_at tables key))
 decided tables now (Import kind batch digest rows) =
     import_decided tables now kind batch digest rows (batch_in tables batch)
 decided tables now command =

@@ -4,6 +4,7 @@
 use Rattle.std.specs.Prelude.{ℕ, ℤ, pos, neg_ℤ, ◌-◌, ◌==◌, Bool, true, false, not, ◌&&◌, nat_le, nat_lt, int_le, min, max, List, length, Option, Some, None, is_some, is_none, option_and_then, if◌then◌else◌}
 use Rattle.std.specs.List.{filter_map, count_by}
 use Rattle.std.specs.Int.{is_in_range}
+use Rattle.std.specs.Option.{option_map_or}
 use Rattle.std.specs.FinMap as map
 use Rattle.off_base.specs.Number.{greatest_u64}
 use Rattle.off_base.specs.Tree.{Tree}
@@ -184,15 +185,30 @@ has_address pool address = nat_le pool.first.0 address.0 && nat_le address.0 poo
 abbrev pub overlaps : Pool → Pool → Bool
 overlaps pool other = nat_le (max pool.first.0 other.first.0) (min pool.last.0 other.last.0)
 
+-- the kind by which a row of this key is counted, if it is
+abbrev pub kind_counted : Key → Option Kind
+kind_counted key.Site = None
+kind_counted (key.Subscriber n) = Some Subscribers
+kind_counted (key.AddOn n number) = Some AddOns
+kind_counted (key.Modem mac) = Some Modems
+kind_counted (key.Class n) = Some Classes
+kind_counted (key.Pool n) = Some Pools
+kind_counted (key.Lease address) = None
+kind_counted (key.Held mac) = None
+kind_counted (key.Batch n) = Some Batches
+
+abbrev pub kind_number : Kind → ℕ
+kind_number Subscribers = 1
+kind_number AddOns = 2
+kind_number Modems = 3
+kind_number Classes = 4
+kind_number Pools = 5
+kind_number Batches = 6
+
 -- How many possible rows there are of a kind
 abbrev pub is_of_kind : Kind → Key → Bool
-is_of_kind Subscribers (key.Subscriber n) = true
-is_of_kind AddOns (key.AddOn n number) = true
-is_of_kind Modems (key.Modem mac) = true
-is_of_kind Classes (key.Class n) = true
-is_of_kind Pools (key.Pool n) = true
-is_of_kind Batches (key.Batch n) = true
-is_of_kind kind key = false
+is_of_kind kind key =
+    option_map_or (λ counted. kind_number counted == kind_number kind) (kind_counted key) false
 
 abbrev pub is_counted : Kind → Key × Row → Bool
 is_counted kind entry = is_of_kind kind entry.0 && is_possible entry.0 entry.1

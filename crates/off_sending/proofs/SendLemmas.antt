@@ -25,6 +25,7 @@ sent_none s = record {
   sent = told_self (λ x. sym (append-nil x));
   up = λ up. inl up;
   missed = refl;
+  longest = refl;
   faults = refl;
   unsent = tallied_none s.unsent;
 }
@@ -50,6 +51,7 @@ sent_more items item all true {a} {b} {c} p q = record {
       after ∙ (ap (λ v. v ++ item ∷ []) before ∙ (append_assoc x (marked items p.marks) (item ∷ []) ∙ ap (λ v. x ++ v) (sym (marked_push items p.marks item true p.each)))));
   up = up_chain p.unsent.grew.later (omega (arith, q.unsent)) p.up (λ up. inl (q.up up));
   missed = q.missed ∙ p.missed;
+  longest = q.longest ∙ p.longest;
   faults = q.faults ∙ p.faults;
   unsent = subst (λ n. Tallied n a.unsent c.unsent) (sym (lost_push p.marks true)) (tallied_then p.unsent (tallied_same q.unsent));
 }
@@ -62,6 +64,7 @@ sent_more items item all false {a} {b} {c} p q = record {
       same ∙ (before ∙ (ap (λ v. x ++ v) (sym (append-nil (marked items p.marks)) ∙ sym (marked_push items p.marks item false p.each)))));
   up = up_chain p.unsent.grew.later q.unsent.later p.up q.up;
   missed = q.missed ∙ p.missed;
+  longest = q.longest ∙ p.longest;
   faults = q.faults ∙ p.faults;
   unsent = subst (λ n. Tallied n a.unsent c.unsent) (sym (lost_push p.marks false)) (tallied_then p.unsent (tallied_one q.unsent));
 }
@@ -98,6 +101,7 @@ sent_then items more all other {a} {b} {c} p q = record {
       after ∙ (ap (λ v. v ++ marked more q.marks) before ∙ (append_assoc x (marked items p.marks) (marked more q.marks) ∙ ap (λ v. x ++ v) (sym (marked_then items more p.marks q.marks p.each)))));
   up = up_chain p.unsent.grew.later q.unsent.grew.later p.up q.up;
   missed = q.missed ∙ p.missed;
+  longest = q.longest ∙ p.longest;
   faults = q.faults ∙ p.faults;
   unsent = subst (λ n. Tallied n a.unsent c.unsent) (sym (sum_by-append (λ m. cond (not m) 1 0) p.marks q.marks)) (tallied_then p.unsent q.unsent);
 }

@@ -22,5 +22,6 @@ pub record SentAll (items : List Sent) (all : Bool) (old new : LinkSeen) : Type 
   pub sent : Told old.sent new.sent (λ before after. after ≡ before ++ marked items marks)
   pub up : old.up → new.up ⊎ Grew 1 old.unsent new.unsent
   pub missed : new.missed ≡ old.missed
+  pub longest : new.longest ≡ old.longest
   pub faults : new.faults ≡ old.faults
   pub unsent : Tallied (count_by not marks) old.unsent new.unsent

@@ -218,7 +218,7 @@ closed_complete start_err.Memory old new status tables (inl w) none other = absu
 
 -- the link isn't asked
 pub link_unasked : (link : LinkSeen) → LinkUnasked link link
-link_unasked link = record { left = stays_self; sent = stays_self; up = λ up. up; missed = refl; faults = refl; unsent = refl }
+link_unasked link = record { left = stays_self; sent = stays_self; up = λ up. up; missed = refl; longest = refl; faults = refl; unsent = refl }
 
 pub stays_closed : (budget : ℕ) (link : LinkSeen) (k l : KeeperSeen) (a b : SinkSeen) (why : StartErr) (status : ℕ)
     → LinkUnasked link link → NotStarted why k l → Tells (closed_status why) (closed_line why) status a b → ServesAsOffice budget (world_of link k a) (world_of link l b) status

@@ -54,7 +54,7 @@ next_events (first ∷ turns) turn (event ∷ events) no_end so_far next =
 
 -- no call of `next` has failed yet
 none_missed : (s : LinkSeen) → CountsMissed [] 0 s s
-none_missed s = record { failures = 0; few = omega arith; faults = tallied_none s.faults }
+none_missed s = record { failures = 0; few = omega arith; rows = omega arith; faults = tallied_none s.faults }
 
 -- the failures before one turn more
 missed_push : {turns : List Turn} {turn : Turn} {before after : Desk} {a : LinkSeen} {b c : World} → CountsMissed turns 0 a b.link → TurnMade turn before after b c
@@ -64,16 +64,18 @@ missed_push {turns} {turn} {before} {after} {a} {b} {c} so_far made =
     record {
       failures = so_far.failures + made.failures;
       few = omega (arith, so_far.few, made.few, length-append turns (turn ∷ []));
+      rows = omega (arith, so_far.rows, made.few, made.longest);
       faults = subst (λ n. Tallied n a.faults c.link.faults) sum (tallied_then so_far.faults made.faults);
     }
 
 -- failures behind the last turn
-missed_behind : {turns : List Turn} {n : ℕ} {a b c : LinkSeen} → CountsMissed turns 0 a b → Tallied n b.faults c.faults → CountsMissed turns n a c
-missed_behind {turns} {n} {a} {b} {c} so_far more =
+missed_behind : {turns : List Turn} {n : ℕ} {a b c : LinkSeen} → CountsMissed turns 0 a b → c.longest ≡ max b.longest n → Tallied n b.faults c.faults → CountsMissed turns n a c
+missed_behind {turns} {n} {a} {b} {c} so_far longest more =
     let sum : so_far.failures + 0 + n ≡ so_far.failures + n = omega arith in
     record {
       failures = so_far.failures;
       few = so_far.few;
+      rows = omega (arith, so_far.rows, longest);
       faults = subst (λ k. Tallied k a.faults c.faults) sum (tallied_then so_far.faults more);
     }
 
@@ -384,6 +386,7 @@ served_memory {n} {budget} {first} {before} {after} {a} {b} {c} going more lacks
       missed = omega (arith, lacks.link.missed, lacks.link.few);
       failures = going.so_far.faults.failures;
       few = going.so_far.faults.few;
+      rows = omega (arith, going.so_far.faults.rows, lacks.link.few, lacks.link.longest);
       faults = missed_lacks going.so_far.faults lacks.link;
     },
     wrote_same going.so_far.text lacks.sink,
@@ -403,7 +406,7 @@ served_missed {n} {budget} {first} {before} {after} {a} {b} {c} going more misse
       more = omega (arith, going.count);
       no_end = going.so_far.no_end;
       missed = missed.link.missed;
-      faults = missed_behind going.so_far.faults missed.link.faults;
+      faults = missed_behind going.so_far.faults missed.link.longest missed.link.faults;
     },
     wrote_same going.so_far.text missed.sink,
   );

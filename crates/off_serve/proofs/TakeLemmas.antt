@@ -16,9 +16,14 @@ missed_none {s} none = record {
   sent = stays_self;
   up = λ up. inl up;
   missed = none;
+  longest = omega arith;
   faults = tallied_none s.faults;
   unsent = refl;
 }
+
+-- a row of failures that is longer by one
+longer : {n l m k : ℕ} → m ≡ max l n → k ≡ n + 1 → max m k ≡ max l (n + 1)
+longer {n} {l} {m} {k} is next = omega (arith, is, next)
 
 pub missed_more : {n : ℕ} {a b c : LinkSeen} → Missed n a b → NotTook link_err.Failed b c → n < most_missed → Missed (n + 1) a c
 missed_more {n} {a} {b} {c} p q few = record {
@@ -26,6 +31,7 @@ missed_more {n} {a} {b} {c} p q few = record {
   sent = then_stays p.sent q.sent;
   up = up_chain p.faults.grew.later q.faults.later p.up q.up;
   missed = q.missed ∙ (ap one_more p.missed ∙ omega arith);
+  longest = q.longest ∙ longer p.longest (ap one_more p.missed ∙ omega arith);
   faults = tallied_then p.faults (tallied_one q.faults);
   unsent = q.unsent ∙ p.unsent;
 }
@@ -38,6 +44,7 @@ missed_took {n} p q few = record {
   sent = then_stays p.sent q.sent;
   up = up_chain p.faults.grew.later (omega (arith, q.faults)) p.up (λ up. inl (q.up up));
   missed = q.missed;
+  longest = q.longest ∙ p.longest;
   faults = tallied_stays p.faults q.faults;
   unsent = q.unsent ∙ p.unsent;
 }
@@ -50,6 +57,7 @@ missed_memory {n} p q few = record {
   sent = then_stays p.sent q.sent;
   up = up_chain p.faults.grew.later q.faults.later p.up q.up;
   missed = q.missed ∙ p.missed;
+  longest = q.longest ∙ p.longest;
   faults = grew_later p.faults.grew q.faults.later;
   unsent = q.unsent ∙ p.unsent;
 }

@@ -36,6 +36,7 @@ acted event outcome said all before after a b k l s t acts sending = record {
   sent = sending.sent;
   up = sending.up;
   missed = sending.missed;
+  longest = sending.longest;
   faults = sending.faults;
   unsent = sending.unsent;
 }
@@ -73,6 +74,7 @@ turn_made {turn = turn} {c = c} took act = record {
   missed = act.missed ∙ took.missed;
   failures = took.failures;
   few = took.few;
+  longest = act.longest ∙ took.longest;
   faults = tallied_stays took.faults act.faults;
   unsent = subst (λ v. Tallied (lost_in turn) v c.link.unsent) took.unsent act.unsent;
 }

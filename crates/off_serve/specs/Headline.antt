@@ -1,7 +1,7 @@
 -- The promise of `run`: whatever events come, lost, repeated or interleaved, `serve` sends and
 -- writes what a run of the abstract office does, and only want of memory or a counted fault departs
 -- from it.
-use Rattle.std.specs.Prelude.{◌≡◌, ℕ, ◌+◌, ◌-◌, ◌*◌, ◌<◌, ◌≤◌, true, List, [], ◌∷◌, ◌++◌, length, drop, All, codes, ◌⊎◌, ◌≢◌}
+use Rattle.std.specs.Prelude.{◌≡◌, ℕ, ◌+◌, ◌-◌, ◌*◌, ◌<◌, ◌≤◌, true, List, [], ◌∷◌, ◌++◌, length, drop, max, All, codes, ◌⊎◌, ◌≢◌}
 use Rattle.off_defs.specs.Told.{Told}
 use Rattle.off_defs.specs.Counts.{Grew, Tallied, one_more, most_count}
 use Rattle.off_defs.specs.State.{Tables, State, Held, state_of, start}
@@ -56,11 +56,12 @@ pub record RanTurns (turns : List Turn) (old new : LinkSeen) : Type 0 where
   pub unsent : Tallied (lost_by turns) old.unsent new.unsent
   pub up : LinkStaysUp old new
 
--- each failed call of `next` is counted: fewer than sixteen before each of the turns, and so many
--- more behind them
+-- each failed call of `next` is counted: fewer than sixteen in a row before each of the turns, and
+-- so many more behind them
 pub record CountsMissed (turns : List Turn) (more : ℕ) (old new : LinkSeen) : Type 0 where
   pub failures : ℕ
   pub few : failures ≤ 15 * length turns
+  pub rows : new.longest ≤ max old.longest (max 15 more)
   pub faults : Tallied (failures + more) old.faults new.faults
 
 -- the run lasts through crashes, by what the keeper tells of them
@@ -132,6 +133,7 @@ pub record LackedMemory (budget : ℕ) (turns : List Turn) (old new : LinkSeen) 
   pub missed : new.missed < most_missed
   pub failures : ℕ
   pub few : failures ≤ 15 * length turns
+  pub rows : new.longest ≤ max old.longest 15
   pub faults : Grew (failures + new.missed) old.faults new.faults
 
 -- the link failed sixteen times in a row, and counted each

@@ -1,5 +1,5 @@
 -- What the parts of `serve` do to what is seen of the link and of the sink.
-use Rattle.std.specs.Prelude.{◌≡◌, ℕ, ◌<◌, Bool, true, false, not, List, ◌++◌, length, drop, count_by, ◌⊎◌}
+use Rattle.std.specs.Prelude.{◌≡◌, ℕ, ◌<◌, Bool, true, false, not, List, ◌++◌, length, drop, max, count_by, ◌⊎◌}
 use Rattle.off_defs.specs.declared.events.Event.{Event}
 use Rattle.off_defs.specs.declared.results.Sent.{Sent}
 use Rattle.off_defs.specs.Told.{Told, Stays}
@@ -31,6 +31,7 @@ pub record Missed (n : ℕ) (old new : LinkSeen) : Type 0 where
   pub sent : Stays old.sent new.sent
   pub up : old.up → new.up ⊎ Grew 1 old.faults new.faults
   pub missed : new.missed ≡ n
+  pub longest : new.longest ≡ max old.longest n
   pub faults : Tallied n old.faults new.faults
   pub unsent : new.unsent ≡ old.unsent
 
@@ -42,6 +43,7 @@ pub record LacksMemory (old new : LinkSeen) : Type 0 where
   pub sent : Stays old.sent new.sent
   pub up : old.up → new.up ⊎ Grew 1 old.faults new.faults
   pub missed : new.missed ≡ failures
+  pub longest : new.longest ≡ max old.longest failures
   pub faults : Grew failures old.faults new.faults
   pub unsent : new.unsent ≡ old.unsent
 
@@ -54,6 +56,7 @@ pub record TookBehind (event : Event) (old new : LinkSeen) : Type 0 where
   pub sent : Stays old.sent new.sent
   pub up : old.up → new.up ⊎ Grew 1 old.faults new.faults
   pub missed : new.missed ≡ 0
+  pub longest : new.longest ≡ max old.longest failures
   pub faults : Tallied failures old.faults new.faults
   pub unsent : new.unsent ≡ old.unsent
 
@@ -113,6 +116,7 @@ pub record Acted (event : Event) (turn : Turn) (before after : Desk) (old new : 
     pub sent : Told old.link.sent new.link.sent (λ before now. now ≡ before ++ sent_in turn)
     pub up : old.link.up → new.link.up ⊎ Grew 1 old.link.unsent new.link.unsent
     pub missed : new.link.missed ≡ old.link.missed
+    pub longest : new.link.longest ≡ old.link.longest
     pub faults : new.link.faults ≡ old.link.faults
     pub unsent : Tallied (lost_in turn) old.link.unsent new.link.unsent
 
@@ -128,6 +132,7 @@ pub record TurnMade (turn : Turn) (before after : Desk) (old new : World) : Type
   pub missed : new.link.missed ≡ 0
   pub failures : ℕ
   pub few : failures < most_missed
+  pub longest : new.link.longest ≡ max old.link.longest failures
   pub faults : Tallied failures old.link.faults new.link.faults
   pub unsent : Tallied (lost_in turn) old.link.unsent new.link.unsent
 

@@ -1,10 +1,11 @@
 -- A command's step leaves good tables good: an import row by row, each other command by its writes.
-use Rattle.std.proofs.Common.{◌≡◌, ℕ, ◌+◌, true, leb, Option, Some, None, Result, Ok, Err, List, [], ◌∷◌, ◌++◌, length, refl, sym, ap, subst, ◌∙◌}
+use Rattle.std.proofs.Common.{◌≡◌, ℕ, ◌+◌, true, leb, Option, Some, None, option_and_then, Result, Ok, Err, List, [], ◌∷◌, ◌++◌, length, refl, sym, ap, subst, ◌∙◌}
 use Rattle.std.proofs.lemmas.Bool.{and_parts}
 use Rattle.std.specs.List.{list_all}
 use Rattle.off_defs.specs.declared.keys.Key.{Key}
 use Rattle.off_defs.specs.declared.keys.Key.TheVariants as key
 use Rattle.off_defs.specs.declared.tables.Row.{Row}
+use Rattle.off_defs.specs.declared.shown.ShownRow.{ShownRow}
 use Rattle.off_defs.specs.declared.tables.Row.TheVariants as row
 use Rattle.off_defs.specs.declared.tables.Batch.{Batch}
 use Rattle.off_defs.specs.declared.tables.ImportKind.{ImportKind}
@@ -19,6 +20,7 @@ use Rattle.off_defs.specs.declared.orders.Kind.TheVariants.{Batches}
 use Rattle.off_defs.specs.declared.orders.Write.{Write}
 use Rattle.off_defs.specs.declared.orders.Write.TheVariants.{Put}
 use Rattle.off_defs.specs.declared.rules.Rule.{Rule}
+use Rattle.off_defs.specs.Shown.{shown_row}
 use Rattle.off_defs.specs.State.{Tables}
 use Rattle.off_defs.specs.Tables.{row_at, written, write_all}
 use Rattle.off_rows.specs.Sound.{is_sound, is_row_of}
@@ -39,7 +41,7 @@ ruled : (t : Tables) (writes : List Write) (reply : Reply) (broken : Option Rule
 ruled t writes reply None good h = h refl
 ruled t writes reply (Some broken) good h = good
 
-seen_good : (t : Tables) (q : Key) (o : Option Row) → Good t → Good (stepped_by t (shown q o)).tables
+seen_good : (t : Tables) (q : Key) (o : Option ShownRow) → Good t → Good (stepped_by t (shown q o)).tables
 seen_good t q None good = good
 seen_good t q (Some held) good = good
 
@@ -101,7 +103,7 @@ decided_good t now kind batch digest rows None good sound =
     imported_good t kind batch digest rows (rows_written t now 1 rows) good (λ writes e. import_good now kind rows t 1 writes good sound e)
 
 step_good : (t : Tables) (now : ℕ) (command : Command) → is_sound command ≡ true → secret_fits command ≡ true → Good t → Good (stepped_by t (decided t now command)).tables
-step_good t now (Show q) sound short good = seen_good t q (seen_at t q) good
+step_good t now (Show q) sound short good = seen_good t q (option_and_then shown_row (seen_at t q)) good
 step_good t now (Import kind batch digest rows) sound short good =
     decided_good t now kind batch digest rows (batch_in t batch) good (and_parts (leb (length rows) 2000) (list_all (is_row_of kind) rows) sound).1
 step_good t now (SetSite site) sound short good = ruled t (writes_of t (SetSite site)) Done (first_broken (rules_of t now (SetSite site))) good (command_good t now (SetSite site) sound short good)

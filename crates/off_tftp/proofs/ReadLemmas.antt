@@ -1,5 +1,5 @@
 -- Reads of the keeper, one after another.
-use Rattle.std.proofs.Common.{◌≡◌, cond, true, false, ℕ, ◌+◌, ◌<◌, List, [], ◌∷◌, ◌++◌, zero, suc, take, Option, Some, None, option_map, option_and_then, Result, Ok, Err, MatchResult, refl, sym, ap, ◌∙◌, subst, arith}
+use Rattle.std.proofs.Common.{◌≡◌, cond, true, false, ℕ, ◌+◌, ◌<◌, ◌≤◌, ◌==◌, Bool, List, [], ◌∷◌, ◌++◌, zero, suc, take, Option, Some, None, option_map, option_and_then, Result, Ok, Err, MatchResult, refl, sym, ap, ◌∙◌, subst, arith}
 use Rattle.std.specs.List.{filter_map, cons_option}
 use Rattle.std.proofs.lemmas.List.{append-nil}
 use Rattle.std.proofs.lemmas.List.Elements.{filter_map-append}
@@ -16,10 +16,12 @@ use Rattle.off_transfer_rules.specs.View.{View, view, owner_by}
 use Rattle.off_tftp.specs.Listed.{with_add_on}
 use Rattle.off_tftp.specs.declared.gathering.Seen.{Seen}
 use Rattle.off_tftp.specs.Keeping.{is_kept, entry_for, FewWhereKept}
+use Rattle.off_transfer_rules.specs.Transfers.{is_at_last}
+use Rattle.off_tftp.specs.Calls.{acknowledgement_calls}
 use Rattle.off_tftp.specs.Seen.{view_of, without_profile, names_file, seen_for, Shows}
 use Rattle.off_kept.specs.declared.bodies.KeptBody.{KeptBody}
 use Rattle.off_kept.specs.Entries.{Entries}
-use Rattle.off_defs.specs.State.{Tables}
+use Rattle.off_defs.specs.State.{Tables, Transfer}
 use Rattle.off_outside.specs.KeeperSeen.{KeeperSeen}
 use Rattle.off_outside.specs.KeeperCalls.{Looks, Reads, NotDone, Spent}
 use Rattle.off_outside.specs.declared.keeper.KeepErr.{KeepErr}
@@ -80,6 +82,29 @@ look_is t ip site lease owner modem s l o m =
     ap (λ (x : Option Site). seen_by x lease modem None) s
     ∙ ap (λ (x : Option Modem). seen_by (site_in t) lease x None) (m ∙ ap (option_and_then (modem_in t)) o)
     ∙ ap (λ (x : Option Lease). seen_by (site_in t) x (option_and_then (modem_in t) (owner_by x)) None) l
+
+-- a name that is right by what was seen is right by the tables
+pub is_named : {P : Type 0} (seen : Seen) (v : View) (now : ℕ) (ip : Ip4) (name : List ℕ) → view_of seen ≡ without_profile v
+    → names_file now ip name (view_of seen) ≡ true → names_file now ip name v ≡ false → P
+is_named seen v now ip name is right wrong =
+    let both : true ≡ false = sym right ∙ ap (names_file now ip name) is ∙ wrong in cc
+
+pub few_none : (k : KeeperSeen) → Spent 3 k k
+few_none k = spent_within (spent_none k) (omega arith)
+
+-- an acknowledgement asks three calls at most
+few_by : (b : Bool) {a k : KeeperSeen} (n m : ℕ) → n ≤ 3 → m ≤ 3 → Spent (cond b n m) a k → Spent 3 a k
+few_by true n m p q spent = spent_within spent p
+few_by false n m p q spent = spent_within spent q
+
+if_few : (b : Bool) (n m : ℕ) → n ≤ 3 → m ≤ 3 → cond b n m ≤ 3
+if_few true n m p q = p
+if_few false n m p q = q
+
+pub acknowledgement_few : (number : ℕ) (live : Option Transfer) {a k : KeeperSeen} → Spent (acknowledgement_calls number live) a k → Spent 3 a k
+acknowledgement_few number None spent = spent_within spent (omega arith)
+acknowledgement_few number (Some x) spent =
+    few_by (number == x.sent) _ 0 (if_few (is_at_last x) 0 3 (omega arith) (omega arith)) (omega arith) spent
 
 -- what a request for a file needs of it, by whether the name is right
 pub shows_unnamed : (seen : Seen) (v : View) (now : ℕ) (ip : Ip4) (name : List ℕ) → seen.body ≡ None → view_of seen ≡ without_profile v → names_file now ip name (view_of seen) ≡ false

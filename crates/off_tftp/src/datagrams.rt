@@ -12,6 +12,7 @@ ghost use Rattle.off_kept.specs.Right.{AllRight};
 ghost use Rattle.off_outside.specs.declared.keeper.KeepErr.TheVariants.{Memory};
 ghost use Rattle.off_outside.specs.KeeperCalls.{Looks, Spent};
 ghost use Rattle.off_tftp.specs.Calls.{datagram_calls, reading_calls, acknowledgement_calls};
+ghost use Rattle.off_tftp.specs.Calls.{FewWhereUnnamed, FewUnlessNamed};
 ghost use Rattle.off_tftp.specs.Keeping.{FewWhereKept, FewWhereBegun, Serves, AnswersKeeping};
 ghost use Rattle.off_tftp.specs.Saying.{says_more, Does};
 
@@ -53,6 +54,8 @@ impl Transfers {
         ensures spent { Spent (datagram_calls self.old from bytes.now)
             (K.seen keeper.old) (K.seen keeper.new) }
         ensures few { FewWhereKept from.ip kept.old (K.seen keeper.old) (K.seen keeper.new) }
+        ensures few_unnamed { FewUnlessNamed now.0 from.ip bytes.now
+            (K.seen keeper.old) (K.seen keeper.new) }
         ensures few_begun { FewWhereBegun from bytes.now self.new kept.old
             (K.seen keeper.old) (K.seen keeper.new) }
         ensures kept { OnErr result (self.new ≡ self.old) }
@@ -105,6 +108,8 @@ impl Transfers {
         ensures spent { Spent (reading_calls bytes.now (map.get self.old from))
             (K.seen keeper.old) (K.seen keeper.new) }
         ensures few { FewWhereKept from.ip kept.old (K.seen keeper.old) (K.seen keeper.new) }
+        ensures few_unnamed { FewWhereUnnamed now.0 from.ip name.now
+            (K.seen keeper.old) (K.seen keeper.new) }
         ensures few_begun { FewWhereBegun from bytes.now self.new kept.old
             (K.seen keeper.old) (K.seen keeper.new) }
         ensures kept { OnErr result (self.new ≡ self.old) }

@@ -9,6 +9,7 @@ ghost use Rattle.off_transfer_rules.specs.View.{view, owner_by};
 ghost use Rattle.off_kept.specs.Right.{AllRight};
 ghost use Rattle.off_tftp.specs.Seen.{view_of, without_profile, seen_for, IsNamed, Shows};
 ghost use Rattle.off_tftp.specs.Seen.{profile_from};
+ghost use Rattle.off_tftp.specs.Calls.{FewWhereUnnamed};
 ghost use Rattle.off_tftp.specs.Keeping.{FewWhereKept, is_kept, entry_for};
 ghost use Rattle.off_tftp.specs.Listed.{with_add_on};
 ghost use Rattle.off_outside.specs.declared.keeper.KeepErr.TheVariants.{Memory};
@@ -71,6 +72,8 @@ pub(crate) fn look_for_file<K: Keeper>(
     ensures named { IfOk result (λ seen. IsNamed now.0 ip name.now seen) }
     ensures spent { Spent 13 (K.seen keeper.old) (K.seen keeper.new) }
     ensures few { FewWhereKept ip kept.now (K.seen keeper.old) (K.seen keeper.new) }
+    ensures few_unnamed { FewWhereUnnamed now.0 ip name.now
+        (K.seen keeper.old) (K.seen keeper.new) }
     ensures few_seen { IfOk result (λ seen. is_kept (owner_by seen.lease) kept.now ≡ true
         → Spent 3 (K.seen keeper.old) (K.seen keeper.new)) }
 {

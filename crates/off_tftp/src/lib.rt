@@ -22,5 +22,7 @@ mod saying;
 mod ticking;
 mod transfers;
 
+pub use off_kept::{Kept, KeptBody};
+pub use off_transfer_rules::{Packet, PacketFault, TftpWord, Ticked};
 pub use packets::read_packet;
 pub use transfers::Transfers;

@@ -2,11 +2,15 @@
 //! here.
 #![tactic(auto)]
 
-ghost use Rattle.std.specs.Prelude.{◌≡◌, IfOk};
+ghost use Rattle.std.specs.Prelude.{◌≡◌, ◌⊎◌, map, string_bytes, IfOk};
+ghost use Rattle.officed.specs.Ending.{IfRan, RanOver, room_for};
+ghost use Rattle.officed.specs.declared.ended.Ended.TheVariants.{NoMemory};
 
+mod ended;
 #[cfg(test)]
 mod hearing;
 
+use ended::Ended;
 use off_host::{Addresses, Log, LogSink, OpenErr, SocketLink, StandardInput, StandardOutput};
 use off_keepmem::MemKeeper;
 use off_outside::{Calls, Events, Keeper, Link, MemLink, Sink};
@@ -21,18 +25,6 @@ const DRILLED_ITEMS: usize = 24_000;
 
 const DRILLED_OCTETS: usize = 3_200_000;
 
-// A status that stands for lines that couldn't be written.
-const NO_OUTPUT: u8 = 4;
-
-// A status that stands for want of memory outside of an event.
-const MEMORY: u8 = 6;
-
-// A status that stands for a socket that couldn't be opened.
-const NO_SOCKET: u8 = 10;
-
-// A status that stands for a store that couldn't be opened or made.
-const NO_STORE: u8 = 11;
-
 fn main(rt: HostRuntime) -> ExitCode {
     let mut words = Vec::new(rt.alloc());
     match env::args(&rt) {
@@ -40,23 +32,23 @@ fn main(rt: HostRuntime) -> ExitCode {
             // The first is the program's name.
             for word in args.skip(1) {
                 if words.push(word).is_err() {
-                    return ExitCode::from(no_memory(&rt));
+                    return ExitCode::from(no_memory(&rt).status());
                 }
             }
         }
         Err(error) => {
             if error.kind() == ErrorKind::OutOfMemory {
-                return ExitCode::from(no_memory(&rt));
+                return ExitCode::from(no_memory(&rt).status());
             }
             // A word that isn't text fits no form, nor do no words at all.
             words.clear();
         }
     }
-    ExitCode::from(serve(&rt, words.as_slice()))
+    ExitCode::from(serve(&rt, words.as_slice()).status())
 }
 
 // Makes the outside that the words ask for, and hands it to the top call.
-fn serve(rt: &HostRuntime, words: &[String]) -> u8 {
+fn serve(rt: &HostRuntime, words: &[String]) -> Ended {
     let mut input = StandardInput::new(rt);
     let mut output = StandardOutput::new(rt);
     match place(words) {
@@ -75,7 +67,7 @@ fn run_wanted(
     wanted: &Wanted<'_>,
     input: &mut StandardInput,
     output: &mut StandardOutput,
-) -> u8 {
+) -> Ended {
     if wanted.store == "memory" {
         let mut keeper = MemKeeper::new(rt.alloc(), Calls::new(rt.alloc()));
         return run_over(rt, words, &wanted.ports, &mut keeper, input, output);
@@ -83,7 +75,7 @@ fn run_wanted(
     match open_store(rt, wanted.store) {
         Ok(mut keeper) => run_over(rt, words, &wanted.ports, &mut keeper, input, output),
         Err(StoreErr::Memory) => no_memory(rt),
-        Err(StoreErr::Refused) => NO_STORE,
+        Err(StoreErr::Refused) => Ended::NoStore,
     }
 }
 
@@ -96,14 +88,23 @@ fn run_over<K: Keeper>(
     keeper: &mut K,
     input: &mut StandardInput,
     output: &mut StandardOutput,
-) -> u8 {
+) -> Ended
+    ensures { IfRan result (λ status.
+        RanOver ⟦<MemLink as Link>⟧.seen ⟦<StandardOutput as Sink>⟧.seen
+        (map string_bytes words.now) status (K.seen keeper.old) (K.seen keeper.new)
+        (⟦<StandardInput as Source>⟧.seen input.old) (⟦<StandardInput as Source>⟧.seen input.new)
+        ⊎ RanOver ⟦<SocketLink as Link>⟧.seen ⟦<LogSink as Sink>⟧.seen
+        (map string_bytes words.now) status (K.seen keeper.old) (K.seen keeper.new)
+        (⟦<StandardInput as Source>⟧.seen input.old)
+        (⟦<StandardInput as Source>⟧.seen input.new)) }
+{
     if ports[0] == 0 {
         return run_alone(rt, words, keeper, input, output);
     }
     match run_on_sockets(rt, words, ports, keeper, input) {
-        Ok(status) => status,
+        Ok(ended) => ended,
         Err(OpenErr::Memory) => no_memory(rt),
-        Err(OpenErr::Socket) => NO_SOCKET,
+        Err(OpenErr::Socket) => Ended::NoSocket,
     }
 }
 
@@ -114,12 +115,21 @@ fn run_on_sockets<K: Keeper>(
     ports: &[u16; 4],
     keeper: &mut K,
     input: &mut StandardInput,
-) -> Result<u8, OpenErr> {
+) -> Result<Ended, OpenErr>
+    ensures { IfOk result (λ ended. IfRan ended (λ status.
+        RanOver ⟦<SocketLink as Link>⟧.seen ⟦<LogSink as Sink>⟧.seen
+        (map string_bytes words.now) status (K.seen keeper.old) (K.seen keeper.new)
+        (⟦<StandardInput as Source>⟧.seen input.old)
+        (⟦<StandardInput as Source>⟧.seen input.new))) }
+{
     let log = Log::new(rt)?;
     let mut lines = LogSink::new(log.share()?);
     let mut link = open_link(rt, ports, log.share()?)?;
     let status = run(rt.alloc(), words, &mut link, keeper, input, &mut lines);
-    Ok(if log.flush() { status } else { NO_OUTPUT })
+    if log.flush() {
+        return Ok(Ended::Ran(status));
+    }
+    Ok(Ended::LogLost)
 }
 
 // Runs what takes no events: an import, a drill, a job over the streams, or words that fit no form.
@@ -130,18 +140,29 @@ fn run_alone<K: Keeper>(
     keeper: &mut K,
     input: &mut StandardInput,
     output: &mut StandardOutput,
-) -> u8 {
+) -> Ended
+    ensures { IfRan result (λ status.
+        RanOver ⟦<MemLink as Link>⟧.seen ⟦<StandardOutput as Sink>⟧.seen
+        (map string_bytes words.now) status (K.seen keeper.old) (K.seen keeper.new)
+        (⟦<StandardInput as Source>⟧.seen input.old)
+        (⟦<StandardInput as Source>⟧.seen input.new)) }
+{
     let events = Events::new(rt.alloc());
     let fails = Calls::new(rt.alloc());
     let (items, octets) = room_for(words);
     match MemLink::new(rt.alloc(), events, items, octets, fails) {
-        Ok(mut link) => run(rt.alloc(), words, &mut link, keeper, input, output),
+        Ok(mut link) => {
+            let status = run(rt.alloc(), words, &mut link, keeper, input, output);
+            Ended::Ran(status)
+        }
         Err(_refused) => no_memory(rt),
     }
 }
 
 // How many items, and of how many bytes in all, are kept of what is sent. Only a drill sends.
-fn room_for(words: &[String]) -> (usize, usize) {
+fn room_for(words: &[String]) -> (usize, usize)
+    ensures { result ≡ room_for (map string_bytes words.now) }
+{
     match words.first() {
         Some(command) if command.as_str() == "drill" => (DRILLED_ITEMS, DRILLED_OCTETS),
         _ => (0, 0),
@@ -157,7 +178,9 @@ fn open_link(rt: &HostRuntime, ports: &[u16; 4], log: Log) -> Result<SocketLink,
 }
 
 // Says that memory was refused.
-fn no_memory(rt: &HostRuntime) -> u8 {
+fn no_memory(rt: &HostRuntime) -> Ended
+    ensures { result ≡ NoMemory }
+{
     let _written = StandardOutput::new(rt).write(b"memory refused\n");
-    MEMORY
+    Ended::NoMemory
 }

@@ -2,7 +2,7 @@ use crate::page::Page;
 use crate::trees::show_settings;
 use off_base::NoMemory;
 use off_defs::{
-    Batch, Class, Hold, ImportKind, Key, Lease, Modem, Pool, Row, Site, Subscriber, key_text,
+    Batch, Class, Hold, ImportKind, Key, Lease, Modem, Pool, Row, ShownRow, Site, Subscriber, key_text,
 };
 
 /// Prints a key: its kind, and then its numbers or its address.
@@ -26,6 +26,20 @@ pub fn show_row(page: &mut Page, key: &Key, row: &Row) -> Result<(), NoMemory> {
             page.address(*address)
         }
         Row::Batch(batch) => show_batch(page, batch),
+    }
+}
+
+/// Prints the key of a row and the row, as a clerk is shown it.
+pub fn show_seen(page: &mut Page, key: &Key, row: &ShownRow) -> Result<(), NoMemory> {
+    page.raw(key_text(key).as_slice())?;
+    match row {
+        ShownRow::Site(site) => show_site(page, site),
+        ShownRow::Subscriber(subscriber) => show_subscriber(page, subscriber),
+        ShownRow::AddOn(settings) => show_settings(page, settings),
+        ShownRow::Modem(modem) => show_modem(page, modem),
+        ShownRow::Class(class) => show_class(page, class),
+        ShownRow::Pool(pool) => show_pool(page, pool),
+        ShownRow::Lease(lease) => show_lease(page, lease),
     }
 }
 

@@ -8,4 +8,4 @@ returns-then-is_object c =
     an_object c.args.body.now (view c.in-Ok.value) c.in-Ok.ensures.ok.0 c.in-Ok.ensures.ok.1 (sym c.is_object.ensures ∙ c.if-is_object.true)
 
 pub returns-else-is_memory : goal.returns-else-is_memory
-returns-else-is_memory c = λ other. no_json c.args.body.now (c.in-Err.ensures.err (λ wanted. true≢false (sym (c.if-is_memory.ensures.1 wanted))))
+returns-else-is_memory c = no_json c.args.body.now (c.in-Err.ensures.err (λ wanted. true≢false (sym (c.if-is_memory.ensures.1 wanted))))

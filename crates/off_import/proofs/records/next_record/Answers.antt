@@ -5,4 +5,4 @@ pub returns-clause-next : goal.returns-clause-next
 returns-clause-next c =
     let e = c.in-Ok.ensures in
     let h = c.requires in
-    next_is c.in-Ok.found c.args.reader.now c.read_byte_record.new.self _ h (e.reads h.untrimmed h.ready) (e.ready h.untrimmed)
+    next_is c.in-Ok.found c.args.reader.now c.read_byte_record.new.self _ h (e.reads h.untrimmed h.ready) (e.ready h.untrimmed) e.flexible

@@ -1,7 +1,7 @@
 use Rattle.std.proofs.Common.{◌∙◌, sym}
 use Rattle.off_outside.proofs.KeeperLemmas.{reads_then, reads_as}
 use Rattle.off_transfer_rules.specs.View.{view}
-use Rattle.off_tftp.proofs.ReadLemmas.{shows_unnamed, shows_body, few_behind, few_seen_behind}
+use Rattle.off_tftp.proofs.ReadLemmas.{is_named, shows_unnamed, shows_body, few_behind, few_seen_behind}
 use Rattle.off_tftp.proofs.gathering.look_for_file.Goals as goal
 
 pub returns-then-not-names_file-clause-told : goal.returns-then-not-names_file-clause-told
@@ -26,3 +26,19 @@ returns-clause-few g c =
 pub returns-clause-few_seen : goal.returns-clause-few_seen
 returns-clause-few_seen g c =
     few_seen_behind c.args.kept.now c.in_ok-seen.seen c.owner_by-owner.result c.owner_by-owner.ensures c.look.ensures.spent c.body_for.ensures.few
+
+pub returns-in_err-seen-clause-few_unnamed : goal.returns-in_err-seen-clause-few_unnamed
+returns-in_err-seen-clause-few_unnamed g c = λ t told unnamed. c.look.ensures.spent
+
+pub returns-then-not-names_file-clause-few_unnamed : goal.returns-then-not-names_file-clause-few_unnamed
+returns-then-not-names_file-clause-few_unnamed g c = λ t told unnamed. c.look.ensures.spent
+
+pub returns-in_err-body-clause-few_unnamed : goal.returns-in_err-body-clause-few_unnamed
+returns-in_err-body-clause-few_unnamed g c = λ t told unnamed.
+    is_named c.in_ok-seen.seen (view t c.args.ip) c.args.now.0 c.args.ip c.args.name.now (c.in_ok-seen.ensures.told.tables t told).1
+    (sym c.names_file.ensures ∙ c.if-not-names_file.false) unnamed
+
+pub returns-clause-few_unnamed : goal.returns-clause-few_unnamed
+returns-clause-few_unnamed g c = λ t told unnamed.
+    is_named c.in_ok-seen.seen (view t c.args.ip) c.args.now.0 c.args.ip c.args.name.now (c.in_ok-seen.ensures.told.tables t told).1
+    (sym c.names_file.ensures ∙ c.if-not-names_file.false) unnamed

@@ -1,5 +1,5 @@
 use Rattle.std.proofs.lemmas.Result.{err_from_is_err_and}
-use Rattle.off_office.proofs.CommandLemmas.{command_done, command_refused, command_undone, decided_spent, done_spent}
+use Rattle.off_office.proofs.CommandLemmas.{command_done, command_fits, command_refused, command_undone, decided_spent, done_spent}
 use Rattle.off_office.proofs.office.Office.command.Goals as goal
 
 pub returns-clause-told : goal.returns-clause-told
@@ -24,3 +24,6 @@ returns-in_err-planned-clause-spent g c = decided_spent _ _ _ _ c.plan.ensures.s
 
 pub returns-in_err-settle-clause-spent : goal.returns-in_err-settle-clause-spent
 returns-in_err-settle-clause-spent g c = done_spent _ _ _ _ _ _ c.plan.ensures.spent c.settle.ensures.spent c.in_ok-planned.ensures.commits
+
+pub returns-clause-good : goal.returns-clause-good
+returns-clause-good g c = command_fits _ _ _ _ _ _ _ c.requires.sound (returns-clause-told g c)

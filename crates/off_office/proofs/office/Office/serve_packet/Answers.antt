@@ -1,4 +1,7 @@
-use Rattle.std.proofs.Common.{◌∙◌}
+use Rattle.std.proofs.Common.{◌∙◌, Result, OnOk, ap, subst, sym}
+use Rattle.off_defs.specs.State.{Said}
+use Rattle.off_outside.specs.declared.keeper.KeepErr.{KeepErr}
+use Rattle.off_office.specs.Transferring.{SaysPacket}
 use Rattle.off_office.specs.contracts.office.Office.{the_view}
 use Rattle.off_office.proofs.TransferLemmas.{packet_told, packet_not_told}
 use Rattle.off_office.proofs.office.Office.serve_packet.Goals.{in-Ok, in-Err}
@@ -11,4 +14,12 @@ returns-clause-told g c = elim c.match-on_datagram.branch [
       c.args.out.now c.on_datagram.new.out c.match-on_datagram.out _ _ w.result-is w.in-Ok.is c.on_datagram.ensures.told c.self.view_is c.requires
       (w.out-is ∙ w.say_word.ensures)
   | in-Err w ↦ packet_not_told _ c.on_datagram.result w.in-Err.err _ _ _ _ w.result-is w.in-Err.is c.on_datagram.ensures.told
+]
+
+pub returns-clause-says : goal.returns-clause-says
+returns-clause-says g c = elim c.match-on_datagram.branch [
+  | in-Ok w ↦
+      subst (λ (r : Result (Unit {0}) KeepErr). OnOk r (SaysPacket c.match-on_datagram.out)) (sym w.result-is)
+      (record { word = w.in-Ok.word; says = ap (λ (s : Said). s.line) (w.out-is ∙ w.say_word.ensures) })
+  | in-Err w ↦ subst (λ (r : Result (Unit {0}) KeepErr). OnOk r (SaysPacket c.match-on_datagram.out)) (sym w.result-is) tt
 ]

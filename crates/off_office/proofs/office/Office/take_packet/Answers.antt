@@ -3,7 +3,7 @@ use Rattle.off_office.proofs.office.Office.take_packet.Goals as goal
 
 pub returns-in-Ok : goal.returns-in-Ok
 returns-in-Ok g c =
-    packet_handled _ _ _ _ _ _ _ (g.met.K.Keeper.rests c.args.keeper.now) c.in-Ok.ensures.told c.serve_packet.ensures.moves c.serve_packet.ensures.spent c.serve_packet.ensures.few
+    packet_handled _ _ _ _ _ _ _ (g.met.K.Keeper.rests c.args.keeper.now) c.in-Ok.ensures.told c.serve_packet.ensures.moves c.in-Ok.ensures.says c.serve_packet.ensures.spent c.serve_packet.ensures.few
 
 pub returns-in-Err : goal.returns-in-Err
 returns-in-Err g c =

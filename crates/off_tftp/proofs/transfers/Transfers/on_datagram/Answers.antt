@@ -6,10 +6,12 @@ use Rattle.off_transfer_rules.specs.declared.packets.Packet.{Packet}
 use Rattle.off_transfer_rules.specs.declared.faults.PacketFault.{PacketFault}
 use Rattle.off_transfer_rules.specs.declared.faults.PacketFault.TheVariants as fault
 use Rattle.off_outside.proofs.KeeperLemmas.{reads_none}
+use Rattle.off_tftp.specs.Calls.{asks_by_name}
 use Rattle.off_tftp.specs.Pieces.{AsksEnough}
 use Rattle.off_transfer_rules.specs.View.{view}
 use Rattle.off_transfer_rules.specs.declared.words.TftpWord.TheVariants as word
 use Rattle.off_tftp.proofs.BodyLemmas.{acknowledgement_keeps}
+use Rattle.off_tftp.proofs.ReadLemmas.{acknowledgement_few, few_none}
 use Rattle.off_tftp.proofs.DoesLemmas.{looks_as, looks_at_once, if_ok_as, answers_by, deny_does, leave_does, keeping, request_answers}
 use Rattle.off_tftp.proofs.transfers.Transfers.on_datagram.Goals as goal
 
@@ -72,3 +74,28 @@ returns-in-Err-Mode-clause-told g c =
     (deny_does c.args.now.0 c.args.self.now c.args.self.now c.args.from c.args.bytes.now c.args.out.now c.deny-in-Err-Mode.new.out t (Err fault.Mode) octet_only c.deny-in-Err-Mode.result is refl
     c.deny-in-Err-Mode.ensures.word c.deny-in-Err-Mode.ensures.says refl)
     (λ w answers right. keeping c.args.now.0 c.args.self.now c.args.self.now c.args.from c.args.bytes.now c.args.out.now c.deny-in-Err-Mode.new.out t c.args.kept.now c.args.kept.now (Err fault.Mode) w is refl right answers))
+
+pub returns-in-Ok-Read-clause-few_unnamed : goal.returns-in-Ok-Read-clause-few_unnamed
+returns-in-Ok-Read-clause-few_unnamed g c =
+    let is : packet_of c.args.bytes.now ≡ Ok (Reads c.in-Ok-Read.name.now c.in-Ok-Read.size) = c.in-Ok-Read.ensures.exact ∙ ap (λ (p : Packet). Ok (meant_by p)) c.in-Ok-Read.field-0-is in
+    λ t told unnamed. c.on_request.ensures.few_unnamed t told
+    (sym (ap (asks_by_name c.args.now.0 c.args.from.ip (view t c.args.from.ip)) is) ∙ unnamed)
+
+pub returns-in-Ok-Ack-clause-few_unnamed : goal.returns-in-Ok-Ack-clause-few_unnamed
+returns-in-Ok-Ack-clause-few_unnamed g c = λ t told unnamed.
+    acknowledgement_few c.in-Ok-Ack.number (map.get c.args.self.now c.args.from) c.on_acknowledgement.ensures.spent
+
+pub returns-in-Ok-Error-clause-few_unnamed : goal.returns-in-Ok-Error-clause-few_unnamed
+returns-in-Ok-Error-clause-few_unnamed g c = λ t told unnamed. few_none _
+
+pub returns-in-Ok-Write-clause-few_unnamed : goal.returns-in-Ok-Write-clause-few_unnamed
+returns-in-Ok-Write-clause-few_unnamed g c = λ t told unnamed. few_none _
+
+pub returns-in-Ok-Other-clause-few_unnamed : goal.returns-in-Ok-Other-clause-few_unnamed
+returns-in-Ok-Other-clause-few_unnamed g c = λ t told unnamed. few_none _
+
+pub returns-in-Err-Form-clause-few_unnamed : goal.returns-in-Err-Form-clause-few_unnamed
+returns-in-Err-Form-clause-few_unnamed g c = λ t told unnamed. few_none _
+
+pub returns-in-Err-Mode-clause-few_unnamed : goal.returns-in-Err-Mode-clause-few_unnamed
+returns-in-Err-Mode-clause-few_unnamed g c = λ t told unnamed. few_none _

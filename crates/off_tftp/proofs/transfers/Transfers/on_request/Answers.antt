@@ -3,6 +3,7 @@ use Rattle.std.specs.FinMap as map
 use Rattle.off_transfer_rules.specs.Transfers.{has_no_room}
 use Rattle.off_transfer_rules.specs.View.{view}
 use Rattle.off_tftp.proofs.DoesLemmas.{looks_settled, looks_at_once, if_ok_as, if_ok_under, repeat_serves, open_does, can_serve}
+use Rattle.off_tftp.proofs.ReadLemmas.{few_none}
 use Rattle.off_tftp.proofs.BodyLemmas.{few_begun}
 use Rattle.off_tftp.proofs.transfers.Transfers.on_request.Goals as goal
 
@@ -23,3 +24,12 @@ returns-clause-told g c =
 pub returns-clause-few_begun : goal.returns-clause-few_begun
 returns-clause-few_begun g c =
     few_begun c.args.bytes.now c.args.kept.now c.args.now.0 c.in_ok-seen.seen.lease (map.get c.open.new.self c.args.from) (c.open.ensures.begins (sym c.repeats.ensures ∙ c.if-repeats.false)) c.in_ok-seen.ensures.few_seen
+
+pub returns-then-repeats-clause-few_unnamed : goal.returns-then-repeats-clause-few_unnamed
+returns-then-repeats-clause-few_unnamed g c = λ t told unnamed. few_none _
+
+pub returns-in_err-seen-clause-few_unnamed : goal.returns-in_err-seen-clause-few_unnamed
+returns-in_err-seen-clause-few_unnamed g c = c.look_for_file.ensures.few_unnamed
+
+pub returns-clause-few_unnamed : goal.returns-clause-few_unnamed
+returns-clause-few_unnamed g c = c.look_for_file.ensures.few_unnamed
