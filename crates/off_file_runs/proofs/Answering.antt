@@ -1,6 +1,8 @@
 -- A transfer whose peer answers goes on to its last block.
-use Rattle.std.proofs.Common.{◌≡◌, ◌≢◌, inl, inr, ℕ, zero, suc, ◌+◌, ◌≤◌, ◌==◌, Bool, true, false, true≢false, cond, if◌then◌else◌, List, [], Option, Some, None, MatchOption, Result, Ok, refl, sym, ap, subst, ◌∙◌, arith}
-use Rattle.std.proofs.lemmas.Bool.{eq-eqb, eqb-true}
+use Rattle.std.proofs.Common.{◌≡◌, ◌≢◌, ◌⊎◌, inl, inr, ℕ, zero, suc, ◌+◌, ◌≤◌, ◌==◌, Bool, true, false, true≢false, cond, if◌then◌else◌, List, [], Option, Some, None, MatchOption, Result, Ok, refl, sym, ap, subst, ◌∙◌, arith, not, codes, ◌<◌, ◌&&◌}
+use Rattle.std.proofs.lemmas.Bool.{eq-eqb, eqb-true, and_from}
+use Rattle.std.proofs.lemmas.Slice.Eq.{bytes_eq-Decides}
+use Rattle.std.specs.Str.{bytes_eq}
 use Rattle.std.specs.FinMap as map
 use Rattle.off_base.specs.declared.addresses.Peer.{Peer}
 use Rattle.off_base.specs.declared.macs.Mac.{Mac}
@@ -9,11 +11,11 @@ use Rattle.off_defs.specs.declared.events.What.{What}
 use Rattle.off_defs.specs.declared.events.What.TheVariants.{Datagram, Piece, Closed, Tick, End}
 use Rattle.off_defs.specs.declared.results.Outcome.{Outcome}
 use Rattle.off_defs.specs.declared.results.Outcome.TheVariants.{Did, Memory, Keeper}
-use Rattle.off_defs.specs.State.{Tables, State, Transfer, Effect}
-use Rattle.off_transfer_rules.specs.Packets.{Meant, Acknowledges, packet_of}
+use Rattle.off_defs.specs.State.{Tables, State, Transfer, Effect, only_line}
+use Rattle.off_transfer_rules.specs.Packets.{Meant, Reads, Acknowledges, packet_of}
 use Rattle.off_transfer_rules.specs.View.{View, view, agrees}
-use Rattle.off_transfer_rules.specs.Transfers.{Transfers, has_no_room, is_at_last, gone_on, sent_again}
-use Rattle.off_transfer_rules.specs.Steps.{Way, Finishes, Ignores, BreaksOff, GoesOn, way_of_last, way_of, way, Given, gives, ended, GivesBy, TftpStep}
+use Rattle.off_transfer_rules.specs.Transfers.{Transfers, has_no_room, is_at_last, gone_on, asked_again, sent_again}
+use Rattle.off_transfer_rules.specs.Steps.{Way, Repeats, Finishes, Ignores, BreaksOff, GoesOn, is_repeated, way_anew, way_of_last, way_of, way, Given, gives, with_transfer, last_to, ended, GivesBy, TftpStep}
 use Rattle.off_transfer_rules.specs.Words.{tftp_line}
 use Rattle.off_transfer_rules.specs.declared.faults.PacketFault.{PacketFault}
 use Rattle.off_transfer_rules.specs.declared.words.TftpWord.TheVariants as word
@@ -21,32 +23,35 @@ use Rattle.off_transfer_rules.proofs.PeerLemmas.{same_peer, own_peer, inserted_h
 use Rattle.off_transfer_laws.specs.Agreement.{Agreement}
 use Rattle.off_transfer_laws.specs.Laws.{Ticks, waits, goes_again, closes}
 use Rattle.off_transfer_laws.proofs.OriginLemmas.{next_block_goes}
-use Rattle.off_transfer_laws.proofs.SoundLemmas.{sent_again_sound}
+use Rattle.off_transfer_laws.proofs.SoundLemmas.{asked_again_sound, sent_again_sound}
 use Rattle.off_transfer_laws.proofs.TickLaws.{tick_changes}
 use Rattle.off_book.specs.Step.{Does}
 use Rattle.off_book.specs.Tftp.{TftpDid, TickDid}
 use Rattle.off_laws.specs.Parts.{Part, untouched, a_connection, by_request, by_message, by_packet, by_tick, part_of, Changes}
 use Rattle.off_file_runs.specs.Turns.{Fate, Remains, Moves, Ends, is_peer, fate_of, fate_by}
 use Rattle.off_file_runs.specs.Got.{is_done_by}
-use Rattle.off_file_runs.specs.Answering.{Aside, Passes, Speaks, ask, IsStale, AnswersBy}
+use Rattle.off_file_runs.specs.Answering.{Aside, Passes, Speaks, ask, Acknowledged, IsStale, IsRequestAgain, IsNothingNew, AnswersBy}
 use Rattle.off_file_runs.proofs.Turned.{IsAt, gone_on_at}
 use Rattle.off_file_runs.proofs.Events.{memory_stays, keeper_stays}
 
 -- ---- the transfer of the peer: packet k stands out, and so many Ticks more don't close it
-pub record Lives (file : List ℕ) (size : ℕ) (name : List ℕ) (modem : Mac) (owner : ℕ) (k ticks : ℕ) (live : Option Transfer) : Type 0 where
+pub record Lives (file : List ℕ) (size : ℕ) (request : List ℕ) (first : ℕ) (name : List ℕ) (modem : Mac) (owner : ℕ) (k ticks : ℕ) (live : Option Transfer) : Type 0 where
   pub x : Transfer
   pub live_is : live ≡ Some x
   pub at : IsAt file size k x
   pub names : x.name ≡ name
   pub modems : x.modem ≡ modem
   pub owners : x.subscriber ≡ owner
+  pub requests : x.request ≡ request
+  pub past : first ≤ k
+  pub fresh : k ≡ first → x.is_acknowledged ≡ false
   pub left : x.resends + ticks ≤ 5
 
 -- a turn ends it by its last block, or it goes on
-pub data Answered (file : List ℕ) (size : ℕ) (name : List ℕ) (modem : Mac) (owner : ℕ) (f : Fate) (live : Option Transfer) (Later : ℕ → ℕ → Type 0) : Type 0 where
-  finished : (number : ℕ) → f ≡ Ends number → Answered file size name modem owner f live Later
-  onward : (k ticks : ℕ) → ((later : Bool) → is_done_by f later ≡ later) → Lives file size name modem owner k ticks live → Later k ticks
-      → Answered file size name modem owner f live Later
+pub data Answered (file : List ℕ) (size : ℕ) (request : List ℕ) (first : ℕ) (name : List ℕ) (modem : Mac) (owner : ℕ) (f : Fate) (live : Option Transfer) (Later : ℕ → ℕ → Type 0) : Type 0 where
+  finished : (number : ℕ) → f ≡ Ends number → Answered file size request first name modem owner f live Later
+  onward : (k ticks : ℕ) → ((later : Bool) → is_done_by f later ≡ later) → Lives file size request first name modem owner k ticks live → Later k ticks
+      → Answered file size request first name modem owner f live Later
 
 unfinished : (f : Fate) → f ≡ Remains → (later : Bool) → is_done_by f later ≡ later
 unfinished f e later = ap (λ (g : Fate). is_done_by g later) e
@@ -73,6 +78,16 @@ module _ (v : View) (now : ℕ) (from : Peer) (xs : Transfers) (bytes : List ℕ
   ignoring number live read other =
       (λ i. way_of v now from.ip (has_no_room xs) bytes (live i) (read i)) ∙ ignored_by number (number == x.sent) refl other
 
+  again_is : x.is_acknowledged ≡ false → x.request ≡ bytes → is_repeated bytes x ≡ true
+  again_is fresh same = and_from (not x.is_acknowledged) (bytes_eq x.request bytes) (ap not fresh) ((bytes_eq-Decides x.request bytes).1 same)
+
+  repeating : (name : List ℕ) (asked : Option ℕ) → map.get xs from ≡ Some x → packet_of bytes ≡ Ok (Reads name asked) → x.is_acknowledged ≡ false → x.request ≡ bytes
+      → way v now xs from bytes ≡ Repeats x
+  unfolding way
+  repeating name asked live read fresh same =
+      (λ i. way_of v now from.ip (has_no_room xs) bytes (live i) (read i))
+      ∙ ap (λ b. cond b (Repeats x) (way_anew v now from.ip false name asked)) (again_is fresh same)
+
 finished_step : (t : Tables) (now : ℕ) (xs : Transfers) (from : Peer) (bytes : List ℕ) (given : Given) (x : Transfer) → map.get xs from ≡ Some x
     → packet_of bytes ≡ Ok (Acknowledges x.sent) → is_at_last x ≡ true → TftpStep t now xs from bytes given → given ≡ gives (ended xs from) [] word.Done
 unfolding TftpStep
@@ -84,6 +99,13 @@ ignored_step : (t : Tables) (now : ℕ) (xs : Transfers) (from : Peer) (bytes : 
 unfolding TftpStep
 ignored_step t now xs from bytes given x number live read other step =
     subst (λ (w : Way). GivesBy (view t from.ip) now xs from bytes w given) (ignoring (view t from.ip) now from xs bytes x number live read other) step
+
+repeated_step : (t : Tables) (now : ℕ) (xs : Transfers) (from : Peer) (bytes : List ℕ) (given : Given) (x : Transfer) (name : List ℕ) (asked : Option ℕ)
+    → map.get xs from ≡ Some x → packet_of bytes ≡ Ok (Reads name asked) → x.is_acknowledged ≡ false → x.request ≡ bytes → TftpStep t now xs from bytes given
+    → given ≡ gives (with_transfer xs from (asked_again now x)) (last_to from x) word.Again
+unfolding TftpStep
+repeated_step t now xs from bytes given x name asked live read fresh same step =
+    subst (λ (w : Way). GivesBy (view t from.ip) now xs from bytes w given) (repeating (view t from.ip) now from xs bytes x name asked live read fresh same) step
 
 -- ---- what a turn does
 
@@ -137,15 +159,16 @@ no_fate peer (Closed conn) line e = refl
 no_fate peer Tick line e = refl
 no_fate peer End line e = refl
 
-module _ (peer : Peer) (file : List ℕ) (size : ℕ) (name : List ℕ) (modem : Mac) (owner : ℕ) where
+module _ (peer : Peer) (file : List ℕ) (size : ℕ) (request : List ℕ) (first : ℕ) (name : List ℕ) (modem : Mac) (owner : ℕ)
+    (asked : Option ℕ) (read : packet_of request ≡ Ok (Reads name asked)) where
   abbrev Agree : Tables → ℕ → Type 0
   Agree tables now = Agreement tables now peer.ip name modem owner
 
   abbrev LivesOn : ℕ → ℕ → Option Transfer → Type 0
-  LivesOn k ticks live = Lives file size name modem owner k ticks live
+  LivesOn k ticks live = Lives file size request first name modem owner k ticks live
 
   abbrev Answers : Fate → Option Transfer → (ℕ → ℕ → Type 0) → Type 0
-  Answers f live Later = Answered file size name modem owner f live Later
+  Answers f live Later = Answered file size request first name modem owner f live Later
 
   same_lives : (k ticks : ℕ) (one other : Option Transfer) → other ≡ one → LivesOn k ticks one → LivesOn k ticks other
   same_lives k ticks one other e l = subst (LivesOn k ticks) (sym e) l
@@ -160,38 +183,61 @@ module _ (peer : Peer) (file : List ℕ) (size : ℕ) (name : List ℕ) (modem :
 
   -- the time that passes
   passed_by : (now k ticks : ℕ) (x : Transfer) (after : Option Transfer) → IsAt file size k x → x.name ≡ name → x.modem ≡ modem → x.subscriber ≡ owner
-      → x.resends + suc ticks ≤ 5 → Ticks now x after → LivesOn k ticks after
-  passed_by now k ticks x after at names modems owners left (waits due is) =
-      record { x = x; live_is = is; at = at; names = names; modems = modems; owners = owners; left = omega (arith, left) }
-  passed_by now k ticks x after at names modems owners left (goes_again due few is) = record {
+      → x.request ≡ request → first ≤ k → (k ≡ first → x.is_acknowledged ≡ false) → x.resends + suc ticks ≤ 5 → Ticks now x after → LivesOn k ticks after
+  passed_by now k ticks x after at names modems owners requests past fresh left (waits due is) = record {
+    x = x;
+    live_is = is;
+    at = at;
+    names = names;
+    modems = modems;
+    owners = owners;
+    requests = requests;
+    past = past;
+    fresh = fresh;
+    left = omega (arith, left);
+  }
+  passed_by now k ticks x after at names modems owners requests past fresh left (goes_again due few is) = record {
     x = sent_again now x;
     live_is = is;
     at = record { files = at.files; sizes = at.sizes; sents = at.sents; sound = sent_again_sound now x few at.sound };
     names = names;
     modems = modems;
     owners = owners;
+    requests = requests;
+    past = past;
+    fresh = fresh;
     left = omega (arith, left);
   }
-  passed_by now k ticks x after at names modems owners left (closes due many is) = absurd (omega (arith, left, many))
+  passed_by now k ticks x after at names modems owners requests past fresh left (closes due many is) = absurd (omega (arith, left, many))
 
   ticks_of : (now : ℕ) (live after : Option Transfer) (x : Transfer) → live ≡ Some x → MatchOption live (after ≡ None) (λ y. Ticks now y after) → Ticks now x after
   ticks_of now None after x e m = cc
   ticks_of now (Some y) after x e m = let same : y ≡ x = cc in subst (λ z. Ticks now z after) same m
 
   fewer : (k ticks : ℕ) (live : Option Transfer) → LivesOn k (suc ticks) live → LivesOn k ticks live
-  fewer k ticks live l =
-      record { x = l.x; live_is = l.live_is; at = l.at; names = l.names; modems = l.modems; owners = l.owners; left = omega (arith, l.left) }
+  fewer k ticks live l = record {
+    x = l.x;
+    live_is = l.live_is;
+    at = l.at;
+    names = l.names;
+    modems = l.modems;
+    owners = l.owners;
+    requests = l.requests;
+    past = l.past;
+    fresh = l.fresh;
+    left = omega (arith, l.left);
+  }
 
   ticked : (s : State) (effect : Effect) (k ticks : ℕ) → TickDid s effect → LivesOn k (suc ticks) (map.get s.held.transfers peer)
       → LivesOn k ticks (map.get effect.after.held.transfers peer)
   ticked s effect k ticks did l =
-      passed_by s.held.now k ticks l.x (map.get effect.after.held.transfers peer) l.at l.names l.modems l.owners l.left
+      passed_by s.held.now k ticks l.x (map.get effect.after.held.transfers peer) l.at l.names l.modems l.owners l.requests l.past l.fresh l.left
       (subst (λ (o : Option Transfer). Ticks s.held.now l.x o) (sym (ap (λ (e : Effect). map.get e.after.held.transfers peer) did.does))
       (ticks_of s.held.now (map.get s.held.transfers peer) (map.get did.transfers peer) l.x l.live_is
       (tick_changes s.held.now s.held.transfers did.transfers did.items did.ticked did.step peer)))
 
   passes : (s : State) (outcome : Outcome) (effect : Effect) (k ticks : ℕ) (Later : ℕ → ℕ → Type 0) → Does s Tick outcome effect
-      → LivesOn k ticks (map.get s.held.transfers peer) → AnswersBy Passes (Agree s.tables s.held.now) outcome k ticks Later
+      → LivesOn k ticks (map.get s.held.transfers peer) → AnswersBy request first Passes (Agree s.tables s.held.now) outcome k ticks Later
       → Answers Remains (map.get effect.after.held.transfers peer) Later
   passes s outcome effect k zero Later does lives later = absurd later
   passes s Did effect k (suc ticks) Later does lives later = onward k ticks (λ b. refl) (ticked s effect k ticks does lives) later
@@ -210,14 +256,14 @@ module _ (peer : Peer) (file : List ℕ) (size : ℕ) (name : List ℕ) (modem :
 
   advances : (s : State) (bytes : List ℕ) (effect : Effect) (k : ℕ) (Later : ℕ → ℕ → Type 0) → TftpDid s peer bytes effect
       → (x : Transfer) → map.get s.held.transfers peer ≡ Some x → IsAt file size k x → x.name ≡ name → x.modem ≡ modem → x.subscriber ≡ owner
-      → packet_of bytes ≡ Ok (Acknowledges x.sent) → Agree s.tables s.held.now → Later (suc k) 5 → (last : Bool) → is_at_last x ≡ last
+      → x.request ≡ request → first ≤ k → packet_of bytes ≡ Ok (Acknowledges x.sent) → Agree s.tables s.held.now → Later (suc k) 5 → (last : Bool) → is_at_last x ≡ last
       → Answers (fate_of (packet_of bytes) effect.said.line) (map.get effect.after.held.transfers peer) Later
-  advances s bytes effect k Later did x live at names modems owners read agree later true last =
+  advances s bytes effect k Later did x live at names modems owners requests past read agree later true last =
       let gave = finished_step s.tables s.held.now s.held.transfers peer bytes did.given x live read last did.step in
       finished x.sent
       (ap (λ (e : Effect). fate_of (packet_of bytes) e.said.line) did.does ∙ ap (λ (g : Given). fate_of (packet_of bytes) (tftp_line g.word)) gave
       ∙ ap (λ (r : Result Meant PacketFault). fate_of r (tftp_line word.Done)) read)
-  advances s bytes effect k Later did x live at names modems owners read agree later false last =
+  advances s bytes effect k Later did x live at names modems owners requests past read agree later false last =
       let gave = next_block_goes s.tables s.held.now s.held.transfers peer bytes did.given x live read last
       (agreed_as s.tables s.held.now x names modems owners agree) did.step in
       onward (suc k) 5
@@ -232,13 +278,26 @@ module _ (peer : Peer) (file : List ℕ) (size : ℕ) (name : List ℕ) (modem :
         names = names;
         modems = modems;
         owners = owners;
+        requests = requests;
+        past = omega (arith, past);
+        fresh = λ e. absurd (omega (arith, past, e));
         left = omega arith;
       }) later
 
-  stale : (s : State) (outcome : Outcome) (bytes : List ℕ) (effect : Effect) (k ticks : ℕ) (Later : ℕ → ℕ → Type 0) → Does s (Datagram Tftp peer bytes) outcome effect
+  -- what the office couldn't act on
+  unsaid : (bytes : List ℕ) (s : State) (effect : Effect) (line : List ℕ) (k ticks : ℕ) (Later : ℕ → ℕ → Type 0) → effect ≡ only_line s line
+      → fate_of (packet_of bytes) line ≡ Remains → LivesOn k ticks (map.get s.held.transfers peer) → Later k ticks
+      → Answers (fate_of (packet_of bytes) effect.said.line) (map.get effect.after.held.transfers peer) Later
+  unsaid bytes s effect line k ticks Later does remains l later =
+      onward k ticks
+      (unfinished (fate_of (packet_of bytes) effect.said.line) (ap (λ (e : Effect). fate_of (packet_of bytes) e.said.line) does ∙ remains))
+      (same_lives k ticks (map.get s.held.transfers peer) (map.get effect.after.held.transfers peer)
+      (ap (λ (e : Effect). map.get e.after.held.transfers peer) does) l) later
+
+  stale : (s : State) (bytes : List ℕ) (effect : Effect) (k ticks : ℕ) (Later : ℕ → ℕ → Type 0) → TftpDid s peer bytes effect
       → LivesOn k ticks (map.get s.held.transfers peer) → IsStale bytes k → Later k ticks
       → Answers (fate_of (packet_of bytes) effect.said.line) (map.get effect.after.held.transfers peer) Later
-  stale s Did bytes effect k ticks Later did l is later =
+  stale s bytes effect k ticks Later did l is later =
       let other : is.number ≢ l.x.sent = λ e. is.other (e ∙ l.at.sents) in
       let gave = ignored_step s.tables s.held.now s.held.transfers peer bytes did.given l.x is.number l.live_is is.read other did.step in
       onward k ticks
@@ -247,28 +306,54 @@ module _ (peer : Peer) (file : List ℕ) (size : ℕ) (name : List ℕ) (modem :
       ∙ ap (λ (r : Result Meant PacketFault). fate_of r (tftp_line word.StaleAck)) is.read))
       (same_lives k ticks (map.get s.held.transfers peer) (map.get effect.after.held.transfers peer)
       (ap (λ (e : Effect). map.get e.after.held.transfers peer) did.does ∙ ap (λ (g : Given). map.get g.transfers peer) gave) l) later
-  stale s Memory bytes effect k ticks Later does l is later =
+
+  -- its read request again
+  repeats : (s : State) (bytes : List ℕ) (effect : Effect) (k ticks : ℕ) (Later : ℕ → ℕ → Type 0) → TftpDid s peer bytes effect
+      → LivesOn k ticks (map.get s.held.transfers peer) → IsRequestAgain request first bytes k → Later k ticks
+      → Answers (fate_of (packet_of bytes) effect.said.line) (map.get effect.after.held.transfers peer) Later
+  repeats s bytes effect k ticks Later did l again later =
+      let reads : packet_of bytes ≡ Ok (Reads name asked) = ap packet_of again.same ∙ read in
+      let gave = repeated_step s.tables s.held.now s.held.transfers peer bytes did.given l.x name asked l.live_is reads (l.fresh again.early) (l.requests ∙ sym again.same) did.step in
       onward k ticks
-      (unfinished (fate_of (packet_of bytes) effect.said.line) (ap (λ (e : Effect). fate_of (packet_of bytes) e.said.line) does ∙ memory_stays (packet_of bytes)))
-      (same_lives k ticks (map.get s.held.transfers peer) (map.get effect.after.held.transfers peer)
-      (ap (λ (e : Effect). map.get e.after.held.transfers peer) does) l) later
-  stale s Keeper bytes effect k ticks Later does l is later =
-      onward k ticks
-      (unfinished (fate_of (packet_of bytes) effect.said.line) (ap (λ (e : Effect). fate_of (packet_of bytes) e.said.line) does ∙ keeper_stays (packet_of bytes)))
-      (same_lives k ticks (map.get s.held.transfers peer) (map.get effect.after.held.transfers peer)
-      (ap (λ (e : Effect). map.get e.after.held.transfers peer) does) l) later
+      (unfinished (fate_of (packet_of bytes) effect.said.line)
+      (ap (λ (e : Effect). fate_of (packet_of bytes) e.said.line) did.does ∙ ap (λ (g : Given). fate_of (packet_of bytes) (tftp_line g.word)) gave
+      ∙ ap (λ (r : Result Meant PacketFault). fate_of r (tftp_line word.Again)) reads))
+      (record {
+        x = asked_again s.held.now l.x;
+        live_is = ap (λ (e : Effect). map.get e.after.held.transfers peer) did.does
+            ∙ ap (λ (g : Given). map.get g.transfers peer) gave ∙ inserted_here s.held.transfers peer (asked_again s.held.now l.x);
+        at = record { files = l.at.files; sizes = l.at.sizes; sents = l.at.sents; sound = asked_again_sound s.held.now l.x l.at.sound };
+        names = l.names;
+        modems = l.modems;
+        owners = l.owners;
+        requests = l.requests;
+        past = l.past;
+        fresh = l.fresh;
+        left = l.left;
+      }) later
+
+  says : (s : State) (bytes : List ℕ) (effect : Effect) (k ticks : ℕ) (Later : ℕ → ℕ → Type 0) → TftpDid s peer bytes effect
+      → LivesOn k ticks (map.get s.held.transfers peer)
+      → (Acknowledged (Agree s.tables s.held.now) bytes k × Later (suc k) 5) ⊎ (IsNothingNew request first bytes k × Later k ticks)
+      → Answers (fate_of (packet_of bytes) effect.said.line) (map.get effect.after.held.transfers peer) Later
+  says s bytes effect k ticks Later did l (inl (acks, later)) =
+      advances s bytes effect k Later did l.x l.live_is l.at l.names l.modems l.owners l.requests l.past
+      (acks.read ∙ sym (ap (λ n. Ok (Acknowledges n)) l.at.sents)) acks.agree later (is_at_last l.x) refl
+  says s bytes effect k ticks Later did l (inr (inl is, later)) = stale s bytes effect k ticks Later did l is later
+  says s bytes effect k ticks Later did l (inr (inr again, later)) = repeats s bytes effect k ticks Later did l again later
 
   sends : (s : State) (outcome : Outcome) (bytes : List ℕ) (effect : Effect) (k ticks : ℕ) (Later : ℕ → ℕ → Type 0) → Does s (Datagram Tftp peer bytes) outcome effect
-      → LivesOn k ticks (map.get s.held.transfers peer) → AnswersBy (Speaks bytes) (Agree s.tables s.held.now) outcome k ticks Later
+      → LivesOn k ticks (map.get s.held.transfers peer) → AnswersBy request first (Speaks bytes) (Agree s.tables s.held.now) outcome k ticks Later
       → Answers (fate_of (packet_of bytes) effect.said.line) (map.get effect.after.held.transfers peer) Later
-  sends s outcome bytes effect k ticks Later does l (inl (acks, later)) =
-      advances s bytes effect k Later (subst (λ (o : Outcome). Does s (Datagram Tftp peer bytes) o effect) acks.did does) l.x l.live_is l.at l.names l.modems l.owners
-      (acks.read ∙ sym (ap (λ n. Ok (Acknowledges n)) l.at.sents)) acks.agree later (is_at_last l.x) refl
-  sends s outcome bytes effect k ticks Later does l (inr (is, later)) = stale s outcome bytes effect k ticks Later does l is later
+  sends s Did bytes effect k ticks Later does l answers = says s bytes effect k ticks Later does l answers
+  sends s Memory bytes effect k ticks Later does l later =
+      unsaid bytes s effect (codes "tftp memory") k ticks Later does (memory_stays (packet_of bytes)) l later
+  sends s Keeper bytes effect k ticks Later does l later =
+      unsaid bytes s effect (codes "tftp keeper") k ticks Later does (keeper_stays (packet_of bytes)) l later
 
   came : (s : State) (outcome : Outcome) (from : Peer) (bytes : List ℕ) (effect : Effect) (k ticks : ℕ) (Later : ℕ → ℕ → Type 0) (same : Bool) → is_peer peer from ≡ same
       → Does s (Datagram Tftp from bytes) outcome effect → Changes (part_of (Datagram Tftp from bytes) outcome) s effect → LivesOn k ticks (map.get s.held.transfers peer)
-      → AnswersBy (if same then Speaks bytes else Aside) (Agree s.tables s.held.now) outcome k ticks Later
+      → AnswersBy request first (if same then Speaks bytes else Aside) (Agree s.tables s.held.now) outcome k ticks Later
       → Answers (fate_by peer (Datagram Tftp from bytes) effect.said.line) (map.get effect.after.held.transfers peer) Later
   came s outcome from bytes effect k ticks Later true e does changes l answers =
       let here : from ≡ peer = sym (same_peer peer from e) in
@@ -279,7 +364,7 @@ module _ (peer : Peer) (file : List ℕ) (size : ℕ) (name : List ℕ) (modem :
 
   pub turn_answers : (s : State) (what : What) (outcome : Outcome) (effect : Effect) (k ticks : ℕ) (Later : ℕ → ℕ → Type 0) → Does s what outcome effect
       → Changes (part_of what outcome) s effect → LivesOn k ticks (map.get s.held.transfers peer)
-      → AnswersBy (ask peer what) (Agree s.tables s.held.now) outcome k ticks Later
+      → AnswersBy request first (ask peer what) (Agree s.tables s.held.now) outcome k ticks Later
       → Answers (fate_by peer what effect.said.line) (map.get effect.after.held.transfers peer) Later
   turn_answers s (Datagram Dhcp from bytes) outcome effect k ticks Later does changes l later =
       aside s (Datagram Dhcp from bytes) outcome effect k ticks Later refl changes l later

@@ -45,9 +45,9 @@ not_behind file size zero last within = cc
 not_behind file size (suc before) last within =
     within_at file size before within (ltb-true (length (take size (drop (before * size) file))) size last)
 
-behind_last : (file : List ℕ) (size n k : ℕ) (name : List ℕ) (modem : Mac) (owner ticks : ℕ) (live : Option _) → is_last_number file size n ≡ true
-    → Lives file size name modem owner k ticks live → k ≡ suc n → ⊥
-behind_last file size n k name modem owner ticks live last l e =
+behind_last : (file : List ℕ) (size n k : ℕ) (request : List ℕ) (first : ℕ) (name : List ℕ) (modem : Mac) (owner ticks : ℕ) (live : Option _) → is_last_number file size n ≡ true
+    → Lives file size request first name modem owner k ticks live → k ≡ suc n → ⊥
+behind_last file size n k request first name modem owner ticks live last l e =
     not_behind file size n last
     (subst (λ f. BeginsWithin f size (suc n)) l.at.files
     (subst (λ z. BeginsWithin l.x.file z (suc n)) l.at.sizes (subst (BeginsWithin l.x.file l.x.size) (l.at.sents ∙ e) l.at.sound.within)))
@@ -66,16 +66,17 @@ each_file_ends file size some =
 
 -- ---- turn by turn
 
-module _ (peer : Peer) (file : List ℕ) (size : ℕ) (name : List ℕ) (modem : Mac) (owner n : ℕ) (last_is : is_last_number file size n ≡ true) where
+module _ (peer : Peer) (file : List ℕ) (size : ℕ) (request : List ℕ) (first : ℕ) (name : List ℕ) (modem : Mac) (owner : ℕ) (asked : Option ℕ)
+    (read : packet_of request ≡ Ok (Reads name asked)) (n : ℕ) (last_is : is_last_number file size n ≡ true) where
   abbrev Agreed : Tables → ℕ → Type 0
   Agreed tables now = Agreement tables now peer.ip name modem owner
 
   abbrev UpTo : Tables → ℕ → List Turn → ℕ → ℕ → Type 0
-  UpTo tables now turns k ticks = AnswersUpTo (suc n) peer Agreed tables now k ticks turns
+  UpTo tables now turns k ticks = AnswersUpTo request first (suc n) peer Agreed tables now k ticks turns
 
   done_by : (turn : Turn) (after last : State) (soon rest : List Turn) (tables : Tables) (now : ℕ) → after.tables ≡ tables → after.held.now ≡ now
-      → Answered file size name modem owner (fate peer turn) (map.get after.held.transfers peer) (UpTo tables now soon)
-      → ((k ticks : ℕ) → Lives file size name modem owner k ticks (map.get after.held.transfers peer) → UpTo after.tables after.held.now soon k ticks
+      → Answered file size request first name modem owner (fate peer turn) (map.get after.held.transfers peer) (UpTo tables now soon)
+      → ((k ticks : ℕ) → Lives file size request first name modem owner k ticks (map.get after.held.transfers peer) → UpTo after.tables after.held.now soon k ticks
       → is_done peer (soon ++ rest) ≡ true)
       → is_done_by (fate peer turn) (is_done peer (soon ++ rest)) ≡ true
   done_by turn after last soon rest tables now t m (finished number e) later = ap (λ (f : Fate). is_done_by f (is_done peer (soon ++ rest))) e
@@ -84,17 +85,17 @@ module _ (peer : Peer) (file : List ℕ) (size : ℕ) (name : List ℕ) (modem :
       ∙ later k ticks lives (subst (λ (u : Tables). UpTo u after.held.now soon k ticks) (sym t) (subst (λ i. UpTo tables i soon k ticks) (sym m) up))
 
   step_answers : (s : State) (turn : Turn) (after : State) (k ticks : ℕ) (Later : ℕ → ℕ → Type 0) → Step s turn.event turn.outcome (effect_of turn after)
-      → Lives file size name modem owner k ticks (map.get s.held.transfers peer)
-      → AnswersBy (ask peer turn.event.what) (Agreed s.tables (max s.held.now turn.event.at.0)) turn.outcome k ticks Later
-      → Answered file size name modem owner (fate peer turn) (map.get after.held.transfers peer) Later
+      → Lives file size request first name modem owner k ticks (map.get s.held.transfers peer)
+      → AnswersBy request first (ask peer turn.event.what) (Agreed s.tables (max s.held.now turn.event.at.0)) turn.outcome k ticks Later
+      → Answered file size request first name modem owner (fate peer turn) (map.get after.held.transfers peer) Later
   unfolding Step
   step_answers s turn after k ticks Later step l answers =
-      turn_answers peer file size name modem owner (at_moment s turn.event.at.0) turn.event.what turn.outcome (effect_of turn after) k ticks Later step
+      turn_answers peer file size request first name modem owner asked read (at_moment s turn.event.at.0) turn.event.what turn.outcome (effect_of turn after) k ticks Later step
       (changes_its_part s turn.event turn.outcome (effect_of turn after) step) l answers
 
   answers_done : (s last : State) (soon rest : List Turn) (k ticks : ℕ) → Run s (soon ++ rest) last
-      → Lives file size name modem owner k ticks (map.get s.held.transfers peer) → UpTo s.tables s.held.now soon k ticks → is_done peer (soon ++ rest) ≡ true
-  answers_done s last [] rest k ticks run l up = absurd (behind_last file size n k name modem owner ticks _ last_is l up)
+      → Lives file size request first name modem owner k ticks (map.get s.held.transfers peer) → UpTo s.tables s.held.now soon k ticks → is_done peer (soon ++ rest) ≡ true
+  answers_done s last [] rest k ticks run l up = absurd (behind_last file size n k request first name modem owner ticks _ last_is l up)
   answers_done s last (turn ∷ soon) rest k ticks run l up =
       done_by turn run.0 last soon rest (write_all s.tables turn.commit) (max s.held.now turn.event.at.0)
       (tables_by_commit s turn.event turn.outcome (effect_of turn run.0) run.1.0)
@@ -122,7 +123,7 @@ same_owner t now ip name mac owner other a b =
 module _ (s : State) (turn : Turn) (after last : State) (later : List Turn) (peer : Peer) (bytes name : List ℕ) (asked : Option ℕ) where
   lives_first : (did : TftpDid s peer bytes (effect_of turn after)) (b : Begins (view s.tables peer.ip) s.held.now s.held.transfers peer bytes did.given name asked)
       → (file : List ℕ) (modem : Mac) (owner : ℕ) → file ≡ b.file → modem ≡ b.mac → owner ≡ b.owner
-      → Lives file (size_for asked) name modem owner (first_number asked) 5 (map.get after.held.transfers peer)
+      → Lives file (size_for asked) bytes (first_number asked) name modem owner (first_number asked) 5 (map.get after.held.transfers peer)
   unfolding first
   lives_first did b file modem owner files modems owners = record {
     x = first s turn after last later peer bytes name asked did b;
@@ -132,12 +133,15 @@ module _ (s : State) (turn : Turn) (after last : State) (later : List Turn) (pee
     names = refl;
     modems = sym modems;
     owners = sym owners;
+    requests = refl;
+    past = omega arith;
+    fresh = λ e. refl;
     left = lit≤ tt;
   }
 
   lives_as : (did : TftpDid s peer bytes (effect_of turn after)) (b : Begins (view s.tables peer.ip) s.held.now s.held.transfers peer bytes did.given name asked)
       → (file : List ℕ) (modem : Mac) (owner : ℕ) → Agreement s.tables s.held.now peer.ip name modem owner → IsFile s.tables modem s.held.now peer.ip file
-      → Lives file (size_for asked) name modem owner (first_number asked) 5 (map.get after.held.transfers peer)
+      → Lives file (size_for asked) bytes (first_number asked) name modem owner (first_number asked) 5 (map.get after.held.transfers peer)
   lives_as did b file modem owner agreed own =
       let mine = accepting_agrees s.tables s.held.now peer.ip b.mac b.owner name b.accepting in
       let modems : modem ≡ b.mac = same_modem s.tables s.held.now peer.ip name modem b.mac owner b.owner agreed mine in
@@ -150,13 +154,13 @@ module _ (s : State) (turn : Turn) (after last : State) (later : List Turn) (pee
 
   lives_did : TftpDid s peer bytes (effect_of turn after) → packet_of bytes ≡ Ok (Reads name asked) → says_accepted turn.said.line ≡ true
       → (file : List ℕ) (modem : Mac) (owner : ℕ) → Agreement s.tables s.held.now peer.ip name modem owner → IsFile s.tables modem s.held.now peer.ip file
-      → Lives file (size_for asked) name modem owner (first_number asked) 5 (map.get after.held.transfers peer)
+      → Lives file (size_for asked) bytes (first_number asked) name modem owner (first_number asked) 5 (map.get after.held.transfers peer)
   lives_did did read says file modem owner agreed own = lives_as did (beginning s turn after last later peer bytes name asked did read says) file modem owner agreed own
 
 lives_at : (s : State) (turn : Turn) (after last : State) (later : List Turn) (peer : Peer) (name : List ℕ) (asked : Option ℕ)
-    → Step s turn.event turn.outcome (effect_of turn after) → IsAccepted peer name asked turn
+    → Step s turn.event turn.outcome (effect_of turn after) → (accepts : IsAccepted peer name asked turn)
     → (served : FileIsServed s.tables (max s.held.now turn.event.at.0) peer name asked turn later)
-    → Lives served.file (size_for asked) name served.modem served.subscriber (first_number asked) 5 (map.get after.held.transfers peer)
+    → Lives served.file (size_for asked) accepts.bytes (first_number asked) name served.modem served.subscriber (first_number asked) 5 (map.get after.held.transfers peer)
 unfolding Step
 lives_at s turn after last later peer name asked step accepts served =
     lives_did (at_moment s turn.event.at.0) turn after last later peer accepts.bytes name asked
@@ -169,7 +173,9 @@ who_answers_gets_all s last turn soon rest peer name asked n run accepts served 
     let tables = tables_by_commit s turn.event turn.outcome (effect_of turn run.0) run.1.0 in
     let moment = moment_is_greatest s turn.event turn.outcome (effect_of turn run.0) run.1.0 in
     let agree : Tables → ℕ → Type 0 = λ t now. Agreement t now peer.ip name served.modem served.subscriber in
-    served.whole (answers_done peer served.file (size_for asked) name served.modem served.subscriber n last_is run.0 last soon rest (first_number asked) 5 run.1.1
+    let done : is_done peer (soon ++ rest) ≡ true =
+    answers_done peer served.file (size_for asked) accepts.bytes (first_number asked) name served.modem served.subscriber asked accepts.read n last_is run.0 last soon rest (first_number asked) 5 run.1.1
     (lives_at s turn run.0 last (soon ++ rest) peer name asked run.1.0 accepts served)
-    (subst (λ (t : Tables). AnswersUpTo (suc n) peer agree t run.0.held.now (first_number asked) 5 soon) (sym tables)
-    (subst (λ i. AnswersUpTo (suc n) peer agree (write_all s.tables turn.commit) i (first_number asked) 5 soon) (sym moment) up)))
+    (subst (λ (t : Tables). AnswersUpTo accepts.bytes (first_number asked) (suc n) peer agree t run.0.held.now (first_number asked) 5 soon) (sym tables)
+    (subst (λ i. AnswersUpTo accepts.bytes (first_number asked) (suc n) peer agree (write_all s.tables turn.commit) i (first_number asked) 5 soon) (sym moment) up)) in
+    (done, served.whole done)

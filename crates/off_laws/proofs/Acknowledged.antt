@@ -24,7 +24,7 @@ use Rattle.off_book.specs.Run.{Turn, effect_of}
 use Rattle.off_laws.specs.Leases.{LinesTellWords, AcknowledgedIsGiven, moment_of}
 use Rattle.off_laws.proofs.Lines.{other_byte, line_is}
 use Rattle.off_laws.proofs.StepLaws.{step_good}
-use Rattle.off_laws.proofs.Bindings.{bindings_outlast}
+use Rattle.off_laws.proofs.Outlasting.{bindings_outlast}
 
 -- a word is found again by its line, so no two words have one line
 words : List DhcpWord

@@ -12,6 +12,6 @@ pub mod RunLaws
 pub mod Existence
 pub mod LiveLeases
 pub mod Standings
-pub mod Bindings
+pub mod Outlasting
 pub mod Acknowledged
 pub mod Stretches

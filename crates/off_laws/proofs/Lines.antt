@@ -76,7 +76,7 @@ piece_line true s conn piece effect takes = says (Piece conn piece) effect (code
 piece_line false s conn piece effect takes = meaning_line s conn piece _ effect takes.meaning takes.does
 
 -- no word of a DHCP datagram begins as those of the two failures
-word_says : (w : DhcpWord) → (nat_eq (slice_index (codes "dhcp " ++ word_text w) 5) 109 ≡ false) × (nat_eq (slice_index (codes "dhcp " ++ word_text w) 5) 107 ≡ false)
+pub word_says : (w : DhcpWord) → (nat_eq (slice_index (codes "dhcp " ++ word_text w) 5) 109 ≡ false) × (nat_eq (slice_index (codes "dhcp " ++ word_text w) 5) 107 ≡ false)
 word_says word.Offer = (refl, refl)
 word_says word.Ack = (refl, refl)
 word_says word.Declined = (refl, refl)

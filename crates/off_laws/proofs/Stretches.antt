@@ -8,7 +8,7 @@ use Rattle.off_book.specs.Run.{Turn, Run}
 use Rattle.off_laws.specs.Leases.{TakesMessage, DoesNotServe, IsGiven, LeasesHold, LeasesHoldThrough}
 use Rattle.off_laws.proofs.RunLaws.{run_keeps_good}
 use Rattle.off_laws.proofs.Standings.{leases_stay_right}
-use Rattle.off_laws.proofs.Bindings.{bindings_outlast}
+use Rattle.off_laws.proofs.Outlasting.{bindings_outlast}
 use Rattle.off_laws.proofs.Acknowledged.{acknowledged_is_given}
 
 given_at : (from to : State) (stretch turns : List Turn) (turn : Turn) (m : Received) → Good from.tables → Run from stretch to → stretch ≡ turn ∷ turns

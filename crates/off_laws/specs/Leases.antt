@@ -20,7 +20,7 @@ use Rattle.off_defs.specs.State.{Tables, State}
 use Rattle.off_dhcp.specs.Datagram.{Received, message_of}
 use Rattle.off_rows.specs.Sound.{is_sound}
 use Rattle.off_rules.specs.Rows.{site_in, lease_in}
-use Rattle.off_rules.specs.Good.{Good}
+use Rattle.off_rules.specs.Good.{Good, owner_of}
 use Rattle.off_rules.specs.Clerk.{clerk_step}
 use Rattle.off_table_laws.specs.Laws.{owner_in, LiesInOnePool}
 use Rattle.off_lease_rules.specs.Asking.{client, claimed}
@@ -118,7 +118,7 @@ ImportsKeepLeases = (tables : Tables) (now : ℕ) (kind : ImportKind) (batch : �
 abbrev pub LinesTellWords : Type 0
 LinesTellWords = (one other : DhcpWord) → dhcp_line one ≡ dhcp_line other → one ≡ other
 
--- ---- what is bound stays bound
+-- ---- what is offered or bound stays so
 
 abbrev pub IsBoundUntil : Mac → Ip4 → ℕ → State → Type 0
 IsBoundUntil mac address expiry s = lease_in s.tables address ≡ Some (bound_until mac expiry)
@@ -142,7 +142,18 @@ pub record Serves (mac : Mac) (turn : Turn) : Type 0 where
 abbrev pub DoesNotServe : Mac → Turn → Type 0
 DoesNotServe mac turn = Serves mac turn → ⊥
 
--- until it ends, a binding outlasts all turns that don't serve its client
+-- until it ends, a lease that is offered or bound to a client outlasts all turns that don't serve
+-- the client
+abbrev pub LeasesOutlast : Type 0
+LeasesOutlast =
+    (s last : State) (turns : List Turn) (mac : Mac) (address : Ip4) (lease : Lease)
+    → Good s.tables → Run s turns last
+    → lease_in s.tables address ≡ Some lease → owner_of lease.hold ≡ Some mac
+    → All (DoesNotServe mac) turns
+    → last.held.now < lease.expiry.0
+    → lease_in last.tables address ≡ Some lease
+
+-- so does a binding
 abbrev pub BindingsOutlast : Type 0
 BindingsOutlast =
     (s last : State) (turns : List Turn) (mac : Mac) (address : Ip4) (expiry : ℕ)

@@ -1,7 +1,7 @@
 ghost use Rattle.off_laws.specs.Leases.{RunsHavePlaces, LeasesStayRight};
 ghost use Rattle.off_laws.specs.Leases.{CommandsDropEnded, CommandsKeepLive, ImportsKeepLeases};
 ghost use Rattle.off_laws.specs.Leases.{LinesTellWords};
-ghost use Rattle.off_laws.specs.Leases.{BindingsOutlast, AcknowledgedIsGiven};
+ghost use Rattle.off_laws.specs.Leases.{LeasesOutlast, BindingsOutlast, AcknowledgedIsGiven};
 
 /// A run has a state at each of its places: up to there it is a run, and from there.
 pub fn a_run_has_a_state_at_each_place()
@@ -34,6 +34,12 @@ pub fn an_import_keeps_all_leases()
 /// The lines of different words differ.
 pub fn a_line_tells_its_word()
     ensures { LinesTellWords }
+{}
+
+/// What is offered or bound to a client stays so: until it ends, its lease is the same in every later
+/// state of a run in which no turn has served the client.
+pub fn what_is_offered_or_bound_stays_so()
+    ensures { LeasesOutlast }
 {}
 
 /// What is bound stays bound: until it ends, a binding is the same in every later state of a run in

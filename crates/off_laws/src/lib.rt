@@ -13,6 +13,7 @@ pub use leases::{
     a_command_drops_only_ended_leases, a_command_keeps_live_leases, a_line_tells_its_word,
     a_run_has_a_state_at_each_place, an_acknowledged_address_is_the_clients,
     an_import_keeps_all_leases, leases_stay_right, what_is_bound_stays_bound,
+    what_is_offered_or_bound_stays_so,
 };
 use off_http::some_answer;
 

@@ -20,8 +20,7 @@ use Rattle.off_lease_rules.specs.declared.words.DhcpWord.{DhcpWord}
 use Rattle.off_lease_rules.specs.declared.words.DhcpWord.TheVariants as word
 use Rattle.off_lease_laws.specs.Outcomes.{Outcome, refusal, offering, binding, declining, releasing}
 use Rattle.off_lease_laws.specs.Moves.{HoldersAgree, Moved, WasOpenTo}
-use Rattle.off_lease_laws.specs.Laws.{StepIsOne, StepIsThere, MessagesDo, FaultsDoNothing, RefusalsChangeNothing, LeavesFit, DatagramsLeaveFit, BindingsLast, after_message}
-use Rattle.off_lease_laws.specs.Effects.{bound_until}
+use Rattle.off_lease_laws.specs.Laws.{StepIsOne, StepIsThere, MessagesDo, FaultsDoNothing, RefusalsChangeNothing, LeavesFit, DatagramsLeaveFit, LeasesLast, after_message}
 use Rattle.off_lease_laws.proofs.Tests.{ip_or}
 use Rattle.off_lease_laws.proofs.OutcomeLemmas.{outcome}
 use Rattle.off_lease_laws.proofs.AgreeLemmas.{messages_move, agreement_stays}
@@ -81,20 +80,20 @@ pub datagrams_leave_fit : DatagramsLeaveFit
 unfolding dhcp_step
 datagrams_leave_fit t now bytes after reply word step = subst (LeavesFit t) (sym step.tables_after) (step_fits t now (message_of bytes))
 
--- ---- bindings
+-- ---- leases that last
 
-module _ (t u : Tables) (now : ℕ) (who mac : Mac) (address : Ip4) (expiry : ℕ) (agree : HoldersAgree t)
-    (there : lease_in t address ≡ Some (bound_until mac expiry)) (live : now < expiry) (apart : who ≡ mac → ⊥) where
+module _ (t u : Tables) (now : ℕ) (who mac : Mac) (address : Ip4) (lease : Lease) (agree : HoldersAgree t) (there : lease_in t address ≡ Some lease)
+    (owned : owner_of lease.hold ≡ Some mac) (live : now < lease.expiry.0) (apart : who ≡ mac → ⊥) where
   owner : owner_in t address ≡ Some mac
-  owner = ap (option_and_then (λ (lease : Lease). owner_of lease.hold)) there
+  owner = ap (option_and_then (λ (l : Lease). owner_of l.hold)) there ∙ owned
 
   not_held : held_in t who ≡ Some address → ⊥
   not_held h = let o = (agree who address).1 h in apart (let same : who ≡ mac = cc in same)
 
   not_ended : has_ended now (lease_in t address) ≡ true → ⊥
   not_ended h =
-      let e : leb expiry now ≡ true = sym (ap (has_ended now) there) ∙ h in
-      let le = leb-true expiry now e in
+      let e : leb lease.expiry.0 now ≡ true = sym (ap (has_ended now) there) ∙ h in
+      let le = leb-true lease.expiry.0 now e in
       omega (arith, le, live)
 
   not_open : WasOpenTo now who address t → ⊥
@@ -111,11 +110,11 @@ module _ (t u : Tables) (now : ℕ) (who mac : Mac) (address : Ip4) (expiry : �
       elim_open : {other : Ip4} → address ≡ other → WasOpenTo now who other t → WasOpenTo now who address t
       elim_open same open_ = subst (λ (a : Ip4). WasOpenTo now who a t) (sym same) open_
 
-pub bindings_last : BindingsLast
-bindings_last t now m mac address expiry agree there live (inl apart) =
-    elim (messages_move t now m agree) as (λ s. lease_in (after_message t now m) address ≡ Some (bound_until mac expiry)) [
+pub leases_last : LeasesLast
+leases_last t now m mac address lease agree there owned live (inl apart) =
+    elim (messages_move t now m agree) as (λ s. lease_in (after_message t now m) address ≡ Some lease) [
       | inl same ↦ ap (λ u. lease_in u address) same ∙ there
-      | inr moved ↦ outlasts t (after_message t now m) now (client m) mac address expiry agree there live apart moved ∙ there
+      | inr moved ↦ outlasts t (after_message t now m) now (client m) mac address lease agree there owned live apart moved ∙ there
     ]
-bindings_last t now m mac address expiry agree there live (inr refused) =
+leases_last t now m mac address lease agree there owned live (inr refused) =
     ap (λ writes. lease_in (write_all t writes) address) (refusals_change_nothing t now m refused) ∙ there

@@ -14,7 +14,7 @@ use Rattle.off_defs.specs.Tables.{row_at, write_all}
 use Rattle.off_dhcp.specs.declared.faults.DhcpFault.{DhcpFault}
 use Rattle.off_dhcp.specs.Datagram.{Received, message_of}
 use Rattle.off_rules.specs.Rows.{lease_in, has_address, counts_of}
-use Rattle.off_rules.specs.Good.{Good}
+use Rattle.off_rules.specs.Good.{Good, owner_of}
 use Rattle.off_table_laws.specs.Laws.{owner_in}
 use Rattle.off_lease_rules.specs.Words.{acts, unread}
 use Rattle.off_lease_rules.specs.Asking.{client}
@@ -24,7 +24,7 @@ use Rattle.off_lease_rules.specs.declared.words.DhcpWord.{DhcpWord}
 use Rattle.off_lease_rules.specs.declared.words.DhcpWord.TheVariants as word
 use Rattle.off_lease_laws.specs.Outcomes.{Outcome}
 use Rattle.off_lease_laws.specs.Moves.{HoldersAgree, Moves}
-use Rattle.off_lease_laws.specs.Effects.{bound_until, IsOfferedBy, IsBoundBy, IsDeclinedBy, IsReleasedBy}
+use Rattle.off_lease_laws.specs.Effects.{IsOfferedBy, IsBoundBy, IsDeclinedBy, IsReleasedBy}
 
 -- ---- one result
 
@@ -205,12 +205,12 @@ ReleasesFree =
     (tables : Tables) (now : ℕ) (m : Received) → (lease_step tables now m).word ≡ word.Released
     → IsReleasedBy tables m (lease_step tables now m)
 
--- until it ends a binding outlasts each message of another client, and each of its own that is
--- refused
-abbrev pub BindingsLast : Type 0
-BindingsLast =
-    (tables : Tables) (now : ℕ) (m : Received) (mac : Mac) (address : Ip4) (expiry : ℕ) →
+-- until it ends, a client's lease outlasts each message of another client, and each of its own that
+-- is refused
+abbrev pub LeasesLast : Type 0
+LeasesLast =
+    (tables : Tables) (now : ℕ) (m : Received) (mac : Mac) (address : Ip4) (lease : Lease) →
     HoldersAgree tables
-    → lease_in tables address ≡ Some (bound_until mac expiry) → now < expiry →
+    → lease_in tables address ≡ Some lease → owner_of lease.hold ≡ Some mac → now < lease.expiry.0 →
     (client m ≢ mac) ⊎ (acts (lease_step tables now m).word ≡ false)
-    → lease_in (after_message tables now m) address ≡ Some (bound_until mac expiry)
+    → lease_in (after_message tables now m) address ≡ Some lease

@@ -3,7 +3,7 @@ ghost use Rattle.off_lease_laws.specs.Laws.{FaultsDoNothing, RefusalsChangeNothi
 ghost use Rattle.off_lease_laws.specs.Laws.{AgreementStays, OnlyLeasesChange, GoodStays};
 ghost use Rattle.off_lease_laws.specs.Laws.{CountsStay, LeastIsLeast, ChoiceFits, FreeStandsFree};
 ghost use Rattle.off_lease_laws.specs.Laws.{LiveForItsOwner, OneLeaseAClient, DatagramsLeaveFit};
-ghost use Rattle.off_lease_laws.specs.Laws.{AcksBind, BindingsLast, OffersHold, DeclinesRest};
+ghost use Rattle.off_lease_laws.specs.Laws.{AcksBind, LeasesLast, OffersHold, DeclinesRest};
 ghost use Rattle.off_lease_laws.specs.Laws.{ReleasesFree};
 
 /// Each message has one of five outcomes: it is refused, or an address is offered, bound, declined
@@ -119,8 +119,8 @@ pub fn a_released_address_is_free()
     ensures { ReleasesFree }
 {}
 
-/// Until it ends, a binding outlasts each message of another client, and each of its own that is
-/// refused.
-pub fn a_binding_lasts()
-    ensures { BindingsLast }
+/// Until it ends, what is offered or bound to a client outlasts each message of another client, and
+/// each of its own that is refused.
+pub fn a_lease_lasts()
+    ensures { LeasesLast }
 {}

@@ -1,4 +1,4 @@
-use Rattle.off_laws.proofs.Bindings.{bindings_outlast}
+use Rattle.off_laws.proofs.Outlasting.{bindings_outlast}
 use Rattle.off_laws.proofs.leases.what_is_bound_stays_bound.Goals as goal
 
 pub returns : goal.returns
