@@ -1,5 +1,5 @@
 -- Whether a job has its status with its cause.
-use Rattle.std.proofs.Common.{◌≡◌, ◌≢◌, ℕ, ◌≤◌, Bool, true, false, cond, ◌&&◌, List, length, Result, Ok, Err, refl, ap, ◌∙◌, subst, ◌⊎◌, inl, inr, arith, length-append}
+use Rattle.std.proofs.Common.{◌≡◌, ◌≢◌, ℕ, ◌≤◌, Bool, true, false, cond, ◌&&◌, List, length, Result, Ok, Err, refl, sym, ap, ◌∙◌, subst, ◌⊎◌, inl, inr, arith, length-append}
 use Rattle.off_base.specs.Tree.{Tree}
 use Rattle.off_tlv.specs.declared.faults.ReadFault.{ReadFault}
 use Rattle.off_tlv.specs.declared.faults.FileErr.{FileErr}
@@ -8,13 +8,17 @@ use Rattle.off_tlv.specs.Told.{WhyNotRead}
 use Rattle.off_tlv.specs.Grammar.{FileOf}
 use Rattle.off_tlv.specs.Fault.{IsFirstFault, Reads}
 use Rattle.off_tlv.proofs.GrammarLemmas.{one_reading}
+use Rattle.off_mic.specs.Mic.{VerifiesFile}
+use Rattle.off_mic.specs.Seal.{SealsFile}
 use Rattle.off_mic.specs.Check.{Verified}
 use Rattle.off_mic.specs.declared.checking.Verdict.{Verdict}
 use Rattle.off_mic.specs.declared.checking.MicFault.{MicFault}
-use Rattle.off_outside.specs.Streams.{SourceSeen, SinkSeen}
+use Rattle.off_outside.specs.Streams.{SourceSeen, SinkSeen, Wrote}
 use Rattle.off_jobs.specs.Input.{TookAll, TookTooMany, SourceFailed, NoInput}
 use Rattle.off_jobs.specs.declared.input.InputErr.{InputErr}
-use Rattle.off_jobs.specs.Jobs.{Tells, Unread, overlong, memoryless, sourceless, UnreadBy, unread_status, Sealing, sealed_as, refused_by, unsealed, not_sealed, SealedBy, sealing_text, sealing_status, Checking, answered, refused_for, not_checked, CheckedBy, checking_text, checking_status, Verifies, NoFault, SealsInput, ChecksInput}
+use Rattle.off_jobs.specs.Text.{verdict_text}
+use Rattle.off_jobs.specs.Jobs.{Tells, Unread, overlong, memoryless, sourceless, UnreadBy, unread_status, Sealing, sealed_as, refused_by, unsealed, not_sealed, SealedBy, sealing_text, sealing_status, Checking, answered, refused_for, not_checked, CheckedBy, checking_text, checking_status, Verifies, NoFault, SealsInput, AnswersGood, ChecksInput}
+use Rattle.off_jobs.proofs.VerdictLemmas.{Good, sealed_right, good_verdict, right_verdict, never_refused}
 
 -- where no count rose the text was written whole
 pub told_whole : {of status : ℕ} {text : List ℕ} {s s' : SourceSeen} {t t' : SinkSeen} → Tells of text status t t' → NoFault s s' t t' → status ≡ of
@@ -79,6 +83,28 @@ seal_complete (not_sealed overlong) secret status s s' t t' by is file trees tol
 seal_complete (not_sealed memoryless) secret status s s' t t' by is file trees told spells short none other = absurd (other is)
 seal_complete (not_sealed sourceless) secret status s s' t t' by is file trees told spells short none other = absurd (source_held by none)
 
+-- where no count rose the text was written
+wrote_whole : {of status : ℕ} {text : List ℕ} {s s' : SourceSeen} {t t' : SinkSeen} → Tells of text status t t' → NoFault s s' t t' → Wrote text t t'
+wrote_whole (inl wrote) none = wrote.1
+wrote_whole (inr cut) none = absurd (omega (arith, cut.1.faults.grew, none.sink_same, none.sink_count))
+
+unread_some : (why : Unread) (of : ℕ) → of ≢ 0 → unread_status of why ≢ 0
+unread_some overlong of some = some
+unread_some memoryless of some = λ e. omega (arith, e)
+unread_some sourceless of some = λ e. omega (arith, e)
+
+-- a status of 0 is the job's own
+own_status : (of status : ℕ) (text : List ℕ) (t t' : SinkSeen) → Tells of text status t t' → status ≡ 0 → (of ≡ 0) × Wrote text t t'
+own_status of status text t t' (inl wrote) zero = (sym wrote.0 ∙ zero, wrote.1)
+own_status of status text t t' (inr cut) zero = absurd (omega (arith, cut.0, zero))
+
+seal_only : (way : Sealing) (secret : List ℕ) (s s' : SourceSeen) (t t' : SinkSeen) → SealedBy way secret s s' → (sealing_status way ≡ 0) × Wrote (sealing_text way) t t'
+    → (file : List ℕ) → s.left file → (made : List ℕ) × (SealsFile file secret made × Wrote made t t')
+seal_only (sealed_as read made) secret s s' t t' by own file told = (made, (subst (λ v. SealsFile v secret made) (sym (told_file by.0 told)) by.1, own.1))
+seal_only (refused_by read fault) secret s s' t t' by own file told = absurd (omega (arith, own.0))
+seal_only (unsealed read) secret s s' t t' by own file told = absurd (omega (arith, own.0))
+seal_only (not_sealed why) secret s s' t t' by own file told = absurd (unread_some why 9 (λ e. omega (arith, e)) own.0)
+
 pub seals_by : (way : Sealing) (secret : List ℕ) (status : ℕ) (s s' : SourceSeen) (t t' : SinkSeen) → SealedBy way secret s s'
     → Tells (sealing_status way) (sealing_text way) status t t' → SealsInput secret status s s' t t'
 seals_by way secret status s s' t t' by told = record {
@@ -87,6 +113,7 @@ seals_by way secret status s s' t t' by told = record {
   told = told;
   statuses = λ none. seal_ended way secret status s s' t t' by none (told_whole told none);
   up = λ none. record { source_up = sealing_kept way secret s s' t t' by none; sink_up = sink_kept told none };
+  only = λ zero file held. seal_only way secret s s' t t' by (own_status (sealing_status way) status (sealing_text way) t t' told zero) file held;
   complete = λ file trees held spells short none other. seal_complete way secret status s s' t t' by (told_whole told none) file trees held spells short none other;
 }
 
@@ -105,15 +132,41 @@ check_ended (answered file verdict) secret status s s' t t' by none is =
 check_ended (refused_for file fault) secret status s s' t t' by none is = inr (inr is)
 check_ended (not_checked why) secret status s s' t t' by none is = inr (six_or why 8 status s s' t t' by none is)
 
+good_text : {status : ℕ} {verdict : Verdict} {t t' : SinkSeen} → Good verdict → status ≡ 0 → Wrote (verdict_text verdict) t t' → AnswersGood status t t'
+good_text {t = t} {t' = t'} good is wrote = (is, subst (λ v. Wrote v t t') good.text wrote)
+
+check_complete : (way : Checking) (secret : List ℕ) (status : ℕ) (s s' : SourceSeen) (t t' : SinkSeen) → CheckedBy way secret s s' → Wrote (checking_text way) t t'
+    → status ≡ checking_status way → (file : List ℕ) → s.left file → VerifiesFile file secret → length file ≤ 65536 → NoFault s s' t t' → status ≢ 6 → AnswersGood status t t'
+check_complete (answered read verdict) secret status s s' t t' by wrote is file told right short none other =
+    let good = good_verdict by.1 (subst (λ v. VerifiesFile v secret) (told_file by.0 told) right) in good_text good (is ∙ good.status) wrote
+check_complete (refused_for read fault) secret status s s' t t' by wrote is file told right short none other =
+    absurd (never_refused by.1 (subst (λ v. VerifiesFile v secret) (told_file by.0 told) right))
+check_complete (not_checked overlong) secret status s s' t t' by wrote is file told right short none other = absurd (too_many_of by told short)
+check_complete (not_checked memoryless) secret status s s' t t' by wrote is file told right short none other = absurd (other is)
+check_complete (not_checked sourceless) secret status s s' t t' by wrote is file told right short none other = absurd (source_held by none)
+
+check_only : (way : Checking) (secret : List ℕ) (status : ℕ) (s s' : SourceSeen) (t t' : SinkSeen) → CheckedBy way secret s s' → status ≡ 0
+    → (checking_status way ≡ 0) × Wrote (checking_text way) t t' → (file : List ℕ) → s.left file → VerifiesFile file secret × AnswersGood status t t'
+check_only (answered read verdict) secret status s s' t t' by zero own file told =
+    let right = right_verdict by.1 own.0 in
+    (subst (λ v. VerifiesFile v secret) (sym (told_file by.0 told)) right, good_text (good_verdict by.1 right) zero own.1)
+check_only (refused_for read fault) secret status s s' t t' by zero own file told = absurd (omega (arith, own.0))
+check_only (not_checked why) secret status s s' t t' by zero own file told = absurd (unread_some why 8 (λ e. omega (arith, e)) own.0)
+
 pub checks_by : (way : Checking) (secret : List ℕ) (status : ℕ) (s s' : SourceSeen) (t t' : SinkSeen) → CheckedBy way secret s s'
     → Tells (checking_status way) (checking_text way) status t t' → ChecksInput secret status s s' t t'
 checks_by way secret status s s' t t' by told =
+    let complete = λ (file : List ℕ) (held : s.left file) (right : VerifiesFile file secret) (short : length file ≤ 65536) (none : NoFault s s' t t') (other : status ≢ 6).
+    check_complete way secret status s s' t t' by (wrote_whole told none) (told_whole told none) file held right short none other in
     record {
       way = way;
       done = by;
       told = told;
       statuses = λ none. check_ended way secret status s s' t t' by none (told_whole told none);
       up = λ none. record { source_up = checking_kept way secret s s' t t' by none; sink_up = sink_kept told none };
+      only = λ zero file held. check_only way secret status s s' t t' by zero (own_status (checking_status way) status (checking_text way) t t' told zero) file held;
+      complete = complete;
+      sealed = λ plain file held seals short none other. complete file held (sealed_right plain file secret seals) short none other;
     }
 
 -- the same text, and the same status, under other names

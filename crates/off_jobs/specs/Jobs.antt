@@ -1,10 +1,11 @@
 -- What `seal` and `check` promise. `status 4` comes only where the sink failed in the one write of
 -- the job; then a front of the text is there. With every other status exactly the text was written.
-use Rattle.std.specs.Prelude.{◌≡◌, ◌≢◌, ℕ, ◌≤◌, ◌<◌, List, length, ◌⊎◌, Result, Ok, Err}
+use Rattle.std.specs.Prelude.{◌≡◌, ◌≢◌, ℕ, ◌≤◌, ◌<◌, List, length, codes, ◌⊎◌, Result, Ok, Err}
 use Rattle.off_base.specs.Tree.{Tree}
 use Rattle.off_tlv.specs.declared.faults.ReadFault.{ReadFault}
 use Rattle.off_tlv.specs.Grammar.{FileOf}
 use Rattle.off_tlv.specs.Fault.{IsFirstFault, Reads}
+use Rattle.off_mic.specs.Mic.{VerifiesFile}
 use Rattle.off_mic.specs.Seal.{SealsFile}
 use Rattle.off_mic.specs.Check.{Verified}
 use Rattle.off_mic.specs.declared.checking.Verdict.{Verdict}
@@ -118,8 +119,9 @@ pub record BothUp (source source' : SourceSeen) (sink sink' : SinkSeen) : Type 0
   pub source_up : source.up → source'.up
   pub sink_up : sink.up → sink'.up
 
--- What `seal` did under a secret. Where no count rose and no memory was wanted, every file by the
--- grammar that is short enough is sealed, and a status other than 0 is 9.
+-- What `seal` did under a secret. Status 0 is of a file by the grammar alone, whose sealed file was
+-- written. Where no count rose and no memory was wanted, every file by the grammar that is short
+-- enough is sealed, and a status other than 0 is 9.
 pub record SealsInput (secret : List ℕ) (status : ℕ) (source source' : SourceSeen)
     (sink sink' : SinkSeen) : Type 0 where
   pub way : Sealing
@@ -127,11 +129,18 @@ pub record SealsInput (secret : List ℕ) (status : ℕ) (source source' : Sourc
   pub told : Tells (sealing_status way) (sealing_text way) status sink sink'
   pub statuses : NoFault source source' sink sink' → (status ≡ 0) ⊎ ((status ≡ 6) ⊎ (status ≡ 9))
   pub up : NoFault source source' sink sink' → BothUp source source' sink sink'
+  pub only : status ≡ 0 → (file : List ℕ) → source.left file
+      → (made : List ℕ) × (SealsFile file secret made × Wrote made sink sink')
   pub complete : (file : List ℕ) (trees : List Tree) → source.left file → FileOf file trees
       → length file ≤ 65536 → NoFault source source' sink sink' → status ≢ 6 → status ≡ 0
 
--- What `check` did under a secret. Where no count rose and no memory was wanted, a status other
--- than 0 is 8.
+-- both answers are yes, and the status is 0
+abbrev pub AnswersGood : ℕ → SinkSeen → SinkSeen → Type 0
+AnswersGood status old new = (status ≡ 0) × Wrote (codes "cm good\ncmts good\n") old new
+
+-- What `check` did under a secret. Status 0 is of a file alone of which both values are right. Where
+-- no count rose and no memory was wanted, every such file that is short enough is answered so, as is
+-- what sealing any file under that secret gives; and a status other than 0 is 8.
 pub record ChecksInput (secret : List ℕ) (status : ℕ) (source source' : SourceSeen)
     (sink sink' : SinkSeen) : Type 0 where
   pub way : Checking
@@ -139,3 +148,11 @@ pub record ChecksInput (secret : List ℕ) (status : ℕ) (source source' : Sour
   pub told : Tells (checking_status way) (checking_text way) status sink sink'
   pub statuses : NoFault source source' sink sink' → (status ≡ 0) ⊎ ((status ≡ 6) ⊎ (status ≡ 8))
   pub up : NoFault source source' sink sink' → BothUp source source' sink sink'
+  pub only : status ≡ 0 → (file : List ℕ) → source.left file
+      → VerifiesFile file secret × AnswersGood status sink sink'
+  pub complete : (file : List ℕ) → source.left file → VerifiesFile file secret
+      → length file ≤ 65536 → NoFault source source' sink sink' → status ≢ 6
+      → AnswersGood status sink sink'
+  pub sealed : (plain file : List ℕ) → source.left file → SealsFile plain secret file
+      → length file ≤ 65536 → NoFault source source' sink sink' → status ≢ 6
+      → AnswersGood status sink sink'
