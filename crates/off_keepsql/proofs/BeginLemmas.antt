@@ -22,8 +22,6 @@ use Rattle.off_rows.specs.KeyBytes.{key_bytes, IsRanged}
 use Rattle.off_outside.specs.KeeperSeen.{KeeperSeen}
 use Rattle.off_cells.specs.CellsSeen.{Cell, CellMap, CellsSeen}
 use Rattle.off_sqlcells.specs.SqlCellsSeen.{Found, HasBegun}
-use Rattle.off_sqlcells.specs.Holds.{AreShort}
-use Rattle.off_sqlcells.proofs.NextLemmas.{entry_has}
 use Rattle.off_keepsql.specs.Stored.{Stores, cell_of, AllStorable}
 use Rattle.off_keepsql.specs.SqlSeen.{SqlTells}
 use Rattle.off_keepsql.specs.Begin.{FoundTables, KeeperBegins, TellsNone, HonestFilesAreSteady}
@@ -44,38 +42,17 @@ none_stored = record {
   storable = subst AllStorable (sym (no_tables map.empty refl)) tt;
 }
 
--- ---- the keys of tables are short
-
-short_key : (key : Key) → IsRanged key → (1 ≤ length (key_bytes key)) × (length (key_bytes key) ≤ 9)
-short_key Site ranged = (omega arith, omega arith)
-short_key (Subscriber number) ranged = (omega arith, omega arith)
-short_key (AddOn subscriber number) ranged = (omega arith, omega arith)
-short_key (Modem mac) ranged = (omega arith, omega (arith, ranged))
-short_key (Class number) ranged = (omega arith, omega arith)
-short_key (Pool number) ranged = (omega arith, omega arith)
-short_key (Lease address) ranged = (omega arith, omega arith)
-short_key (Reserved mac) ranged = (omega arith, omega (arith, ranged))
-short_key (Batch number) ranged = (omega arith, omega arith)
-
-short_in : (es : List (Key × Row)) (c : Cell) → AllStorable es → Has (each cell_of es) c → (1 ≤ length c.0) × (length c.0 ≤ 9)
-short_in [] c all has = absurd has
-short_in (e ∷ es) c all (inl same) = subst (λ (d : Cell). (1 ≤ length d.0) × (length d.0 ≤ 9)) (sym same) (short_key e.0 all.0.key)
-short_in (e ∷ es) c all (inr later) = short_in es c all.1 later
-
-stored_short : (m : CellMap) (t : Tables) → Stores m t → AreShort m
-stored_short m t stores ident val got =
-    short_in (map.entries t) (ident, val) stores.storable (subst (λ (es : List Cell). Has es (ident, val)) stores.cells (entry_has m ident val got))
-
 found_tables : (table : List Entry) (cells : CellsSeen) (keeper : KeeperSeen) → Found table cells → SqlTells cells keeper → FoundTables table keeper
 found_tables table cells keeper found tells = record {
   cells = found.cells;
   are = found.are;
-  told = λ t stores. tells.tables t (record { cells = found.cells; told = found.told (stored_short found.cells t stores); stores = stores });
+  told = λ t stores. tells.tables t (record { cells = found.cells; told = found.told; stores = stores });
   up = tells.up found.up;
 }
 
-pub keeper_begins : {S : Type 0} (g : Ghosts S) (conn : Held S) (cells : CellsSeen) (keeper : KeeperSeen) → HasBegun g conn cells → SqlTells cells keeper → KeeperBegins g conn keeper
+pub keeper_begins : {S : Type 0} (g : Ghosts S) (conn : Held S) (cells : CellsSeen) (keeper : KeeperSeen) → HasBegun g conn cells → SqlTells cells keeper → KeeperBegins g conn cells keeper
 keeper_begins g conn cells keeper begun tells = record {
+  begun = begun;
   made = λ steady has.
       let it = begun.made steady has in (tells.tables map.empty (record { cells = map.empty; told = it.0; stores = none_stored }), tells.up it.1);
   found = λ steady has. found_tables _ cells keeper (begun.found steady has) tells;
@@ -87,14 +64,14 @@ keeper_begins g conn cells keeper begun tells = record {
 pub memory_steady : IsSteady over_memory
 memory_steady s = no_doubt true refl
 
-pub begins_empty : (conn : Held MemStore) (seen : KeeperSeen) → IsEmpty (state over_memory conn) → KeeperBegins over_memory conn seen → TellsNone seen
-begins_empty conn seen empty begun =
+pub begins_empty : (conn : Held MemStore) (cells : CellsSeen) (seen : KeeperSeen) → IsEmpty (state over_memory conn) → KeeperBegins over_memory conn cells seen → TellsNone seen
+begins_empty conn cells seen empty begun =
     let it = begun.made memory_steady empty.2 in record { tables = it.0; up = it.1; faults = begun.faults; calls = begun.calls; commits = begun.commits }
 
-pub begun_none : {K E : Type 0} (conn : Held MemStore) (seen : K → KeeperSeen) (r : Result K E) → IsEmpty (state over_memory conn)
-    → IfOk r (λ k. KeeperBegins over_memory conn (seen k)) → IfOk r (λ k. TellsNone (seen k))
-begun_none conn seen (Ok k) empty begun = begins_empty conn (seen k) empty begun
-begun_none conn seen (Err e) empty begun = tt
+pub begun_none : {K E : Type 0} (conn : Held MemStore) (cells : K → CellsSeen) (seen : K → KeeperSeen) (r : Result K E) → IsEmpty (state over_memory conn)
+    → IfOk r (λ k. KeeperBegins over_memory conn (cells k) (seen k)) → IfOk r (λ k. TellsNone (seen k))
+begun_none conn cells seen (Ok k) empty begun = begins_empty conn (cells k) (seen k) empty begun
+begun_none conn cells seen (Err e) empty begun = tt
 
 pub honest_steady : {D : Type 0} (g : disk.Ghosts D) → HonestFilesAreSteady g
 unfolding Rattle.sqlite_pool.specs.Pool.state

@@ -8,9 +8,10 @@ use Rattle.sqlite.specs.Files.{over_files}
 use Rattle.sqlite.specs.Held.{Held, state}
 use Rattle.off_defs.specs.State.{Tables}
 use Rattle.off_outside.specs.KeeperSeen.{KeeperSeen}
-use Rattle.off_cells.specs.CellsSeen.{CellMap}
+use Rattle.off_cells.specs.CellsSeen.{CellMap, CellsSeen}
 use Rattle.off_sqlcells.specs.Office.{no_schema, office_schema}
 use Rattle.off_sqlcells.specs.Holds.{AreCells}
+use Rattle.off_sqlcells.specs.SqlCellsSeen.{HasBegun}
 use Rattle.off_sqlcells.specs.Stands.{IsSteady}
 use Rattle.off_keepsql.specs.Stored.{Stores}
 
@@ -23,9 +24,11 @@ pub record FoundTables (table : List Row) (seen : KeeperSeen) : Type 0 where
   pub up : seen.up
 
 -- Over a steady store it tells empty tables, where the database had no table; and where it had the
--- table `office`, the tables that its rows store.
-pub record KeeperBegins {S : Type 0} (g : Ghosts S) (conn : Held S)
+-- table `office`, the tables that its rows store. Its cells have begun over the connection, so they
+-- are the rows that were there, also those that aren't a key and a row.
+pub record KeeperBegins {S : Type 0} (g : Ghosts S) (conn : Held S) (cells : CellsSeen)
     (seen : KeeperSeen) : Type 0 where
+  pub begun : HasBegun g conn cells
   pub made : IsSteady g → (state g conn).now.schema ≡ no_schema → seen.tables map.empty × seen.up
   pub found : IsSteady g → (state g conn).now.schema ≡ office_schema
       → FoundTables ((state g conn).now.trees 0) seen

@@ -2,16 +2,18 @@ ghost use Rattle.std.specs.Prelude.{IfOk};
 ghost use Rattle.off_keepsql.specs.Begin.{KeeperBegins, TellsNone};
 
 use crate::sql_keeper::SqlKeeper;
+use off_cells::Cells;
 use off_outside::{KeepErr, Keeper};
 use off_sqlcells::{Ordered, SqlCells};
 use sqlite::{Connection, MemStore};
 use std::alloc::Global;
 
 impl<S: Ordered + Drop> SqlKeeper<SqlCells<S>> {
-    /// A keeper over a database, whose table `office` is made where it isn't there. Where that is
-    /// refused, the connection is dropped.
+    /// A keeper over a database, whose table `office` is made where it isn't there. A database that
+    /// has anything else is refused. Where it is refused, the connection is dropped.
     pub fn begin(_alloc: Global, conn: Connection<S>) -> Result<SqlKeeper<SqlCells<S>>, KeepErr>
         ensures { IfOk result (λ keeper. KeeperBegins S.Store conn
+            (⟦<SqlCells<S> as Cells>⟧.seen keeper.cells)
             (⟦<SqlKeeper<SqlCells<S>> as Keeper>⟧.seen keeper)) }
     {
         match SqlCells::begin(conn) {

@@ -19,7 +19,7 @@ use Rattle.sqlite_rules.specs.Lists.{Has}
 use Rattle.sqlite_rules.proofs.ListLemmas.{all_has, all_from, has_right}
 use Rattle.sqlite_rules.proofs.ProbeLemmas.{has_mapped, mapped_has}
 use Rattle.off_sqlcells.specs.Office.{cell_row}
-use Rattle.off_sqlcells.proofs.Texts.{table_query, has_ident, is_above, has_rowid_given, by_ident, next_query}
+use Rattle.off_sqlcells.proofs.Texts.{table_query, has_ident, is_above, has_rowid_given, by_ident, walk_query}
 
 has_matched : {X Y : Type 0} (p : X → Bool) (f : X → Y) (xs : List X) (y : Y) → Has (flat_map (λ x. cond (p x) (f x ∷ []) []) xs) y → (x : X) × Has xs x × (p x ≡ true) × (y ≡ f x)
 has_matched p f [] y h = absurd h
@@ -112,12 +112,12 @@ has_place (y ∷ xs) x d (inr later) = let p = has_place xs x d later in (suc p.
 abbrev by_first : Output → Output → Bool
 by_first x y = is_lt (value_cmp (column x.0 0) (column y.0 0))
 
-bare_sorted : (xs : List Output) → IsSortedBy (λ x y. is_lt (output_cmp next_query x y)) xs → IsSortedBy by_first xs
-bare_sorted xs up k d low high = ap is_lt (sym (then-Equal _)) ∙ up k d low high
+bare_sorted : (filter : List Term) (xs : List Output) → IsSortedBy (λ x y. is_lt (output_cmp (walk_query filter) x y)) xs → IsSortedBy by_first xs
+bare_sorted filter xs up k d low high = ap is_lt (sym (then-Equal _)) ∙ up k d low high
 
-pub first_least : (o : Output) (os : List Output) → IsSortedBy (λ x y. is_lt (output_cmp next_query x y)) (o ∷ os) → (x : Output) → Has (o ∷ os) x
+pub first_least : (filter : List Term) (o : Output) (os : List Output) → IsSortedBy (λ x y. is_lt (output_cmp (walk_query filter) x y)) (o ∷ os) → (x : Output) → Has (o ∷ os) x
     → is_lt (value_cmp (column x.0 0) (column o.0 0)) ≡ false
-first_least o os up x h =
+first_least filter o os up x h =
     let p = has_place (o ∷ os) x o h in
-    let far = sorted_far by_first (ranks_by value_cmp_total (λ (z : Output). column z.0 0)) (o ∷ os) (bare_sorted (o ∷ os) up) 0 p.0 o (omega arith) p.1 in
+    let far = sorted_far by_first (ranks_by value_cmp_total (λ (z : Output). column z.0 0)) (o ∷ os) (bare_sorted filter (o ∷ os) up) 0 p.0 o (omega arith) p.1 in
     subst (λ (z : Output). is_lt (value_cmp (column z.0 0) (column o.0 0)) ≡ false) p.2 far

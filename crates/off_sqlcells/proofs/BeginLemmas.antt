@@ -1,6 +1,7 @@
 -- The table that is made, and the one that was there.
 use Rattle.std.proofs.Common.{◌≡◌, ℕ, List, [], Ok, Result, None, IsTrue, Bool, true, false, not, refl, sym, ap, subst, ◌∙◌}
 use Rattle.std.specs.FinMap as map
+use Rattle.std.specs.Fmt.{digits}
 use Rattle.sqlite_value.specs.Order.{Row}
 use Rattle.sqlite_trees.specs.Tree.{Trees}
 use Rattle.sqlite_trees.specs.declared.store.Store.{Ghosts}
@@ -14,9 +15,9 @@ use Rattle.sqlite.specs.Effect.{Database}
 use Rattle.sqlite.specs.Held.{Held, state}
 use Rattle.sqlite.specs.State.{State, Writes, Executes, IsLive}
 use Rattle.sqlite.proofs.Callers.{runs_as}
-use Rattle.off_sqlcells.specs.Office.{office, no_schema, office_schema}
+use Rattle.off_sqlcells.specs.Office.{office, no_schema, office_schema, IsOurs}
 use Rattle.off_sqlcells.specs.Statements.{make_text}
-use Rattle.off_sqlcells.specs.Holds.{Holds, AreShort}
+use Rattle.off_sqlcells.specs.Holds.{Holds}
 use Rattle.off_sqlcells.specs.InOrder.{IsInOrder, KeepsOrder}
 use Rattle.off_sqlcells.specs.Stands.{IsSteady, Makes}
 use Rattle.off_sqlcells.specs.SqlCellsSeen.{sql_seen, Found, HasBegun}
@@ -24,6 +25,11 @@ use Rattle.off_sqlcells.proofs.Texts.{make_is, make_plain, made_is, made_plain}
 use Rattle.off_sqlcells.proofs.RowLemmas.{holds_none}
 use Rattle.off_sqlcells.proofs.Content.{went, same_value}
 use Rattle.off_sqlcells.proofs.FoundRows.{AreSound, cells_of, are_cells, sound_hold, committed_sound}
+
+-- the table and the index of its key
+created_is : created no_schema office ≡ office_schema
+unfolding digits
+created_is = refl
 
 creates : (old new : State) (count : ℕ) → old.now.schema ≡ no_schema → Executes make_text [] old new (Ok count)
     → (new.now.schema ≡ office_schema) × (new.now.trees 0 ≡ []) × IsTrue new.is_open
@@ -34,7 +40,7 @@ creates old new count has h =
     let made = first.1 in
     let both : ◌≡◌ {A = Result Table CompileError} (Ok made.table) (Ok office) = sym made.defined ∙ make_is.2 in
     let same : made.table ≡ office = cc in
-    let schema : first.0.schema ≡ office_schema = made.is ∙ ap (λ s. created s made.table) has ∙ ap (created no_schema) same in
+    let schema : first.0.schema ≡ office_schema = made.is ∙ ap (λ s. created s made.table) has ∙ ap (created no_schema) same ∙ created_is in
     let plain = ap lacks_sequence schema in
     let now : new.now ≡ first.0 = ap (λ (p : Tally × Database). p.1) (same_value all.2) ∙ same_value (rw plain at first.2) in
     (ap (λ (d : Database). d.schema) now ∙ schema, ap (λ (d : Database). d.trees 0) now ∙ subst (λ s. first.0.trees (next_tree s) ≡ []) has made.empty, w.shown.is_open)
@@ -68,16 +74,17 @@ module _ {S : Type 0} (g : Ghosts S) (old new : Held S) (orders : KeepsOrder g) 
       let schema : (state g new).now.schema ≡ office_schema = ap (λ (d : Database). d.schema) found.0 ∙ has in
       let rows = (state g new).now.trees 0 in
       let sound = shown_sound g new (orders new.store up) live up (settled up) schema in
-      let told : AreShort (cells_of rows) → (sql_seen g new 0 0).cells (cells_of rows) =
-      λ short. (steady, λ _. record { schema = schema; rows = sound_hold rows sound short; settled = settled up; idle = out }) in
+      let told : (sql_seen g new 0 0).cells (cells_of rows) =
+      (steady, λ _. record { schema = schema; rows = sound_hold rows sound; settled = settled up; idle = out }) in
       subst (λ (d : Database). Found (d.trees 0) (sql_seen g new 0 0)) found.0
       (record { cells = cells_of rows; are = are_cells rows sound; told = told; up = (steady, up) })
 
 pub begins : {S : Type 0} (g : Ghosts S) (old new : Held S) (idle : Bool) → KeepsOrder g → IsLive (state g new) → (IsSteady g → Makes (state g old) (state g new)) → idle ≡ true → idle ≡ not new.in_transaction
-    → (IsTrue idle → IsTrue (state g new).is_open → (state g new).now ≡ (state g new).committed) → HasBegun g old (sql_seen g new 0 0)
-begins g old new idle orders live makes is value settled =
+    → (IsTrue idle → IsTrue (state g new).is_open → (state g new).now ≡ (state g new).committed) → IsOurs (state g old).now.schema → HasBegun g old (sql_seen g new 0 0)
+begins g old new idle orders live makes is value settled ours =
     let out : new.in_transaction ≡ false = in_none new.in_transaction (sym is ∙ value) in
     record {
+      ours = ours;
       made = λ steady has.
           let made = (makes steady).made has in
           ((steady, λ up. record { schema = made.0; rows = subst (λ (t : List Row). Holds t map.empty) (sym made.1) holds_none; settled = settled is up; idle = out }), (steady, made.2));

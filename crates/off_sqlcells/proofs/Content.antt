@@ -29,21 +29,21 @@ use Rattle.sqlite.proofs.Callers.{statement_of, runs_as, reads_as, one_step}
 use Rattle.sqlite.specs.Listing.{understood}
 use Rattle.off_sqlcells.specs.Office.{office, office_schema, cell_row}
 use Rattle.off_cells.specs.CellsSeen.{CellMap, is_behind, next_cell}
-use Rattle.off_sqlcells.specs.Statements.{get_text, next_text, drop_text, Gets, bytes_behind, Nexts}
+use Rattle.off_sqlcells.specs.Statements.{get_text, first_text, next_text, drop_text, Gets, walk_text, walk_params, Nexts}
 use Rattle.off_sqlcells.specs.Holds.{IsCellOf, Holds}
-use Rattle.off_sqlcells.proofs.Texts.{has_ident, is_above, by_ident, get_query, next_query, drop_query, alone, get_is, get_plain, next_is, next_plain, drop_is, drop_plain}
+use Rattle.off_sqlcells.proofs.Texts.{has_ident, is_above, by_ident, get_query, walk_query, first_query, next_query, drop_query, alone, get_is, get_plain, first_is as first_is_read, first_plain, next_is, next_plain, drop_is, drop_plain}
 use Rattle.off_sqlcells.specs.OneMap.{same_key, same_bytes}
 use Rattle.off_sqlcells.proofs.RowLemmas.{own_key, drop_holds, rows_dropped, IsDropped}
 use Rattle.off_sqlcells.proofs.AnswerLemmas.{ordered_sound, ordered_complete, shown_sound, shown_complete, ident_test, above_test, first_least}
-use Rattle.off_sqlcells.proofs.NextLemmas.{first_is, none_is, same_first, entry_has, entry_got}
+use Rattle.off_sqlcells.proofs.NextLemmas.{first_is, none_is, entry_has, entry_got}
 
 abbrev bytes_cmp : List ℕ → List ℕ → Ordering
 bytes_cmp = slice_cmp nat_cmp
 
 -- ---- a row of a key
 
-abbrev IsSortedOutput : List Output → Type 0
-IsSortedOutput = IsSortedBy (λ x y. is_lt (output_cmp next_query x y))
+abbrev IsSortedOutput : List Term → List Output → Type 0
+IsSortedOutput filter = IsSortedBy (λ x y. is_lt (output_cmp (walk_query filter) x y))
 
 abbrev passes_for : List ℕ → Row → Row → Bool
 passes_for k more r = list_all (holds ((Bytes k ∷ more) ∷ r ∷ [])) (has_ident ∷ [])
@@ -78,13 +78,10 @@ gets old new k rows m has h shows =
 
 -- ---- next
 
-abbrev pub lies_above : List ℕ → List ℕ × List ℕ → Bool
-lies_above after cell = is_lt (bytes_cmp after cell.0)
-
-abbrev NextsAbove : List ℕ → CellMap → List Row → Type 0
-NextsAbove after m [] = first_of_all (lies_above after) (map.entries m) ≡ None
-NextsAbove after m (x ∷ more) =
-    (i : List ℕ) × (v : List ℕ) × (x ≡ Bytes i ∷ Bytes v ∷ []) × (first_of_all (lies_above after) (map.entries m) ≡ Some (i, v))
+abbrev NextsBy : (List ℕ × List ℕ → Bool) → CellMap → List Row → Type 0
+NextsBy lies m [] = first_of_all lies (map.entries m) ≡ None
+NextsBy lies m (x ∷ more) =
+    (i : List ℕ) × (v : List ℕ) × (x ≡ Bytes i ∷ Bytes v ∷ []) × (first_of_all lies (map.entries m) ≡ Some (i, v))
 
 turned : (o : Ordering) → is_gt (ordering_reverse o) ≡ is_lt o
 turned Less = refl
@@ -94,66 +91,61 @@ turned Greater = refl
 gt_lt : (a b : List ℕ) → is_gt (bytes_cmp a b) ≡ is_lt (bytes_cmp b a)
 gt_lt a b = ap is_gt (nat_list_cmp_total.antisymm a b) ∙ turned (bytes_cmp b a)
 
-module _ (db : Trees) (after : List ℕ) (m : CellMap) (rows : List Row) (h : Holds (db 0) m) (a : IsAnswer next_query (overlay db []) (Bytes after ∷ []) rows) where
-  abbrev above : List Term
-  above = is_above ∷ []
+-- a query for the least of the cells that lie so
+module _ (db : Trees) (params : Row) (filter : List Term) (lies : List ℕ × List ℕ → Bool) (m : CellMap) (rows : List Row)
+    (tests : (id : ℤ) (c : List ℕ × List ℕ) → list_all (holds (params ∷ cell_row id c.0 c.1 ∷ [])) filter ≡ lies c)
+    (h : Holds (db 0) m) (a : IsAnswer (walk_query filter) (overlay db []) params rows) where
+  abbrev passes : Row → Bool
+  passes r = list_all (holds (params ∷ r ∷ [])) filter
 
   abbrev shows : Row → Output
-  shows r = output next_query ((Bytes after ∷ []) ∷ r ∷ [])
+  shows r = output (walk_query filter) (params ∷ r ∷ [])
 
-  sound : (o : Output) → Has a.ordered o → (r : Row) × Has (db 0) r × (list_all (holds ((Bytes after ∷ []) ∷ r ∷ [])) above ≡ true) × (o ≡ shows r)
-  sound o has = ordered_sound above (col 1 1 ∷ col 1 2 ∷ []) by_ident next_query.limit db (Bytes after ∷ []) rows a o has
+  sound : (o : Output) → Has a.ordered o → (r : Row) × Has (db 0) r × (passes r ≡ true) × (o ≡ shows r)
+  sound o has = ordered_sound filter (col 1 1 ∷ col 1 2 ∷ []) by_ident next_query.limit db params rows a o has
 
-  entry_shown : (c : List ℕ × List ℕ) → Has (map.entries m) c → lies_above after c ≡ true → (id : ℤ) × Has a.ordered (shows (cell_row id c.0 c.1))
+  entry_shown : (c : List ℕ × List ℕ) → Has (map.entries m) c → lies c ≡ true → (id : ℤ) × Has a.ordered (shows (cell_row id c.0 c.1))
   entry_shown c has t =
       let row = h.are.there c.0 c.1 (entry_got m c has) in
-      (row.0, ordered_complete above (col 1 1 ∷ col 1 2 ∷ []) by_ident next_query.limit db (Bytes after ∷ []) rows a (cell_row row.0 c.0 c.1) row.1 (above_test after c.0 c.1 row.0 ∙ gt_lt c.0 after ∙ t))
+      (row.0, ordered_complete filter (col 1 1 ∷ col 1 2 ∷ []) by_ident next_query.limit db params rows a (cell_row row.0 c.0 c.1) row.1 (tests row.0 c ∙ t))
 
-  next_by : (ordered : List Output) → a.ordered ≡ ordered → rows ≡ take 1 (map (λ (o : Output). o.1) ordered) → NextsAbove after m rows
+  next_by : (ordered : List Output) → a.ordered ≡ ordered → rows ≡ take 1 (map (λ (o : Output). o.1) ordered) → NextsBy lies m rows
   next_by [] is cut =
-      subst (NextsAbove after m) (sym cut) (none_is (lies_above after) (map.entries m) (λ c has. false_from_ne_true _ (λ t.
+      subst (NextsBy lies m) (sym cut) (none_is lies (map.entries m) (λ c has. false_from_ne_true _ (λ t.
       let s = entry_shown c has t in subst (λ (l : List Output). Has l (shows (cell_row s.0 c.0 c.1))) is s.1)))
   next_by (o ∷ os) is cut =
       let s = sound o (subst (λ (l : List Output). Has l o) (sym is) (inl refl)) in
       let c = h.are.cells s.0 s.1 in
       let at : o ≡ shows (cell_row c.id c.ident c.val) = s.3 ∙ ap shows c.is in
-      let passes : lies_above after (c.ident, c.val) ≡ true =
-      sym (gt_lt c.ident after) ∙ sym (above_test after c.ident c.val c.id) ∙ sym (ap (λ (r : Row). list_all (holds ((Bytes after ∷ []) ∷ r ∷ [])) above) c.is) ∙ s.2 in
-      let least : (e : List ℕ × List ℕ) → Has (map.entries m) e → lies_above after e ≡ true → is_lt (bytes_cmp e.0 c.ident) ≡ false = λ e has t.
+      let passing : lies (c.ident, c.val) ≡ true = sym (tests c.id (c.ident, c.val)) ∙ sym (ap passes c.is) ∙ s.2 in
+      let least : (e : List ℕ × List ℕ) → Has (map.entries m) e → lies e ≡ true → is_lt (bytes_cmp e.0 c.ident) ≡ false = λ e has t.
       let there = entry_shown e has t in
-      let low = first_least o os (subst (λ (l : List Output). IsSortedOutput l) is a.sorted) (shows (cell_row there.0 e.0 e.1)) (subst (λ (l : List Output). Has l (shows (cell_row there.0 e.0 e.1))) is there.1) in
+      let low = first_least filter o os (subst (λ (l : List Output). IsSortedOutput filter l) is a.sorted) (shows (cell_row there.0 e.0 e.1)) (subst (λ (l : List Output). Has l (shows (cell_row there.0 e.0 e.1))) is there.1) in
       ap is_lt (sym (value_cmp-Blob e.0 c.ident)) ∙ ap (λ (z : Output). is_lt (value_cmp (Bytes e.0) (column z.0 0))) (sym at) ∙ low in
-      subst (NextsAbove after m) (sym cut) (
+      subst (NextsBy lies m) (sym cut) (
         c.ident,
         c.val,
         ap (λ (z : Output). z.1) at,
-        first_is (lies_above after) (map.entries m) (c.ident, c.val) (map.entries_sorted m) (entry_has m c.ident c.val c.held) passes least,
+        first_is lies (map.entries m) (c.ident, c.val) (map.entries_sorted m) (entry_has m c.ident c.val c.held) passing least,
       )
 
-  pub next_rows : NextsAbove after m rows
+  pub next_rows : NextsBy lies m rows
   next_rows = next_by a.ordered refl a.shown
 
--- each key lies behind the place before the first
-behind_all : (table : List Row) (m : CellMap) (c : List ℕ × List ℕ) → Holds table m → Has (map.entries m) c → lies_above [] c ≡ true
-behind_all table m c h has = above_none c.0 (h.short c.0 c.1 (entry_got m c has)).0
-  where
-    above_none : (i : List ℕ) → 1 ≤ length i → is_lt (bytes_cmp [] i) ≡ true
-    above_none [] low = absurd (omega (arith, low))
-    above_none (b ∷ bs) low = refl
-
-place_same : (table : List Row) (place : Option (List ℕ)) (m : CellMap) → Holds table m → first_of_all (lies_above (bytes_behind place)) (map.entries m) ≡ next_cell place m
-place_same table None m h = same_first (lies_above []) (is_behind None) (map.entries m) (λ c has. behind_all table m c h has)
-place_same table (Some ident) m h = refl
-
-at_place : (table : List Row) (place : Option (List ℕ)) (m : CellMap) (rows : List Row) → Holds table m → NextsAbove (bytes_behind place) m rows → Nexts place m rows
-at_place table place m [] h n = sym (place_same table place m h) ∙ n
-at_place table place m (x ∷ more) h n = (n.0, n.1, n.2, sym (place_same table place m h) ∙ n.3)
+at_place : (place : Option (List ℕ)) (m : CellMap) (rows : List Row) → NextsBy (is_behind place) m rows → Nexts place m rows
+at_place place m [] n = n
+at_place place m (x ∷ more) n = n
 
 pub nexts : (old new : State) (place : Option (List ℕ)) (rows : List Row) (m : CellMap) → old.now.schema ≡ office_schema → Holds (old.now.trees 0) m
-    → Shown next_text (Bytes (bytes_behind place) ∷ []) old new rows → Nexts place m rows
-nexts old new place rows m has h shows =
-    at_place (old.now.trees 0) place m rows h
-    (next_rows old.now.trees (bytes_behind place) m rows h ((reads_as next_text (Bytes (bytes_behind place) ∷ []) old new office_schema has (Select (alone next_query) (codes "ident" ∷ codes "val" ∷ [])) next_is.0 next_plain next_is.1 rows shows).answer Null))
+    → Shown (walk_text place) (walk_params place) old new rows → Nexts place m rows
+nexts old new None rows m has h shows =
+    at_place None m rows
+    (next_rows old.now.trees [] [] (is_behind None) m rows (λ id c. refl) h
+    ((reads_as first_text [] old new office_schema has (Select (alone first_query) (codes "ident" ∷ codes "val" ∷ [])) first_is_read.0 first_plain first_is_read.1 rows shows).answer Null))
+nexts old new (Some ident) rows m has h shows =
+    at_place (Some ident) m rows
+    (next_rows old.now.trees (Bytes ident ∷ []) (is_above ∷ []) (is_behind (Some ident)) m rows (λ id c. above_test ident c.0 c.1 id ∙ gt_lt c.0 ident) h
+    ((reads_as next_text (Bytes ident ∷ []) old new office_schema has (Select (alone next_query) (codes "ident" ∷ codes "val" ∷ [])) next_is.0 next_plain next_is.1 rows shows).answer Null))
 
 -- ---- a part that gave a value did not stop on the way
 

@@ -26,7 +26,7 @@ use Rattle.sqlite_catalog.specs.Listing.{IsSound}
 use Rattle.sqlite_catalog.proofs.ReadLemmas.{shaped_of}
 use Rattle.off_cells.specs.CellsSeen.{CellMap}
 use Rattle.off_sqlcells.specs.Office.{office, office_schema, cell_row}
-use Rattle.off_sqlcells.specs.Holds.{AreCells, AreShort, Holds}
+use Rattle.off_sqlcells.specs.Holds.{AreCells, Holds}
 use Rattle.off_sqlcells.specs.InOrder.{IsInOrder}
 use Rattle.off_sqlcells.proofs.RowLemmas.{tied_id, own_key, none_are, put_are, IsPut}
 use Rattle.off_sqlcells.proofs.PutContent.{bytes_equal}
@@ -148,10 +148,9 @@ are_cells (row ∷ rows) sound =
     subst (λ (r : Row). AreCells (r ∷ rows) (cells_of (r ∷ rows))) (sym one.3)
     (put_are rows (new ∷ rows) (cells_of rows) one.1 one.2 (are_cells rows (fewer new rows made)) (first_put rows one.0 one.1 one.2 made))
 
-pub sound_hold : (rows : List Row) → AreSound rows → AreShort (cells_of rows) → Holds rows (cells_of rows)
-sound_hold rows sound short = record {
+pub sound_hold : (rows : List Row) → AreSound rows → Holds rows (cells_of rows)
+sound_hold rows sound = record {
   are = are_cells rows sound;
-  short = short;
   apart = λ a b h k same. rising_apart rows a b sound.rise h k same;
   single = sound.single;
 }

@@ -51,12 +51,6 @@ pub none_is : (p : Entry → Bool) (es : List Entry) → ((c : Entry) → Has es
 none_is p [] each = refl
 none_is p (x ∷ es) each = ap (λ b. cond b (Some x) (first_of_all p es)) (each x (inl refl)) ∙ none_is p es (λ c h. each c (inr h))
 
--- two tests that agree at each
-pub same_first : (p q : Entry → Bool) (es : List Entry) → ((c : Entry) → Has es c → p c ≡ q c) → first_of_all p es ≡ first_of_all q es
-same_first p q [] each = refl
-same_first p q (x ∷ es) each =
-    ap (λ b. cond b (Some x) (first_of_all p es)) (each x (inl refl)) ∙ ap (λ (o : Option Entry). cond (q x) (Some x) o) (same_first p q es (λ c h. each c (inr h)))
-
 -- ---- entries and values
 
 found_has : (q v : List ℕ) (es : List Entry) → map.find bytes_cmp q es ≡ Some v → Has es (q, v)

@@ -1,5 +1,5 @@
 -- What the insertion makes of the cells that the rows of the table hold.
-use Rattle.std.proofs.Common.{◌≡◌, ◌≢◌, ℕ, ℤ, ◌≤◌, Bool, true, false, cond, ◌&&◌, ◌||◌, List, [], ◌∷◌, length, map, drop, Option, Some, None, Ok, Err, Result, refl, sym, ap, subst, ◌∙◌, inl, inr}
+use Rattle.std.proofs.Common.{◌≡◌, ◌≢◌, ℕ, ℤ, Bool, true, false, cond, ◌&&◌, ◌||◌, List, [], ◌∷◌, map, drop, Option, Some, None, Ok, Err, Result, refl, sym, ap, subst, ◌∙◌, inl, inr}
 use Rattle.std.specs.List.{list_all}
 use Rattle.std.specs.Ordering.{nat_cmp, is_eq, eq_by_cmp}
 use Rattle.std.specs.Cmp.{tied_itself}
@@ -191,9 +191,9 @@ module _ (limit : Option ℕ) (keys : Keys) (k v : List ℕ) (db : Trees) (m : C
   put_tried one (inl refused) = absurd (let e = refused.1 in cc)
   put_tried one (inr tried) = put_judged one tried.0 tried.2
 
-pub puts : (old new : State) (k v : List ℕ) (count : ℕ) (m : CellMap) → old.now.schema ≡ office_schema → Holds (old.now.trees 0) m → (1 ≤ length k) × (length k ≤ 9)
+pub puts : (old new : State) (k v : List ℕ) (count : ℕ) (m : CellMap) → old.now.schema ≡ office_schema → Holds (old.now.trees 0) m
     → Executes put_text (Bytes k ∷ Bytes v ∷ []) old new (Ok count) → (new.now.schema ≡ office_schema) × Holds (new.now.trees 0) (map.insert m k v)
-puts old new k v count m has h short ran =
+puts old new k v count m has h ran =
     let params = Bytes k ∷ Bytes v ∷ [] in
     let db = old.now.trees in
     let command = InsertOr 0 Abort (Values put_terms 3) (upsert ∷ []) in
@@ -219,5 +219,5 @@ puts old new k v count m has h short ran =
     let ended : done.0.trees ≡ after.0 = ap (λ (it : Written). it.trees) (same_value after.2) in
     let path : new.now.trees 0 ≡ one.0.trees 0 = ap (λ (d : Database). d.trees 0) now ∙ ap (λ (t : Trees). t 0) (ended ∙ counted ∙ joined_is) in (
       ap (λ (d : Database). d.schema) now,
-      subst (λ (t : List Row). Holds t (map.insert m k v)) (sym path) (put_holds (db 0) (one.0.trees 0) m k v h short put),
+      subst (λ (t : List Row). Holds t (map.insert m k v)) (sym path) (put_holds (db 0) (one.0.trees 0) m k v h put),
     )

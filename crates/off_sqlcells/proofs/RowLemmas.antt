@@ -1,5 +1,5 @@
 -- What writes of rows make of the cells that the rows hold.
-use Rattle.std.proofs.Common.{◌≡◌, ◌≢◌, ◌⊎◌, inl, inr, ℕ, ℤ, ◌≤◌, Bool, true, false, cond, not, ◌&&◌, List, [], ◌∷◌, length, Some, None, refl, sym, ap, subst, ◌∙◌}
+use Rattle.std.proofs.Common.{◌≡◌, ◌≢◌, ◌⊎◌, inl, inr, ℕ, ℤ, Bool, true, false, cond, not, ◌&&◌, List, [], ◌∷◌, Some, None, refl, sym, ap, subst, ◌∙◌}
 use Rattle.std.specs.Ordering.{nat_cmp, int_cmp, is_eq, eq_by_cmp}
 use Rattle.std.specs.Cmp.{eq_by_cmp_equiv, tied_itself}
 use Rattle.std.specs.Cmp.Lexicographic.{slice_cmp, nat_list_cmp_total}
@@ -69,7 +69,6 @@ none_are = record { cells = λ row h. absurd h; there = λ ident val got. absurd
 pub holds_none : Holds [] no_cells
 holds_none = record {
   are = none_are;
-  short = λ ident val got. absurd (never_got ident val got);
   apart = λ a b h k e. absurd h;
   single = λ a b h k e. absurd h;
 }
@@ -110,13 +109,7 @@ module _ (old new : List Row) (m : CellMap) (k v : List ℕ) (are : AreCells old
   pub put_are : AreCells new (map.insert m k v)
   put_are = record { cells = put_cell; there = put_there }
 
-module _ (old new : List Row) (m : CellMap) (k v : List ℕ) (holds : Holds old m) (short : (1 ≤ length k) × (length k ≤ 9)) (p : IsPut old new k v) where
-  put_short : (ident val : List ℕ) → map.get (map.insert m k v) ident ≡ Some val → (1 ≤ length ident) × (length ident ≤ 9)
-  put_short ident val got = elim (key_cases ident k) [
-    | inl same ↦ subst (λ (b : List ℕ). (1 ≤ length b) × (length b ≤ 9)) (sym same) short
-    | inr other ↦ holds.short ident val (sym (got_other m k v ident other) ∙ got)
-  ]
-
+module _ (old new : List Row) (m : CellMap) (k v : List ℕ) (holds : Holds old m) (p : IsPut old new k v) where
   put_apart : (a b : Row) → Has new a → Has new b → rowid a ≡ rowid b → a ≡ b
   put_apart a b ha hb e = elim (p.back a ha) [
     | inl sa ↦ elim (p.back b hb) [
@@ -142,7 +135,7 @@ module _ (old new : List Row) (m : CellMap) (k v : List ℕ) (holds : Holds old 
   ]
 
   pub put_holds : Holds new (map.insert m k v)
-  put_holds = record { are = put_are old new m k v holds.are p; short = put_short; apart = put_apart; single = put_single }
+  put_holds = record { are = put_are old new m k v holds.are p; apart = put_apart; single = put_single }
 
 module _ (old new : List Row) (m : CellMap) (k : List ℕ) (holds : Holds old m) (p : IsDropped old new k) where
   drop_cell : (x : Row) → Has new x → IsCellOf (map.remove m k) x
@@ -166,7 +159,6 @@ module _ (old new : List Row) (m : CellMap) (k : List ℕ) (holds : Holds old m)
   pub drop_holds : Holds new (map.remove m k)
   drop_holds = record {
     are = record { cells = drop_cell; there = drop_there };
-    short = λ ident val got. holds.short ident val (drop_got ident val got).1;
     apart = λ a b ha hb e. holds.apart a b (p.back a ha).0 (p.back b hb).0 e;
     single = λ a b ha hb e. holds.single a b (p.back a ha).0 (p.back b hb).0 e;
   }

@@ -1,5 +1,5 @@
 -- What a connection tells after each call.
-use Rattle.std.proofs.Common.{◌≡◌, ◌⊎◌, ℕ, ◌≤◌, false, List, [], ◌∷◌, length, Option, Some, None, Ok, Err, IsTrue, sym, ap, subst, ◌∙◌, inl, inr}
+use Rattle.std.proofs.Common.{◌≡◌, ◌⊎◌, ℕ, false, List, [], ◌∷◌, Option, Some, None, Ok, Err, IsTrue, sym, ap, subst, ◌∙◌, inl, inr}
 use Rattle.std.specs.FinMap as map
 use Rattle.std.proofs.lemmas.Bool.{true≢false}
 use Rattle.sqlite_value.specs.declared.value.Value.TheVariants.{Blob as Bytes}
@@ -17,8 +17,8 @@ use Rattle.off_cells.specs.CellsSeen.{CellMap}
 use Rattle.off_sqlcells.specs.Office.{office_schema}
 use Rattle.off_sqlcells.specs.Holds.{Holds}
 use Rattle.off_sqlcells.specs.Stands.{Tells, Within, IsBased, Looked}
-use Rattle.off_sqlcells.proofs.Texts.{get_plain, next_plain}
-use Rattle.off_sqlcells.specs.Statements.{get_text, next_text, put_text, drop_text, Gets, bytes_behind, Nexts}
+use Rattle.off_sqlcells.proofs.Texts.{get_plain, first_plain, next_plain}
+use Rattle.off_sqlcells.specs.Statements.{get_text, first_text, next_text, put_text, drop_text, Gets, walk_text, walk_params, Nexts}
 use Rattle.off_sqlcells.proofs.Content.{gets, nexts, drops}
 use Rattle.off_sqlcells.proofs.PutContent.{puts}
 
@@ -101,9 +101,11 @@ looked sql params old new rows P plain reads shown = record {
 pub got_told : (k : List ℕ) (old new : State) (rows : List Row) → Shown get_text (Bytes k ∷ []) old new rows → Looked old new (λ m. Gets k m rows)
 got_told k old new rows shown = looked get_text (Bytes k ∷ []) old new rows (λ m. Gets k m rows) get_plain (λ m has h s. gets old new k rows m has h s) shown
 
-pub came_told : (place : Option (List ℕ)) (old new : State) (rows : List Row) → Shown next_text (Bytes (bytes_behind place) ∷ []) old new rows → Looked old new (λ m. Nexts place m rows)
-came_told place old new rows shown =
-    looked next_text (Bytes (bytes_behind place) ∷ []) old new rows (λ m. Nexts place m rows) next_plain (λ m has h s. nexts old new place rows m has h s) shown
+pub came_told : (place : Option (List ℕ)) (old new : State) (rows : List Row) → Shown (walk_text place) (walk_params place) old new rows → Looked old new (λ m. Nexts place m rows)
+came_told None old new rows shown =
+    looked first_text [] old new rows (λ m. Nexts None m rows) first_plain (λ m has h s. nexts old new None rows m has h s) shown
+came_told (Some ident) old new rows shown =
+    looked next_text (Bytes ident ∷ []) old new rows (λ m. Nexts (Some ident) m rows) next_plain (λ m has h s. nexts old new (Some ident) rows m has h s) shown
 
 -- ---- inside of a transaction
 
@@ -118,11 +120,11 @@ still_based base old new (inr rolled) based up = (rolled.undone up).1 ∙ based 
 pub within_based : (base : Database) (s : State) (m : CellMap) → Within base s m → IsBased base s
 within_based base s m within up = (within up).kept
 
-pub put_within : (base : Database) (old new : State) (k v : List ℕ) (count : ℕ) (m : CellMap) → (1 ≤ length k) × (length k ≤ 9)
+pub put_within : (base : Database) (old new : State) (k v : List ℕ) (count : ℕ) (m : CellMap)
     → ExecutesInside 0 put_text (Bytes k ∷ Bytes v ∷ []) old new (Ok count) → Within base old m → Within base new (map.insert m k v)
-put_within base old new k v count m short ran within up =
+put_within base old new k v count m ran within up =
     let was = within ran.1.was_open in
-    let put = puts old new k v count m was.schema was.rows short ran.0 in
+    let put = puts old new k v count m was.schema was.rows ran.0 in
     record { schema = put.0; rows = put.1; kept = ran.1.committed_is ∙ was.kept; inside = ran.1.mode }
 
 pub drop_within : (base : Database) (old new : State) (k : List ℕ) (count : ℕ) (m : CellMap)

@@ -17,7 +17,7 @@ use Rattle.sqlite_tied.specs.Compute.{everything}
 use Rattle.sqlite.specs.Listing.{understood, reads_listing}
 use Rattle.sqlite.proofs.Callers.{IsPlain, command_of, statement_of}
 use Rattle.off_sqlcells.specs.Office.{office, no_schema, office_schema}
-use Rattle.off_sqlcells.specs.Statements.{make_text, get_text, next_text, put_text, drop_text}
+use Rattle.off_sqlcells.specs.Statements.{make_text, get_text, first_text, next_text, put_text, drop_text}
 
 abbrev pub has_ident : Term
 has_ident = op2 (Compare Eq Binary) (col 1 1) (col 0 0)
@@ -48,8 +48,15 @@ is_above = op2 (Compare Gt Binary) (col 1 1) (col 0 0)
 abbrev pub by_ident : List (Term × Key)
 by_ident = (col 1 1, record { collation = Binary; descending = false }) ∷ []
 
+-- the cell of the least key of those that pass
+abbrev pub walk_query : List Term → Query
+walk_query filter = table_query filter (col 1 1 ∷ col 1 2 ∷ []) by_ident (lit (Int (pos 1)))
+
+abbrev pub first_query : Query
+first_query = walk_query []
+
 abbrev pub next_query : Query
-next_query = table_query (is_above ∷ []) (col 1 1 ∷ col 1 2 ∷ []) by_ident (lit (Int (pos 1)))
+next_query = walk_query (is_above ∷ [])
 
 abbrev pub drop_query : Query
 drop_query = table_query (has_ident ∷ []) (col 1 0 ∷ []) [] unlimited
@@ -92,6 +99,14 @@ get_is = (refl, refl)
 pub get_plain : IsPlain (understood office_schema get_text)
 unfolding understood everything
 get_plain = (refl, refl)
+
+pub first_is : (command_of (understood office_schema first_text) ≡ Select (alone first_query) (codes "ident" ∷ codes "val" ∷ [])) × (reads_listing office_schema first_text ≡ false)
+unfolding understood everything
+first_is = (refl, refl)
+
+pub first_plain : IsPlain (understood office_schema first_text)
+unfolding understood everything
+first_plain = (refl, refl)
 
 pub next_is : (command_of (understood office_schema next_text) ≡ Select (alone next_query) (codes "ident" ∷ codes "val" ∷ [])) × (reads_listing office_schema next_text ≡ false)
 unfolding understood everything

@@ -1,5 +1,5 @@
 -- When the rows of the table are cells, and when they hold them for the statements to work on.
-use Rattle.std.specs.Prelude.{◌≡◌, ℕ, ℤ, ◌≤◌, List, length, Some}
+use Rattle.std.specs.Prelude.{◌≡◌, ℕ, ℤ, List, Some}
 use Rattle.std.specs.FinMap as map
 use Rattle.sqlite_value.specs.Order.{Row, column}
 use Rattle.sqlite_trees.specs.Tree.{rowid}
@@ -21,14 +21,8 @@ pub record AreCells (table : List Row) (m : CellMap) : Type 0 where
   pub there : (ident val : List ℕ) → map.get m ident ≡ Some val
       → (id : ℤ) × Has table (cell_row id ident val)
 
--- each key has 1 to 9 bytes
-abbrev pub AreShort : CellMap → Type 0
-AreShort m =
-    (ident val : List ℕ) → map.get m ident ≡ Some val → (1 ≤ length ident) × (length ident ≤ 9)
-
--- The rows are the cells, no two rows share a rowid or a key, and each key is short.
+-- The rows are the cells, whatever their keys, and no two rows share a rowid or a key.
 pub record Holds (table : List Row) (m : CellMap) : Type 0 where
   pub are : AreCells table m
-  pub short : AreShort m
   pub apart : (a b : Row) → Has table a → Has table b → rowid a ≡ rowid b → a ≡ b
   pub single : (a b : Row) → Has table a → Has table b → column a 1 ≡ column b 1 → a ≡ b

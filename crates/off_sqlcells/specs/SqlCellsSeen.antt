@@ -10,8 +10,8 @@ use Rattle.off_defs.specs.Told.{IsOne}
 use Rattle.off_outside.specs.declared.keeper.KeepErr.{KeepErr}
 use Rattle.off_outside.specs.declared.keeper.KeepErr.TheVariants.{Memory, Failed}
 use Rattle.off_cells.specs.CellsSeen.{CellMap, CellsSeen}
-use Rattle.off_sqlcells.specs.Office.{no_schema, office_schema}
-use Rattle.off_sqlcells.specs.Holds.{AreCells, AreShort}
+use Rattle.off_sqlcells.specs.Office.{no_schema, office_schema, IsOurs}
+use Rattle.off_sqlcells.specs.Holds.{AreCells}
 use Rattle.off_sqlcells.specs.Stands.{IsSteady, Tells}
 use Rattle.off_sqlcells.specs.OneMap.{one_told}
 
@@ -34,17 +34,17 @@ abbrev pub Counts : {S : Type 0} → Ghosts S → Held S → KeepErr → ℕ →
 Counts g conn Memory before after = (after ≡ before) × (IsSteady g → IsTrue (state g conn).is_open)
 Counts g conn Failed before after = (after ≡ one_more before) × (before ≤ most_count)
 
--- The cells of a table that was there: those that its rows are. They are told where each key has 1
--- to 9 bytes.
+-- The cells of a table that was there: all that its rows are, whatever their keys and values.
 pub record Found (table : List Row) (seen : CellsSeen) : Type 0 where
   pub cells : CellMap
   pub are : AreCells table cells
-  pub told : AreShort cells → seen.cells cells
+  pub told : seen.cells cells
   pub up : seen.up
 
--- cells that have just begun over a connection: none, where the database had no table; and where it
--- had this table, those that its rows are
+-- Cells that have just begun over a connection. The database was the office's: where it had no table
+-- there are none, and where it had this table, they are those that its rows are. Nothing is counted.
 pub record HasBegun {S : Type 0} (g : Ghosts S) (conn : Held S) (seen : CellsSeen) : Type 0 where
+  pub ours : IsOurs (state g conn).now.schema
   pub made : IsSteady g → (state g conn).now.schema ≡ no_schema → seen.cells map.empty × seen.up
   pub found : IsSteady g → (state g conn).now.schema ≡ office_schema
       → Found ((state g conn).now.trees 0) seen

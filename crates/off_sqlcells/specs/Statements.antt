@@ -13,6 +13,9 @@ make_text =
 abbrev pub get_text : List ℕ
 get_text = codes "SELECT val FROM office WHERE ident = ?1"
 
+abbrev pub first_text : List ℕ
+first_text = codes "SELECT ident, val FROM office ORDER BY ident LIMIT 1"
+
 abbrev pub next_text : List ℕ
 next_text = codes "SELECT ident, val FROM office WHERE ident > ?1 ORDER BY ident LIMIT 1"
 
@@ -30,12 +33,16 @@ Gets ident m [] = map.get m ident ≡ None
 Gets ident m (row ∷ rows) =
     (val : List ℕ) × (row ≡ Bytes val ∷ []) × (map.get m ident ≡ Some val)
 
--- the bytes that a walk goes on behind: the empty list is below each key
-abbrev pub bytes_behind : Option (List ℕ) → List ℕ
-bytes_behind None = []
-bytes_behind (Some ident) = ident
+-- the text that a walk begins by, and the one that it goes on by behind a key; and its parameters
+abbrev pub walk_text : Option (List ℕ) → List ℕ
+walk_text None = first_text
+walk_text (Some ident) = next_text
 
--- the next cell of a walk, as the answer to `next_text` shows it
+abbrev pub walk_params : Option (List ℕ) → Row
+walk_params None = []
+walk_params (Some ident) = Bytes ident ∷ []
+
+-- the next cell of a walk, as the answer to that text shows it
 abbrev pub Nexts : Option (List ℕ) → CellMap → List Row → Type 0
 Nexts place m [] = next_cell place m ≡ None
 Nexts place m (row ∷ rows) =

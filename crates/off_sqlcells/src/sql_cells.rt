@@ -4,6 +4,7 @@ ghost use Rattle.off_sqlcells.specs.SqlCellsSeen.{sql_seen, one_sql};
 use crate::counting::counted;
 use crate::making::make_table;
 use crate::ordered::Ordered;
+use crate::schemas::is_ours;
 use crate::statements::{find_behind, find_val};
 use crate::writing::commit_all;
 use off_base::Bytes;
@@ -30,12 +31,16 @@ pub struct SqlCells<S: Alter> {
 impl<S: Ordered + Drop> SqlCells<S> {
     ghost use Rattle.off_sqlcells.specs.SqlCellsSeen.{HasBegun};
 
-    /// The cells of a database, whose table is made where it isn't there. Where that is refused,
-    /// the connection is dropped.
+    /// The cells of a database, whose table is made where it isn't there. A database that has
+    /// anything else, another table or an index, is refused. Where it is refused, the connection
+    /// is dropped.
     pub fn begin(conn: Connection<S>) -> Result<SqlCells<S>, KeepErr>
         ensures { IfOk result
             (λ cells. HasBegun S.Store conn (⟦<SqlCells<S> as Cells>⟧.seen cells)) }
     {
+        if !is_ours(conn.schema()) {
+            return Err(KeepErr::Failed);
+        }
         let mut conn = conn;
         make_table(&mut conn)?;
         // That the tables obey the schema is told by the call that shows it.

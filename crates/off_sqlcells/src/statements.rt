@@ -6,7 +6,7 @@ ghost use Rattle.sqlite_value.specs.Order.{column};
 ghost use Rattle.sqlite.specs.Held.{state};
 ghost use Rattle.sqlite.specs.State.{HasCleanDisk, Shown, FailsToQuery};
 ghost use Rattle.off_cells.specs.CellsSeen.{CellMap, cell_at, next_cell};
-ghost use Rattle.off_sqlcells.specs.Statements.{get_text, next_text, Gets, Nexts, bytes_behind};
+ghost use Rattle.off_sqlcells.specs.Statements.{get_text, first_text, next_text, Gets, Nexts};
 ghost use Rattle.off_sqlcells.specs.Stands.{IsSteady, StillTells, Looked};
 
 use crate::refusals::Refused;
@@ -76,8 +76,35 @@ pub(crate) fn find_behind<S: Alter>(
 {
     match after {
         Some(key) => find_above(conn, alloc, key.as_slice()),
-        None => find_above(conn, alloc, &[]),
+        None => find_first(conn, alloc),
     }
+}
+
+fn find_first<S: Alter>(
+    conn: &mut Connection<S>,
+    alloc: Global,
+) -> Result<Option<(KeyBytes, Bytes)>, Refused>
+    ensures mode { conn.old.in_transaction ≡ false → conn.new.in_transaction ≡ false }
+    ensures kept { IsSteady S.Store
+        → StillTells (state S.Store conn.old) (state S.Store conn.new) }
+    ensures found { IsSteady S.Store
+        → IfOk result (λ cell. Looked (state S.Store conn.old) (state S.Store conn.new)
+        (λ m. cell ≡ next_cell None m)) }
+{
+    match first_rows(conn) {
+        Ok(rows) => first_cell(alloc, &rows),
+        Err(err) => Err(Refused::from(err)),
+    }
+}
+
+fn first_rows<S: Alter>(conn: &mut Connection<S>) -> Result<Vec<Row>, Error>
+    ensures mode { conn.old.in_transaction ≡ false → conn.new.in_transaction ≡ false }
+    ensures shown { HasCleanDisk (state S.Store conn.new) → IfOk result (λ rows.
+        Shown first_text [] (state S.Store conn.old) (state S.Store conn.new) rows.items) }
+    ensures fails { HasCleanDisk (state S.Store conn.new) → IfErr result
+        (FailsToQuery first_text [] (state S.Store conn.old) (state S.Store conn.new)) }
+{
+    conn.query_all("SELECT ident, val FROM office ORDER BY ident LIMIT 1", &[])
 }
 
 // The cell of the least key above these bytes.
@@ -89,9 +116,9 @@ fn find_above<S: Alter>(
     ensures mode { conn.old.in_transaction ≡ false → conn.new.in_transaction ≡ false }
     ensures kept { IsSteady S.Store
         → StillTells (state S.Store conn.old) (state S.Store conn.new) }
-    ensures found { (place : _) → bytes_behind place ≡ after.now → IsSteady S.Store
+    ensures found { IsSteady S.Store
         → IfOk result (λ cell. Looked (state S.Store conn.old) (state S.Store conn.new)
-        (λ m. cell ≡ next_cell place m)) }
+        (λ m. cell ≡ next_cell (Some after.now) m)) }
 {
     match rows_above(conn, after) {
         Ok(rows) => first_cell(alloc, &rows),

@@ -1,4 +1,4 @@
-ghost use Rattle.std.specs.Prelude.{◌≡◌, ◌≤◌, length, false, IsTrue, OnOk, OnErr, MatchResult};
+ghost use Rattle.std.specs.Prelude.{◌≡◌, false, IsTrue, OnOk, OnErr, MatchResult};
 ghost use Rattle.std.specs.FinMap as map;
 ghost use Rattle.sqlite.specs.Effect.{Database};
 ghost use Rattle.sqlite.specs.Held.{state};
@@ -100,8 +100,6 @@ fn put_cell<S: Alter>(
     ident: &[u8],
     val: &[u8],
 ) -> Result<(), Refused>
-    requires least { 1 ≤ length ident.now }
-    requires most { length ident.now ≤ 9 }
     ensures same { work.new.conn.ghost_name ≡ work.old.conn.ghost_name }
     ensures stays { IsSteady S.Store
         → Stays (state S.Store work.old.conn.now) (state S.Store work.new.conn.now) }

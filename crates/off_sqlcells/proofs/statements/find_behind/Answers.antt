@@ -1,8 +1,7 @@
-use Rattle.std.proofs.Common.{sym, refl, Some, None}
 use Rattle.off_sqlcells.proofs.statements.find_behind.Goals as goal
 
 pub returns-in-Some-clause-found : goal.returns-in-Some-clause-found
-returns-in-Some-clause-found g c = rw c.in-Some.is (c.find_above.ensures.found (Some c.in-Some.key.now) (sym c.as_slice.ensures.bytes))
+returns-in-Some-clause-found g c = rw c.in-Some.is (rw c.as_slice.ensures.bytes at c.find_above.ensures.found)
 
 pub returns-in-None-clause-found : goal.returns-in-None-clause-found
-returns-in-None-clause-found g c = rw c.in-None.is (c.find_above-in-None.ensures.found None refl)
+returns-in-None-clause-found g c = rw c.in-None.is c.find_first.ensures.found

@@ -5,7 +5,7 @@ use Rattle.off_sqlcells.proofs.writing.put_cell.Goals as goal
 
 pub returns-in-Ok-clause-done : goal.returns-in-Ok-clause-done
 returns-in-Ok-clause-done g c = λ steady base m within.
-    put_within base _ _ c.args.ident.now c.args.val.now c.in-Ok._count m (c.requires.least, c.requires.most)
+    put_within base _ _ c.args.ident.now c.args.val.now c.in-Ok._count m
     (c.in-Ok.ensures.runs (steady c.execute-done.new.self.conn.now.store) (surely _ (λ out. let no = (c.in-Ok.ensures.ended out).0 in absurd cc))) within
 
 pub returns-in-Err-clause-stays : goal.returns-in-Err-clause-stays
