@@ -1,0 +1,5 @@
+pub mod DiskSeen
+pub mod DiskCalls
+pub mod Records
+pub mod RecordLaws
+pub mod Crashing

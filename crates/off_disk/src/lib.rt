@@ -1,0 +1,9 @@
+//! A disk that says what a crash may leave, and records on it behind gates.
+#![tactic(auto)]
+
+mod appending;
+mod disk;
+
+pub use appending::{Appended, append, close, write_synced};
+pub use disk::Disk;
+pub use off_outside::Failed;

@@ -1,0 +1,3 @@
+pub mod DiskLemmas
+pub mod HeldLemmas
+pub mod TearLemmas

@@ -1,0 +1,3 @@
+pub mod MemDisks
+pub mod MemDiskLaws
+pub mod Tearing
