@@ -111,6 +111,15 @@ def from_files(folder, lines):
     check(done.returncode == 2, "no file")
 
 
+def waits_for(path, acks):
+    """Waits until a file has so many, ten seconds at most."""
+    end = time.monotonic() + 10
+    while time.monotonic() < end:
+        if os.path.exists(path) and read_prometheus(path)[0]["dhcp", "ack"] == acks:
+            return
+        time.sleep(0.02)
+
+
 def while_it_goes_on(folder):
     """The file is written again and again, and once more at SIGTERM, with the last whole line."""
     out = os.path.join(folder, "on.prom")
@@ -118,17 +127,19 @@ def while_it_goes_on(folder):
     program = subprocess.Popen(words, stdin=subprocess.PIPE)
     program.stdin.write(b"1 dhcp offer\n2 dhcp ack\n3 dh")
     program.stdin.flush()
-    end = time.monotonic() + 10
-    while not os.path.exists(out) and time.monotonic() < end:
-        time.sleep(0.02)
+    waits_for(out, 1)
     found, _, _ = read_prometheus(out)
     check(found == {("dhcp", "offer"): 1, ("dhcp", "ack"): 1}, f"while it goes on: {found}")
     program.stdin.write(b"cp ack\n")
     program.stdin.flush()
-    time.sleep(0.3)
+    waits_for(out, 2)
+    program.stdin.write(b"4 dhcp ack\n")
+    program.stdin.flush()
+    # What it reads in a second is counted, also between two writings of the file.
+    time.sleep(1)
     program.send_signal(signal.SIGTERM)
     check(program.wait(timeout=10) == 0, "SIGTERM ends it with 0")
-    check(read_prometheus(out)[0]["dhcp", "ack"] == 2, "with all that came")
+    check(read_prometheus(out)[0]["dhcp", "ack"] == 3, "with all that came")
     left = [name for name in os.listdir(folder) if name.startswith(".office")]
     check(not left, "nothing is left beside it")
 

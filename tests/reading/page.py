@@ -43,7 +43,7 @@ def part_of(crate, name):
 
 
 def first_sentence(comment):
-    return re.match(r"(.*?(?<!\.)\.(?= |$))?", comment).group()
+    return re.match(r"(.*?(?<!\.)\.(?= |$))?", comment).group().replace("|", "\\|")
 
 
 def standards_in(comment):
@@ -75,33 +75,6 @@ def spec_units(files, uses, believed, types):
             yield Unit(file.crate, place_of(file.path), part, file.head, rows, needs)
 
 
-def type_units(types, believed):
-    """The files of the code of which types are spoken of. A type needs those that its own text names."""
-    by_path = collections.defaultdict(list)
-    for rust, (path, lines) in types.items():
-        by_path[path].append((rust, lines))
-    for path, items in by_path.items():
-        brought = {}
-        for crate, words in re.findall(r"^use (\w+)(?:::\w+)*::\{?([\w, ]+)\}?;", path.read_text(encoding="utf8"), re.MULTILINE):
-            brought.update({word: crate for word in words.split(", ")})
-        crate = items[0][0].crate
-        needs = set()
-        for rust, lines in items:
-            for word in set(re.findall(r"\w+", "\n".join(lines))):
-                home = brought.get(word, crate).replace("crate", crate)
-                needs |= {place_of(types[other][0]) for other in types if (other.crate, other.place.split(".")[-1]) == (home, word)}
-        rows = [Row(rust.place.split(".")[-1], len(lines), TYPES if rust in believed else TRAITS, "") for rust, lines in items]
-        yield Unit(crate, place_of(path), TYPES, "Types of the code.", rows, needs)
-
-
-def trait_units(traits, files, types):
-    """The traits of the outside: their contracts and their laws."""
-    for trait in traits:
-        place = place_of(trait.path)
-        needs = {title_of(named, files, types) for named in trait.named}
-        yield Unit(place.split("/")[0], f"{place}, {trait.name}", TRAITS, "The trait's contracts and laws.", [Row(trait.name, len(trait.lines), TRAITS, "")], needs)
-
-
 def in_order(keys, needs, rank):
     """The keys, each behind those that it needs; where several may stand next, the one of least rank does."""
     left, placed = set(keys), []
@@ -112,9 +85,41 @@ def in_order(keys, needs, rank):
     return placed
 
 
+def types_named(crate, path, lines, types):
+    """The types that are spoken of and that a type's own text names: of its crate, or of another by the file's `use` lines."""
+    homes = {}
+    for home, words in re.findall(r"^use (\w+)(?:::\w+)*::\{?([\w, ]+)\}?;", path.read_text(encoding="utf8"), re.MULTILINE):
+        homes.update({word: home.replace("crate", crate) for word in words.split(", ")})
+    named = {(homes.get(word, crate), word) for word in re.findall(r"\w+", "\n".join(lines))}
+    return {other for other in types if (other.crate, type_name(other)) in named}
+
+
+def type_name(rust):
+    return rust.place.split(".")[-1]
+
+
+def type_units(types, believed):
+    """The files of the code of which types are spoken of."""
+    needs = {rust: types_named(rust.crate, path, lines, types) for rust, (path, lines) in types.items()}
+    for path in dict.fromkeys(path for path, _ in types.values()):
+        own = in_order([rust for rust in types if types[rust][0] == path], needs, type_name)
+        rows = [Row(type_name(rust), len(types[rust][1]), TYPES if rust in believed else TRAITS, "") for rust in own]
+        places = {place_of(types[other][0]) for rust in own for other in needs[rust]}
+        yield Unit(own[0].crate, place_of(path), TYPES, "Types of the code.", rows, places)
+
+
+def trait_units(traits, files, types):
+    """The traits of the outside: their contracts and their laws."""
+    for trait in traits:
+        place, row = place_of(trait.path), Row(trait.name, len(trait.lines), TRAITS, "")
+        needs = {title_of(named, files, types) for named in trait.named}
+        yield Unit(place.split("/")[0], f"{place}, {trait.name}", TRAITS, "The trait's contracts and laws.", [row], needs)
+
+
 def units_of(files, uses, believed, types, traits):
     """All that must be believed, in an order in which each word stands behind those that it uses; and where it doesn't."""
-    units = {unit.title: unit for unit in [*spec_units(files, uses, believed, types), *type_units(types, believed), *trait_units(traits, files, types)]}
+    every = [*spec_units(files, uses, believed, types), *type_units(types, believed), *trait_units(traits, files, types)]
+    units = {unit.title: unit for unit in every}
     crates, needs, turn = collections.defaultdict(list), collections.defaultdict(set), {}
     for unit in units.values():
         crates[unit.crate].append(unit)
@@ -152,7 +157,7 @@ def sums_of(units, inner):
 def inner_words(files, uses):
     """The words that neither `run` nor the traits reach, by file."""
     for module, file in files.items():
-        rows = [Row(name, len(word.lines), INNER, "") for name, word in file.words.items() if not any((module, name) == at for at in uses)]
+        rows = [Row(name, len(word.lines), INNER, "") for name, word in file.words.items() if (module, name) not in uses]
         if rows:
             yield file, rows
 
