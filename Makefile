@@ -12,7 +12,7 @@ man = $(DESTDIR)$(PREFIX)/share/man/man8
 doc = $(DESTDIR)$(PREFIX)/share/doc/officed
 pages = docs/OPERATING.md docs/MESSAGES.md docs/CLERK_API.md docs/openapi.json packaging/nginx.conf
 example = examples/first-office
-helpers = office-clerk office-copy office-counts office-sql office-watch
+helpers = office-clerk office-copy office-counts office-desk office-sql office-watch
 
 build:
 	@bin/office-build proved

@@ -17,8 +17,8 @@ from every_word import text_of
 from time_service import PROGRAM, ROOT, check, failures, free_ports
 
 DOC = "share/doc/officed"
-HELPERS = ["office-clerk", "office-copy", "office-counts", "office-modem", "office-sql",
-           "office-watch"]
+HELPERS = ["office-clerk", "office-copy", "office-counts", "office-desk", "office-modem",
+           "office-sql", "office-watch"]
 INSTALLED = {
     **{f"bin/{name}": 0o755 for name in ("officed", *HELPERS)},
     "lib/systemd/system/officed.service": 0o644, "share/man/man8/officed.8": 0o644,
