@@ -10,9 +10,11 @@ bin = $(DESTDIR)$(PREFIX)/bin
 unit = $(DESTDIR)$(PREFIX)/lib/systemd/system
 man = $(DESTDIR)$(PREFIX)/share/man/man8
 doc = $(DESTDIR)$(PREFIX)/share/doc/officed
-pages = docs/OPERATING.md docs/MESSAGES.md docs/CLERK_API.md docs/openapi.json packaging/nginx.conf
+pages = docs/OPERATING.md docs/MESSAGES.md docs/CLERK_API.md docs/openapi.json docs/SIZING.md \
+	docs/ALARMS.md docs/UPGRADING.md docs/PAST_ONE_MACHINE.md docs/COMPARISON.md \
+	packaging/nginx.conf packaging/prometheus-rules.yml
 example = examples/first-office
-helpers = office-clerk office-copy office-counts office-desk office-sql office-watch
+helpers = office-all office-clerk office-copy office-counts office-desk office-sql office-watch
 
 build:
 	@bin/office-build proved

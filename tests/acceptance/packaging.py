@@ -17,13 +17,15 @@ from every_word import text_of
 from time_service import PROGRAM, ROOT, check, failures, free_ports
 
 DOC = "share/doc/officed"
-HELPERS = ["office-clerk", "office-copy", "office-counts", "office-desk", "office-modem",
-           "office-sql", "office-watch"]
+HELPERS = ["office-all", "office-clerk", "office-copy", "office-counts", "office-desk",
+           "office-modem", "office-sql", "office-watch"]
 INSTALLED = {
     **{f"bin/{name}": 0o755 for name in ("officed", *HELPERS)},
     "lib/systemd/system/officed.service": 0o644, "share/man/man8/officed.8": 0o644,
-    **{f"{DOC}/{name}": 0o644 for name in ("OPERATING.md", "MESSAGES.md", "CLERK_API.md",
-                                           "openapi.json", "nginx.conf")},
+    **{f"{DOC}/{name}": 0o644 for name in (
+        "OPERATING.md", "MESSAGES.md", "CLERK_API.md", "openapi.json", "SIZING.md", "ALARMS.md",
+        "UPGRADING.md", "PAST_ONE_MACHINE.md", "COMPARISON.md", "nginx.conf",
+        "prometheus-rules.yml")},
     **{f"{DOC}/first-office/{name}": 0o644 for name in (
         "site.json", "class-1.json", "pool-1.json", "subscriber-7.json",
         "modem-02aabbccddee.json")},
