@@ -3,11 +3,12 @@
 
 The office of the worked examples is a site, class 1, subscriber 7, a modem and a pool. What is expected is said here by hand, from the rules
 in docs/, or computed by Python's hashlib, hmac and json and the readers of examples.py, which are written from the standards. The sections on
-DHCP are those of leases.py, those on TFTP of transfers.py, those on imports
-of import_job.py, and those on drills of drills.py. With the word `check` it compares the two files with what it would write.
+DHCP are those of leases.py, those on TFTP of transfers.py, those on whole boots
+of boots.py, those on imports of import_job.py, and those on drills of drills.py. With the word `check` it compares the two files with what it would write.
 """
 import sys
 
+import boots
 import drills
 import import_job
 import leases
@@ -683,6 +684,7 @@ def main():
     limits()
     leases.sections(script, OFFICE)
     transfers.sections(script, OFFICE)
+    boots.sections(script, OFFICE)
     import_job.sections(script, OFFICE)
     drills.sections(script, OFFICE)
     return script.write("office_script")

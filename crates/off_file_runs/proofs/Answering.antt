@@ -1,5 +1,5 @@
 -- A transfer whose peer answers goes on to its last block.
-use Rattle.std.proofs.Common.{◌≡◌, ◌≢◌, ◌⊎◌, inl, inr, ℕ, zero, suc, ◌+◌, ◌≤◌, ◌==◌, Bool, true, false, true≢false, cond, if◌then◌else◌, List, [], Option, Some, None, MatchOption, Result, Ok, refl, sym, ap, subst, ◌∙◌, arith, not, codes, ◌<◌, ◌&&◌}
+use Rattle.std.proofs.Common.{◌≡◌, ◌≢◌, ◌⊎◌, inl, inr, ℕ, zero, suc, ◌+◌, ◌≤◌, ◌==◌, Bool, true, false, true≢false, cond, if◌then◌else◌, List, [], Option, Some, None, MatchOption, Result, Ok, refl, sym, ap, subst, ◌∙◌, arith, not, codes}
 use Rattle.std.proofs.lemmas.Bool.{eq-eqb, eqb-true, and_from}
 use Rattle.std.proofs.lemmas.Slice.Eq.{bytes_eq-Decides}
 use Rattle.std.specs.Str.{bytes_eq}

@@ -45,9 +45,9 @@ not_behind file size zero last within = cc
 not_behind file size (suc before) last within =
     within_at file size before within (ltb-true (length (take size (drop (before * size) file))) size last)
 
-behind_last : (file : List ℕ) (size n k : ℕ) (request : List ℕ) (first : ℕ) (name : List ℕ) (modem : Mac) (owner ticks : ℕ) (live : Option _) → is_last_number file size n ≡ true
-    → Lives file size request first name modem owner k ticks live → k ≡ suc n → ⊥
-behind_last file size n k request first name modem owner ticks live last l e =
+behind_last : (file : List ℕ) (size n k : ℕ) (request : List ℕ) (from : ℕ) (name : List ℕ) (modem : Mac) (owner ticks : ℕ) (live : Option _) → is_last_number file size n ≡ true
+    → Lives file size request from name modem owner k ticks live → k ≡ suc n → ⊥
+behind_last file size n k request from name modem owner ticks live last l e =
     not_behind file size n last
     (subst (λ f. BeginsWithin f size (suc n)) l.at.files
     (subst (λ z. BeginsWithin l.x.file z (suc n)) l.at.sizes (subst (BeginsWithin l.x.file l.x.size) (l.at.sents ∙ e) l.at.sound.within)))
@@ -66,17 +66,17 @@ each_file_ends file size some =
 
 -- ---- turn by turn
 
-module _ (peer : Peer) (file : List ℕ) (size : ℕ) (request : List ℕ) (first : ℕ) (name : List ℕ) (modem : Mac) (owner : ℕ) (asked : Option ℕ)
+module _ (peer : Peer) (file : List ℕ) (size : ℕ) (request : List ℕ) (from : ℕ) (name : List ℕ) (modem : Mac) (owner : ℕ) (asked : Option ℕ)
     (read : packet_of request ≡ Ok (Reads name asked)) (n : ℕ) (last_is : is_last_number file size n ≡ true) where
   abbrev Agreed : Tables → ℕ → Type 0
   Agreed tables now = Agreement tables now peer.ip name modem owner
 
   abbrev UpTo : Tables → ℕ → List Turn → ℕ → ℕ → Type 0
-  UpTo tables now turns k ticks = AnswersUpTo request first (suc n) peer Agreed tables now k ticks turns
+  UpTo tables now turns k ticks = AnswersUpTo request from (suc n) peer Agreed tables now k ticks turns
 
   done_by : (turn : Turn) (after last : State) (soon rest : List Turn) (tables : Tables) (now : ℕ) → after.tables ≡ tables → after.held.now ≡ now
-      → Answered file size request first name modem owner (fate peer turn) (map.get after.held.transfers peer) (UpTo tables now soon)
-      → ((k ticks : ℕ) → Lives file size request first name modem owner k ticks (map.get after.held.transfers peer) → UpTo after.tables after.held.now soon k ticks
+      → Answered file size request from name modem owner (fate peer turn) (map.get after.held.transfers peer) (UpTo tables now soon)
+      → ((k ticks : ℕ) → Lives file size request from name modem owner k ticks (map.get after.held.transfers peer) → UpTo after.tables after.held.now soon k ticks
       → is_done peer (soon ++ rest) ≡ true)
       → is_done_by (fate peer turn) (is_done peer (soon ++ rest)) ≡ true
   done_by turn after last soon rest tables now t m (finished number e) later = ap (λ (f : Fate). is_done_by f (is_done peer (soon ++ rest))) e
@@ -85,17 +85,17 @@ module _ (peer : Peer) (file : List ℕ) (size : ℕ) (request : List ℕ) (firs
       ∙ later k ticks lives (subst (λ (u : Tables). UpTo u after.held.now soon k ticks) (sym t) (subst (λ i. UpTo tables i soon k ticks) (sym m) up))
 
   step_answers : (s : State) (turn : Turn) (after : State) (k ticks : ℕ) (Later : ℕ → ℕ → Type 0) → Step s turn.event turn.outcome (effect_of turn after)
-      → Lives file size request first name modem owner k ticks (map.get s.held.transfers peer)
-      → AnswersBy request first (ask peer turn.event.what) (Agreed s.tables (max s.held.now turn.event.at.0)) turn.outcome k ticks Later
-      → Answered file size request first name modem owner (fate peer turn) (map.get after.held.transfers peer) Later
+      → Lives file size request from name modem owner k ticks (map.get s.held.transfers peer)
+      → AnswersBy request from (ask peer turn.event.what) (Agreed s.tables (max s.held.now turn.event.at.0)) turn.outcome k ticks Later
+      → Answered file size request from name modem owner (fate peer turn) (map.get after.held.transfers peer) Later
   unfolding Step
   step_answers s turn after k ticks Later step l answers =
-      turn_answers peer file size request first name modem owner asked read (at_moment s turn.event.at.0) turn.event.what turn.outcome (effect_of turn after) k ticks Later step
+      turn_answers peer file size request from name modem owner asked read (at_moment s turn.event.at.0) turn.event.what turn.outcome (effect_of turn after) k ticks Later step
       (changes_its_part s turn.event turn.outcome (effect_of turn after) step) l answers
 
   answers_done : (s last : State) (soon rest : List Turn) (k ticks : ℕ) → Run s (soon ++ rest) last
-      → Lives file size request first name modem owner k ticks (map.get s.held.transfers peer) → UpTo s.tables s.held.now soon k ticks → is_done peer (soon ++ rest) ≡ true
-  answers_done s last [] rest k ticks run l up = absurd (behind_last file size n k request first name modem owner ticks _ last_is l up)
+      → Lives file size request from name modem owner k ticks (map.get s.held.transfers peer) → UpTo s.tables s.held.now soon k ticks → is_done peer (soon ++ rest) ≡ true
+  answers_done s last [] rest k ticks run l up = absurd (behind_last file size n k request from name modem owner ticks _ last_is l up)
   answers_done s last (turn ∷ soon) rest k ticks run l up =
       done_by turn run.0 last soon rest (write_all s.tables turn.commit) (max s.held.now turn.event.at.0)
       (tables_by_commit s turn.event turn.outcome (effect_of turn run.0) run.1.0)

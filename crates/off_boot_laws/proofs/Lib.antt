@@ -1,0 +1,9 @@
+pub mod Between
+pub mod Went
+pub mod Pooling
+pub mod Messages
+pub mod Again
+pub mod Waiting
+pub mod Reading
+pub mod Booting
+pub mod Keeping

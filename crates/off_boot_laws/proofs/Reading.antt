@@ -1,0 +1,141 @@
+-- A read request of a modem whose lease lasts is accepted, and its file is served.
+use Rattle.std.proofs.lemmas.Bool.{lt-leb, false_from_ne_true}
+use Rattle.std.proofs.lemmas.Slice.Eq.{bytes_eq-Decides}
+use Rattle.std.specs.Str.{bytes_eq}
+use Rattle.off_boot_laws.proofs.Messages.{and_false}
+use Rattle.std.proofs.Common.{◌≢◌, ◌⊎◌, inl, inr, ◌&&◌, nat_le, ◌≡◌, ℕ, ◌<◌, Bool, true, false, cond, not, List, Option, Some, None, MatchOption, Ok, refl, sym, ap, subst, ◌∙◌}
+use Rattle.std.specs.FinMap as map
+use Rattle.off_base.specs.declared.addresses.Ip4.{Ip4}
+use Rattle.off_base.specs.declared.addresses.Peer.{Peer}
+use Rattle.off_base.specs.declared.macs.Mac.{Mac}
+use Rattle.off_defs.specs.declared.events.Service.TheVariants.{Tftp}
+use Rattle.off_defs.specs.declared.events.What.{What}
+use Rattle.off_defs.specs.declared.events.What.TheVariants.{Datagram}
+use Rattle.off_defs.specs.declared.results.Outcome.{Outcome}
+use Rattle.off_defs.specs.declared.results.Outcome.TheVariants.{Did}
+use Rattle.off_defs.specs.declared.tables.Lease.{Lease}
+use Rattle.off_defs.specs.declared.tables.Hold.TheVariants.{Bound}
+use Rattle.off_defs.specs.State.{Tables, State, Transfer, Effect, at_moment}
+use Rattle.off_rules.specs.Good.{Good}
+use Rattle.off_lease_laws.specs.Effects.{bound_until}
+use Rattle.off_transfer_rules.specs.Packets.{Reads, packet_of}
+use Rattle.off_transfer_rules.specs.View.{View, view, holder}
+use Rattle.off_transfer_rules.specs.Transfers.{Transfers, has_no_room, first_word}
+use Rattle.off_transfer_rules.specs.Steps.{Way, Denies, Repeats, Accepts, file_not_found, is_repeated, way_for_modem, way_for_holder, way_anew, way_of_request, way_of, way, Given, GivesBy, TftpStep}
+use Rattle.off_transfer_rules.specs.Words.{tftp_line}
+use Rattle.off_transfer_laws.specs.Agreement.{Agreement}
+use Rattle.off_transfer_laws.proofs.ViewLemmas.{holder_is, live_seen, live_agreed, modem_seen, owner_agreed, good_has_file}
+use Rattle.off_book.specs.Step.{Step, Does}
+use Rattle.off_book.specs.Tftp.{TftpDid}
+use Rattle.off_book.specs.Run.{Turn, effect_of}
+use Rattle.off_laws.specs.Leases.{IsBoundUntil, moment_of}
+use Rattle.off_file_runs.specs.Turns.{packets_to, says_accepted}
+use Rattle.off_file_runs.specs.Served.{IsAccepted, FileIsServed}
+use Rattle.off_file_runs.proofs.Runs.{served_at}
+use Rattle.off_boot_laws.specs.Stages.{HasPlace, AsksForFile, ReadsAreAccepted}
+
+-- ---- the way of the request
+
+-- there is room, or the peer's own transfer makes way
+abbrev MakesWay : Bool → List ℕ → Option Transfer → Type 0
+MakesWay full bytes live = MatchOption live (full ≡ false) (λ (x : Transfer). is_repeated bytes x ≡ false)
+
+not_again : (bytes : List ℕ) (x : Transfer) → (x.is_acknowledged ≡ true) ⊎ (x.request ≢ bytes) → is_repeated bytes x ≡ false
+not_again bytes x (inl acked) = ap (λ b. not b && bytes_eq x.request bytes) acked
+not_again bytes x (inr other) =
+    and_false (not x.is_acknowledged) (bytes_eq x.request bytes)
+    (false_from_ne_true (bytes_eq x.request bytes) (λ e. other ((bytes_eq-Decides x.request bytes).0 e)))
+
+makes_way : (count : ℕ) (bytes : List ℕ) (live : Option Transfer)
+    → MatchOption live (count < 256) (λ (x : Transfer). (x.is_acknowledged ≡ true) ⊎ (x.request ≢ bytes)) → MakesWay (nat_le 256 count) bytes live
+makes_way count bytes None room = lt-leb 256 count room
+makes_way count bytes (Some x) other = not_again bytes x other
+
+module _ (t : Tables) (now : ℕ) (from : Peer) (bytes name : List ℕ) (asked : Option ℕ) (mac : Mac) (owner : ℕ) (good : Good t)
+    (a : Agreement t now from.ip name mac owner) where
+  abbrev v : View
+  v = view t from.ip
+
+  abbrev taken : Way
+  taken = Accepts mac a.modem.subscriber name asked
+
+  held : holder now v ≡ Some mac
+  held = holder_is v now mac (live_seen t now from.ip mac (live_agreed t now from.ip name mac owner a))
+
+  seen : v.modem ≡ Some a.modem
+  seen = modem_seen t from.ip mac (owner_agreed t now from.ip name mac owner a) ∙ a.modem_is
+
+  anew : way_anew v now from.ip false name asked ≡ taken
+  anew =
+      ap (way_for_holder v from.ip false name asked) held
+      ∙ ap (way_for_modem v from.ip false name asked mac) seen
+      ∙ ap (λ b. cond (not b) (Denies file_not_found) taken) (good_has_file t now from.ip name mac owner good a)
+
+  asked_way : (full : Bool) (live : Option Transfer) → MakesWay full bytes live
+      → way_of_request v now from.ip full bytes name asked live ≡ taken
+  asked_way full None room = ap (λ b. way_anew v now from.ip b name asked) room ∙ anew
+  asked_way full (Some x) other = ap (λ b. cond b (Repeats x) (way_anew v now from.ip false name asked)) other ∙ anew
+
+  way_is : (xs : Transfers) → packet_of bytes ≡ Ok (Reads name asked) → HasPlace xs from bytes → way v now xs from bytes ≡ taken
+  unfolding way
+  way_is xs read place = ap (way_of v now from.ip (has_no_room xs) bytes (map.get xs from)) read ∙ asked_way (has_no_room xs) (map.get xs from) (makes_way (map.len xs) bytes (map.get xs from) place)
+
+  word_is : (xs : Transfers) (given : Given) → packet_of bytes ≡ Ok (Reads name asked) → HasPlace xs from bytes → TftpStep t now xs from bytes given
+      → given.word ≡ first_word asked
+  unfolding TftpStep
+  word_is xs given read place step =
+      let opened = subst (λ (w : Way). GivesBy v now xs from bytes w given) (way_is xs read place) step in
+      ap (λ (g : Given). g.word) opened.1.1
+
+says_first : (asked : Option ℕ) → says_accepted (tftp_line (first_word asked)) ≡ true
+says_first None = refl
+says_first (Some size) = refl
+
+-- ---- the turn
+
+did_so : (s after : State) (turn : Turn) (from : Peer) (bytes : List ℕ) → Step s turn.event turn.outcome (effect_of turn after)
+    → turn.event.what ≡ Datagram Tftp from bytes → turn.outcome ≡ Did → TftpDid (at_moment s turn.event.at.0) from bytes (effect_of turn after)
+unfolding Step
+did_so s after turn from bytes step came did =
+    subst (λ (o : Outcome). Does (at_moment s turn.event.at.0) (Datagram Tftp from bytes) o (effect_of turn after)) did
+    (subst (λ (what : What). Does (at_moment s turn.event.at.0) what turn.outcome (effect_of turn after)) came step)
+
+agreed_at : (s : State) (mac : Mac) (peer : Peer) (name : List ℕ) (asked : Option ℕ) (turn : Turn) (now expiry : ℕ) (r : AsksForFile s mac peer name asked turn)
+    → IsBoundUntil mac peer.ip expiry s → now < expiry → Agreement s.tables now peer.ip name mac r.modem.subscriber
+agreed_at s mac peer name asked turn now expiry r bound live = record {
+  lease = bound_until mac expiry;
+  modem = r.modem;
+  site = r.site;
+  lease_is = bound;
+  bound = refl;
+  live = live;
+  modem_is = r.modem_is;
+  owned = refl;
+  site_is = r.site_is;
+  named = r.named;
+}
+
+pub same_modem : (t : Tables) (now : ℕ) (ip : Ip4) (name : List ℕ) (one other : Mac) (owner else_owner : ℕ) → Agreement t now ip name one owner
+    → Agreement t now ip name other else_owner → one ≡ other
+same_modem t now ip name one other owner else_owner a b =
+    let rows : Some a.lease ≡ Some b.lease = sym a.lease_is ∙ b.lease_is in
+    let row : a.lease ≡ b.lease = cc in
+    let bounds : Bound one ≡ Bound other = sym a.bound ∙ ap (λ (l : Lease). l.hold) row ∙ b.bound in
+    cc
+
+pub reads_are_accepted : ReadsAreAccepted
+reads_are_accepted s last turn later mac peer name asked expiry good run well r bound live =
+    let now = moment_of s turn in
+    let agreed = agreed_at s mac peer name asked turn now expiry r bound live in
+    let did = did_so s run.0 turn peer r.bytes run.1.0 r.event well.did in
+    let word = word_is s.tables now peer r.bytes name asked mac r.modem.subscriber good agreed s.held.transfers did.given r.read r.place did.step in
+    let line : turn.said.line ≡ tftp_line (first_word asked) = ap (λ (e : Effect). e.said.line) did.does ∙ ap tftp_line word in
+    let accepts : IsAccepted peer name asked turn =
+    record { bytes = r.bytes; event = r.event; read = r.read; word = ap says_accepted line ∙ says_first asked } in
+    let served : FileIsServed s.tables now peer name asked turn later = served_at s turn run.0 last later peer name asked run.1.0 accepts run.1.1 in
+    record {
+      accepts = accepts;
+      served = served;
+      own = same_modem s.tables now peer.ip name served.modem mac served.subscriber r.modem.subscriber served.agreed agreed;
+      sent = ap (packets_to peer) well.sent ∙ served.opens;
+    }

@@ -1,0 +1,128 @@
+"""Examples of whole boots: sections of crates/office_script that `office.py` writes with its own, and what is expected of each.
+
+A modem discovers, requests and reads its file; other events come between each two of its messages, in every place. Then each thing that it needs for that is
+taken away alone, and the log has the word that says so. What is expected is computed by the models of leases.py and tftp.py, and the words are said here by hand.
+"""
+from leases import A, HELD, ONE, RELAY, SECOND, declines, discover, leased, modem_row, put_pool, put_site, reboots, releases, remove, selects, vendor
+import leases
+from transfers import (B, BOTH, PLAIN, PORT, TICK, TransferPlayer, acks, gives_up, name, put_class, put_modem, put_subscriber, reads, sends)
+
+MODEL = "By the models of leases and of transfers, from RFC 2131, 1350, 2347 and 2348, and the office's rules."
+# The modem's own messages, in order; the file has 88 bytes.
+OFFER, ACK, OACK = ("offer", discover()), ("ack", selects()), ("oack", reads(44))
+FILE = [("block 1", acks(0)), ("block 2", acks(1)), ("block 3", acks(2)), ("done", acks(3))]
+BOOT = [OFFER, ACK, OACK, *FILE]
+# Another modem has an address already, so that its packets mean the same in every place.
+OTHERS = [SECOND, *leased("bound", B, 1, "t+1000")]
+FAR = ["pool 2 10.65.0.10 10.65.0.20 24 10.65.0.1 10.65.0.1"]
+SMALL = put_pool(1, "10.64.0.11", "10.64.0.99")
+
+# What may come between two of its messages, whatever the place.
+BETWEEN = {
+    "another modem asks": [("offer", discover(1)), ("ack", selects(B, 1)), ("unknown-modem", discover(0x99))],
+    "another modem reads": [("oack", reads(44, last=1, held=B)), ("block 1", acks(0, held=B)), ("peer-error", gives_up(held=B))],
+    "another port of its own address": [("unknown", acks(1, port=PORT + 1)), ("form", sends(b"", port=PORT + 1))],
+    "time passes": [("", TICK)] * 5,
+    "clerks change other rows": [("", put_subscriber(9)), ("", put_class(PLAIN, 2)), ("", put_modem(9, 2, last=2)), ("", remove("/modems/02aabbccdd02"))],
+}
+
+# What it says itself once more, behind its message of this number, and what it's answered. A message that came again leaves all as it is.
+AGAIN = {
+    0: [OFFER, ("offer", discover(asked=A)), ("not-your-address", selects(B))],
+    1: [ACK, ("ack", reboots()), ("offer", discover()), ("name", reads(44, held=B))],
+    2: [("again", reads(44)), ("stale-ack", acks(1)), ("again", reads(44)), ("ack", reboots()), ("offer", discover())],
+    **{number: [("stale-ack", acks(number - 3)), ("ack", reboots())] for number in (3, 4, 5)},
+}
+
+
+def at(moment, events):
+    return [(moment, word, what) for word, what in events]
+
+
+def with_between(place, events):
+    """The boot, with events behind its message of this number."""
+    return at("t", [*BOOT[:place + 1], *events, *BOOT[place + 1:]])
+
+
+def booting(player):
+    player.section("a modem boots, whatever comes between its messages", MODEL)
+    alone = player.play("nothing", at("t", BOOT), rows=OTHERS, tables=True)
+    for remark, events in BETWEEN.items():
+        for place in range(len(BOOT) - 1):
+            made = player.play(f"{remark}, behind message {place + 1}", with_between(place, events), rows=OTHERS)
+            if files_in(made) != files_in(alone):
+                raise leases.Disagreement(f"{remark}: the modem gets another file")
+        player.play(f"{remark}, in every place", at("t", [BOOT[0], *(event for own in BOOT[1:] for event in (*events, own))]), rows=OTHERS)
+    player.play("a clerk is refused what would take its address, in every place",
+                at("t", [BOOT[0], *(event for own in BOOT[1:] for event in (("pool-has-leases", SMALL), ("pool-has-leases", remove("/pools/1")), own))]), rows=OTHERS)
+    player.section("a modem boots though its own messages come again", MODEL, "RFC 2131, section 4.1, and RFC 1123, section 4.2.3.1.")
+    for place, events in AGAIN.items():
+        player.play(f"behind message {place + 1}", with_between(place, events), rows=OTHERS)
+    player.play("in every place", at("t", [event for place, own in enumerate(BOOT) for event in (own, *AGAIN.get(place, []))]), rows=OTHERS)
+    player.section("a modem keeps its address as long as it asks again in time", MODEL)
+    renewed = [(f"t+{86399 * number}", "ack", leases.renews()) for number in range(1, 5)]
+    player.play("", [*at("t", BOOT[:2]), *renewed, (f"t+{86399 * 4}", "offer", discover()), (f"t+{86399 * 5}", "oack", reads(44)),
+                     (f"t+{86399 * 5 + 1}", "agreement", acks(0)), (f"t+{86399 * 5 + 1}", "no-lease", reads(44))], rows=OTHERS, tables=True)
+
+
+def files_in(made):
+    """What goes to the modem from the TFTP port."""
+    return [item for item in made.sent if item.startswith(f"datagram tftp to {A}:{PORT} ")]
+
+
+def broken(player):
+    """Each thing that a boot needs, taken away alone: the word that says so, and the same message with it."""
+    player.section("a DISCOVER that isn't answered has the word that says why", MODEL, "The second message of each run lacks nothing.")
+    full = ["drop pool 1", f"pool 1 {A} {A} 24 {RELAY} {RELAY}"]
+    cases = {
+        "part-cut": [("the relay's option", {"way": b"\x02\x06\x02"}), ("the modem's option", {"cable": b"\x02\x03EC"})],
+        "relay-mismatch": [("the relay names another", {"remote": leases.mac(3)})],
+        "not-a-modem": [("another class", {"docsis": b"pktc1.0:00"}), ("no class", {"docsis": None})],
+        "no-relay-pool": [("another relay", {"relay": "10.64.0.2"}), ("no relay", {"relay": "0.0.0.0"})],
+        "unknown-modem": [("another modem", {"last": 0x99})],
+        "serial-mismatch": [("another serial number", {"cable": vendor(b"SN02")})],
+    }
+    for word, given in cases.items():
+        for remark, what in given:
+            player.play(remark, at("t", [(word, discover(**what)), OFFER]), rows=[])
+    player.play("no site", at("t", [("no-site", discover()), ("", put_site()), OFFER]), rows=["drop site"])
+    player.play("no address of the pool is free", [("t", "pool-full", discover()), ("t+1", *OFFER)], rows=[*full, f"lease {A} declined t+1"])
+    player.section("a REQUEST that isn't acknowledged has the word that says why", MODEL)
+    for word, given in {**cases, "not-a-modem": cases["not-a-modem"][:1], "unknown-modem": [], "no-relay-pool": cases["no-relay-pool"][:1]}.items():
+        for remark, what in given:
+            player.play(remark, at("t", [OFFER, (word, selects(**what)), ACK]), rows=[])
+    player.play("another server", at("t", [OFFER, ("other-server", selects(server="10.0.0.9")), ACK]), rows=[])
+    player.play("another address", at("t", [OFFER, ("not-your-address", selects(B)), ACK]), rows=[])
+    player.play("no form", at("t", [OFFER, ("request-form", selects(None)), ACK]), rows=[])
+    player.play("the modem's row is gone", at("t", [OFFER, ("", remove("/modems/02aabbccddee")), ("unknown-modem", selects())]), rows=[])
+    player.play("the offer has ended, and nobody took the address", [("t", *OFFER), ("t+120", *ACK)], rows=[])
+    for word, asks in (("not-your-address", selects()), ("no-record", reboots())):
+        player.play(f"the offer has ended, and another took the address: {word}", [
+            ("t", *OFFER), ("t+119", "pool-full", discover(1)), ("t+120", "offer", discover(1)), ("t+120", word, asks)], rows=[SECOND, *ONE])
+    for remark, word, asks in (("it discovered by way of another pool", "offer", discover(relay="10.65.0.1")), ("it declined the address", "declined", declines())):
+        player.play(remark, at("t", [OFFER, (word, asks), ("not-your-address", selects())]), rows=FAR)
+    player.play("it released the address", at("t", [OFFER, ACK, ("released", releases()), ("no-record", reboots())]), rows=[])
+    player.section("a read request that isn't accepted has the word that says why", MODEL)
+    player.play("its lease has ended", [*at("t", BOOT[:2]), ("t+86400", "no-lease", reads(44))], rows=[])
+    player.play("the address is offered alone", at("t", [OFFER, ("no-lease", reads(44)), ACK, OACK]), rows=[])
+    player.play("the name is that of another address", at("t", [OFFER, ACK, ("name", reads(44, name=name(held=B))), OACK]), rows=[])
+    player.play("the secret is another", at("t", [OFFER, ACK, ("", put_site(secret=b"Secret")), ("name", reads(44)), ("oack", reads(44, secret=b"Secret"))]), rows=[])
+    player.play("the modem's row is gone", at("t", [OFFER, ACK, ("", remove("/modems/02aabbccddee")), ("agreement", reads(44))]), rows=[])
+    player.play("the same request, of which nothing is acknowledged", at("t", [OFFER, ACK, OACK, ("again", reads(44)), *FILE]), rows=[])
+    player.section("an acknowledgement with which a transfer doesn't go on has the word that says why", MODEL)
+    player.play("six Ticks without one", [
+        *at("t", BOOT[:4]), *((f"t+{2 * number}", "again 1 closed 0", TICK) for number in range(1, 6)), ("t+12", "again 0 closed 1", TICK), ("t+12", "unknown", acks(1))], rows=[])
+    player.play("five Ticks", [
+        *at("t", BOOT[:4]), *((f"t+{2 * number}", "again 1 closed 0", TICK) for number in range(1, 6)), *at("t+11", FILE[1:])], rows=[])
+    for remark, events in {
+            "the secret is another": [("", put_site(secret=b"Secret"))], "the modem's row is gone": [("", remove("/modems/02aabbccddee"))],
+            "the modem is another subscriber's": [("", put_subscriber(9)), ("", put_modem(9))], "it released its address": [("released", releases())]}.items():
+        player.play(remark, at("t", [*BOOT[:4], *events, ("agreement", acks(1)), ("unknown", acks(1))]), rows=[])
+    player.play("its lease has ended", [*at("t", BOOT[:4]), ("t+86400", "agreement", acks(1))], rows=[])
+
+
+def sections(script, rows):
+    """Writes the sections, over an office of these rows."""
+    player = TransferPlayer(script, rows)
+    for write in (booting, broken):
+        write(player)
