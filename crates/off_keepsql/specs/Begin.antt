@@ -4,8 +4,10 @@ use Rattle.std.specs.FinMap as map
 use Rattle.sqlite_disk.specs.declared.Disk as disk
 use Rattle.sqlite_value.specs.Order.{Row}
 use Rattle.sqlite_trees.specs.declared.store.Store.{Ghosts}
-use Rattle.sqlite.specs.Files.{over_files}
+use Rattle.sqlite.specs.Files.{over_files, file_state, IsOpened}
 use Rattle.sqlite.specs.Held.{Held, state}
+use Rattle.sqlite.specs.State.{HasCleanDisk}
+use Rattle.sqlite_store.specs.declared.store.FileStore.{FileStore}
 use Rattle.off_defs.specs.State.{Tables}
 use Rattle.off_outside.specs.KeeperSeen.{KeeperSeen}
 use Rattle.off_cells.specs.CellsSeen.{CellMap, CellsSeen}
@@ -35,6 +37,13 @@ pub record KeeperBegins {S : Type 0} (g : Ghosts S) (conn : Held S) (cells : Cel
   pub faults : seen.faults ≡ 0
   pub calls : seen.calls ≡ 0
   pub commits : seen.commits ≡ 0
+
+-- A keeper over files: it has begun over a connection that was opened.
+pub record BeginsOverFiles {D : Type 0} (g : disk.Ghosts D) (cells : CellsSeen)
+    (seen : KeeperSeen) : Type 0 where
+  pub conn : Held (FileStore D g)
+  pub opened : HasCleanDisk (file_state conn) → IsOpened conn
+  pub begun : KeeperBegins (over_files {D = D} {g = g}) conn cells seen
 
 -- A keeper that has no rows, and has had no calls.
 pub record TellsNone (seen : KeeperSeen) : Type 0 where

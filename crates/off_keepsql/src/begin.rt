@@ -1,4 +1,6 @@
-ghost use Rattle.std.specs.Prelude.{IfOk};
+ghost use Rattle.std.specs.Prelude.{IfOk, IfErr};
+ghost use Rattle.off_sqlcells.specs.Refusals.{FailsToBegin};
+ghost use Rattle.off_sqlcells.specs.Stands.{IsSteady};
 ghost use Rattle.off_keepsql.specs.Begin.{KeeperBegins, TellsNone};
 
 use crate::sql_keeper::SqlKeeper;
@@ -12,9 +14,10 @@ impl<S: Ordered + Drop> SqlKeeper<SqlCells<S>> {
     /// A keeper over a database, whose table `office` is made where it isn't there. A database that
     /// has anything else is refused. Where it is refused, the connection is dropped.
     pub fn begin(_alloc: Global, conn: Connection<S>) -> Result<SqlKeeper<SqlCells<S>>, KeepErr>
-        ensures { IfOk result (λ keeper. KeeperBegins S.Store conn
+        ensures begun { IfOk result (λ keeper. KeeperBegins S.Store conn
             (⟦<SqlCells<S> as Cells>⟧.seen keeper.cells)
             (⟦<SqlKeeper<SqlCells<S>> as Keeper>⟧.seen keeper)) }
+        ensures cause { IsSteady S.Store → IfErr result (FailsToBegin S.Store conn) }
     {
         match SqlCells::begin(conn) {
             Ok(cells) => Ok(SqlKeeper::over(cells)),

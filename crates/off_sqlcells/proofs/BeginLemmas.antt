@@ -1,5 +1,5 @@
 -- The table that is made, and the one that was there.
-use Rattle.std.proofs.Common.{◌≡◌, ℕ, List, [], Ok, Result, None, IsTrue, Bool, true, false, not, refl, sym, ap, subst, ◌∙◌}
+use Rattle.std.proofs.Common.{inl, inr, ◌≡◌, ℕ, List, [], Ok, Result, None, IsTrue, Bool, true, false, not, refl, sym, ap, subst, ◌∙◌}
 use Rattle.std.specs.FinMap as map
 use Rattle.std.specs.Fmt.{digits}
 use Rattle.sqlite_value.specs.Order.{Row}
@@ -32,7 +32,7 @@ unfolding digits
 created_is = refl
 
 creates : (old new : State) (count : ℕ) → old.now.schema ≡ no_schema → Executes make_text [] old new (Ok count)
-    → (new.now.schema ≡ office_schema) × (new.now.trees 0 ≡ []) × IsTrue new.is_open
+    → (new.now.schema ≡ office_schema) × (new.now.trees 0 ≡ []) × IsTrue new.is_open × (new.in_transaction ≡ old.in_transaction)
 creates old new count has h =
     let w = subst (λ t. Writes old new None CreateTable t [] count) make_is.1 (runs_as make_text [] old new no_schema has CreateTable make_is.0 make_plain count h) in
     let all = went w.changed in
@@ -43,15 +43,30 @@ creates old new count has h =
     let schema : first.0.schema ≡ office_schema = made.is ∙ ap (λ s. created s made.table) has ∙ ap (created no_schema) same ∙ created_is in
     let plain = ap lacks_sequence schema in
     let now : new.now ≡ first.0 = ap (λ (p : Tally × Database). p.1) (same_value all.2) ∙ same_value (rw plain at first.2) in
-    (ap (λ (d : Database). d.schema) now ∙ schema, ap (λ (d : Database). d.trees 0) now ∙ subst (λ s. first.0.trees (next_tree s) ≡ []) has made.empty, w.shown.is_open)
+    (ap (λ (d : Database). d.schema) now ∙ schema, ap (λ (d : Database). d.trees 0) now ∙ subst (λ s. first.0.trees (next_tree s) ≡ []) has made.empty, w.shown.is_open, w.shown.mode)
 
-finds : (old new : State) (count : ℕ) → old.now.schema ≡ office_schema → Executes make_text [] old new (Ok count) → (new.now ≡ old.now) × IsTrue new.is_open
+finds : (old new : State) (count : ℕ) → old.now.schema ≡ office_schema → Executes make_text [] old new (Ok count) → (new.now ≡ old.now) × IsTrue new.is_open × (new.in_transaction ≡ old.in_transaction)
 finds old new count has h =
     let same = (runs_as make_text [] old new office_schema has Nothing made_is made_plain count h).0 in
-    (same.0.now_is, same.0.is_open)
+    (same.0.now_is, same.0.is_open, same.0.mode)
 
 pub makes : (old new : State) (count : ℕ) → Executes make_text [] old new (Ok count) → Makes old new
-makes old new count h = record { made = λ has. creates old new count has h; found = λ has. finds old new count has h }
+makes old new count h = record {
+  made = λ has. let it = creates old new count has h in (it.0, it.1, it.2);
+  found = λ has. let it = finds old new count has h in (it.0, it.1);
+  mode = λ ours. elim ours [ inl has ↦ (creates old new count has h).3 | inr has ↦ (finds old new count has h).2 ];
+}
+
+-- a transaction was under way
+pub under_way : {S : Type 0} (g : Ghosts S) (old new : Held S) (idle : Bool) → IsSteady g → (IsSteady g → Makes (state g old) (state g new)) → IsOurs (state g old).now.schema
+    → idle ≡ false → idle ≡ not new.in_transaction → IsTrue old.in_transaction
+under_way g old new idle steady makes ours is value =
+    let inside : not new.in_transaction ≡ false = sym value ∙ is in
+    sym ((makes steady).mode ours) ∙ not_idle new.in_transaction inside
+  where
+    not_idle : (b : Bool) → not b ≡ false → IsTrue b
+    not_idle true e = refl
+    not_idle false e = cc
 
 in_none : (b : Bool) → true ≡ not b → b ≡ false
 in_none true e = cc

@@ -1,18 +1,21 @@
 -- What the functions of the statements do, from the clauses of the calls that they make.
-use Rattle.std.proofs.Common.{◌≡◌, ℕ, zero, suc, ◌≤◌, length, take, arith, Bool, true, false, List, [], ◌∷◌, ◌++◌, Ok, Err, Result, IsTrue, IfOk, OnOk, OnErr, refl, sym, ap, subst}
+use Rattle.std.proofs.Common.{◌≡◌, ℕ, zero, suc, ◌≤◌, length, take, arith, Bool, true, false, List, [], ◌∷◌, ◌++◌, Some, slice_get, slice_index_or, ◌==◌, Ok, Err, Result, is_ok, IsTrue, IfOk, IfErr, OnOk, OnErr, inl, inr, refl, sym, ap, subst}
 use Rattle.sqlite_value.specs.Order.{Row}
 use Rattle.sqlite_trees.specs.declared.store.Store.{Ghosts}
 use Rattle.sqlite.specs.declared.error.Error.{Error}
 use Rattle.sqlite.specs.Effect.{Database}
 use Rattle.sqlite.specs.Held.{Held, state}
-use Rattle.sqlite.specs.State.{State, IsRolledBack, ExecutesInside}
+use Rattle.sqlite_rules.specs.Lists.{Has}
+use Rattle.sqlite.specs.State.{State, IsRolledBack, ExecutesInside, Shown}
 use Rattle.off_cells.specs.CellsSeen.{CellMap}
 use Rattle.off_cells.specs.CellWritten.{cell_written, write_cells}
 use Rattle.off_cells.specs.declared.writes.CellWrite.{CellWrite}
 use Rattle.off_sqlcells.specs.declared.refusals.Refused.{Refused}
+use Rattle.off_sqlcells.specs.declared.refusals.Refused.TheVariants.{Memory, Store}
 use Rattle.off_sqlcells.specs.Stands.{Tells, StillTells, Looked, Wrote, Stays, Within}
+use Rattle.off_sqlcells.specs.Refusals.{begun, FailsToCopy, IsNoCell, ShowNoCell, FailsToLook, FailsToEnd, FailsToWriteAll, FailsToCommitAll}
 use Rattle.off_sqlcells.specs.Ends.{Ends, Finishes}
-use Rattle.off_sqlcells.proofs.StateLemmas.{LeftAlone, was_open, still_based, inside_fails, committed_tells, rolled_tells}
+use Rattle.off_sqlcells.proofs.StateLemmas.{LeftAlone, was_open, still_based, inside_fails, committed_tells, rolled_tells, commit_fails}
 
 looked_weaker : (old new : State) (P Q : CellMap → Type 0) → ((m : CellMap) → P m → Q m) → Looked old new P → Looked old new Q
 looked_weaker old new P Q weaker l = record { told = λ m told. let t = l.told m told in (t.0, weaker m t.1); opened = l.opened }
@@ -46,9 +49,6 @@ module _ {S : Type 0} (g : Ghosts S) (old new : Held S) (sql : List ℕ) (params
 
 -- ---- the whole transaction
 
-abbrev begun : {S : Type 0} → Held S → Held S
-begun h = record h { in_transaction = true }
-
 begun_within : {S : Type 0} (g : Ghosts S) (old : Held S) (m : CellMap) → Tells (state g old) m → Within (state g old).committed (state g (begun old)) m
 begun_within g old m told up = let s = told up in record { schema = s.schema; rows = s.rows; kept = refl; inside = refl }
 
@@ -75,7 +75,7 @@ module _ {S : Type 0} (g : Ghosts S) (old mid new : Held S) (writes : List CellW
       → OnErr result (StillTells (state g old) (state g new))
   none_committed (Ok x) (Ok y) does stays ends = tt
   none_committed (Ok x) (Err e) does stays ends = λ m told.
-      rolled_back stays (ends base (write_cells m writes) (does base m (begun_within g old m told))) m told
+      λ up. rolled_back stays (commit_fails base (state g mid) (state g new) (write_cells m writes) ends.0 (does base m (begun_within g old m told)) ends.1 up) m told up
   none_committed (Err e) (Ok y) does stays ends = tt
   none_committed (Err e) (Err f) does stays ends = rolled_back stays ends.0
 
@@ -83,7 +83,39 @@ module _ {S : Type 0} (g : Ghosts S) (old mid new : Held S) (writes : List CellW
 pub finished_tells : {S : Type 0} (g : Ghosts S) (old new : Held S) (result : Result (Unit {0}) Refused) → Finishes result (state g (begun old)) (state g new) → StillTells (state g old) (state g new)
 finished_tells g old new (Ok x) ends m told = committed_tells (state g old).committed (state g (begun old)) (state g new) m ends (begun_within g old m told)
 finished_tells g old new (Err e) ends m told =
-    rolled_tells (state g old) (state g (begun old)) (state g new) m told (λ up. up) (λ up. refl) (ends (state g old).committed m (begun_within g old m told))
+    λ up. rolled_tells (state g old) (state g (begun old)) (state g new) m told (λ up. up) (λ up. refl)
+    (commit_fails (state g old).committed (state g (begun old)) (state g new) m ends.0 (begun_within g old m told) ends.1 up) up
+
+pub finish_refused : (old new : State) (result : Result (Unit {0}) Refused) → is_ok result ≡ false → Finishes result old new → (refused : Refused) × FailsToEnd old new refused
+finish_refused old new (Ok x) is ends = cc
+finish_refused old new (Err refused) is ends = (refused, ends)
+
+-- ---- why a call isn't done
+
+pub copy_fails : {V : Type 0} (r : Result V Refused) (sql : List ℕ) (params : Row) (ShowNone : List Row → Type 0) (old new : State) (rows : List Row) → Shown sql params old new rows
+    → IfErr r (FailsToCopy (ShowNone rows)) → IfErr r (FailsToLook sql params ShowNone old new)
+copy_fails (Ok val) sql params ShowNone old new rows shown fails = tt
+copy_fails (Err refused) sql params ShowNone old new rows shown fails = inr (rows, shown, fails)
+
+-- the first of the rows is no cell
+pub first_bad : (rows : List Row) (row : Row) (refused : Refused) → (length rows == 0) ≡ false → row ≡ slice_index_or rows 0 row → FailsToCopy (IsNoCell row) refused → FailsToCopy (ShowNoCell rows) refused
+first_bad [] row refused some first fails = cc
+first_bad (r ∷ rows) row Memory some first fails = tt
+first_bad (r ∷ rows) row Store some first fails = subst IsNoCell first fails
+
+pub commit_refused : {S : Type 0} (g : Ghosts S) (old mid new : Held S) (writes : List CellWrite) (done result : Result (Unit {0}) Refused)
+    → IfErr done (FailsToWriteAll g writes (begun old) mid) → Ends done result (state g mid) (state g new) → IfErr result (FailsToCommitAll g writes old new)
+commit_refused g old mid new writes (Ok x) (Ok y) fails ends = tt
+commit_refused g old mid new writes (Ok x) (Err e) fails ends = record { within = mid; cause = inr ends }
+commit_refused g old mid new writes (Err e) (Ok y) fails ends = tt
+commit_refused g old mid new writes (Err e) (Err f) fails ends =
+    let same : f ≡ e = let h = ends.1 in cc in
+    record { within = mid; cause = inl (subst (FailsToWriteAll g writes (begun old) mid) (sym same) fails) }
+
+pub got_has : {X : Type 0} (xs : List X) (i : ℕ) (x : X) → slice_get xs i ≡ Some x → Has xs x
+got_has [] i x got = cc
+got_has (y ∷ xs) zero x got = inl (let same : y ≡ x = cc in sym same)
+got_has (y ∷ xs) (suc i) x got = inr (got_has xs i x got)
 
 -- ---- writes in order
 

@@ -3,6 +3,7 @@ pub mod Holds
 pub mod InOrder
 pub mod Statements
 pub mod Stands
+pub mod Refusals
 pub mod Ends
 pub mod OneMap
 pub mod SqlCellsSeen

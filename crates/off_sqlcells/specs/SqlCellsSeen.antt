@@ -41,8 +41,9 @@ pub record Found (table : List Row) (seen : CellsSeen) : Type 0 where
   pub told : seen.cells cells
   pub up : seen.up
 
--- Cells that have just begun over a connection. The database was the office's: where it had no table
--- there are none, and where it had this table, they are those that its rows are. Nothing is counted.
+-- Cells that have just begun over a connection. The database was the office's: where it had no
+-- table there are none, and where it had this table, they are those that its rows are. Nothing is
+-- counted.
 pub record HasBegun {S : Type 0} (g : Ghosts S) (conn : Held S) (seen : CellsSeen) : Type 0 where
   pub ours : IsOurs (state g conn).now.schema
   pub made : IsSteady g → (state g conn).now.schema ≡ no_schema → seen.cells map.empty × seen.up

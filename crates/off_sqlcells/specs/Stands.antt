@@ -7,7 +7,7 @@ use Rattle.sqlite.specs.State.{State}
 use Rattle.off_cells.specs.CellsSeen.{CellMap}
 use Rattle.off_cells.specs.CellWritten.{write_cells}
 use Rattle.off_cells.specs.declared.writes.CellWrite.{CellWrite}
-use Rattle.off_sqlcells.specs.Office.{no_schema, office_schema}
+use Rattle.off_sqlcells.specs.Office.{no_schema, office_schema, IsOurs}
 use Rattle.off_sqlcells.specs.Holds.{Holds}
 
 -- Nobody else writes the store, and it returns what was written, over each call.
@@ -67,3 +67,4 @@ pub record Makes (old new : State) : Type 0 where
   pub made : old.now.schema ≡ no_schema
       → (new.now.schema ≡ office_schema) × (new.now.trees 0 ≡ []) × IsTrue new.is_open
   pub found : old.now.schema ≡ office_schema → (new.now ≡ old.now) × IsTrue new.is_open
+  pub mode : IsOurs old.now.schema → new.in_transaction ≡ old.in_transaction

@@ -2,6 +2,8 @@ ghost use Rattle.std.specs.Prelude.{◌≡◌, ◌≤◌, false};
 ghost use Rattle.off_defs.specs.Counts.{one_more, most_count};
 ghost use Rattle.sqlite.specs.Held.{state};
 ghost use Rattle.off_sqlcells.specs.Stands.{IsSteady, StillTells};
+ghost use Rattle.off_sqlcells.specs.declared.refusals.Refused.TheVariants as refused;
+ghost use Rattle.off_sqlcells.specs.Refusals.{IsTold};
 ghost use Rattle.off_sqlcells.specs.SqlCellsSeen.{Counts};
 
 use crate::refusals::Refused;
@@ -21,6 +23,7 @@ pub(crate) fn counted<S: Alter>(
     ensures kept { IsSteady S.Store
         → StillTells (state S.Store conn.old) (state S.Store conn.new) }
     ensures counts { Counts S.Store conn.new result faults.old faults.new }
+    ensures told { IsSteady S.Store → IsTold S.Store refused conn.old conn.new result }
 {
     match refused {
         Refused::Memory => still_open(conn, faults),
@@ -34,6 +37,7 @@ fn still_open<S: Alter>(conn: &mut Connection<S>, faults: &mut u64) -> KeepErr
     ensures kept { IsSteady S.Store
         → StillTells (state S.Store conn.old) (state S.Store conn.new) }
     ensures counts { Counts S.Store conn.new result faults.old faults.new }
+    ensures told { IsSteady S.Store → IsTold S.Store refused.Memory conn.old conn.new result }
 {
     if is_open(conn) {
         return KeepErr::Memory;

@@ -1,4 +1,4 @@
-ghost use Rattle.std.specs.Prelude.{◌≡◌, ◌≤◌, ◌<◌, ◌⊎◌, List, ℕ, [], ◌∷◌, length, false};
+ghost use Rattle.std.specs.Prelude.{◌≡◌, ◌≢◌, ◌≤◌, ◌<◌, ◌⊎◌, List, ℕ, [], ◌∷◌, length, false};
 ghost use Rattle.std.specs.Prelude.{IfOk, IfErr, MatchOption};
 ghost use Rattle.std.specs.Option.{option_map};
 ghost use Rattle.sqlite_value.specs.declared.value.Value.TheVariants.{Blob as Octets};
@@ -6,7 +6,12 @@ ghost use Rattle.sqlite_value.specs.Order.{column};
 ghost use Rattle.sqlite.specs.Held.{state};
 ghost use Rattle.sqlite.specs.State.{HasCleanDisk, Shown, FailsToQuery};
 ghost use Rattle.off_cells.specs.CellsSeen.{CellMap, cell_at, next_cell};
-ghost use Rattle.off_sqlcells.specs.Statements.{get_text, first_text, next_text, Gets, Nexts};
+ghost use Rattle.off_sqlcells.specs.Statements.{get_text, first_text, next_text};
+ghost use Rattle.off_sqlcells.specs.Statements.{walk_text, walk_params};
+ghost use Rattle.off_sqlcells.specs.Statements.{Gets, Nexts};
+ghost use Rattle.off_sqlcells.specs.declared.refusals.Refused.TheVariants.{Memory};
+ghost use Rattle.off_sqlcells.specs.Refusals.{FailsToLook, FailsToCopy};
+ghost use Rattle.off_sqlcells.specs.Refusals.{ShowNoValue, ShowNoCell, IsNoCell};
 ghost use Rattle.off_sqlcells.specs.Stands.{IsSteady, StillTells, Looked};
 
 use crate::refusals::Refused;
@@ -28,6 +33,9 @@ pub(crate) fn find_val<S: Alter>(
     ensures found { IsSteady S.Store
         → IfOk result (λ val. Looked (state S.Store conn.old) (state S.Store conn.new)
         (λ m. val ≡ cell_at m ident.now)) }
+    ensures cause { IsSteady S.Store → IfErr result (FailsToLook get_text
+        (Octets ident.now ∷ []) ShowNoValue
+        (state S.Store conn.old) (state S.Store conn.new)) }
 {
     match rows_with(conn, ident) {
         Ok(rows) => val_of(alloc, &rows),
@@ -51,7 +59,8 @@ fn rows_with<S: Alter>(conn: &mut Connection<S>, ident: &[u8]) -> Result<Vec<Row
 }
 
 fn val_of(alloc: Global, rows: &Vec<Row>) -> Result<Option<Bytes>, Refused>
-    ensures { IfOk result (λ val. (ident : List ℕ) (m : CellMap) → Gets ident m rows.now.items
+    ensures cause { IfErr result (FailsToCopy (ShowNoValue rows.now.items)) }
+    ensures read { IfOk result (λ val. (ident : List ℕ) (m : CellMap) → Gets ident m rows.now.items
         → val ≡ cell_at m ident) }
 {
     if rows.is_empty() {
@@ -73,6 +82,9 @@ pub(crate) fn find_behind<S: Alter>(
     ensures found { IsSteady S.Store
         → IfOk result (λ cell. Looked (state S.Store conn.old) (state S.Store conn.new)
         (λ m. cell ≡ next_cell (option_map (λ key. key.now) after.entry) m)) }
+    ensures cause { let place = option_map (λ key. key.now) after.entry in IsSteady S.Store
+        → IfErr result (FailsToLook (walk_text place) (walk_params place) ShowNoCell
+        (state S.Store conn.old) (state S.Store conn.new)) }
 {
     match after {
         Some(key) => find_above(conn, alloc, key.as_slice()),
@@ -90,6 +102,8 @@ fn find_first<S: Alter>(
     ensures found { IsSteady S.Store
         → IfOk result (λ cell. Looked (state S.Store conn.old) (state S.Store conn.new)
         (λ m. cell ≡ next_cell None m)) }
+    ensures cause { IsSteady S.Store → IfErr result (FailsToLook first_text [] ShowNoCell
+        (state S.Store conn.old) (state S.Store conn.new)) }
 {
     match first_rows(conn) {
         Ok(rows) => first_cell(alloc, &rows),
@@ -119,6 +133,9 @@ fn find_above<S: Alter>(
     ensures found { IsSteady S.Store
         → IfOk result (λ cell. Looked (state S.Store conn.old) (state S.Store conn.new)
         (λ m. cell ≡ next_cell (Some after.now) m)) }
+    ensures cause { IsSteady S.Store → IfErr result (FailsToLook next_text
+        (Octets after.now ∷ []) ShowNoCell
+        (state S.Store conn.old) (state S.Store conn.new)) }
 {
     match rows_above(conn, after) {
         Ok(rows) => first_cell(alloc, &rows),
@@ -142,7 +159,8 @@ fn rows_above<S: Alter>(conn: &mut Connection<S>, after: &[u8]) -> Result<Vec<Ro
 }
 
 fn first_cell(alloc: Global, rows: &Vec<Row>) -> Result<Option<(KeyBytes, Bytes)>, Refused>
-    ensures { IfOk result (λ cell. (place : _) (m : CellMap) → Nexts place m rows.now.items
+    ensures cause { IfErr result (FailsToCopy (ShowNoCell rows.now.items)) }
+    ensures read { IfOk result (λ cell. (place : _) (m : CellMap) → Nexts place m rows.now.items
         → cell ≡ next_cell place m) }
 {
     if rows.is_empty() {
@@ -153,7 +171,8 @@ fn first_cell(alloc: Global, rows: &Vec<Row>) -> Result<Option<(KeyBytes, Bytes)
 }
 
 fn cell_of(alloc: Global, row: &Row) -> Result<(KeyBytes, Bytes), Refused>
-    ensures { IfOk result (λ cell. (column row.now 0 ≡ Octets cell.0)
+    ensures cause { IfErr result (FailsToCopy (IsNoCell row.now)) }
+    ensures read { IfOk result (λ cell. (column row.now 0 ≡ Octets cell.0)
         × (column row.now 1 ≡ Octets cell.1)) }
 {
     let ident = blob_of(alloc, row, 0)?;
@@ -166,7 +185,9 @@ fn cell_of(alloc: Global, row: &Row) -> Result<(KeyBytes, Bytes), Refused>
 
 // The bytes in a column.
 fn blob_of(alloc: Global, row: &Row, at: usize) -> Result<Bytes, Refused>
-    ensures { IfOk result (λ bytes. column row.now at ≡ Octets bytes) }
+    ensures cause { IfErr result
+        (FailsToCopy ((bytes : List ℕ) → column row.now at ≢ Octets bytes)) }
+    ensures read { IfOk result (λ bytes. column row.now at ≡ Octets bytes) }
 {
     let value = row.get_ref(at)?;
     match value {
@@ -176,7 +197,8 @@ fn blob_of(alloc: Global, row: &Row, at: usize) -> Result<Bytes, Refused>
 }
 
 fn copied(alloc: Global, bytes: &[u8]) -> Result<Bytes, Refused>
-    ensures { IfOk result (λ copy. copy ≡ bytes.now) }
+    ensures cause { IfErr result (λ refused. refused ≡ Memory) }
+    ensures read { IfOk result (λ copy. copy ≡ bytes.now) }
 {
     let mut copy = Bytes::new(alloc);
     copy.push_all(bytes)?;

@@ -1,10 +1,14 @@
 //! The tables in a file, which is a database of SQLite's format.
 
 ghost use Rattle.std.specs.Prelude.{◌≡◌, ◌↔◌, IfOk};
+ghost use Rattle.sqlite.specs.Files.{file_state, IsOpened};
+ghost use Rattle.sqlite.specs.State.{HasCleanDisk};
+ghost use Rattle.off_keepsql.specs.Begin.{BeginsOverFiles};
 
-use off_keepsql::{SqlCells, SqlKeeper};
-use off_outside::KeepErr;
+use off_keepsql::{Cells, SqlCells, SqlKeeper};
+use off_outside::{KeepErr, Keeper};
 use sqlite::{Connection, Error, ErrorCode, File, FileStore, Options, Unknown};
+use sqlite_disk::Disk;
 use sqlite_std_file::{OpenError, open};
 use std::hash::{BuildHasher, RandomState};
 use std::io::ErrorKind;
@@ -26,7 +30,11 @@ pub enum StoreErr {
 pub type FileKeeper = SqlKeeper<SqlCells<FileStore<File>>>;
 
 /// Opens the file at a path, or makes it, with its table.
-pub fn open_store(rt: &HostRuntime, path: &str) -> Result<FileKeeper, StoreErr> {
+pub fn open_store(rt: &HostRuntime, path: &str) -> Result<FileKeeper, StoreErr>
+    ensures { IfOk result (λ keeper. BeginsOverFiles ⟦<File as Disk>⟧
+        (⟦<SqlCells<FileStore<File>> as Cells>⟧.seen keeper.cells)
+        (⟦<FileKeeper as Keeper>⟧.seen keeper)) }
+{
     let conn = connect(rt, path)?;
     match SqlKeeper::begin(rt.alloc(), conn) {
         Ok(keeper) => Ok(keeper),
@@ -36,7 +44,9 @@ pub fn open_store(rt: &HostRuntime, path: &str) -> Result<FileKeeper, StoreErr> 
 }
 
 // Opens the database at a path, or makes an empty one.
-fn connect(rt: &HostRuntime, path: &str) -> Result<Connection<FileStore<File>>, StoreErr> {
+fn connect(rt: &HostRuntime, path: &str) -> Result<Connection<FileStore<File>>, StoreErr>
+    ensures { IfOk result (λ conn. HasCleanDisk (file_state conn) → IsOpened conn) }
+{
     let options = options(rt)?;
     let files = match open(rt, path, Unknown) {
         Ok(files) => files,

@@ -1,8 +1,9 @@
-use Rattle.std.proofs.Common.{◌≡◌, Some}
+use Rattle.std.proofs.Common.{inl, ◌≡◌, Some}
 use Rattle.off_cells.specs.CellsSeen.{next_cell}
 use Rattle.off_sqlcells.specs.Statements.{Nexts}
 use Rattle.off_sqlcells.proofs.StateLemmas.{came_told, still_tells, query_fails}
-use Rattle.off_sqlcells.proofs.CallLemmas.{val_looked, only_ok}
+use Rattle.off_sqlcells.specs.Refusals.{ShowNoCell}
+use Rattle.off_sqlcells.proofs.CallLemmas.{val_looked, only_ok, copy_fails}
 use Rattle.off_sqlcells.proofs.statements.find_above.Goals as goal
 
 pub returns-in-Ok-clause-kept : goal.returns-in-Ok-clause-kept
@@ -12,8 +13,15 @@ returns-in-Ok-clause-kept g c = λ steady m told.
 pub returns-in-Ok-clause-found : goal.returns-in-Ok-clause-found
 returns-in-Ok-clause-found g c = λ steady.
     val_looked c.first_cell.result _ _ (λ m. Nexts (Some c.args.after.now) m c.in-Ok.rows.items) (λ cell m. cell ≡ next_cell (Some c.args.after.now) m)
-    (only_ok c.first_cell.result _ _ (λ cell each. each (Some c.args.after.now)) c.first_cell.ensures)
+    (only_ok c.first_cell.result _ _ (λ cell each. each (Some c.args.after.now)) c.first_cell.ensures.read)
     (came_told (Some c.args.after.now) _ _ _ (c.in-Ok.ensures.shown (steady c.rows_above.new.conn.store)))
 
 pub returns-in-Err-clause-kept : goal.returns-in-Err-clause-kept
 returns-in-Err-clause-kept g c = λ steady m told. still_tells _ _ m (query_fails _ _ _ _ _ (c.in-Err.ensures.fails (steady c.rows_above.new.conn.store))) told
+
+pub returns-in-Ok-clause-cause : goal.returns-in-Ok-clause-cause
+returns-in-Ok-clause-cause g c = λ steady.
+    copy_fails c.first_cell.result _ _ ShowNoCell _ _ c.in-Ok.rows.items (c.in-Ok.ensures.shown (steady c.rows_above.new.conn.store)) c.first_cell.ensures.cause
+
+pub returns-in-Err-clause-cause : goal.returns-in-Err-clause-cause
+returns-in-Err-clause-cause g c = λ steady. inl (c.in-Err.err, c.in-Err.ensures.fails (steady c.rows_above.new.conn.store), c.from.ensures)

@@ -11,3 +11,6 @@ returns-in-Ok-clause-done g c = λ steady base m within.
 pub returns-in-Err-clause-stays : goal.returns-in-Err-clause-stays
 returns-in-Err-clause-stays g c = λ steady.
     fails_stays g.S.Store c.args.work.now.conn.now c.execute-done.new.self.conn.now _ _ _ _ refl c.in-Err.ensures.ended (c.in-Err.ensures.runs (steady c.execute-done.new.self.conn.now.store))
+
+pub returns-in-Err-clause-cause : goal.returns-in-Err-clause-cause
+returns-in-Err-clause-cause g c = λ steady. (c.in-Err.err, c.from.ensures, c.in-Err.ensures.runs (steady c.execute-done.new.self.conn.now.store))

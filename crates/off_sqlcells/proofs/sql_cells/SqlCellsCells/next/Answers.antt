@@ -13,3 +13,11 @@ pub returns-in-Err-clause-told : goal.returns-in-Err-clause-told
 returns-in-Err-clause-told g c =
     refused_kept g.S.Store c.args.self.now.conn c.find_behind.new.conn c.counted.new.conn c.counted.result c.args.self.now.faults c.counted.new.faults c.args.self.now.calls c.one_more-self.result
     c.find_behind.ensures.kept c.counted.ensures.kept c.counted.ensures.counts
+
+pub returns-in-Err-clause-cause : goal.returns-in-Err-clause-cause
+returns-in-Err-clause-cause g c = λ steady. record {
+  between = c.find_behind.new.conn;
+  refused = c.in-Err.refused;
+  cause = c.in-Err.ensures.cause steady;
+  told = c.counted.ensures.told steady;
+}
