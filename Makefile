@@ -1,4 +1,4 @@
-# Builds the office by bin/officed, and installs it with what belongs to it:
+# Proves and builds the office by bin/office-build, and installs it with what belongs to it:
 #
 #     make
 #     make install [PREFIX=/usr/local] [DESTDIR=]
@@ -10,18 +10,20 @@ bin = $(DESTDIR)$(PREFIX)/bin
 unit = $(DESTDIR)$(PREFIX)/lib/systemd/system
 man = $(DESTDIR)$(PREFIX)/share/man/man8
 doc = $(DESTDIR)$(PREFIX)/share/doc/officed
-pages = docs/OPERATING.md docs/MESSAGES.md docs/CLERK_API.md docs/openapi.json packaging/nginx.conf
+pages = docs/OPERATING.md docs/MESSAGES.md docs/CLERK_API.md docs/openapi.json docs/SIZING.md \
+	docs/ALARMS.md docs/UPGRADING.md docs/PAST_ONE_MACHINE.md docs/COMPARISON.md \
+	packaging/nginx.conf packaging/prometheus-rules.yml
 example = examples/first-office
+helpers = office-all office-clerk office-copy office-counts office-desk office-sql office-watch
 
-# The program refuses these words with status 1, once it is built.
 build:
-	bin/officed build-only >/dev/null || test $$? -eq 1
+	@bin/office-build proved
 
 install:
 	@test -x $(OFFICED) || { echo "make install: there is no $(OFFICED): make it first" >&2; exit 1; }
 	install -d $(bin) $(unit) $(man) $(doc)
 	install -m 755 $(OFFICED) $(bin)/officed
-	install -m 755 bin/office-clerk bin/office-counts bin/office-sql $(bin)
+	install -m 755 $(helpers:%=bin/%) $(bin)
 	install -m 755 bin/modem $(bin)/office-modem
 	sed 's|/usr/local|$(PREFIX)|g' packaging/officed.service >$(unit)/officed.service
 	sed 's|/usr/local|$(PREFIX)|g' packaging/officed.8 >$(man)/officed.8
@@ -32,7 +34,7 @@ install:
 	install -m 755 $(example)/set-up $(doc)/first-office
 
 uninstall:
-	rm -f $(bin)/officed $(bin)/office-clerk $(bin)/office-counts $(bin)/office-sql
+	rm -f $(bin)/officed $(helpers:%=$(bin)/%)
 	rm -f $(bin)/office-modem $(unit)/officed.service $(man)/officed.8
 	rm -rf $(doc)
 

@@ -117,7 +117,6 @@ REFUSED = [
     (("import", "-"), b"mac,subscriber,class\n", "header", "mac,subscriber,class,serial"),
     (("import", "-"), rows("modems", "1,2"), "width", "row 1 hasn't"),
     (("import", "-"), rows("subscribers", "1,maybe,2,"), "import-field", "1,2"),
-    (("import", "-"), rows("subscribers", *["1,yes,2,"] * 2001), "too-many", "two files"),
     (("import", "-"), rows("modems", "020000000003,8,1,"), "no-subscriber", "row or limit 1"),
     (("import", "--batch", "9", "-"), rows("modems"), "batch-differs", "import 9"),
 ]
@@ -135,6 +134,55 @@ def explains(port):
     check(clerk(port, "move", "site")[0] == 2, "another word")
     status, _, said = clerk(free_ports()[3], "get", "site")
     check(status == 3 and "no answer" in said, "no office")
+
+
+def people(*changed):
+    """4,500 subscribers, some names over two lines; of the rows `changed` no device."""
+    lines = (f'{number},yes,{0 if number in changed else 2},"Ann, ""{number}""\r\nLee"'
+             for number in range(1, 4501))
+    return rows("subscribers", *lines)
+
+
+def by_parts(port):
+    """A file of more rows than an import takes, which acts once, or is refused by parts."""
+    summary = "4,500 rows in 3 parts: {} are put, {} refused with their part, {} not tried\n"
+    words = ("import", "-")
+    status, said, wrong = clerk(port, *words, given=people(4100))
+    check((status, said) == (1, summary.format("4,000", "500", "0")), f"parts: {status} {said}")
+    check("rows 4001 to 4500: " in wrong and "row,column 4100,3 " in wrong, f"which: {wrong}")
+    check(clerk(port, "get", "subscribers/4001")[0] == 1, "a refused part puts nothing")
+    for what in ("mended", "once more"):
+        status, said, wrong = clerk(port, *words, given=people())
+        check((status, said, wrong) == (0, summary.format("4,500", "0", "0"), ""),
+              f"{what}: {status} {said} {wrong}")
+    shown = json.loads(clerk(port, "get", "subscribers/4500")[1])
+    check(shown["name"] == 'Ann, "4500"\r\nLee', f"the last row: {shown}")
+    changed = '{"active":false,"cpes":9,"name":""}'
+    for more, expected in (((), False), (("--batch", "5"), True), (("--batch", "5"), False)):
+        check(clerk(port, "put", "subscribers/2001", changed)[0] == 0, "a row is changed")
+        check(clerk(port, "import", *more, "-", given=people())[0] == 0, f"handed in {more}")
+        shown = json.loads(clerk(port, "get", "subscribers/2001")[1])
+        check(shown["active"] is expected, f"{more}: an import acts once: {shown}")
+    status, said, wrong = clerk(free_ports()[3], *words, given=people())
+    check((status, said) == (3, summary.format("0", "0", "4,500")), f"no office: {status} {said}")
+    check("no answer" in wrong and "go on where this ended" in wrong, f"no office: {wrong}")
+
+
+def split():
+    """Parts have as many rows and bytes as may be, no row is cut, and none is lost."""
+    clerk_ = loaded("office-clerk")
+    names, mark = b"subscriber,active,cpes,name", b"\xef\xbb\xbf"
+    for end in (b"\n", b"\r\n", b"\r"):
+        lines = [b'%d,yes,2,"%s' % (count, b'""' * 300) + end + b'"' for count in range(1999)]
+        parts = clerk_.parts_of(mark + end.join([names, b"", *lines]))
+        found = [row for part in parts for row in clerk_.rows_in(part.data)[1:]]
+        check([row.removesuffix(end) for row in found] == lines, f"no row is lost: {end}")
+        check(all(len(part.data) <= 1_048_576 for part in parts) and len(parts) == 2,
+              f"parts have few bytes: {[len(part.data) for part in parts]}")
+        check(all(part.data.startswith(names + end) for part in parts), "each has the names")
+    for count, expected in ((0, [0]), (2000, [2000]), (2001, [2000, 1])):
+        parts = clerk_.parts_of(b"\n".join([names, *[b"1,yes,2,"] * count]))
+        check([part.rows for part in parts] == expected, f"{count} rows: {len(parts)} parts")
 
 
 def with_an_office(act):
@@ -161,6 +209,8 @@ def main():
         return 1
     print(f"{with_an_office(pasted)} examples pasted")
     with_an_office(clerks)
+    split()
+    with_an_office(by_parts)
     print(f"acceptance: {len(failures)} failed")
     return 1 if failures else 0
 

@@ -143,7 +143,7 @@ def statuses(rows):
         check(f"| `{word}` | {status} |" in page, f"{word} has the status of CLERK_API")
     check("exit 70" in text_of("bin", "officed"), "bin/officed ends with 70")
     unit = text_of("packaging", "officed.service")
-    check("RestartPreventExitStatus=1 2\n" in unit, "the unit tries again but for 1 and 2")
+    check("RestartPreventExitStatus=1 2 10\n" in unit, "the unit tries again but for 1, 2 and 10")
 
 
 def helpers():

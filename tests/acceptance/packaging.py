@@ -17,12 +17,15 @@ from every_word import text_of
 from time_service import PROGRAM, ROOT, check, failures, free_ports
 
 DOC = "share/doc/officed"
+HELPERS = ["office-all", "office-clerk", "office-copy", "office-counts", "office-desk",
+           "office-modem", "office-sql", "office-watch"]
 INSTALLED = {
-    "bin/officed": 0o755, "bin/office-clerk": 0o755, "bin/office-counts": 0o755,
-    "bin/office-sql": 0o755, "bin/office-modem": 0o755,
+    **{f"bin/{name}": 0o755 for name in ("officed", *HELPERS)},
     "lib/systemd/system/officed.service": 0o644, "share/man/man8/officed.8": 0o644,
-    **{f"{DOC}/{name}": 0o644 for name in ("OPERATING.md", "MESSAGES.md", "CLERK_API.md",
-                                           "openapi.json", "nginx.conf")},
+    **{f"{DOC}/{name}": 0o644 for name in (
+        "OPERATING.md", "MESSAGES.md", "CLERK_API.md", "openapi.json", "SIZING.md", "ALARMS.md",
+        "UPGRADING.md", "PAST_ONE_MACHINE.md", "COMPARISON.md", "nginx.conf",
+        "prometheus-rules.yml")},
     **{f"{DOC}/first-office/{name}": 0o644 for name in (
         "site.json", "class-1.json", "pool-1.json", "subscriber-7.json",
         "modem-02aabbccddee.json")},
@@ -102,8 +105,9 @@ def manual():
     check(told == list(range(12)), f"the statuses: {told}")
     for name in re.findall(r'"(OFFICED_\w+)"', text_of("crates", "off_host", "src", "addresses.rt")):
         check(f".B {name}\n" in page, f"the manual has {name}")
-    names = re.findall(r"(?m)^(?:\.BR? )?(office\\-\w+)", page)
-    check(len(names) == 4, f"the helpers: {names}")
+    names = re.findall(r"(?m)^(?:\.BR? )?(office\\-\w+)", page[page.index(".SH SEE ALSO"):])
+    told = sorted(name.replace("\\", "") for name in names)
+    check(told == HELPERS, f"the helpers: {told}")
     if not shutil.which("groff"):
         print("the manual's layout: skipped, since this machine has no groff")
         return

@@ -11,10 +11,12 @@ import csv
 import io
 import ipaddress
 import os
+import signal
 import sqlite3
 import subprocess
 import sys
 import tempfile
+import time
 
 from clerk_examples import wait_for
 from first_office import may_relay, may_unshare, run
@@ -60,6 +62,7 @@ ROWS = [
     (b"\x02" + big(7, 4), b"\x01\x02" + text(b"Ann")),
     (b"\x02" + big(8, 4), b"\x00\x02" + text("Bö".encode())),
     modem(0xEE, 7, 1, b"SN01"), modem(0xEF, 8, 1), modem(0xF0, 7, 2, b"a,b"), modem(0xF1, 7, 1),
+    (b"\x05" + big(1, 4), text(b"gold") + b"\x18\x00"),
     (b"\x06" + big(1, 4), ip("10.64.0.10") + ip("10.64.0.14") + b"\x18" + ip("10.64.0.1") * 2),
     *leased("10.64.0.10", BOUND, 0xEE, NOW + 100), *leased("10.64.0.11", BOUND, 0xF0, NOW),
     *leased("10.64.0.12", OFFERED, 0xEF, NOW + 9), *leased("10.64.0.13", DECLINED, 0, NOW - 5),
@@ -83,6 +86,17 @@ ANSWERS = [
     (("free", "1"), [["address", "last modem", "ended (UTC)"],
                      ["10.64.0.11", "02aabbccddf0", MOMENT], ["10.64.0.13", "", BEFORE],
                      ["10.64.0.14", "", ""]]),
+    (("subscribers",), [["subscriber", "active", "cpes", "modems", "name"],
+                        ["7", "yes", "2", "3", "Ann"], ["8", "no", "2", "1", "B\u00f6"]]),
+    (("classes",), [["class", "name", "modems"], ["1", "gold", "3"]]),
+    (("leases",), [["address", "modem", "lease", "until (UTC)"],
+                   ["10.64.0.10", "02aabbccddee", "bound", LATER],
+                   ["10.64.0.11", "02aabbccddf0", "ended", MOMENT],
+                   ["10.64.0.12", "02aabbccddef", "offered", SOON],
+                   ["10.64.0.13", "", "ended", BEFORE],
+                   ["10.65.0.10", "02aabbccdd77", "bound", LATER]]),
+    (("pools",), [["pool", "relay", "first", "last", "addresses", "taken", "free", "full"],
+                  ["1", "10.64.0.1", "10.64.0.10", "10.64.0.14", "5", "2", "3", "40%"]]),
     (("batches",), [["batch", "kind", "rows", "digest"],
                     ["9", "modems", "2", bytes(range(16)).hex()],
                     [str(2**64 - 1), "subscribers", "2000", "00" * 16]]),
@@ -163,6 +177,75 @@ def refusals(folder):
         check(asked(bad, *words)[0] == 2, f"a row of another form: {words}")
 
 
+TOLD = ["address", "modem", "lease", "before (UTC)", "now (UTC)"]
+# Each with the leases that it changes: their addresses, and their ends before and behind it.
+ENDED = [
+    ((), [("10.65.0.11", "02aabbccdd78", "bound", NOW + 86401, NOW + 86400)]), ((), []),
+    (("10.65.0.11",), [("10.65.0.11", "02aabbccdd78", "bound", NOW + 86400, NOW)]),
+    (("--later-than", "now+50"), [("10.64.0.10", "02aabbccddee", "bound", NOW + 100, NOW + 50),
+                                  ("10.65.0.10", "02aabbccdd77", "bound", NOW + 100, NOW + 50)]),
+    (("10.65.0.10",), [("10.65.0.10", "02aabbccdd77", "bound", NOW + 50, NOW)]),
+    (("10.65.0.10",), []),
+    (("--later-than", "2023-11-14 22:13:27"), [
+        ("10.64.0.10", "02aabbccddee", "bound", NOW + 50, NOW + 7),
+        ("10.64.0.12", "02aabbccddef", "offered", NOW + 9, NOW + 7)]),
+]
+
+
+def moment(seconds):
+    return time.strftime("%Y-%m-%d %H:%M:%S", time.gmtime(seconds))
+
+
+def rows_in(path):
+    held = sqlite3.connect(f"file:{path}?immutable=1", uri=True)
+    rows = dict(held.execute("SELECT ident, val FROM office"))
+    held.close()
+    return rows
+
+
+def ends_leases(folder):
+    """Leases are ended, all other rows stay, and a copy of the file as it was is kept."""
+    path = os.path.join(folder, "ending.db")
+    made(path, [*ROWS, *leased("10.65.0.11", BOUND, 0x78, NOW + 86401)]).close()
+    for words, changed in ENDED:
+        before = rows_in(path)
+        status, came, said = asked(path, "--csv", "end-leases", *words)
+        found = list(csv.reader(io.StringIO(came)))
+        lines = [[*line[:3], moment(line[3]), moment(line[4])] for line in changed]
+        check((status, found) == (0, [TOLD, *lines]), f"{words}: {status} {found} {said}")
+        for held, _, _, was, is_ in changed:
+            val = before[b"\x07" + ip(held)]
+            check(val[-8:] == big(was, 8), f"{words}: {held} ended at another moment")
+            before[b"\x07" + ip(held)] = val[:-8] + big(is_, 8)
+        check(rows_in(path) == before, f"{words}: the other rows stay")
+        copies = [os.path.join(folder, name) for name in os.listdir(folder) if ".before-" in name]
+        check(len(copies) == bool(changed), f"{words}: {copies}")
+        for copy in copies:
+            check(said.strip().endswith(copy), f"{words}: {said}")
+            os.remove(copy)
+    for words, expected in ((("10.64.0.14",), 1), (("10.64.0",), 2), (("--later-than", "x"), 2),
+                            (("--later-than", "now", "10.64.0.10"), 2)):
+        check(asked(path, "end-leases", *words)[0] == expected, f"{words}: {expected}")
+    locked = sqlite3.connect(path, isolation_level=None)
+    locked.execute("PRAGMA locking_mode = EXCLUSIVE")
+    locked.execute("BEGIN EXCLUSIVE")
+    check(asked(path, "end-leases", "--later-than", "now")[0] == 3, "not of a store in use")
+    locked.close()
+    bare = os.path.join(folder, "bare.db")
+    made(bare, ROWS[1:]).close()
+    check(asked(bare, "end-leases")[0] == 1, "without a site a moment is to be given")
+
+
+def to_no_reader(path):
+    """What is said, and the status, where the reader of the answer has gone, as `head` does."""
+    reading, writing = os.pipe()
+    os.close(reading)
+    done = subprocess.run([READER, "--at", str(NOW), path, "free", "1"], timeout=30,
+                          stdout=writing, stderr=subprocess.PIPE)
+    os.close(writing)
+    return done.returncode, done.stderr
+
+
 def serving(path, turns):
     """The program over a store, and its clerks' port."""
     ports = free_ports()
@@ -195,17 +278,27 @@ def by_the_program(folder):
     finally:
         stop(program)
     check(asked(path, "modems", "7")[0] == 0, "and behind it it is")
+    # By its own clock: `asked` is of another moment.
+    for words in (("--later-than", "now+60"), ("127.64.0.10",)):
+        done = subprocess.run([READER, "--csv", path, "end-leases", *words], timeout=30,
+                              stdout=subprocess.PIPE, stderr=subprocess.DEVNULL)
+        lines = list(csv.reader(io.StringIO(done.stdout.decode())))
+        check([line[:2] for line in lines[1:]] == [["127.64.0.10", "02aabbccddee"]], f"{lines}")
+        check(serving(path, 0)[0].wait(timeout=60) == 0, f"{words}: the office opens the file")
 
 
 def main():
     with tempfile.TemporaryDirectory() as folder:
         stores(folder)
         refusals(folder)
+        ends_leases(folder)
         by_the_program(folder)
         status, came, _ = asked(os.path.join(folder, "office.db"), "free", "1")
         lines = ["address     last modem    ended (UTC)", f"10.64.0.11  02aabbccddf0  {MOMENT}",
                  f"10.64.0.13                {BEFORE}", "10.64.0.14"]
         check((status, came.splitlines()) == (0, lines), f"as text: {came}")
+        found = to_no_reader(os.path.join(folder, "office.db"))
+        check(found == (-signal.SIGPIPE, b""), f"a reader that has gone: {found}")
     print(f"acceptance: {len(failures)} failed")
     return 1 if failures else 0
 

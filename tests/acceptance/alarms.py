@@ -1,0 +1,90 @@
+#!/usr/bin/env python3
+"""The alarms of packaging/prometheus-rules.yml are those of docs/ALARMS.md, over words that exist.
+
+Each rule's words stand in docs/MESSAGES.md under their service, and its counters are those that
+office-counts writes. Where promtool is there it judges the rules; and they are tried by it over
+counters of this script: some alarms come, the others don't.
+"""
+import os
+import re
+import shutil
+import subprocess
+import sys
+import tempfile
+
+from every_word import FAULTS, sections, text_of
+from time_service import ROOT, check, failures
+
+RULES = os.path.join(ROOT, "packaging", "prometheus-rules.yml")
+SECTIONS = {"dhcp": "DHCP", "tftp": "TFTP", "time": "Time", "http": "Clerks in the log"}
+# Counters by minute, and the alarms that they give at their end, of those that are asked for.
+TRIAL = """
+rule_files: [%s]
+evaluation_interval: 1m
+tests:
+  - interval: 1m
+    input_series:
+      - series: 'officed_lines_total{service="dhcp",word="pool-full"}'
+        values: '0x20 1x40'
+      - series: 'officed_lines_total{service="dhcp",word="offer"}'
+        values: '0+120x60'
+      - series: 'officed_lines_total{service="dhcp",word="ack"}'
+        values: '0+30x60'
+      - series: 'officed_lines_total{service="dhcp",word="keeper"}'
+        values: '0x60'
+    alert_rule_test:
+      - {eval_time: 30m, alertname: OfficePoolFull, exp_alerts: [{exp_labels: {severity: page},
+         exp_annotations: {summary: "A pool of addresses is full"}}]}
+      - {eval_time: 15m, alertname: OfficePoolFull, exp_alerts: []}
+      - {eval_time: 50m, alertname: OfficeKeeperFails, exp_alerts: []}
+      - {eval_time: 50m, alertname: OfficeManyBoot, exp_alerts: []}
+      - {eval_time: 50m, alertname: OfficeOffersAreLost, exp_alerts: [{exp_labels: {severity: page},
+         exp_annotations: {summary: "Modems are offered addresses and don't take them"}}]}
+"""
+
+
+def words_exist(rules):
+    """Each word of a rule is one of its service, or of each."""
+    found, _ = sections()
+    general = found["Each service"]
+    for labels in re.findall(r"officed_lines_total\{([^}]*)\}", rules):
+        about = dict(re.findall(r'(\w+)=~?"([^"]*)"', labels))
+        known = [*found[SECTIONS[about["service"]]], "pool-full"] if "service" in about else general
+        for word in about["word"].split("|"):
+            if about.get("service") == "http":
+                check(any(re.fullmatch(word, f"409 {fault}") for fault in FAULTS), f"http {word}")
+            else:
+                check(word in known, f"{labels}: {word} is a word")
+
+
+def main():
+    with open(RULES, encoding="utf-8") as held:
+        rules = held.read()
+    names = re.findall(r"- alert: (\w+)", rules)
+    told = re.findall(r"(?m)^\| `(\w+)` \|", text_of("docs", "ALARMS.md"))
+    check(names == told, f"the alarms of the page: {set(names) ^ set(told)}")
+    words_exist(rules)
+    counts = text_of("bin", "office-counts")
+    for name in set(re.findall(r"officed_\w+_total", rules)):
+        check(f'"{name}"' in counts, f"office-counts writes {name}")
+    tool = shutil.which("promtool")
+    if tool:
+        done = subprocess.run([tool, "check", "rules", RULES], stdout=subprocess.PIPE,
+                              stderr=subprocess.STDOUT)
+        check(done.returncode == 0, f"promtool takes them: {done.stdout.decode()}")
+        with tempfile.TemporaryDirectory() as folder:
+            trial = os.path.join(folder, "trial.yml")
+            with open(trial, "w", encoding="utf-8") as held:
+                held.write(TRIAL % RULES)
+            done = subprocess.run([tool, "test", "rules", trial], stdout=subprocess.PIPE,
+                                  stderr=subprocess.STDOUT)
+        check(done.returncode == 0, f"the alarms that come: {done.stdout.decode()}")
+    else:
+        print("promtool: skipped, since it isn't here")
+    print(f"{len(names)} alarms")
+    print(f"acceptance: {len(failures)} failed")
+    return 1 if failures else 0
+
+
+if __name__ == "__main__":
+    sys.exit(main())

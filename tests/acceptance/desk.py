@@ -1,0 +1,401 @@
+#!/usr/bin/env python3
+"""bin/office-desk looks rows up and edits them in the browser, and tells each refusal in words.
+
+It is asked as a browser asks, over an office with tables in memory and a copy of this script's:
+each kind of row is put, shown and removed by its form, and the office has what the form said; what
+the office refuses is told; a file of 4,500 rows is handed in; lists, counts and lines are shown.
+Who names another host, or has no token of the desk's, changes nothing. The desk's table of settings
+is that of the definitions. Where chromium is there, it fills the forms itself, and with
+OFFICE_SHOTS pictures of the pages are left in that folder. It ends what it started, and takes some
+seconds.
+"""
+import base64
+import html
+import http.client
+import json
+import os
+import re
+import select
+import shutil
+import socket
+import subprocess
+import sys
+import tempfile
+import time
+import urllib.parse
+
+from clerk_examples import people, wait_for
+from every_word import text_of
+from first_office import loaded
+from listening import stop
+from store_reader import made
+from time_service import PROGRAM, ROOT, check, failures, free_ports, start
+
+DESK = os.path.join(ROOT, "bin", "office-desk")
+CHROMIUM = next(filter(None, map(shutil.which, ("chromium", "chromium-browser",
+                                                "google-chrome"))), None)
+SITE = {"server": "10.0.0.2", "secret": "736563726574", "offset": "3600", "lease": "86400",
+        "log": "0.0.0.0"}
+POOL = {"first": "10.64.0.10", "last": "10.64.0.99", "prefix": "24", "router": "10.64.0.1",
+        "relay": "10.64.0.1"}
+ANN = {"active": "on", "cpes": "2", "name": "Ann <O'Neil> & \"Sons\""}
+MODEM = {"subscriber": "7", "class": "1", "serial": "SN01"}
+
+
+class Browser:
+    """Asks the desk as a browser does."""
+
+    def __init__(self, port):
+        self.port = port
+        self.token = re.search(r'name="token" value="(\w+)"', self.get("/site"))[1]
+
+    def ask(self, method, path, body=None, **heads):
+        held = http.client.HTTPConnection("127.0.0.1", self.port, timeout=30)
+        held.request(method, path, body, {"Host": f"127.0.0.1:{self.port}", **heads})
+        answer = held.getresponse()
+        text = answer.read().decode()
+        held.close()
+        return answer.status, text, answer.getheader("Location")
+
+    def get(self, path):
+        return self.ask("GET", path)[1]
+
+    def fields(self, text):
+        """The fields of a page's form, as a browser would send them."""
+        found = {}
+        form = text[text.index('<form method="post"'):]
+        for tag in re.findall(r"<input [^>]*>", form):
+            about = dict(re.findall(r'(\w+)="([^"]*)"', tag))
+            if about.get("type") == "checkbox" and " checked" not in tag:
+                continue
+            if "name" in about:
+                found[html.unescape(about["name"])] = html.unescape(about.get("value", "on"))
+        return found
+
+    def post(self, path, fields, action="save"):
+        """The message behind a form was sent, and the page."""
+        body = urllib.parse.urlencode({**fields, "token": self.token, "action": action})
+        text = self.ask("POST", path, body)[1]
+        told = re.search(r'role="status">([^<]*)</div>', text)
+        return (html.unescape(told[1]) if told else ""), text
+
+
+def is_heard(port):
+    end = time.monotonic() + 20
+    while time.monotonic() < end:
+        try:
+            socket.create_connection(("127.0.0.1", port), timeout=2).close()
+            return
+        except OSError:
+            time.sleep(0.05)
+
+
+def row(port, path):
+    """A row as the office has it; None where it has none."""
+    held = http.client.HTTPConnection("127.0.0.1", port, timeout=10)
+    held.request("GET", path)
+    answer = held.getresponse()
+    text = answer.read()
+    held.close()
+    return json.loads(text) if answer.status == 200 else None
+
+
+def rows(browser, port):
+    """Each kind of row is put by its form, is shown, and is what the office has."""
+    for path, fields in (("/site", SITE), ("/pool/1", POOL), ("/subscriber/7", ANN)):
+        check(browser.post(path, fields)[0] == "Done.", f"{path} is put")
+    check(row(port, "/site") == {"lease": 86400, "log": "0.0.0.0", "offset": 3600,
+                                 "server": "10.0.0.2"}, "the site")
+    check(row(port, "/pools/1") == {**POOL, "prefix": 24}, "the pool")
+    check(row(port, "/subscribers/7") == {"active": True, "cpes": 2, "name": ANN["name"]}, "Ann")
+    shown = browser.get("/subscriber/7")
+    check("<O'Neil>" not in shown and browser.fields(shown)["name"] == ANN["name"], "the name")
+    check(browser.post("/subscriber/7", {"cpes": "2", "name": ""})[0] == "Done.", "not active")
+    check(row(port, "/subscribers/7")["active"] is False, "she isn't active")
+    classes(browser, port)
+    check(browser.post("/modem/02aabbccddee", MODEM)[0] == "Done.", "a modem")
+    check(row(port, "/modems/02aabbccddee") == {"subscriber": 7, "class": 1, "serial": "SN01"},
+          "the modem")
+
+
+def classes(browser, port):
+    """A class by its form: new, with a rate, another flow, without it; and an add-on."""
+    fields = browser.fields(browser.get("/class/1"))
+    check(fields.get("value:s.0.0") == "1", f"a new class: {fields}")
+    _, text = browser.post("/class/1", {**fields, "name": "gold", "choice": "s.0:8"}, "add")
+    fields = {**browser.fields(text), "value:s.0.2": "10,000,000", "value:s.1.0": "2"}
+    check(browser.post("/class/1", {**fields, "name": "gold"})[0] == "Done.", "a class is put")
+    flows = [{"code": 24, "parts": [{"code": 1, "hex": "0001"}, {"code": 6, "hex": "01"},
+                                    {"code": 8, "hex": "00989680"}]},
+             {"code": 25, "parts": [{"code": 1, "hex": "0002"}, {"code": 6, "hex": "01"}]}]
+    check(row(port, "/classes/1") == {"name": "gold", "settings": flows}, "the class")
+    shown = browser.get("/class/1")
+    check("18 0d 01 02 00 01 06 01 01 08 04 00 98 96 80" in shown, "its bytes")
+    fields = browser.fields(shown)
+    told, text = browser.post("/class/1", {**fields, "value:s.0.1": "9"})
+    check(told == "parameter sets: 9 isn't 1 to 7", f"out of its range: {told}")
+    check(browser.post("/class/1", {**fields, "remove:s.0.2": "on"})[0] == "Done.", "without it")
+    check(len(row(port, "/classes/1")["settings"][0]["parts"]) == 2, "the rate is gone")
+    _, text = browser.post("/addon/7/0", {**browser.fields(browser.get("/addon/7/0")),
+                                          "choice": "s:24"}, "add")
+    fields = {**browser.fields(text), "value:s.0.0": "3"}
+    check(browser.post("/addon/7/0", fields)[0] == "Done.", "an add-on")
+    check(row(port, "/subscribers/7/addons/0")["settings"][0]["code"] == 24, "the add-on")
+    check("upstream service flow" in browser.get("/subscriber/7"), "and it's shown")
+
+
+def refused(browser):
+    """What the office refuses is told by its word and in words."""
+    fields = browser.fields(browser.get("/class/1"))
+    for path, given, action, word, part in (
+            ("/site", {**SITE, "lease": "59"}, "save", "site", "`lease` isn't 60"),
+            ("/site", {**SITE, "lease": "x"}, "save", "", "lease: a whole number"),
+            ("/site", {**SITE, "secret": "zz"}, "save", "value", "`secret`"),
+            ("/pool/2", {**POOL, "first": "10.64.0.100"}, "save", "pool-size", "above"),
+            ("/pool/2", {**POOL, "relay": "10.64.0.2"}, "save", "pool-overlap", "pool 1"),
+            ("/pool/2", {**POOL, "first": "10.65.0.1", "last": "10.65.0.2"}, "save", "relay-taken",
+             "pool 1 has"),
+            ("/subscriber/7", {"cpes": "0", "name": ""}, "save", "value", "`cpes`"),
+            ("/subscriber/9", {}, "delete", "no-row", "no such row"),
+            ("/subscriber/x", ANN, "save", "no-path", "no such path"),
+            ("/subscriber/7", {}, "delete", "has-modems", "remove the modem first"),
+            ("/class/1", {}, "delete", "class-in-use", "another class first"),
+            ("/modem/02aabbccddef", {**MODEM, "class": "9"}, "save", "no-class", "first"),
+            ("/modem/02aabbccddef", {**MODEM, "subscriber": "9"}, "save", "no-subscriber", "first"),
+            ("/class/1", {**fields, "remove:s.0": "on"}, "save", "tree", "a class needs 24")):
+        told, text = browser.post(path, given, action)
+        if path.startswith("/site") and action == "save":
+            check(f'value="{given["lease"]}"' in text, "what was typed stands there again")
+        check(part in told and (not word or f" {word}: " in told), f"{path} {given}: {told}")
+
+
+def others(browser):
+    """Another page, host or token changes nothing."""
+    body = urllib.parse.urlencode({**SITE, "token": "0" * 32, "action": "save"})
+    check(browser.ask("POST", "/site", body)[0] == 403, "another token")
+    for host in ("office.example", "127.0.0.1", f"127.0.0.2:{browser.port}"):
+        check(browser.ask("GET", "/", Host=host)[0] == 403, f"the host {host}")
+    check(browser.ask("GET", "/none")[0] == 404, "no such page")
+    for what, where in (("7", "/subscriber/7"), ("02:AA:bb:cc:dd:ee", "/modem/02aabbccddee"),
+                        ("10.64.0.10", "/lease/10.64.0.10"), ("?", "/")):
+        found = browser.ask("GET", "/find?" + urllib.parse.urlencode({"what": what}))
+        check(found[::2] == (303, where), f"{what} is at {found[2]}")
+
+
+def lists(browser):
+    """What the copy and the lines say."""
+    for path, parts in (
+            ("/pools", ["10.64.0.10 to 10.64.0.14", "As of the copy of "]),
+            ("/subscribers", ["/subscriber/8"]), ("/classes", ["/class/1", "gold"]),
+            ("/subscriber/7", ["02aabbccddf0", "10.64.0.10"]),
+            ("/modem/02aabbccddee", ["Its lease: 10.64.0.10, "]),
+            ("/lease/10.64.0.10", ["It has no lease."]),
+            ("/", ["http 200", "in the last hour", "</span> 0%"]),
+            ("/lines", ["a clerk&#x27;s command was done, and answered"])):
+        text = browser.get(path)
+        check(all(part in text for part in parts), f"{path} has {parts}")
+
+
+def imports(browser, port):
+    """A file of many rows, handed in as the page's script does."""
+    heads = {"X-Token": browser.token}
+    check(browser.ask("POST", "/import", b"x,y\n", **heads)[0] == 422, "a table of another kind")
+    check(browser.ask("POST", "/import", people())[0] == 403, "without the token")
+    check(browser.ask("POST", "/import", people(4100), **heads)[0] == 200, "an import")
+    end, state = time.monotonic() + 60, {}
+    while not state.get("ended") and time.monotonic() < end:
+        state = json.loads(browser.get("/import/state"))
+        time.sleep(0.1)
+    check((state["rows"], state["put"], state["lost"]) == (4500, 4000, 500), f"{state}")
+    check("row,column 4100,3" in state["faults"][0], f"{state['faults']}")
+    check(row(port, "/subscribers/4000") is not None, "a row of it")
+
+
+def settings():
+    """The desk's table of settings is the definitions', both ways."""
+    desk, text = loaded("office-desk"), text_of("crates", "off_tree", "specs", "Table.antt")
+
+    def known(name, second=None):
+        part = text[text.index(f"\n{name} =\n"):]
+        part = part[:part.index("\n\n")]
+        found = re.findall(r"(?:listed|rule) (\d+) (\(.*?\)|\w+) (\w+) ?(\w*)", part)
+        return {int(code): form for code, form, up, down in found
+                if second is None or (down if second else up) != "never"}
+
+    def told(table):
+        return {code: "a_group" if len(form) == 2 else form for code, form in table.items()}
+
+    for name, table, second in (("top_settings", desk.SETTINGS, None),
+                                ("flow_parts", desk.UPSTREAM, False),
+                                ("flow_parts", desk.DOWNSTREAM, True),
+                                ("classifier_parts", desk.CLASSIFIER, None),
+                                ("ip_parts", desk.IPV4, None),
+                                ("extension_parts", desk.EXTENSION, None)):
+        wanted, found = known(name, second), told(table)
+        check(set(wanted) == set(found), f"{name}: {set(wanted) ^ set(found)}")
+        for code, form in wanted.items():
+            numbers = list(map(int, re.findall(r"\d+", form)))
+            mine = found.get(code)
+            if form == "a_group" or form == "name_form":
+                check(mine == form or mine[1] == "text", f"{name} {code}: {form}")
+            elif name != "classifier_parts" or code != 1:
+                check(mine[2] == numbers[0], f"{name} {code} has {mine[2]} bytes: {form}")
+                check(len(numbers) == 1 or list(mine[3:5]) == numbers[1:], f"{name} {code}: {form}")
+
+
+# Chromium reads descriptor 3 and writes 4; others first, lest one takes another's place.
+PIPES = """
+import os, sys
+low, high = os.dup2(int(sys.argv[1]), 20), os.dup2(int(sys.argv[2]), 21)
+os.dup2(low, 3)
+os.dup2(high, 4)
+os.execv(sys.argv[3], sys.argv[3:])
+"""
+
+
+class Chromium:
+    """A browser without a window, over its debugging pipe."""
+
+    def __init__(self, folder):
+        (low, self.out), (self.into, high) = os.pipe(), os.pipe()
+        words = [sys.executable, "-c", PIPES, str(low), str(high), CHROMIUM, "--headless=new",
+                 "--no-sandbox", "--disable-gpu", "--no-first-run",
+                 "--disable-dev-shm-usage", "--remote-debugging-pipe", "--window-size=1100,1400",
+                 f"--user-data-dir={folder}", "about:blank"]
+        self.program = subprocess.Popen(words, pass_fds=(low, high), stdin=subprocess.DEVNULL,
+                                        stdout=subprocess.DEVNULL, stderr=subprocess.DEVNULL)
+        os.close(low)
+        os.close(high)
+        self.rest, self.count, self.session = b"", 0, None
+        target = self.call("Target.createTarget", url="about:blank")["targetId"]
+        self.session = self.call("Target.attachToTarget", targetId=target,
+                                 flatten=True)["sessionId"]
+
+    def call(self, method, **given):
+        self.count += 1
+        message = {"id": self.count, "method": method, "params": given}
+        if self.session:
+            message["sessionId"] = self.session
+        os.write(self.out, json.dumps(message).encode() + b"\0")
+        end = time.monotonic() + 60
+        while time.monotonic() < end:
+            while b"\0" in self.rest:
+                each, _, self.rest = self.rest.partition(b"\0")
+                found = json.loads(each)
+                if found.get("id") == self.count:
+                    return found.get("result", found)
+            if select.select([self.into], [], [], 1)[0]:
+                self.rest += os.read(self.into, 1 << 20)
+        raise TimeoutError(method)
+
+    def run(self, text):
+        """The value of some JavaScript on the page."""
+        found = self.call("Runtime.evaluate", expression=text, returnByValue=True,
+                          awaitPromise=True)
+        return found.get("result", {}).get("value")
+
+    def until(self, text):
+        end = time.monotonic() + 30
+        while not self.run(text):
+            if time.monotonic() > end:
+                check(False, f"in the browser: {text}")
+                return
+            time.sleep(0.1)
+
+    def go(self, url):
+        self.call("Page.navigate", url=url)
+        self.until(f"location.href === {json.dumps(url)} && document.readyState === 'complete'")
+
+    def picture(self, name):
+        folder = os.environ.get("OFFICE_SHOTS")
+        if folder:
+            data = self.call("Page.captureScreenshot", captureBeyondViewport=False)["data"]
+            with open(os.path.join(folder, f"{name}.png"), "wb") as held:
+                held.write(base64.b64decode(data))
+
+    def choose_file(self, path):
+        root = self.call("DOM.getDocument")["root"]["nodeId"]
+        node = self.call("DOM.querySelector", nodeId=root, selector="#file")["nodeId"]
+        self.call("DOM.setFileInputFiles", files=[path], nodeId=node)
+
+    def end(self):
+        self.program.terminate()
+        try:
+            self.program.wait(timeout=10)
+        except subprocess.TimeoutExpired:
+            self.program.kill()
+            self.program.wait()
+
+
+SAID = "document.querySelector('[role=status]')?.textContent ?? ''"
+
+
+def filled(page, port, folder):
+    """A person's way: look around, edit a subscriber and a class, be refused, hand in a file."""
+    home = f"http://127.0.0.1:{page}"
+    table = os.path.join(folder, "people.csv")
+    with open(table, "wb") as held:
+        held.write(people())
+    browser = Chromium(os.path.join(folder, "chromium"))
+    try:
+        for name in ("", "pools", "classes", "subscribers", "lines", "site", "subscriber/7",
+                     "class/1"):
+            browser.go(f"{home}/{name}")
+            browser.picture(name.replace("/", "-") or "overview")
+        browser.run("document.querySelector('[aria-label=\"parameter sets\"]').value = '7'")
+        browser.run("document.querySelector('button[value=save]').click()")
+        browser.until(f"({SAID}) === 'Done.'")
+        parts = row(port, "/classes/1")["settings"][0]["parts"]
+        check({"code": 6, "hex": "07"} in parts, f"a class by the browser: {parts}")
+        browser.go(f"{home}/subscriber/7")
+        browser.run("document.querySelector('[name=cpes]').value = '300'")
+        browser.run("document.querySelector('button[value=save]').click()")
+        browser.until(f"({SAID}).includes('`cpes`')")
+        browser.picture("refused")
+        browser.go(f"{home}/import")
+        browser.choose_file(table)
+        browser.run("document.querySelector('#go').click()")
+        browser.until("document.querySelector('#said').textContent.endsWith('Done.')")
+        browser.picture("import")
+        check(row(port, "/subscribers/4500") is not None, "an import by the browser")
+    finally:
+        browser.end()
+
+
+def main():
+    settings()
+    if not os.path.exists(PROGRAM):
+        print("officed isn't built: run bin/officed once")
+        return 1
+    ports, desk = free_ports(), free_ports()[3]
+    with tempfile.TemporaryDirectory() as folder:
+        copy, log = os.path.join(folder, "office.db"), os.path.join(folder, "log")
+        made(copy).close()
+        words = [DESK, "--office", f"http://127.0.0.1:{ports[3]}", "--copy", copy, "--lines", log,
+                 "--port", str(desk)]
+        with open(log, "wb") as lines:
+            program = start(ports, 10**6, lines)
+        page = subprocess.Popen(words, stdout=subprocess.DEVNULL)
+        try:
+            wait_for(ports[3])
+            is_heard(desk)
+            browser = Browser(desk)
+            rows(browser, ports[3])
+            refused(browser)
+            others(browser)
+            imports(browser, ports[3])
+            time.sleep(1)
+            lists(browser)
+            if CHROMIUM:
+                filled(desk, ports[3], folder)
+            else:
+                print("a browser: skipped, since there is no chromium here")
+        finally:
+            stop(page)
+            stop(program)
+    print(f"acceptance: {len(failures)} failed")
+    return 1 if failures else 0
+
+
+if __name__ == "__main__":
+    sys.exit(main())
