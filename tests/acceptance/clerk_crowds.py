@@ -127,7 +127,7 @@ def drips(port, name, silent, dripping, pause):
     crowd.start()
     time.sleep(0.5)
     queue = Queue(port)
-    passed = delay(port, 60)
+    passed = delay(port, 120)
     queued = queue.seconds
     check(passed is not None and passed - queued < 31, f"{name}: a clerk is answered within 31 seconds behind {queued} s of a queue, not {passed}")
     print(f"{name}: a clerk was answered after {passed if passed is None else round(passed, 2)} s, {queued:.2f} s of them in a queue")
