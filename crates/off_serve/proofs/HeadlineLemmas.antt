@@ -4,7 +4,7 @@ use Rattle.off_defs.specs.Told.{Told}
 use Rattle.off_defs.specs.State.{Tables, Held, held_at_start, start, state_of}
 use Rattle.off_book.proofs.CrashLemmas.{lasts_run, lasts_front}
 use Rattle.off_book.specs.Words.{Job}
-use Rattle.off_book.specs.Run.{Turn, SaysMemory, commits_by}
+use Rattle.off_book.specs.Run.{Turn, SaysMemory, commits_by, lost_by}
 use Rattle.off_book.proofs.StepLemmas.{turns_did}
 use Rattle.off_defs.proofs.CountLemmas.{later_grew}
 use Rattle.off_defs.proofs.ToldLemmas.{stays_self}
@@ -16,6 +16,10 @@ use Rattle.off_outside.specs.KeeperCalls.{Reads, Quiet}
 use Rattle.off_outside.specs.LinkCalls.{LinkUnasked}
 use Rattle.off_laws.proofs.Stretches.{leases_hold_through}
 use Rattle.off_file_runs.proofs.Runs.{files_of_runs}
+use Rattle.off_boot_laws.specs.Went.{Anyhow}
+use Rattle.off_boot_laws.specs.Served.{ModemsAreServed}
+use Rattle.off_boot_laws.proofs.Went.{all_go_well}
+use Rattle.off_boot_laws.proofs.Keeping.{modems_are_served, all_are_served}
 use Rattle.off_isolation.proofs.RunLemmas as isolation
 use Rattle.off_import_runs.proofs.Runs.{imports_act_once_through}
 use Rattle.off_office.specs.Conditions.{Fits}
@@ -70,11 +74,21 @@ status_of stop.Sink budget turns old new status none other ends = absurd (cut_co
 complete_of : (reason : Stop) (budget : ℕ) (turns : List Turn) (held : Held) (old new : World) (status : ℕ) → RanTurns turns old.link new.link
     → RanOffice turns held old.keeper new.keeper → Ends reason budget turns old new status
     → NoFault old new → All (λ (turn : Turn). ¬ (SaysMemory turn)) turns → status ≢ 6 → Completed turns status
-complete_of reason budget turns held old new status ran office ends none silent other = record {
-  did = turns_did turns office.tell (omega (arith, none.keeper, none.keeper_count, office.keeper.faults.grew)) silent;
-  lost = omega (arith, none.unsent, none.unsent_count, ran.unsent.grew.grew);
-  status_is = status_of reason budget turns old new status none other ends;
-}
+complete_of reason budget turns held old new status ran office ends none silent other =
+    let did = turns_did turns office.tell (omega (arith, none.keeper, none.keeper_count, office.keeper.faults.grew)) silent in
+    let lost : lost_by turns ≡ 0 = omega (arith, none.unsent, none.unsent_count, ran.unsent.grew.grew) in
+    record {
+      did = did;
+      lost = lost;
+      well = all_go_well turns did ran.marks lost;
+      status_is = status_of reason budget turns old new status none other ends;
+    }
+
+-- and each modem is served
+each_served : (turns : List Turn) (old new : World) (status : ℕ) (t : Tables) → Good t
+    → (NoFault old new → All (λ turn. ¬ (SaysMemory turn)) turns → status ≢ 6 → Completed turns status)
+    → NoFault old new → All (λ turn. ¬ (SaysMemory turn)) turns → status ≢ 6 → ModemsAreServed Anyhow (start t) turns
+each_served turns old new status t good complete none silent other = all_are_served (start t) turns good (complete none silent other).well
 
 -- the opening asks nothing but reading
 keeper_opened : (turns : List Turn) (a b c : KeeperSeen) → Quiet a b → KeeperRan turns b c → KeeperRan turns a c
@@ -189,6 +203,8 @@ pub serves : (budget : ℕ) (link link' : LinkSeen) (k l m : KeeperSeen) (a b c 
 serves budget link link' k l m a b c reason first last status rests opened fresh served ended =
     let ends = ends_of reason budget served.turns link link' l k m a b c status served.stops ended in
     let office = ran_office rests opened fresh served.office in
+    let complete =
+    complete_of reason budget served.turns last.held (world_of link k a) (world_of link' m c) status served.ran office ends in
     inr (record {
       reason = reason;
       turns = served.turns;
@@ -201,12 +217,14 @@ serves budget link link' k l m a b c reason first last status rests opened fresh
       stays_good = good_again opened served.office;
       leases = λ t told. leases_hold_through (start t) served.turns (opened.tables t told).1.good;
       files = λ t told. files_of_runs (start t) _ served.turns (office.run.each t told).fits;
+      modems = λ t told. modems_are_served (start t) served.turns (opened.tables t told).1.good;
       isolated = λ t told. isolation.isolated (start t) _ served.turns (office.run.each t told).fits refl;
       imports = λ t told. imports_act_once_through (start t) _ served.turns (office.run.each t told).fits;
       ends = ends;
       writes = ended_writes reason status b c ended ∙ ap (own_writes reason) served.writes;
       up = all_kept reason budget served.turns last.held (world_of link k a) (world_of link' m c) status served.ran office ends;
-      complete = complete_of reason budget served.turns last.held (world_of link k a) (world_of link' m c) status served.ran office ends;
+      complete = complete;
+      all_modems = λ t told. each_served served.turns (world_of link k a) (world_of link' m c) status t (opened.tables t told).1.good complete;
     })
 
 closed_complete : (why : StartErr) (old new : World) (status : ℕ) → NotStarted why old.keeper new.keeper

@@ -10,6 +10,8 @@ use Rattle.off_book.specs.Run.{Turn, Run, SaysMemory, TellsItsOutcome, failures_
 use Rattle.off_book.specs.Crashes.{Lasts}
 use Rattle.off_laws.specs.Leases.{LeasesHoldThrough}
 use Rattle.off_file_runs.specs.Served.{FilesAreServedThrough}
+use Rattle.off_boot_laws.specs.Went.{GoesWell, Anyhow}
+use Rattle.off_boot_laws.specs.Served.{ModemsAreServed}
 use Rattle.off_isolation.specs.Alone.{IsolatedThrough}
 use Rattle.off_import_runs.specs.Once.{ImportsActOnceThrough}
 use Rattle.off_rules.specs.Good.{Good}
@@ -225,6 +227,7 @@ pub record AllUp (old new : World) : Type 0 where
 pub record Completed (turns : List Turn) (status : ℕ) : Type 0 where
   pub did : All (λ turn. turn.outcome ≡ outcome.Did) turns
   pub lost : lost_by turns ≡ 0
+  pub well : All GoesWell turns
   pub status_is : status ≡ 0
 
 -- The office didn't open: 2, the tables aren't good, and the line names their least bad key; 3, the
@@ -269,6 +272,9 @@ pub record RunsAsOffice (budget : ℕ) (old new : World) (status : ℕ) : Type 0
   -- what a modem has acknowledged joins to a prefix of its own one file, the one that it had when
   -- its read request was accepted
   pub files : (t : Tables) → old.keeper.tables t → FilesAreServedThrough (start t) turns
+  -- a modem that asks boots, from each place of the run, and one that asks again keeps its address,
+  -- whatever others ask in between
+  pub modems : (t : Tables) → old.keeper.tables t → ModemsAreServed GoesWell (start t) turns
   -- what an address gets by its TFTP datagrams and by Ticks is what it gets alone, over its own
   -- transfers
   pub isolated : (t : Tables) → old.keeper.tables t → IsolatedThrough (start t) turns
@@ -282,6 +288,10 @@ pub record RunsAsOffice (budget : ℕ) (old new : World) (status : ℕ) : Type 0
   -- where no count rose and no line says `memory`, nothing departs from the run
   pub complete : NoFault old new → All (λ turn. ¬ (SaysMemory turn)) turns → status ≢ 6
       → Completed turns status
+  -- and each modem is served, of whose turns nothing is asked
+  pub all_modems : (t : Tables) → old.keeper.tables t → NoFault old new
+      → All (λ turn. ¬ (SaysMemory turn)) turns → status ≢ 6
+      → ModemsAreServed Anyhow (start t) turns
 
 abbrev pub ServesAsOffice : ℕ → World → World → ℕ → Type 0
 ServesAsOffice budget old new status =
