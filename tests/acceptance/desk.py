@@ -9,6 +9,7 @@ is that of the definitions. Where chromium is there, it fills the forms itself, 
 OFFICE_SHOTS pictures of the pages are left in that folder. It ends what it started, and takes some
 seconds.
 """
+import argparse
 import base64
 import html
 import http.client
@@ -243,6 +244,28 @@ def settings():
                 check(len(numbers) == 1 or list(mine[3:5]) == numbers[1:], f"{name} {code}: {form}")
 
 
+def copies_and_counts():
+    """A copy that the desk makes itself, and lines with the moments that journalctl writes."""
+    desk = loaded("office-desk")
+    with tempfile.TemporaryDirectory() as folder:
+        store = os.path.join(folder, "office.db")
+        made(store).close()
+        copy = desk.Copy(argparse.Namespace(store=store, copy=None), folder)
+        check([line[0] for line in copy.rows("pools")] == ["1"], "a list of its own copy")
+        check(copy.moment().startswith("As of the copy of "), copy.moment())
+        copy.store, copy.path = os.path.join(folder, "none"), os.path.join(folder, "other")
+        check(copy.rows("pools") == [] and "office-copy: " in copy.moment(), copy.moment())
+    lines = desk.Lines(argparse.Namespace(unit=None, lines=None, page=None))
+    for minutes, words in ((0, "dhcp ack"), (0, "tftp block 7"), (2, "tftp block 8"),
+                           (2, "tftp block 9"), (70, "dhcp ack"), (200, "dhcp offer")):
+        moment = time.strftime("%Y-%m-%dT%H:%M:%S", time.gmtime(time.time() - 60 * minutes))
+        lines.take(f"{moment}.250000+0000 host officed[7]: 17 {words}")
+    series = dict(lines.series())
+    check({word: sum(counts) for word, counts in series.items()}
+          == {"tftp block N": 3, "dhcp ack": 1}, f"the last hour: {series}")
+    check(series["tftp block N"][-3:] in ([2, 0, 1], [0, 1, 0]), "each in its minute")
+
+
 # Chromium reads descriptor 3 and writes 4; others first, lest one takes another's place.
 PIPES = """
 import os, sys
@@ -364,6 +387,7 @@ def filled(page, port, folder):
 
 def main():
     settings()
+    copies_and_counts()
     if not os.path.exists(PROGRAM):
         print("officed isn't built: run bin/officed once")
         return 1
