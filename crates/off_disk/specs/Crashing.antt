@@ -1,5 +1,6 @@
 -- What a crash at each moment of a call leaves of a journal.
-use Rattle.std.specs.Prelude.{◌≡◌, ℕ, ◌+◌, ◌<◌, ◌≤◌, ◌⊎◌, List, [], ◌∷◌, ◌++◌, length, Bool, true, false}
+use Rattle.std.specs.Prelude.{◌≡◌, ℕ, ◌+◌, ◌<◌, ◌≤◌, ◌⊎◌, List, [], ◌∷◌, ◌++◌, length, Bool, true}
+use Rattle.std.specs.Prelude.{false}
 use Rattle.off_defs.specs.Counts.{Grew}
 use Rattle.off_disk.specs.DiskSeen.{DiskSeen}
 use Rattle.off_disk.specs.Records.{record_of, blocks, IsClosed, IsDoubtful, IsBroken}

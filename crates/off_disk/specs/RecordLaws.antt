@@ -1,9 +1,12 @@
 -- Bytes stand for one list of payloads, and which.
-use Rattle.std.proofs.Common.{◌≡◌, ◌≢◌, ℕ, ◌<◌, ◌≤◌, ◌^◌, ◌⊎◌, inl, inr, List, [], ◌∷◌, ◌++◌, length, refl, sym, ap, subst, ◌∙◌, arith, append_assoc, append-nil, length-append}
+use Rattle.std.proofs.Common.{◌≡◌, ◌≢◌, ℕ, ◌<◌, ◌≤◌, ◌^◌, ◌⊎◌, inl, inr, List, [], ◌∷◌, ◌++◌}
+use Rattle.std.proofs.Common.{length, refl, sym, ap, subst, ◌∙◌, arith, append_assoc, append-nil}
+use Rattle.std.proofs.Common.{length-append}
 use Rattle.std.specs.Int.{to_be_bytes, from_be_bytes, w32}
 use Rattle.std.proofs.lemmas.Nat.{from_be_bytes-to_be_bytes_4}
 use Rattle.std.proofs.lemmas.Bool.{cases_lt}
-use Rattle.off_disk.specs.Records.{record_of, blocks, IsShort, AreShort, IsOpen, Stands, IsClosed, IsDoubtful, IsBroken}
+use Rattle.off_disk.specs.Records.{record_of, blocks, IsShort, AreShort, IsOpen, Stands, IsClosed}
+use Rattle.off_disk.specs.Records.{IsDoubtful, IsBroken}
 
 same_parts : (v w r s : List ℕ) → length v ≡ length w → v ++ r ≡ w ++ s → (v ≡ w) × (r ≡ s)
 same_parts [] [] r s n e = (refl, e)

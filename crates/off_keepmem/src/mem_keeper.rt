@@ -160,9 +160,9 @@ impl MemKeeper {
         Ok(())
     }
 
-    /// The row of a key.
+    /// The row of a key. It isn't counted as a call.
     #[tactic(auto, using(crate::proofs::MemKeeperLemmas::row_held))]
-    fn row(&self, alloc: Global, key: Key) -> Result<Option<Row>, NoMemory>
+    pub fn row(&self, alloc: Global, key: Key) -> Result<Option<Row>, NoMemory>
         ensures { IfOk result (λ row. row ≡ row_at self.now.tables key) }
     {
         match self.rows.find(key) {
@@ -171,9 +171,9 @@ impl MemKeeper {
         }
     }
 
-    /// The next entry of a walk.
+    /// The next entry of a walk. It isn't counted as a call.
     #[tactic(auto, using(crate::proofs::MemKeeperLemmas::next_held))]
-    fn entry_behind(
+    pub fn entry_behind(
         &self,
         alloc: Global,
         place: Option<Key>,

@@ -1,10 +1,12 @@
 -- What a crash may leave of a disk in memory.
-use Rattle.std.proofs.Common.{◌≡◌, ℕ, ◌≤◌, Option, Some, None, List, [], ◌∷◌, ◌++◌, length, take, refl, sym, ap, subst, ◌∙◌, arith, ◌^◌}
+use Rattle.std.proofs.Common.{◌≡◌, ℕ, ◌≤◌, Option, Some, None, List, [], ◌∷◌, ◌++◌, length, take}
+use Rattle.std.proofs.Common.{refl, sym, ap, subst, ◌∙◌, arith, ◌^◌}
 use Rattle.std.proofs.lemmas.List.{take_all}
 use Rattle.off_disk.specs.DiskCalls.{Torn}
 use Rattle.off_defs.specs.Told.{IsOne}
 use Rattle.off_disk.proofs.Moments.{whole_torn}
-use Rattle.off_memdisk.specs.MemDisks.{written_in, reads_after, AllFit, LeftBy, MemDiskHeld, mem_seen}
+use Rattle.off_memdisk.specs.MemDisks.{written_in, reads_after, AllFit, LeftBy, MemDiskHeld}
+use Rattle.off_memdisk.specs.MemDisks.{mem_seen}
 
 pub left_reads : (b : List ℕ) (left : List ℕ → Type 0) (calls : List (Option (ℕ × List ℕ))) → AllFit b calls → left b → LeftBy b left calls (reads_after b calls)
 left_reads b left [] fits has = has

@@ -1,6 +1,7 @@
 -- A disk in memory: what it reads as, and what a crash at each moment may leave, from the bytes
 -- that it began with and the calls that were done.
-use Rattle.std.specs.Prelude.{◌≡◌, ℕ, ◌+◌, ◌≤◌, ◌^◌, ◌⊎◌, min, Option, Some, None, List, [], ◌∷◌, ◌++◌, length, take, drop}
+use Rattle.std.specs.Prelude.{◌≡◌, ℕ, ◌+◌, ◌≤◌, ◌^◌, ◌⊎◌, min, Option, Some, None, List, [], ◌∷◌}
+use Rattle.std.specs.Prelude.{◌++◌, length, take, drop}
 use Rattle.off_disk.specs.DiskSeen.{DiskSeen}
 use Rattle.off_disk.specs.DiskCalls.{Torn}
 use Rattle.off_defs.specs.Counts.{one_more, most_count}

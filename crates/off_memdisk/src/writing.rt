@@ -25,7 +25,8 @@ pub(crate) fn put_bytes(bytes: &mut Vec<u8>, at: usize, piece: &[u8]) -> Result<
 // Writes over what is there.
 fn put_over(bytes: &mut [u8], at: usize, piece: &[u8])
     requires { at + length piece.now ≤ length bytes.old }
-    ensures { bytes.new ≡ take at bytes.old ++ (piece.now ++ drop (at + length piece.now) bytes.old) }
+    ensures { bytes.new
+        ≡ take at bytes.old ++ (piece.now ++ drop (at + length piece.now) bytes.old) }
 {
     bytes[at..at + piece.len()].copy_from_slice(piece);
 }

@@ -1,0 +1,7 @@
+pub mod WriteLemmas
+pub mod Keeping
+pub mod PayloadLemmas
+pub mod Opening
+pub mod Gates
+pub mod Walk
+pub mod LawLemmas

@@ -1,0 +1,2 @@
+pub mod Storable
+pub mod RowKinds
