@@ -1,5 +1,5 @@
 -- The tries to take an event.
-use Rattle.std.proofs.Common.{◌≡◌, ℕ, ◌+◌, ◌<◌, refl, ap, ◌∙◌, inl, arith}
+use Rattle.std.proofs.Common.{◌≡◌, ℕ, ◌+◌, ◌<◌, refl, ap, ◌∙◌, inl, arith, max}
 use Rattle.off_defs.specs.declared.events.Event.{Event}
 use Rattle.off_defs.specs.Counts.{one_more}
 use Rattle.off_defs.proofs.ToldLemmas.{stays_self, stays_then, then_stays}
@@ -22,8 +22,8 @@ missed_none {s} none = record {
 }
 
 -- a row of failures that is longer by one
-longer : {n l m k : ℕ} → m ≡ max l n → k ≡ n + 1 → max m k ≡ max l (n + 1)
-longer {n} {l} {m} {k} is next = omega (arith, is, next)
+longer : (n l m k : ℕ) → m ≡ max l n → k ≡ n + 1 → max m k ≡ max l (n + 1)
+longer n l m k is next = omega (arith, is, next)
 
 pub missed_more : {n : ℕ} {a b c : LinkSeen} → Missed n a b → NotTook link_err.Failed b c → n < most_missed → Missed (n + 1) a c
 missed_more {n} {a} {b} {c} p q few = record {
@@ -31,7 +31,7 @@ missed_more {n} {a} {b} {c} p q few = record {
   sent = then_stays p.sent q.sent;
   up = up_chain p.faults.grew.later q.faults.later p.up q.up;
   missed = q.missed ∙ (ap one_more p.missed ∙ omega arith);
-  longest = q.longest ∙ longer p.longest (ap one_more p.missed ∙ omega arith);
+  longest = q.longest ∙ longer n a.longest b.longest (one_more b.missed) p.longest (ap one_more p.missed ∙ omega arith);
   faults = tallied_then p.faults (tallied_one q.faults);
   unsent = q.unsent ∙ p.unsent;
 }
