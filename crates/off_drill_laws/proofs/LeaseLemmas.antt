@@ -55,11 +55,11 @@ discovered i = heard 1 i (option 53 (1 ∷ []) ++ modem_options i)
 abbrev pub requested : ℕ → Received
 requested i = heard 3 i (option 53 (3 ∷ []) ++ option 50 (four (address i).0) ++ option 54 (four site.server.0) ++ modem_options i)
 
-read_discover : (i : ℕ) → message_of (discover i) ≡ Ok (discovered i)
+pub read_discover : (i : ℕ) → message_of (discover i) ≡ Ok (discovered i)
 unfolding discover message_fault parts_in
 read_discover i = refl
 
-read_request : (i : ℕ) → message_of (request i) ≡ Ok (requested i)
+pub read_request : (i : ℕ) → message_of (request i) ≡ Ok (requested i)
 unfolding request message_fault parts_in
 read_request i = refl
 
@@ -199,7 +199,7 @@ offer_is n k more few =
 spoken_is : (i : ℕ) → i ≤ 4000 → from_be_bytes w32 (four (address i).0) ≡ (address i).0
 spoken_is i few = from_be_bytes-to_be_bytes_4 (0x0a400fff + i) (omega (arith, few))
 
-claim_is : (i : ℕ) → i ≤ 4000 → claimed (requested i) ≡ Some (address i)
+pub claim_is : (i : ℕ) → i ≤ 4000 → claimed (requested i) ≡ Some (address i)
 unfolding parts_in
 claim_is i few = λ j. Some (record { 0 = spoken_is i few j })
 

@@ -155,7 +155,7 @@ length_name secret m ip six =
       length-take 8 (name_key secret m ip),
     )
 
-request_says : (i : ℕ) → packet_of (read_request i) ≡ Ok (Reads (name i) (Some 44))
+pub request_says : (i : ℕ) → packet_of (read_request i) ≡ Ok (Reads (name i) (Some 44))
 unfolding read_request number_read
 request_says i =
     let short : length (name i ++ behind_name) ≤ 1498 = omega (arith, length-append (name i) behind_name, length_name site.secret (mac i) (address i) refl) in
