@@ -4,7 +4,7 @@
 In a network of its own two hundred modems boot, renew, decline and release, with bad datagrams
 between, and bin/modem boots one to the end of its file. What was sent is captured by this script,
 and by tcpdump where it's there. The modem of each line is the one that had sent the datagram, while
-the lines come and from the captures behind it; the meaning is the page's. Then frames of each kind
+the lines come and from the captures after it; the meaning is the page's. Then frames of each kind
 of link, and what can't be read. It ends what it started, and takes some seconds.
 """
 import os
