@@ -1,7 +1,7 @@
 #!/usr/bin/env python3
 """bin/office-copy copies a store while it is written to, and the office goes on whatever happens.
 
-A writer of this script stands for the office: it keeps the file locked and commits row behind row.
+A writer of this script stands for the office: it keeps the file locked and commits row after row.
 Each of forty copies has every row that was told before the copy was asked for. The writer goes on
 where the copying program is killed, ended by a signal, or is too slow. A store that another name
 leads to is copied with its log; office-sql reads it too. What is refused is refused by its status.
@@ -21,7 +21,7 @@ from time_service import PROGRAM, ROOT, check, failures
 
 COPY, READER = (os.path.join(ROOT, "bin", name) for name in ("office-copy", "office-sql"))
 COPIES, LIVE_COPIES = 40, 20
-# Keeps the file as an office does, the latest rows in the log; tells each row behind its commit.
+# Keeps the file as an office does, the latest rows in the log; tells each row after its commit.
 WRITER = """
 import sqlite3, sys
 held = sqlite3.connect(sys.argv[1], isolation_level=None)
@@ -108,7 +108,7 @@ def while_written(folder, writer, store):
         check(not os.path.exists(out + "-wal"), "a copy has no log")
         stood.append(int(said.rsplit(" ms", 1)[0].rsplit(" ", 1)[1]))
     check(os.stat(out).st_mode & 0o077 == 0, "a copy is its owner's alone")
-    writer.goes_on("behind copies")
+    writer.goes_on("after copies")
     print(f"{COPIES} copies, for which the writer stood {min(stood)} to {max(stood)} ms")
 
 
@@ -167,7 +167,7 @@ def refusals(folder, store, writer):
     check(run(COPY, other, os.path.join(folder, "text.db"))[0] == 1, "a text isn't whole")
     check(run(COPY, store, out)[0] == 2, "a copy that an office had open is left alone")
     check(not [name for name in os.listdir(folder) if name.startswith(".")], "nothing is left over")
-    writer.goes_on("behind what is refused")
+    writer.goes_on("after what is refused")
 
 
 def by_the_program():

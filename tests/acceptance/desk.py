@@ -74,7 +74,7 @@ class Browser:
         return found
 
     def post(self, path, fields, action="save"):
-        """The message behind a form was sent, and the page."""
+        """The message after a form was sent, and the page."""
         body = urllib.parse.urlencode({**fields, "token": self.token, "action": action})
         text = self.ask("POST", path, body)[1]
         told = re.search(r'role="status">([^<]*)</div>', text)

@@ -255,7 +255,7 @@ def told(path, count):
 
 
 def words_since(log, place):
-    """The office's lines behind a place, without their numbers and what repeats."""
+    """The office's lines from a place on, without their numbers and what repeats."""
     log.flush()
     with open(log.name, encoding="utf-8") as held:
         lines = held.read()[place:].splitlines()

@@ -178,7 +178,7 @@ def refusals(folder):
 
 
 TOLD = ["address", "modem", "lease", "before (UTC)", "now (UTC)"]
-# Each with the leases that it changes: their addresses, and their ends before and behind it.
+# Each with the leases that it changes: their addresses, and their ends before and after it.
 ENDED = [
     ((), [("10.65.0.11", "02aabbccdd78", "bound", NOW + 86401, NOW + 86400)]), ((), []),
     (("10.65.0.11",), [("10.65.0.11", "02aabbccdd78", "bound", NOW + 86400, NOW)]),

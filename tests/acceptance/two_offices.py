@@ -5,7 +5,7 @@ In a network of its own two offices have an address each. What clerks change is 
 bin/office-all, each import acts once in each, and what one refuses is told. A modem boots behind a
 relay of either office, and gets nothing at the other. The first office's store is copied while it
 runs; it is killed, and another starts over the copy at its address: a modem that booted before the
-copy is given its address again, with its file, one that booted behind it begins anew. A second
+copy is given its address again, with its file, one that booted after it begins anew. A second
 office over one file, or at one address, doesn't start. It ends what it started, and takes some
 seconds.
 """
@@ -115,18 +115,18 @@ def take_over(folder, store, program, log):
     copy = os.path.join(folder, "standby.db")
     status, said, wrong = run(COPY, store, copy)
     check(status == 0, f"a copy: {said} {wrong}")
-    check(boot(2, FIRST, RELAYS[FIRST]) == "10.64.0.11", "a modem that boots behind the copy")
+    check(boot(2, FIRST, RELAYS[FIRST]) == "10.64.0.11", "a modem that boots after the copy")
     for what, held, expected in (("one file", store, 11), ("one address", "memory", 10)):
-        other = begun(FIRST, held, log)
-        check(other.wait(timeout=PATIENCE) == expected, f"a second office of {what}: {other.returncode}")
+        status = begun(FIRST, held, log).wait(timeout=PATIENCE)
+        check(status == expected, f"a second office of {what}: {status}")
     began = time.perf_counter()
     program.kill()
     program.wait()
     other = begun(FIRST, copy, log)
     answers(FIRST, other)
-    print(f"the standby answers {time.perf_counter() - began:.2f} s behind the kill")
+    print(f"the standby answers {time.perf_counter() - began:.2f} s after the kill")
     check(boot(0, FIRST, RELAYS[FIRST]) == "10.64.0.10", "a modem of before has its address")
-    check(boot(3, FIRST, RELAYS[FIRST]) == "10.64.0.11", "a lease behind the copy is forgotten")
+    check(boot(3, FIRST, RELAYS[FIRST]) == "10.64.0.11", "a lease after the copy is forgotten")
     check(boot(2, FIRST, RELAYS[FIRST]) == "10.64.0.12", "and its modem begins anew")
     return other
 

@@ -4,8 +4,9 @@
 In a network of its own two hundred modems boot, renew, decline and release, with bad datagrams
 between, and bin/modem boots one to the end of its file. What was sent is captured by this script,
 and by tcpdump where it's there. The modem of each line is the one that had sent the datagram, while
-the lines come and from the captures behind it; the meaning is the page's. Then frames of each kind
-of link, and what can't be read. It ends what it started, and takes some seconds.
+the lines come and from the captures after it; the meaning is the page's. Then frames of each kind
+of link, a modem's address in a store, and what can't be read. It ends what it started, and takes
+some seconds.
 """
 import os
 import re
@@ -21,6 +22,7 @@ import time
 import leases_over_sockets as modems
 from first_office import loaded
 from listening import alone, may_be_alone, stop
+from store_reader import made
 from time_service import PROGRAM, ROOT, check, failures, start
 
 WATCH, MODEM = (os.path.join(ROOT, "bin", name) for name in ("office-watch", "modem"))
@@ -192,6 +194,20 @@ def frames():
     check(form.groups("") == ("", "link refused", "", "link refused"), "the last line")
 
 
+def finds():
+    """A modem's address, and the modems of addresses, from a store."""
+    with tempfile.TemporaryDirectory() as folder:
+        store = os.path.join(folder, "office.db")
+        made(store).close()
+        for mac, status, part in (("02:aa:bb:cc:dd:ee", 0, "10.64.0.10"), ("02aabbccddff", 1, "")):
+            done = subprocess.run([WATCH, "--find", mac, store], stdout=subprocess.PIPE,
+                                  stderr=subprocess.DEVNULL, timeout=60)
+            said = done.stdout.decode()
+            check(done.returncode == status and part in said, f"{mac}: {done.returncode} {said}")
+        known = loaded("office-watch").modems_of(store)
+        check(known["10.64.0.12"] == ("02aabbccddef", ""), f"the modems of addresses: {known}")
+
+
 def refused():
     with tempfile.TemporaryDirectory() as folder:
         text, none = os.path.join(folder, "text"), os.path.join(folder, "none")
@@ -208,6 +224,7 @@ def main():
     if sys.argv[1:] == ["watched"]:
         return watched()
     frames()
+    finds()
     refused()
     if not os.path.exists(PROGRAM):
         print("officed isn't built: run bin/officed once")
