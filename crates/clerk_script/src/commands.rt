@@ -104,8 +104,7 @@ fn as_shown(command: Command) -> Reply
     }
 }
 
-fn show_put(alloc: Global, page: &mut Page, reply: &Reply) -> Result<(), Unread>
-{
+fn show_put(alloc: Global, page: &mut Page, reply: &Reply) -> Result<(), Unread> {
     let Reply::Shown(key, row) = reply else {
         return Err(Unread::Words);
     };

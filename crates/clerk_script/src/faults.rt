@@ -6,8 +6,7 @@ use script_words::{Line, Page, Unread};
 use std::alloc::Global;
 
 /// Prints the status, the word and the JSON text of a fault.
-pub fn show_fault(alloc: Global, page: &mut Page, fault: &Fault) -> Result<(), Unread>
-{
+pub fn show_fault(alloc: Global, page: &mut Page, fault: &Fault) -> Result<(), Unread> {
     page.number(u64::from(fault_status(fault)))?;
     page.text(" ")?;
     page.raw(fault_word(fault))?;

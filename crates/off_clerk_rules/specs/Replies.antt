@@ -78,6 +78,7 @@ row_text (row.Pool pool) =
 row_text (row.Lease lease) =
     codes "{\"expiry\":" ++ decimal lease.expiry.0 ++ codes ",\"owner\":\"" ++ owner_text lease.hold
     ++ codes "\",\"state\":\"" ++ state_text lease.hold ++ codes "\"}"
+
 abbrev pub reply_text : Reply → List ℕ
 reply_text Done = codes "{\"ok\":true}"
 reply_text (Shown key row) = row_text row

@@ -2,7 +2,8 @@ use crate::page::Page;
 use crate::trees::show_settings;
 use off_base::NoMemory;
 use off_defs::{
-    Batch, Class, Hold, ImportKind, Key, Lease, Modem, Pool, Row, ShownRow, Site, Subscriber, key_text,
+    Batch, Class, Hold, ImportKind, Key, Lease, Modem, Pool, Row, ShownRow, Site, Subscriber,
+    key_text,
 };
 
 /// Prints a key: its kind, and then its numbers or its address.
