@@ -1,7 +1,6 @@
 pub mod Stored
 pub mod SqlSeen
 pub mod OwnCount
-pub mod RowKinds
 pub mod SqlLaws
 pub mod Laws
 pub mod Begin

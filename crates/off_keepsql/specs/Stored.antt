@@ -8,20 +8,15 @@ use Rattle.off_defs.specs.declared.orders.Write.{Write}
 use Rattle.off_defs.specs.declared.orders.Write.TheVariants as write
 use Rattle.off_defs.specs.State.{Tables}
 use Rattle.off_rows.specs.KeyBytes.{key_bytes, IsRanged}
-use Rattle.off_rows.specs.RowBytes.{row_bytes, IsRowOf}
+use Rattle.off_rows.specs.RowBytes.{row_bytes}
 use Rattle.off_cells.specs.CellsSeen.{Cell, CellMap}
+pub use Rattle.off_spelled.specs.Storable.{IsStorable, IsSpelled, AllSpelled}
 use Rattle.off_cells.specs.declared.writes.CellWrite.{CellWrite}
 use Rattle.off_cells.specs.declared.writes.CellWrite.TheVariants.{Put, Drop}
 
 -- the cell of a key and its row
 abbrev pub cell_of : Key × Row → Cell
 cell_of entry = (key_bytes entry.0, row_bytes entry.1)
-
--- a key and a row that can be stored: the row is of the key's kind, and its values and settings can
--- be read back
-pub record IsStorable (entry : Key × Row) : Type 0 where
-  pub key : IsRanged entry.0
-  pub row : IsRowOf entry.0 entry.1
 
 abbrev pub AllStorable : List (Key × Row) → Type 0
 AllStorable [] = Unit {0}
@@ -45,15 +40,6 @@ MeetsBad (Some cell) = IsBadCell cell
 abbrev pub cell_write : Write → CellWrite
 cell_write (write.Put key row) = Put (key_bytes key) (row_bytes row)
 cell_write (write.Drop key) = Drop (key_bytes key)
-
--- whether a write has a spelling; one without is a bad write
-abbrev pub IsSpelled : Write → Type 0
-IsSpelled (write.Put key row) = IsStorable (key, row)
-IsSpelled (write.Drop key) = IsRanged key
-
-abbrev pub AllSpelled : List Write → Type 0
-AllSpelled [] = Unit {0}
-AllSpelled (write ∷ writes) = IsSpelled write × AllSpelled writes
 
 -- a place of a walk is a key of the program, if it is one
 abbrev pub PlaceRanged : Option Key → Type 0

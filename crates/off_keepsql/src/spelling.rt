@@ -1,23 +1,13 @@
-ghost use Rattle.std.specs.Prelude.{◌≡◌, ◌↔◌, IsTrue};
-ghost use Rattle.off_base.specs.Tree.{AllFit};
 ghost use Rattle.off_defs.specs.declared.orders.Write.TheVariants as write;
-ghost use Rattle.off_rows.specs.KeyBytes.{kind_of};
-ghost use Rattle.off_rows.specs.RowBytes.{IsOfKind, SettingsStand, IsShortSpelling};
-ghost use Rattle.off_tlv.specs.Grammar.{in_file, AllStand};
 ghost use Rattle.off_keepsql.specs.OwnCount.{WriteSpelled, WritesSpelled};
-ghost use Rattle.off_keepsql.specs.RowKinds.{row_kind};
 
 use crate::counts::count_fault;
-use off_base::Settings;
 use off_cells::{CellWrite, CellWrites};
 use off_defs::{Key, Row, Write, Writes};
 use off_outside::KeepErr;
 use off_rows::{encode, encode_key};
-use off_tlv::{is_shaped, spelled_len};
+use off_spelled::can_store;
 use std::alloc::Global;
-
-/// The longest spelling of settings whose length two bytes can say.
-const MOST_SPELLING: usize = 65_535;
 
 // The writes as writes of cells. Where one has no spelling, a fault is counted.
 pub(crate) fn spell_all(
@@ -53,75 +43,4 @@ fn spell_put(alloc: Global, key: &Key, row: &Row, own: &mut u64) -> Result<CellW
     }
     let val = encode(alloc, row)?;
     Ok(CellWrite::Put(encode_key(key), val))
-}
-
-// Whether the row is of the key's kind, and its settings can be read back.
-fn can_store(key: Key, row: &Row) -> bool
-    ensures { IsTrue result ↔ (IsOfKind key row.now × SettingsStand row.now) }
-{
-    key_kind(key) == row_kind(row) && settings_stand(row)
-}
-
-fn key_kind(key: Key) -> u8
-    ensures { result ≡ kind_of key }
-{
-    match key {
-        Key::Site => 1,
-        Key::Subscriber(_) => 2,
-        Key::AddOn(_, _) => 3,
-        Key::Modem(_) => 4,
-        Key::Class(_) => 5,
-        Key::Pool(_) => 6,
-        Key::Lease(_) => 7,
-        Key::Held(_) => 8,
-        Key::Batch(_) => 9,
-    }
-}
-
-fn row_kind(row: &Row) -> u8
-    ensures { result ≡ row_kind row.now }
-{
-    match row {
-        Row::Site(_) => 1,
-        Row::Subscriber(_) => 2,
-        Row::AddOn(_) => 3,
-        Row::Modem(_) => 4,
-        Row::Class(_) => 5,
-        Row::Pool(_) => 6,
-        Row::Lease(_) => 7,
-        Row::Held(_) => 8,
-        Row::Batch(_) => 9,
-    }
-}
-
-fn settings_stand(row: &Row) -> bool
-    ensures { IsTrue result ↔ SettingsStand row.now }
-{
-    match row {
-        Row::AddOn(settings) => stand(settings),
-        Row::Class(class) => stand(&class.settings),
-        Row::Site(_) => true,
-        Row::Subscriber(_) => true,
-        Row::Modem(_) => true,
-        Row::Pool(_) => true,
-        Row::Lease(_) => true,
-        Row::Held(_) => true,
-        Row::Batch(_) => true,
-    }
-}
-
-// Whether settings are as a configuration file has them, and two bytes can say how long they are.
-fn stand(settings: &Settings) -> bool
-    ensures { IsTrue result ↔ (AllStand in_file settings.now × IsShortSpelling settings.now) }
-{
-    is_shaped(settings) && are_short(settings)
-}
-
-fn are_short(settings: &Settings) -> bool
-    ensures { IsTrue result ↔ (AllFit settings.now × IsShortSpelling settings.now) }
-{
-    match spelled_len(settings) {
-        Some(length) => length <= MOST_SPELLING,
-        None => false,
-    }
 }

@@ -1,6 +1,7 @@
 use Rattle.std.proofs.Common.{◌∙◌}
 use Rattle.std.proofs.lemmas.Result.{err_from_is_err_and}
-use Rattle.off_keepsql.proofs.SpellLemmas.{not_spelled, spelled_more, cells_more}
+use Rattle.off_spelled.proofs.SpellLemmas.{spelled_more}
+use Rattle.off_keepsql.proofs.SpellLemmas.{not_spelled, cells_more}
 use Rattle.off_keepsql.proofs.spelling.spell_all.Goals as goal
 
 pub returns-in_err-write : goal.returns-in_err-write
