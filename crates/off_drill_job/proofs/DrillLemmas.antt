@@ -1,5 +1,5 @@
 -- From what was founded and exercised to what `drill` promises.
-use Rattle.std.proofs.Common.{◌≡◌, ◌≢◌, ℕ, ◌<◌, ◌≤◌, ◌⊎◌, true, false, Option, Some, None, is_some, List, [], ◌∷◌, length, refl, sym, ap, subst, ◌∙◌, inl, inr, arith}
+use Rattle.std.proofs.Common.{◌≡◌, ◌≢◌, ℕ, ◌<◌, ◌≤◌, ◌⊎◌, true, false, Option, Some, None, is_some, List, [], ◌∷◌, ◌++◌, length, append-nil, refl, sym, ap, subst, ◌∙◌, inl, inr, arith}
 use Rattle.std.proofs.lemmas.List.{nil_from_length}
 use Rattle.std.proofs.lemmas.List.Elements.{All-nil}
 use Rattle.std.specs.FinMap as map
@@ -9,19 +9,20 @@ use Rattle.off_defs.specs.declared.tables.Row.{Row}
 use Rattle.off_defs.specs.declared.results.Outcome.TheVariants.{Did}
 use Rattle.off_defs.specs.Counts.{Grew, most_count}
 use Rattle.off_defs.specs.Keys.{key_cmp}
-use Rattle.off_defs.specs.State.{Tables, State, Held, state_of}
+use Rattle.off_defs.specs.State.{Tables, State, Held, state_of, held_at_start}
 use Rattle.off_defs.specs.Tables.{is_after, next_entry}
 use Rattle.off_defs.proofs.ToldLemmas.{told_then, told_weaker}
 use Rattle.off_defs.proofs.CountLemmas.{later_grew}
-use Rattle.off_rules.specs.Good.{IsLeastBad}
+use Rattle.off_defs.specs.Told.{Told}
+use Rattle.off_rules.specs.Good.{Good, IsLeastBad}
 use Rattle.off_book.specs.Run.{Turn}
 use Rattle.off_outside.specs.declared.keeper.KeepErr.{KeepErr}
 use Rattle.off_outside.specs.declared.keeper.KeepErr.TheVariants as keep
-use Rattle.off_outside.specs.KeeperSeen.{KeeperSeen}
+use Rattle.off_outside.specs.KeeperSeen.{KeeperSeen, Rests}
 use Rattle.off_outside.specs.KeeperCalls.{Reads, NotDone}
 use Rattle.off_outside.specs.LinkSeen.{LinkSeen}
 use Rattle.off_outside.specs.Streams.{SinkSeen}
-use Rattle.off_outside.proofs.KeeperLemmas.{reads_as, reads_then, stays_up_then}
+use Rattle.off_outside.proofs.KeeperLemmas.{reads_as, reads_then, still_then, stays_up_then}
 use Rattle.off_jobs.specs.Jobs.{Tells}
 use Rattle.off_office.specs.Conditions.{Fits}
 use Rattle.off_office.specs.Desk.{Desk}
@@ -35,14 +36,17 @@ use Rattle.off_drill_laws.specs.Stages.{Waits, Along}
 use Rattle.off_drill_laws.proofs.StageLemmas.{same_tally}
 use Rattle.off_drill_laws.proofs.LawLemmas.{drill_law, drill_is_there}
 use Rattle.off_drill_laws.proofs.AlongLemmas.{whole_of, front_of}
-use Rattle.off_drill_job.specs.Founding.{Builds, Halts}
+use Rattle.off_drill_job.specs.Stepping.{Given, commands_of, KeeperDid, KeeperDrilled}
+use Rattle.off_drill_job.specs.Founding.{founding, AllGiven, Builds, GaveFront, Halts}
 use Rattle.off_drill_job.specs.Exercising.{Exercised, Stopped}
 use Rattle.off_drill_job.specs.Tallying.{raised_by}
 use Rattle.off_drill_job.specs.Telling.{ended_text, ended_status}
-use Rattle.off_drill_job.specs.Drilling.{FindsRows, LeavesDrill, Ends, DoneBy, BrokenBy, GoesOn, NoneFailed, Drills}
+use Rattle.off_drill_job.specs.Drilling.{FindsRows, LeavesDrill, GaveAll, CameSoFar, Ends, DoneBy, BrokenBy, GoesOn, NoneFailed, Drills}
 use Rattle.off_drill_job.specs.declared.drilling.Ended.{Ended}
 use Rattle.off_drill_job.specs.declared.drilling.Ended.TheVariants.{Closed, NotEmpty, Broken, Done}
-use Rattle.off_drill_job.proofs.TurnLemmas.{link_unasked, sent_nothing}
+use Rattle.off_drill_job.proofs.CrashLemmas.{keeper_turns, keeper_opened}
+use Rattle.off_drill_job.proofs.FoundingLemmas.{gave_none}
+use Rattle.off_drill_job.proofs.TurnLemmas.{tried_none, link_unasked, sent_nothing}
 
 -- ---- tables without rows
 
@@ -89,49 +93,76 @@ leaves n few turns tally s u counts start along =
       numbers = counts ∙ ap (raised_by none_yet) law.1 ∙ small n few;
     }
 
-pub done_by : (n : ℕ) → n ≤ 4000 → (d e f : Desk) (i j k : KeeperSeen) (l m : LinkSeen) (none tally : Tally) → none ≡ none_yet → Builds map.empty (peopled n) d e i j → e.held ≡ held_behind 0
+pub done_by : (n : ℕ) → n ≤ 4000 → (d e f : Desk) (i j k : KeeperSeen) (l m : LinkSeen) (none tally : Tally) → none ≡ none_yet → Builds (founding n) map.empty (peopled n) d e i j → e.held ≡ held_behind 0
     → Exercised n (Waits 0) (Waits n) e f j k l m none tally → DoneBy n tally d i k l m
 done_by n few d e f i j k l m none tally nothing built held ran =
     let counts : tally ≡ raised_by none_yet (tally_by ran.turns) = ran.counts ∙ ap (λ (v : Tally). raised_by v (tally_by ran.turns)) nothing in
     record {
+      after = f;
+      given = built.given;
+      gave = record { did = built.did; are = built.are };
       turns = ran.turns;
       did = ran.did;
       tables = told_then built.tables ran.tables (λ x y z one two fit is.
           let half = one fit in
+          let whole = two half.0 in
           let start = founded_state n y e.held (half.1 is) held in
-          leaves n few ran.turns tally (state_of y e.held) (state_of z f.held) counts start ((two half.0).1 start));
+          (whole.0.good, leaves n few ran.turns tally (state_of y e.held) (state_of z f.held) counts start (whole.1 start)));
       up = up_chain (let q = built.faults in omega (arith, q)) (let q = ran.faults in omega (arith, q)) (λ up. inl (built.up up)) ran.up;
       faults = ran.faults ∙ built.faults;
+      keeper = keeper_turns built.keeper ran.keeper;
       sent = ran.sent;
       counts = counts;
     }
 
-pub broken_by : (n : ℕ) → n ≤ 4000 → (err : KeepErr) (d e : Desk) (i j k : KeeperSeen) (l m : LinkSeen) → Builds map.empty (peopled n) d e i j → e.held ≡ held_behind 0
-    → Stopped err n (Waits 0) e j k l m → BrokenBy err n d i k l m
-broken_by n few err d e i j k l m built held stops = record {
-  turns = stops.turns;
-  did = stops.did;
-  tables = told_then built.tables stops.tables (λ x y z one two fit.
-      let half = one fit in
-      let whole = two half.0 in (
-        whole.0,
-        λ is.
-            let start = founded_state n y e.held (half.1 is) held in
-            let part = whole.1 start in
-            front_of n few part.stage stops.turns part.mid part.place (subst (λ (v : State). Along n (Waits 0) part.stage stops.turns v part.mid) start part.along),
-      ));
-  up = up_chain (let q = built.faults in omega (arith, q)) stops.faults.later (λ up. inl (built.up up)) stops.up;
-  faults = later_grew (let q = built.faults in omega (arith, q)) stops.faults;
-  sent = stops.sent;
+-- no command was lost
+front_all : {n : ℕ} {given : List Given} → GaveAll n given → GaveFront (founding n) given []
+front_all {n} {given} gave = record {
+  did = gave.did;
+  few = omega arith;
+  undone = All-nil (λ (one : Given). one.outcome ≢ Did);
+  rest = [];
+  front = append-nil (commands_of (given ++ [])) ∙ ap commands_of (append-nil given) ∙ gave.are;
 }
 
-pub broken_before : (n : ℕ) → n ≤ 4000 → (err : KeepErr) (d : Desk) (i j : KeeperSeen) (l : LinkSeen) → Halts err d i j → BrokenBy err n d i j l l
+pub broken_by : (n : ℕ) → n ≤ 4000 → (err : KeepErr) (d e : Desk) (i j k : KeeperSeen) (l m : LinkSeen) → Builds (founding n) map.empty (peopled n) d e i j → e.held ≡ held_behind 0
+    → Stopped err n (Waits 0) e j k l m → BrokenBy err n d i k l m
+broken_by n few err d e i j k l m built held stops =
+    let gave : GaveAll n built.given = record { did = built.did; are = built.are } in
+    record {
+      after = stops.after;
+      given = built.given;
+      lost = [];
+      turns = stops.turns;
+      tried = stops.tried;
+      came = record { gave = front_all gave; did = stops.did; one = stops.one; order = inr (refl, gave) };
+      tables = told_then built.tables stops.tables (λ x y z one two fit.
+          let half = one fit in
+          let whole = two half.0 in (
+            whole.0,
+            λ is.
+                let start = founded_state n y e.held (half.1 is) held in
+                let part = whole.1 start in
+                front_of n few part.stage stops.turns part.mid part.place (subst (λ (v : State). Along n (Waits 0) part.stage stops.turns v part.mid) start part.along),
+          ));
+      up = up_chain (let q = built.faults in omega (arith, q)) stops.faults.later (λ up. inl (built.up up)) stops.up;
+      faults = later_grew (let q = built.faults in omega (arith, q)) stops.faults;
+      keeper = subst (λ (v : List Given). KeeperDid v (stops.turns ++ stops.tried) d stops.after i k) (sym (append-nil built.given)) (keeper_turns built.keeper stops.keeper);
+      sent = stops.sent;
+    }
+
+pub broken_before : (n : ℕ) → n ≤ 4000 → (err : KeepErr) (d : Desk) (i j : KeeperSeen) (l : LinkSeen) → Halts err (founding n) d i j → BrokenBy err n d i j l l
 broken_before n few err d i j l halts = record {
+  after = halts.after;
+  given = halts.given;
+  lost = halts.lost;
   turns = [];
-  did = All-nil (λ (t : Turn). t.outcome ≡ Did);
+  tried = [];
+  came = record { gave = halts.gave; did = All-nil (λ (t : Turn). t.outcome ≡ Did); one = tried_none; order = inl refl };
   tables = told_weaker halts.tables (λ t u good fit. (good fit, λ is. front_none n few));
   up = halts.up;
   faults = halts.faults;
+  keeper = halts.keeper;
   sent = sent_nothing l;
 }
 
@@ -140,10 +171,13 @@ broken_before n few err d i j l halts = record {
 pub ends_with_rows : (n : ℕ) (d : Desk) (i j k : KeeperSeen) (l : LinkSeen) → Reads (Fits d) i j → FindsRows true j k → Ends NotEmpty n i k l l
 ends_with_rows n d i j k l opened finds = (reads_then opened finds (λ t fit differs. (fit.good, differs)), link_unasked l)
 
-pub ends_unread : (n : ℕ) → n ≤ 4000 → (err : KeepErr) (d : Desk) (i j k : KeeperSeen) (l : LinkSeen) → Reads (Fits d) i j → NotDone err j k → Ends (Broken err) n i k l l
-ends_unread n few err d i j k l opened not = record {
+pub ends_unread : (n : ℕ) → n ≤ 4000 → (err : KeepErr) (d : Desk) (i j k : KeeperSeen) (l : LinkSeen) → Rests i → Reads (Fits d) i j → NotDone err j k → Ends (Broken err) n i k l l
+ends_unread n few err d i j k l rests opened not = record {
+  given = [];
+  lost = [];
   turns = [];
-  did = All-nil (λ (t : Turn). t.outcome ≡ Did);
+  tried = [];
+  came = record { gave = gave_none (founding n); did = All-nil (λ (t : Turn). t.outcome ≡ Did); one = tried_none; order = inl refl };
   tables = record {
     each = λ t told.
         let before = opened.tables t told in
@@ -151,17 +185,33 @@ ends_unread n few err d i j k l opened not = record {
   };
   up = stays_up_then i j k opened.quiet not.up;
   faults = later_grew (let q = opened.quiet.faults in omega (arith, q)) not.faults;
+  keeper = record {
+    commits = not.commits ∙ opened.quiet.commits;
+    crash = record {
+      each = λ t told.
+          let still = still_then opened.quiet.still not.still in
+          record {
+            value = t;
+            told = not.tables t (opened.tables t told).0;
+            fits = (held_at_start, (refl, (still.later, (still.doubts, λ m u early upto shown. rests t told u (still.within m u early upto shown)))));
+          };
+    };
+  };
   sent = sent_nothing l;
 }
 
-pub ends_going : (ended : Ended) (n : ℕ) (d : Desk) (i j k o : KeeperSeen) (l m : LinkSeen) → Reads (Fits d) i j → FindsRows false j k → GoesOn ended n d k o l m → Ends ended n i o l m
-ends_going (Closed err) n d i j k o l m opened finds goes = absurd goes
-ends_going NotEmpty n d i j k o l m opened finds goes = absurd goes
-ends_going (Broken err) n d i j k o l m opened finds goes =
+pub ends_going : (ended : Ended) (n : ℕ) (d : Desk) (i j k o : KeeperSeen) (l m : LinkSeen) → Rests i → d.held ≡ held_at_start → Reads (Fits d) i j → FindsRows false j k
+    → GoesOn ended n d k o l m → Ends ended n i o l m
+ends_going (Closed err) n d i j k o l m rests begins opened finds goes = absurd goes
+ends_going NotEmpty n d i j k o l m rests begins opened finds goes = absurd goes
+ends_going (Broken err) n d i j k o l m rests begins opened finds goes =
     let both = reads_then {R = λ t. Fits d t × (t ≡ map.empty)} opened finds (λ t fit is. (fit, is)) in
     record {
+      given = goes.given;
+      lost = goes.lost;
       turns = goes.turns;
-      did = goes.did;
+      tried = goes.tried;
+      came = goes.came;
       tables = record {
         each = λ t told.
             let before = both.tables t told in
@@ -171,11 +221,14 @@ ends_going (Broken err) n d i j k o l m opened finds goes =
       };
       up = stays_up_then i k o both.quiet goes.up;
       faults = later_grew (let q = both.quiet.faults in omega (arith, q)) goes.faults;
+      keeper = keeper_opened rests begins both (λ t p. p.0.mirrors) goes.keeper;
       sent = goes.sent;
     }
-ends_going (Done tally) n d i j k o l m opened finds goes =
+ends_going (Done tally) n d i j k o l m rests begins opened finds goes =
     let both = reads_then {R = λ t. Fits d t × (t ≡ map.empty)} opened finds (λ t fit is. (fit, is)) in
     record {
+      given = goes.given;
+      gave = goes.gave;
       turns = goes.turns;
       did = goes.did;
       tables = record {
@@ -186,6 +239,7 @@ ends_going (Done tally) n d i j k o l m opened finds goes =
       };
       up = stays_up_then i k o both.quiet goes.up;
       faults = goes.faults ∙ both.quiet.faults;
+      keeper = keeper_opened rests begins both (λ t p. p.0.mirrors) goes.keeper;
       sent = goes.sent;
       counts = goes.counts;
     }
@@ -224,11 +278,21 @@ done_of (Broken keep.Failed) n status k k' l m s s' ends told none other is = ab
 done_of (Broken keep.Memory) n status k k' l m s s' ends told none other is = absurd (other is)
 done_of (Done tally) n status k k' l m s s' ends told none other is = is
 
+-- whatever became of it, the tables are as before or good
+good_of : (ended : Ended) (n : ℕ) (k k' : KeeperSeen) (l m : LinkSeen) → Ends ended n k k' l m → Told k.tables k'.tables (λ t u. (u ≡ t) ⊎ Good u)
+good_of (Closed (start_err.Bad key)) n k k' l m ends = record { each = λ t told. record { value = t; told = (ends.0.tables t told).0; fits = inl refl } }
+good_of (Closed start_err.Failed) n k k' l m ends = record { each = λ t told. record { value = t; told = ends.0.tables t told; fits = inl refl } }
+good_of (Closed start_err.Memory) n k k' l m ends = record { each = λ t told. record { value = t; told = ends.0.tables t told; fits = inl refl } }
+good_of NotEmpty n k k' l m ends = record { each = λ t told. record { value = t; told = (ends.0.tables t told).0; fits = inl refl } }
+good_of (Broken err) n k k' l m ends = told_weaker ends.tables (λ t u is. inr is.0)
+good_of (Done tally) n k k' l m ends = told_weaker ends.tables (λ t u is. inr is.1.0)
+
 pub drills_by : (ended : Ended) (n status : ℕ) (k k' : KeeperSeen) (l m : LinkSeen) (s s' : SinkSeen) → Ends ended n k k' l m → Tells (ended_status ended) (ended_text n ended) status s s'
     → Drills n status k k' l m s s'
 drills_by ended n status k k' l m s s' ends told = record {
   ended = ended;
   ends = ends;
+  good = good_of ended n k k' l m ends;
   told = told;
   statuses = λ none. few_of ended n status k k' l m s s' ends none (told_whole (ended_status ended) (ended_text n ended) status k k' s s' told none);
   complete = λ empty none other. done_of ended n status k k' l m s s' ends empty none other (told_whole (ended_status ended) (ended_text n ended) status k k' s s' told none);

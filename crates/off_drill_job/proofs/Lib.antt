@@ -1,5 +1,6 @@
 pub mod MessageLemmas
 pub mod CommandLemmas
+pub mod CrashLemmas
 pub mod FoundingLemmas
 pub mod TallyLemmas
 pub mod TurnLemmas

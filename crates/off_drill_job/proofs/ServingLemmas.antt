@@ -1,13 +1,15 @@
 -- One modem of a drill: what each of its events leads to.
-use Rattle.std.proofs.Common.{◌≡◌, ℕ, suc, ◌+◌, ◌<◌, ◌≤◌, Bool, true, false, Result, Ok, Err, MatchResult, List, sym, ap, subst, ◌∙◌, arith}
+use Rattle.std.proofs.Common.{◌≡◌, ℕ, suc, ◌+◌, ◌<◌, ◌≤◌, Bool, true, false, Result, Ok, Err, MatchResult, List, [], sym, ap, subst, ◌∙◌, inl, arith}
 use Rattle.std.proofs.lemmas.Slice.Eq.{bytes_eq-Decides}
 use Rattle.std.specs.Str.{bytes_eq}
 use Rattle.off_defs.specs.declared.events.Event.{Event}
 use Rattle.off_defs.specs.State.{State, Said}
+use Rattle.off_defs.proofs.ToldLemmas.{told_self}
+use Rattle.off_defs.proofs.CountLemmas.{grew_self}
 use Rattle.off_book.specs.Run.{effect_of}
 use Rattle.off_outside.specs.declared.keeper.KeepErr.{KeepErr}
 use Rattle.off_outside.specs.declared.keeper.KeepErr.TheVariants as keep
-use Rattle.off_outside.specs.KeeperSeen.{KeeperSeen}
+use Rattle.off_outside.specs.KeeperSeen.{KeeperSeen, Rests}
 use Rattle.off_outside.specs.LinkSeen.{LinkSeen}
 use Rattle.off_office.specs.Desk.{Desk}
 use Rattle.off_drill_rules.specs.declared.tally.Tally.{Tally}
@@ -17,11 +19,23 @@ use Rattle.off_drill_rules.specs.Numbers.{offer_line, ack_line, oack_line, done_
 use Rattle.off_drill_laws.specs.Stages.{Stage, Waits, HasOffer, HasLease, Gets, Moves}
 use Rattle.off_drill_laws.proofs.StageLemmas.{waits_moves, offer_moves, lease_moves, GetsMoves, one_block, the_end, gets_moves}
 use Rattle.off_drill_job.specs.Exercising.{TookTurn, LosesTurn, Exercised, Stopped}
-use Rattle.off_drill_job.proofs.FoundingLemmas.{halts_at_once}
-use Rattle.off_drill_job.proofs.TurnLemmas.{link_unasked, exercised_then, exercised_one, exercised_never, exercised_past, stopped_then}
+use Rattle.off_drill_job.proofs.CrashLemmas.{keeper_none}
+use Rattle.off_drill_job.proofs.TurnLemmas.{tried_none, link_unasked, exercised_then, exercised_one, exercised_never, exercised_past, stopped_then}
 
-pub loses_at_once : (d : Desk) (k : KeeperSeen) (l : LinkSeen) → LosesTurn keep.Memory d k k l l
-loses_at_once d k l = (halts_at_once d k, link_unasked l)
+-- memory was wanted before any event
+pub loses_at_once : (d : Desk) (k : KeeperSeen) (l : LinkSeen) → Rests k → LosesTurn keep.Memory d k k l l
+loses_at_once d k l rests = (
+  record {
+    after = d;
+    tried = [];
+    one = tried_none;
+    tables = told_self (λ t fit. fit.good);
+    up = λ up. inl up;
+    faults = grew_self k.faults;
+    keeper = keeper_none d k rests;
+  },
+  link_unasked l,
+)
 
 -- a line that is of these words is so by the test
 said_so : (line words : List ℕ) (same : Bool) → same ≡ bytes_eq line words → line ≡ words → same ≡ false → ⊥

@@ -1,6 +1,6 @@
 -- Turns of a drill: one, none, and several behind one another; and what an event that couldn't be
 -- acted on leaves.
-use Rattle.std.proofs.Common.{◌≡◌, ℕ, ◌+◌, ◌<◌, Bool, List, [], ◌∷◌, ◌++◌, length, refl, sym, ap, subst, ◌∙◌, inl, ◌⊎◌, arith, append_assoc, append-nil}
+use Rattle.std.proofs.Common.{◌≡◌, ◌≢◌, ℕ, ◌+◌, ◌<◌, Bool, List, [], ◌∷◌, ◌++◌, length, refl, sym, ap, subst, ◌∙◌, inl, ◌⊎◌, arith, append_assoc, append-nil}
 use Rattle.std.proofs.lemmas.List.Elements.{All-nil, All-cons, All-append}
 use Rattle.std.specs.Str.{bytes_eq}
 use Rattle.off_defs.specs.declared.events.Event.{Event}
@@ -17,7 +17,7 @@ use Rattle.off_book.specs.Run.{Turn, effect_of, sent_in, sent_by, lost_in, lost_
 use Rattle.off_laws.proofs.RunLaws.{run_keeps_good}
 use Rattle.off_outside.specs.declared.keeper.KeepErr.{KeepErr}
 use Rattle.off_outside.specs.declared.keeper.KeepErr.TheVariants as keep
-use Rattle.off_outside.specs.KeeperSeen.{KeeperSeen}
+use Rattle.off_outside.specs.KeeperSeen.{KeeperSeen, Rests}
 use Rattle.off_outside.specs.LinkSeen.{LinkSeen}
 use Rattle.off_outside.specs.LinkCalls.{LinkUnasked}
 use Rattle.off_office.specs.Acting.{Acts}
@@ -29,10 +29,11 @@ use Rattle.off_drill_rules.specs.Numbers.{plus, none_yet, tally_of, tally_by}
 use Rattle.off_drill_laws.specs.Stages.{Stage, Waits, Stands, served, Moves}
 use Rattle.off_drill_laws.proofs.StageLemmas.{same_tally}
 use Rattle.off_drill_laws.proofs.AlongLemmas.{along_none, along_one, along_then, tally_append}
-use Rattle.off_drill_job.specs.Founding.{Halts}
+use Rattle.off_drill_job.specs.Stepping.{KeeperDid}
 use Rattle.off_drill_job.specs.Tallying.{raised_by}
-use Rattle.off_drill_job.specs.Exercising.{SentTurns, TookTurn, LosesTurn, Exercised, Stopped}
+use Rattle.off_drill_job.specs.Exercising.{SentTurns, TookTurn, TriedOne, LostTurn, LosesTurn, Exercised, Stopped}
 use Rattle.off_drill_job.proofs.TallyLemmas.{raised_none, raised_then}
+use Rattle.off_drill_job.proofs.CrashLemmas.{keeper_none, keeper_turn, keeper_turns}
 
 -- ---- the link
 
@@ -94,9 +95,9 @@ did_whole Tick said = λ j. record { items = append-nil said.items j; line = sai
 did_whole End said = λ j. record { items = append-nil said.items j; line = said.line }
 
 pub took : (event : Event) (words : List ℕ) (said : Said) (all same : Bool) (before after : Desk) (a b : KeeperSeen) (l m : LinkSeen) (c d : Tally)
-    → Acts event Did said before after a b → SentAll said.items all l m → d ≡ raised_by c (tally_of said) → same ≡ bytes_eq said.line words
+    → Rests a → Rests b → Acts event Did said before after a b → SentAll said.items all l m → d ≡ raised_by c (tally_of said) → same ≡ bytes_eq said.line words
     → TookTurn event words same before after a b l m c d
-took event words said all same before after a b l m c d acts sending counts says =
+took event words said all same before after a b l m c d first rests acts sending counts says =
     let turn : Turn = record { event = event; outcome = Did; said = said; commit = acts.commit; went = sending.marks } in
     record {
       turn = turn;
@@ -111,6 +112,9 @@ took event words said all same before after a b l m c d acts sending counts says
           (record { good = good; mirrors = held.1 }, step));
       up = acts.up;
       faults = acts.faults;
+      keeper =
+          subst (λ (s : Said). KeeperDid [] (record { event = event; outcome = Did; said = s; commit = acts.commit; went = sending.marks } ∷ []) before after a b) (did_whole event.what said)
+          (keeper_turn event Did said sending.marks before after a b first rests acts);
       sent = record {
         left = sending.left;
         marks = All-cons (λ (t : Turn). length t.said.items ≡ length t.went) turn [] sending.each (All-nil (λ (t : Turn). length t.said.items ≡ length t.went));
@@ -124,21 +128,48 @@ took event words said all same before after a b l m c d acts sending counts says
       counts = counts;
     }
 
-pub wanted_memory : (event : Event) (said : Said) (before after : Desk) (a b : KeeperSeen) → Acts event Memory said before after a b → Halts keep.Memory before a b
-wanted_memory event said before after a b acts = record { tables = told_weaker acts.fits (λ t u stays fit. (stays fit).good); up = acts.up; faults = acts.faults }
+tried_one : (turn : Turn) → turn.outcome ≢ Did → TriedOne (turn ∷ [])
+tried_one turn other = record { few = omega arith; undone = All-cons (λ (t : Turn). t.outcome ≢ Did) turn [] other (All-nil (λ (t : Turn). t.outcome ≢ Did)) }
 
-pub keeper_failed : (event : Event) (said : Said) (before after : Desk) (a b : KeeperSeen) → Acts event Keeper said before after a b → Halts keep.Failed before a b
-keeper_failed event said before after a b acts = record { tables = told_weaker acts.fits (λ t u stays fit. (stays fit).good); up = acts.up; faults = acts.faults }
+pub tried_none : TriedOne []
+tried_none = record { few = omega arith; undone = All-nil (λ (t : Turn). t.outcome ≢ Did) }
+
+pub wanted_memory : (event : Event) (said : Said) (before after : Desk) (a b : KeeperSeen) → Rests a → Rests b → Acts event Memory said before after a b → LostTurn keep.Memory before a b
+wanted_memory event said before after a b first rests acts =
+    let turn : Turn = record { event = event; outcome = Memory; said = completed event.what Memory said; commit = acts.commit; went = [] } in
+    record {
+      after = after;
+      tried = turn ∷ [];
+      one = tried_one turn (λ e. cc);
+      tables = told_weaker acts.fits (λ t u stays fit. (stays fit).good);
+      up = acts.up;
+      faults = acts.faults;
+      keeper = keeper_turn event Memory said [] before after a b first rests acts;
+    }
+
+pub keeper_failed : (event : Event) (said : Said) (before after : Desk) (a b : KeeperSeen) → Rests a → Rests b → Acts event Keeper said before after a b → LostTurn keep.Failed before a b
+keeper_failed event said before after a b first rests acts =
+    let turn : Turn = record { event = event; outcome = Keeper; said = completed event.what Keeper said; commit = acts.commit; went = [] } in
+    record {
+      after = after;
+      tried = turn ∷ [];
+      one = tried_one turn (λ e. cc);
+      tables = told_weaker acts.fits (λ t u stays fit. (stays fit).good);
+      up = acts.up;
+      faults = acts.faults;
+      keeper = keeper_turn event Keeper said [] before after a b first rests acts;
+    }
 
 -- ---- stages
 
-pub exercised_none : (n : ℕ) (stage : Stage) (d : Desk) (k : KeeperSeen) (l : LinkSeen) (c : Tally) → Exercised n stage stage d d k k l l c c
-exercised_none n stage d k l c = record {
+pub exercised_none : (n : ℕ) (stage : Stage) (d : Desk) (k : KeeperSeen) (l : LinkSeen) (c : Tally) → Rests k → Exercised n stage stage d d k k l l c c
+exercised_none n stage d k l c rests = record {
   turns = [];
   did = All-nil (λ (t : Turn). t.outcome ≡ Did);
   tables = told_self (λ t fit. (fit, λ stands. along_none n stage (state_of t d.held) stands));
   up = λ up. inl up;
   faults = refl;
+  keeper = keeper_none d k rests;
   sent = sent_nothing l;
   counts = sym (raised_none c);
 }
@@ -158,6 +189,7 @@ exercised_then {n} {from} {by} {to} {d} {e} {f} {i} {j} {k} {l} {m} {o} {a} {b} 
       ));
   up = up_chain (let e = p.faults in omega (arith, e)) (let e = q.faults in omega (arith, e)) p.up q.up;
   faults = q.faults ∙ p.faults;
+  keeper = keeper_turns p.keeper q.keeper;
   sent = sent_turns p.sent q.sent;
   counts =
       q.counts
@@ -186,6 +218,7 @@ exercised_one n from to event words same d e i j l m a b one moves = record {
       ));
   up = one.up;
   faults = one.faults;
+  keeper = one.keeper;
   sent = one.sent;
   counts = one.counts ∙ ap (raised_by a) (sym (one_by_one (tally_of one.turn.said)));
 }
@@ -202,6 +235,7 @@ exercised_never n from to event words same d e i j l m a b one never = record {
       let both = step fit in (both.0, λ stands. absurd (never (state_of t d.held) (state_of u e.held) stands both.1)));
   up = one.up;
   faults = one.faults;
+  keeper = one.keeper;
   sent = one.sent;
   counts = one.counts ∙ ap (raised_by a) (sym (one_by_one (tally_of one.turn.said)));
 }
@@ -215,6 +249,7 @@ exercised_past to {e = e} p never = record {
   tables = told_weaker p.tables (λ t u is fit. let both = is fit in (both.0, λ stands. absurd (never (state_of u e.held) (both.1 stands).stands)));
   up = p.up;
   faults = p.faults;
+  keeper = p.keeper;
   sent = p.sent;
   counts = p.counts;
 }
@@ -224,20 +259,27 @@ exercised_past to {e = e} p never = record {
 pub stopped_behind : {n : ℕ} {from by : Stage} {d e : Desk} {i j k : KeeperSeen} {l m o : LinkSeen} {a b : Tally} {err : KeepErr} → Exercised n from by d e i j l m a b
     → LosesTurn err e j k m o → (served by < n) ⊎ (by ≡ Waits n) → Stopped err n from d i k l o
 stopped_behind {n} {from} {by} {d} {e} p lost place = record {
+  after = lost.0.after;
   turns = p.turns;
   did = p.did;
+  tried = lost.0.tried;
+  one = lost.0.one;
   tables = told_then p.tables lost.0.tables (λ x y z one two fit.
       let half = one fit in (two half.0, λ stands. record { stage = by; mid = state_of y e.held; place = place; along = half.1 stands }));
   up = up_chain (let e = p.faults in omega (arith, e)) lost.0.faults.later p.up lost.0.up;
   faults = later_grew (let e = p.faults in omega (arith, e)) lost.0.faults;
+  keeper = keeper_turns p.keeper lost.0.keeper;
   sent = sent_unasked p.sent lost.1;
 }
 
 pub stopped_then : {n : ℕ} {from by : Stage} {d e : Desk} {i j k : KeeperSeen} {l m o : LinkSeen} {a b : Tally} {err : KeepErr} → Exercised n from by d e i j l m a b
     → Stopped err n by e j k m o → Stopped err n from d i k l o
-stopped_then {n} {from} {by} {d} {e} p stops = record {
+stopped_then {n} {from} {by} {d} {e} {i} {j} {k} p stops = record {
+  after = stops.after;
   turns = p.turns ++ stops.turns;
   did = All-append (λ (t : Turn). t.outcome ≡ Did) p.turns stops.turns p.did stops.did;
+  tried = stops.tried;
+  one = stops.one;
   tables = told_then p.tables stops.tables (λ x y z one two fit.
       let half = one fit in
       let whole = two half.0 in (
@@ -254,5 +296,6 @@ stopped_then {n} {from} {by} {d} {e} p stops = record {
       ));
   up = up_chain (let e = p.faults in omega (arith, e)) stops.faults.later p.up stops.up;
   faults = later_grew (let e = p.faults in omega (arith, e)) stops.faults;
+  keeper = subst (λ (v : List Turn). KeeperDid [] v d stops.after i k) (sym (append_assoc p.turns stops.turns stops.tried)) (keeper_turns p.keeper stops.keeper);
   sent = sent_turns p.sent stops.sent;
 }

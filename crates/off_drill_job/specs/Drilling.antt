@@ -1,6 +1,6 @@
 -- What `drill` promises. The order is: the tables are opened, they have no rows, the office is
 -- founded, and its modems boot one after another.
-use Rattle.std.specs.Prelude.{◌≡◌, ◌≢◌, ℕ, ◌<◌, ◌⊎◌, Bool, true, false, List}
+use Rattle.std.specs.Prelude.{◌≡◌, ◌≢◌, ℕ, ◌<◌, ◌⊎◌, Bool, true, false, List, [], ◌++◌}
 use Rattle.std.specs.FinMap as map
 use Rattle.off_defs.specs.Counts.{Grew, most_count}
 use Rattle.off_defs.specs.Told.{Told}
@@ -21,7 +21,9 @@ use Rattle.off_drill_rules.specs.declared.tally.Tally.{Tally}
 use Rattle.off_drill_rules.specs.Rows.{drill_tables}
 use Rattle.off_drill_rules.specs.Law.{AllDid, WholeDrill, FrontDrill}
 use Rattle.off_drill_rules.specs.Numbers.{none_yet, tally_by, drill_tally}
-use Rattle.off_drill_job.specs.Exercising.{SentTurns}
+use Rattle.off_drill_job.specs.Stepping.{Given, commands_of, KeeperDid, KeeperDrilled}
+use Rattle.off_drill_job.specs.Founding.{founding, AllGiven, GaveFront}
+use Rattle.off_drill_job.specs.Exercising.{SentTurns, TriedOne}
 use Rattle.off_drill_job.specs.Tallying.{raised_by}
 use Rattle.off_drill_job.specs.Telling.{ended_text, ended_status}
 use Rattle.off_drill_job.specs.declared.drilling.Ended.{Ended}
@@ -39,28 +41,51 @@ pub record LeavesDrill (n : ℕ) (turns : List Turn) (tally : Tally) (u : Tables
   pub tables : u ≡ drill_tables n n
   pub numbers : tally ≡ drill_tally n
 
+-- All commands were done, in order.
+pub record GaveAll (n : ℕ) (given : List Given) : Type 0 where
+  pub did : AllGiven given
+  pub are : commands_of given ≡ founding n
+
+-- How far a drill came that was broken off: `given` were done, and where these are all, `turns` were
+-- acted on. Behind them at most one command, or one event, wasn't.
+pub record CameSoFar (n : ℕ) (given lost : List Given) (turns tried : List Turn) : Type 0 where
+  pub gave : GaveFront (founding n) given lost
+  pub did : AllDid turns
+  pub one : TriedOne tried
+  pub order : (turns ++ tried ≡ []) ⊎ ((lost ≡ []) × GaveAll n given)
+
 -- It came to its end: over tables that are told, these had no rows, and are now the tables of the
 -- drill. What its turns said was sent, in order, but for what is counted as lost; and the tally
--- counts what they said, whatever the tables.
+-- counts what they said, whatever the tables. The keeper has made one commit for each command and
+-- each turn that wrote anything, and none else. It asks the keeper as often as it takes to open the
+-- tables, once more, and as each command and each event asks; there is no bound of that over any
+-- keeper, since a pool that is put, and an address that is asked for, are looked for among the rows.
 pub record CameToEnd (n : ℕ) (tally : Tally) (old new : KeeperSeen) (link link' : LinkSeen) :
     Type 0 where
+  pub given : List Given
+  pub gave : GaveAll n given
   pub turns : List Turn
   pub did : AllDid turns
-  pub tables :
-      Told old.tables new.tables (λ t u. (t ≡ map.empty) × LeavesDrill n turns tally u)
+  pub tables : Told old.tables new.tables
+      (λ t u. (t ≡ map.empty) × (Good u × LeavesDrill n turns tally u))
   pub up : StaysUp old new
   pub faults : new.faults ≡ old.faults
+  pub keeper : KeeperDrilled given turns old new
   pub sent : SentTurns turns link link'
   pub counts : tally ≡ raised_by none_yet (tally_by turns)
 
 -- It didn't: the tables are good, and its turns are those with which the drill begins.
 pub record BrokeOff (err : KeepErr) (n : ℕ) (old new : KeeperSeen) (link link' : LinkSeen) :
     Type 0 where
+  pub given : List Given
+  pub lost : List Given
   pub turns : List Turn
-  pub did : AllDid turns
+  pub tried : List Turn
+  pub came : CameSoFar n given lost turns tried
   pub tables : Told old.tables new.tables (λ t u. Good u × FrontDrill n turns)
   pub up : StaysUp old new
   pub faults : Grew (keeper_faults_in err) old.faults new.faults
+  pub keeper : KeeperDrilled (given ++ lost) (turns ++ tried) old new
   pub sent : SentTurns turns link link'
 
 -- What became of the tables and of the link. Nothing is sent where the tables don't open, or have
@@ -75,23 +100,32 @@ Ends (Done tally) n old new link link' = CameToEnd n tally old new link link'
 -- the same of an office that has opened the tables, as far as they fit it and have no rows
 pub record DoneBy (n : ℕ) (tally : Tally) (before : Desk) (old new : KeeperSeen)
     (link link' : LinkSeen) : Type 0 where
+  pub after : Desk
+  pub given : List Given
+  pub gave : GaveAll n given
   pub turns : List Turn
   pub did : AllDid turns
   pub tables : Told old.tables new.tables (λ t u.
-      Fits before t → t ≡ map.empty → LeavesDrill n turns tally u)
+      Fits before t → t ≡ map.empty → Good u × LeavesDrill n turns tally u)
   pub up : StaysUp old new
   pub faults : new.faults ≡ old.faults
+  pub keeper : KeeperDid given turns before after old new
   pub sent : SentTurns turns link link'
   pub counts : tally ≡ raised_by none_yet (tally_by turns)
 
 pub record BrokenBy (err : KeepErr) (n : ℕ) (before : Desk) (old new : KeeperSeen)
     (link link' : LinkSeen) : Type 0 where
+  pub after : Desk
+  pub given : List Given
+  pub lost : List Given
   pub turns : List Turn
-  pub did : AllDid turns
+  pub tried : List Turn
+  pub came : CameSoFar n given lost turns tried
   pub tables : Told old.tables new.tables (λ t u.
       Fits before t → Good u × (t ≡ map.empty → FrontDrill n turns))
   pub up : StaysUp old new
   pub faults : Grew (keeper_faults_in err) old.faults new.faults
+  pub keeper : KeeperDid (given ++ lost) (turns ++ tried) before after old new
   pub sent : SentTurns turns link link'
 
 abbrev pub GoesOn : Ended → ℕ → Desk → KeeperSeen → KeeperSeen → LinkSeen → LinkSeen → Type 0
@@ -107,13 +141,14 @@ pub record NoneFailed (old new : KeeperSeen) (sink sink' : SinkSeen) : Type 0 wh
   pub sink_same : sink'.faults ≡ sink.faults
   pub sink_count : sink.faults < most_count
 
--- What `drill` did. Where the sink failed the status is 4, and a front of the text is there; else
--- the text was written. Where no count rose and no memory was wanted, the status is 0, or 2, where
+-- What `drill` did. Whatever the status, the tables are as before or good. Where the sink failed the
+-- status is 4, and a front of the text is there; else the text was written. Where no count rose and no memory was wanted, the status is 0, or 2, where
 -- the tables aren't good, or 9, where they have rows; over tables without rows it is 0.
 pub record Drills (n : ℕ) (status : ℕ) (old new : KeeperSeen) (link link' : LinkSeen)
     (sink sink' : SinkSeen) : Type 0 where
   pub ended : Ended
   pub ends : Ends ended n old new link link'
+  pub good : Told old.tables new.tables (λ t u. (u ≡ t) ⊎ Good u)
   pub told : Tells (ended_status ended) (ended_text n ended) status sink sink'
   pub statuses : NoneFailed old new sink sink'
       → (status ≡ 0) ⊎ ((status ≡ 2) ⊎ ((status ≡ 6) ⊎ (status ≡ 9)))

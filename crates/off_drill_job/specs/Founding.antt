@@ -1,7 +1,9 @@
 -- The commands of a drill, and what they do to the tables.
-use Rattle.std.specs.Prelude.{◌≡◌, ℕ, Result, Ok, Err}
+use Rattle.std.specs.Prelude.{◌≡◌, ◌≢◌, ℕ, zero, suc, ◌+◌, ◌≤◌, List, [], ◌∷◌, ◌++◌, length, All, Result, Ok, Err}
 use Rattle.off_defs.specs.declared.orders.Command.{Command}
 use Rattle.off_defs.specs.declared.orders.Command.TheVariants.{SetSite, PutSubscriber, PutModem, PutClass, PutPool}
+use Rattle.off_defs.specs.declared.orders.Write.{Write}
+use Rattle.off_defs.specs.declared.results.Outcome.TheVariants.{Did}
 use Rattle.off_defs.specs.Counts.{Grew}
 use Rattle.off_defs.specs.Told.{Told}
 use Rattle.off_defs.specs.State.{Tables}
@@ -16,6 +18,7 @@ use Rattle.off_outside.specs.KeeperCalls.{StaysUp, keeper_faults_in}
 use Rattle.off_office.specs.Conditions.{Fits}
 use Rattle.off_office.specs.Desk.{Desk}
 use Rattle.off_drill_rules.specs.Rows.{begins_at, site, class, pool, subscriber, modem, mac}
+use Rattle.off_drill_job.specs.Stepping.{Given, commands_of, KeeperDid}
 
 abbrev pub set_site : Command
 set_site = SetSite site
@@ -32,27 +35,64 @@ put_subscriber i = PutSubscriber i (subscriber i)
 abbrev pub put_modem : ℕ → Command
 put_modem i = PutModem (mac i) (modem i)
 
+-- the commands of the next modem behind k others, of so many modems, and of a whole office
+abbrev pub settling : ℕ → List Command
+settling k = put_subscriber (k + 1) ∷ put_modem (k + 1) ∷ []
+
+abbrev pub peopling : ℕ → List Command
+peopling zero = []
+peopling (suc k) = peopling k ++ settling k
+
+abbrev pub founding : ℕ → List Command
+founding n = set_site ∷ put_class ∷ put_pool ∷ peopling n
+
 -- A command was given to the office at the drill's first moment: the tables are those of the book's
 -- step, which are as before where a rule refuses it.
 pub record GaveCommand (command : Command) (before after : Desk) (old new : KeeperSeen)
     : Type 0 where
+  pub commit : List Write
   pub tables : Told old.tables new.tables (λ t u.
       Fits before t → Fits after u × (u ≡ (clerk_step t begins_at command).tables))
   pub up : old.up → new.up
   pub faults : new.faults ≡ old.faults
+  pub keeper :
+      KeeperDid (record { command = command; outcome = Did; commit = commit } ∷ []) [] before after
+      old new
 
--- Commands that make these tables of those
-pub record Builds (from to : Tables) (before after : Desk) (old new : KeeperSeen) : Type 0 where
+abbrev pub AllGiven : List Given → Type 0
+AllGiven given = All (λ one. one.outcome ≡ Did) given
+
+-- These commands were done, which make these tables of those.
+pub record Builds (commands : List Command) (from to : Tables) (before after : Desk)
+    (old new : KeeperSeen) : Type 0 where
+  pub given : List Given
+  pub did : AllGiven given
+  pub are : commands_of given ≡ commands
   pub tables : Told old.tables new.tables (λ t u.
       Fits before t → Fits after u × (t ≡ from → u ≡ to))
   pub up : old.up → new.up
   pub faults : new.faults ≡ old.faults
+  pub keeper : KeeperDid given [] before after old new
 
--- or they couldn't all be acted on; the tables are good still
-pub record Halts (err : KeepErr) (before : Desk) (old new : KeeperSeen) : Type 0 where
+-- commands that were done, and behind them at most one that wasn't, are a front of these
+pub record GaveFront (commands : List Command) (given lost : List Given) : Type 0 where
+  pub did : AllGiven given
+  pub few : length lost ≤ 1
+  pub undone : All (λ one. one.outcome ≢ Did) lost
+  pub rest : List Command
+  pub front : commands_of (given ++ lost) ++ rest ≡ commands
+
+-- Commands couldn't all be acted on; the tables are good still.
+pub record Halts (err : KeepErr) (commands : List Command) (before : Desk) (old new : KeeperSeen)
+    : Type 0 where
+  pub after : Desk
+  pub given : List Given
+  pub lost : List Given
+  pub gave : GaveFront commands given lost
   pub tables : Told old.tables new.tables (λ t u. Fits before t → Good u)
   pub up : StaysUp old new
   pub faults : Grew (keeper_faults_in err) old.faults new.faults
+  pub keeper : KeeperDid (given ++ lost) [] before after old new
 
 -- a rule's refusal is passed over
 abbrev pub PassesOver : AccountErr → Result (Unit {0}) KeepErr → Type 0

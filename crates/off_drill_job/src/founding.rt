@@ -1,4 +1,4 @@
-ghost use Rattle.std.specs.Prelude.{◌≡◌, ◌≤◌, ◌<◌, ◌+◌, IsTrue, MatchResult, OnOk};
+ghost use Rattle.std.specs.Prelude.{◌≡◌, ◌≤◌, ◌<◌, ◌+◌, ◌∷◌, [], IsTrue, MatchResult, OnOk};
 ghost use Rattle.std.specs.FinMap as map;
 ghost use Rattle.off_defs.specs.State.{held_at};
 ghost use Rattle.off_rows.specs.Sound.{is_sound};
@@ -6,6 +6,7 @@ ghost use Rattle.off_table_laws.specs.Laws.{secret_fits};
 ghost use Rattle.off_drill_rules.specs.Rows.{begins_at, with_site, with_class, founded, peopled};
 ghost use Rattle.off_drill_rules.specs.Law.{held_behind};
 ghost use Rattle.off_drill_job.specs.Founding.{GaveCommand, Builds, Halts, PassesOver};
+ghost use Rattle.off_drill_job.specs.Founding.{put_class, settling, peopling, founding};
 
 use crate::commands::{put_class, put_modem, put_pool, put_subscriber, set_site};
 use crate::rows::BEGINS_AT;
@@ -27,9 +28,9 @@ pub(crate) fn found<K: Keeper>(
     requires few { count ≤ 4000 }
     requires ready { held_at office.old.held begins_at ≡ held_behind 0 }
     ensures told { MatchResult result
-        (λ _. Builds map.empty (peopled count) office.old office.new
+        (λ _. Builds (founding count) map.empty (peopled count) office.old office.new
         (K.seen keeper.old) (K.seen keeper.new))
-        (λ err. Halts err office.old (K.seen keeper.old) (K.seen keeper.new)) }
+        (λ err. Halts err (founding count) office.old (K.seen keeper.old) (K.seen keeper.new)) }
     ensures held { OnOk result (office.new.held ≡ held_behind 0) }
 {
     give(&set_site(), office, keeper)?;
@@ -42,9 +43,9 @@ pub(crate) fn found<K: Keeper>(
 fn give_class<K: Keeper>(alloc: Global, office: &mut Office, keeper: &mut K) -> Result<(), KeepErr>
     requires { held_at office.old.held begins_at ≡ held_behind 0 }
     ensures told { MatchResult result
-        (λ _. Builds with_site with_class office.old office.new
+        (λ _. Builds (put_class ∷ []) with_site with_class office.old office.new
         (K.seen keeper.old) (K.seen keeper.new))
-        (λ err. Halts err office.old (K.seen keeper.old) (K.seen keeper.new)) }
+        (λ err. Halts err (put_class ∷ []) office.old (K.seen keeper.old) (K.seen keeper.new)) }
     ensures held { OnOk result (office.new.held ≡ held_behind 0) }
 {
     let command = put_class(alloc)?;
@@ -56,9 +57,9 @@ fn people<K: Keeper>(count: u32, office: &mut Office, keeper: &mut K) -> Result<
     requires few { count ≤ 4000 }
     requires ready { office.old.held ≡ held_behind 0 }
     ensures told { MatchResult result
-        (λ _. Builds founded (peopled count) office.old office.new
+        (λ _. Builds (peopling count) founded (peopled count) office.old office.new
         (K.seen keeper.old) (K.seen keeper.new))
-        (λ err. Halts err office.old (K.seen keeper.old) (K.seen keeper.new)) }
+        (λ err. Halts err (peopling count) office.old (K.seen keeper.old) (K.seen keeper.new)) }
     ensures held { OnOk result (office.new.held ≡ held_behind 0) }
 {
     for k in 0..count {
@@ -72,9 +73,9 @@ fn settle<K: Keeper>(k: u32, office: &mut Office, keeper: &mut K) -> Result<(), 
     requires few { k < 4000 }
     requires ready { held_at office.old.held begins_at ≡ held_behind 0 }
     ensures told { MatchResult result
-        (λ _. Builds (peopled k) (peopled (k + 1)) office.old office.new
+        (λ _. Builds (settling k) (peopled k) (peopled (k + 1)) office.old office.new
         (K.seen keeper.old) (K.seen keeper.new))
-        (λ err. Halts err office.old (K.seen keeper.old) (K.seen keeper.new)) }
+        (λ err. Halts err (settling k) office.old (K.seen keeper.old) (K.seen keeper.new)) }
     ensures held { OnOk result (office.new.held ≡ held_behind 0) }
 {
     give(&put_subscriber(k + 1), office, keeper)?;
@@ -88,7 +89,7 @@ fn give<K: Keeper>(command: &Command, office: &mut Office, keeper: &mut K) -> Re
     requires ready { held_at office.old.held begins_at ≡ held_behind 0 }
     ensures told { MatchResult result
         (λ _. GaveCommand command.now office.old office.new (K.seen keeper.old) (K.seen keeper.new))
-        (λ err. Halts err office.old (K.seen keeper.old) (K.seen keeper.new)) }
+        (λ err. Halts err (command.now ∷ []) office.old (K.seen keeper.old) (K.seen keeper.new)) }
     ensures held { office.new.held ≡ held_behind 0 }
 {
     match office.command(keeper, Moment(BEGINS_AT), command) {

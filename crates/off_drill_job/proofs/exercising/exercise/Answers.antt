@@ -3,7 +3,7 @@ use Rattle.off_drill_job.proofs.TurnLemmas.{exercised_none, exercised_then, stop
 use Rattle.off_drill_job.proofs.exercising.exercise.Goals as goal
 
 pub loop-k-init : goal.loop-k-init
-loop-k-init g c = exercised_none _ _ _ _ _ _
+loop-k-init g c = exercised_none _ _ _ _ _ _ (g.met.K.Keeper.rests c.args.keeper.now)
 
 pub returns-in_err-serve_modem : goal.returns-in_err-serve_modem
 returns-in_err-serve_modem g c =

@@ -5,7 +5,7 @@ use Rattle.off_drill_job.proofs.ServingLemmas.{had_block, had_all, never_so_many
 use Rattle.off_drill_job.proofs.exercising.get_file.Goals as goal
 
 pub loop-number-init : goal.loop-number-init
-loop-number-init g c = exercised_none _ _ _ _ _ _
+loop-number-init g c = exercised_none _ _ _ _ _ _ (g.met.K.Keeper.rests c.args.keeper.now)
 
 pub returns-in_err-has_all : goal.returns-in_err-has_all
 returns-in_err-has_all g c =

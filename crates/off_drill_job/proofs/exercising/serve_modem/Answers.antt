@@ -8,7 +8,7 @@ use Rattle.off_drill_job.proofs.exercising.serve_modem.Goals as goal
 pub returns-in_err-is_offered : goal.returns-in_err-is_offered
 returns-in_err-is_offered g c =
     let p = err_from_is_err_and c.from_residual.result c.from_residual.ensures.1 in
-    rw (p.1, p.2) (stopped_behind (exercised_none c.args.count (Waits c.args.k) _ _ _ c.args.tally.now) c.in_err-is_offered.ensures (inl c.requires.more))
+    rw (p.1, p.2) (stopped_behind (exercised_none c.args.count (Waits c.args.k) _ _ _ c.args.tally.now (g.met.K.Keeper.rests c.args.keeper.now)) c.in_err-is_offered.ensures (inl c.requires.more))
 
 pub returns-then-not-is_offered : goal.returns-then-not-is_offered
 returns-then-not-is_offered g c = no_offer c.args.count c.args.k c.requires.more c.requires.few _ _ _ _ _ _ _ _ _ c.in_ok-is_offered.ensures c.if-not-is_offered.true
