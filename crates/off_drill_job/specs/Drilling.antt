@@ -141,9 +141,10 @@ pub record NoneFailed (old new : KeeperSeen) (sink sink' : SinkSeen) : Type 0 wh
   pub sink_same : sink'.faults ≡ sink.faults
   pub sink_count : sink.faults < most_count
 
--- What `drill` did. Whatever the status, the tables are as before or good. Where the sink failed the
--- status is 4, and a front of the text is there; else the text was written. Where no count rose and no memory was wanted, the status is 0, or 2, where
--- the tables aren't good, or 9, where they have rows; over tables without rows it is 0.
+-- What `drill` did. Whatever the status, the tables are as before or good. Where the sink failed
+-- the status is 4, and a front of the text is there; else the text was written. Where no count rose
+-- and no memory was wanted, the status is 0, or 2, where the tables aren't good, or 9, where they
+-- have rows; over tables without rows it is 0.
 pub record Drills (n : ℕ) (status : ℕ) (old new : KeeperSeen) (link link' : LinkSeen)
     (sink sink' : SinkSeen) : Type 0 where
   pub ended : Ended
