@@ -3,8 +3,9 @@
 
 In namespaces of its own, over this machine's files and without a trace in them, `make install` puts
 the office in place and systemd starts it. It has a user of its own and one right, answers at the
-standard ports, and is started again where it's killed; where the program keeps a store on disk, a
-row that was put is there then. It ends what it started, and takes some seconds.
+standard ports, and is started again where it's killed; where the program keeps a store on disk, it
+is copied while it runs, and a row that was put is there after the kill. It ends what it started,
+and takes some seconds.
 """
 # needs: systemd-analyze unshare make curl
 import os
@@ -59,6 +60,8 @@ ss -lunH | awk '{ print "port", $4 }'
 curl -s -m 5 -X PUT http://127.0.0.1:8080/subscribers/7 \
     -d '{"active":true,"cpes":2,"name":"Ann"}'
 echo
+[ ! -e /var/lib/officed/office.db ] || /usr/local/bin/office-copy --unit officed \
+    /var/lib/officed/office.db /trial/copy.db
 kill -9 $pid
 sleep 1.5
 answers
@@ -139,6 +142,8 @@ def judge(text, has_store):
     ports = re.findall(r"port .*:(\d+)", text)
     check({"67", "37", "69"} <= set(ports), f"it listens at the standard ports: {ports}")
     check('{"ok":true}' in text and "NRestarts=1" in text, "it's started again")
+    copied = re.search(r"(?m)^1 rows, [\d,]+ bytes, checked; the office stood for", text)
+    check(bool(copied) == has_store, "its store is copied while it runs")
     row = '{"active":true,"cpes":2,"name":"Ann"}' if has_store else '{"fault":"no-row"}'
     check(f"\n{row}\nend\n" in text, f"and then there is {row}")
 
