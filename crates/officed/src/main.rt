@@ -13,7 +13,7 @@ mod hearing;
 use ended::Ended;
 use off_host::{Addresses, Log, LogSink, OpenErr, SocketLink, StandardInput, StandardOutput};
 use off_keepmem::MemKeeper;
-use off_outside::{Calls, Events, Keeper, Link, MemLink, Sink};
+use off_outside::{Calls, Events, Keeper, Link, MemLink, Sink, Source};
 use off_serve::{Wanted, place, run};
 use off_store::{StoreErr, open_store};
 use std::env;
