@@ -1,5 +1,5 @@
 ghost use Rattle.std.specs.Prelude.{◌≡◌, false};
-ghost use Rattle.off_deciding.specs.Deciding.{is_import};
+ghost use Rattle.off_accounts.specs.Deciding.{is_import};
 
 use crate::counting::{keeper_of, show_counts};
 use crate::faults::show_fault;

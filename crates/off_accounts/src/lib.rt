@@ -1,10 +1,38 @@
 //! What a clerk's commands do to the tables, and the test of the tables when the office opens.
 //!
-//! A command is decided by `off_import_deciding`, an import itself and each other command by
-//! `off_deciding`; the opening is tested by `off_opening`. All read the tables by `off_readers`.
+//! A command is decided in three steps: what the tables have at its key (`subject`), the first of
+//! its rules that is broken (`ruling` lists them, `testing` walks them), and what it writes and how
+//! many rows there are then (`planning`, `counting`).
+//!
+//! An import stands for the commands that put its rows, each over the tables that those before it
+//! left. Its rows aren't sorted, and the tables aren't written meanwhile: which keys the rows so
+//! far have put is kept in order (`progress`), and a row's rules ask there before they ask the
+//! keeper (`judging`). Last comes the row of the batch itself (`importing`).
+//!
+//! `commands` takes either to its place. The opening is tested by `off_opening`.
 #![tactic(auto)]
 
-pub use off_deciding::{AccountErr, Planned};
-pub use off_import_deciding::decide;
+mod commands;
+mod counting;
+mod deciding;
+mod dropping;
+mod import_counting;
+mod importing;
+mod judging;
+mod limits;
+mod lost;
+mod planning;
+mod progress;
+mod putting;
+mod results;
+mod ruling;
+mod searching;
+mod subject;
+mod testing;
+mod values;
+mod wanted;
+
+pub use commands::decide;
+pub use off_account_rules::Counts;
 pub use off_opening::{Opening, count_rows, first_bad, open_tables};
-pub use off_rules::Counts;
+pub use results::{AccountErr, Planned};

@@ -1,3 +1,4 @@
+pub mod Choices
 pub mod AddressText
 pub mod Dotted
 pub mod Number

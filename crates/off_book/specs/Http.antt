@@ -13,7 +13,7 @@ use Rattle.off_defs.specs.declared.results.Sent.TheVariants.{Answer, Close}
 use Rattle.off_defs.specs.declared.orders.Write.{Write}
 use Rattle.off_defs.specs.State.{Tables, State, Held, Effect, state_of, only_line}
 use Rattle.off_defs.specs.Tables.{write_all}
-use Rattle.off_rules.specs.Clerk.{Stepped, Refusal, clerk_step}
+use Rattle.off_account_rules.specs.Clerk.{Stepped, Refusal, clerk_step}
 use Rattle.off_clerk_rules.specs.declared.faults.ClerkErr.{ClerkErr}
 use Rattle.off_clerk_rules.specs.declared.faults.Fault.{Fault}
 use Rattle.off_clerk_rules.specs.declared.faults.Fault.TheVariants as fault

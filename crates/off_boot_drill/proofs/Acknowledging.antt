@@ -24,7 +24,7 @@ use Rattle.off_drill_rules.specs.Messages.{by_modem, name, read_request, acknowl
 use Rattle.off_drill_rules.specs.Events.{acknowledges, acknowledgements, blocks_of}
 use Rattle.off_drill_rules.specs.Law.{AllDid}
 use Rattle.off_drill_laws.proofs.RowLemmas.{drill_rows, site_read, modem_read}
-use Rattle.off_file_runs.specs.Answering.{Ask, Speaks, Aside, ask, AnswersBy, AnswersUpTo}
+use Rattle.off_transfer_runs.specs.Answering.{Ask, Speaks, Aside, ask, AnswersBy, AnswersUpTo}
 use Rattle.off_boot_laws.specs.Boot.{KeepsName}
 use Rattle.off_boot_drill.specs.Met.{EachAcknowledgesAll}
 

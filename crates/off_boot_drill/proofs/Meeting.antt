@@ -11,7 +11,7 @@ use Rattle.off_defs.specs.declared.tables.Lease.{Lease}
 use Rattle.off_defs.specs.State.{Tables, State, Transfer, peer_cmp}
 use Rattle.off_dhcp.specs.Datagram.{option_in}
 use Rattle.off_docsis.specs.Cable.{begins_as_modem}
-use Rattle.off_rules.specs.Rows.{possible, as_pool, pool_in, lease_in, has_address}
+use Rattle.off_account_rules.specs.Rows.{possible, as_pool, pool_in, lease_in, has_address}
 use Rattle.off_table_laws.proofs.Reading.{row_lease}
 use Rattle.off_defs.specs.declared.results.Outcome.TheVariants.{Did}
 use Rattle.off_transfer_rules.specs.Transfers.{Transfers}

@@ -11,7 +11,7 @@ use Rattle.off_drill_rules.specs.Rows.{most_modems, mac, address, is_active, dri
 use Rattle.off_drill_rules.specs.Messages.{by_modem, name, block_size, read_request}
 use Rattle.off_drill_rules.specs.Events.{asks_for_offer, asks_for_lease, asks_for_file, blocks_of, numbers_from, acknowledgements}
 use Rattle.off_drill_rules.specs.Law.{drill_state, AllDid}
-use Rattle.off_file_runs.specs.Answering.{AnswersUpTo}
+use Rattle.off_transfer_runs.specs.Answering.{AnswersUpTo}
 use Rattle.off_boot_laws.specs.Boot.{KeepsName}
 use Rattle.off_boot_laws.specs.Stages.{Discovers, Requests, AsksForFile}
 use Rattle.off_boot_laws.specs.Waiting.{LeaseLasts, WaitsThrough}

@@ -12,7 +12,7 @@ use Rattle.off_defs.specs.Keys.{key_cmp}
 use Rattle.off_defs.specs.State.{Tables, State}
 use Rattle.off_defs.specs.Tables.{row_at}
 use Rattle.off_defs.proofs.TableLemmas.{same_key}
-use Rattle.off_rules.specs.Rows.{possible, as_site, as_modem, as_pool}
+use Rattle.off_account_rules.specs.Rows.{possible, as_site, as_modem, as_pool}
 use Rattle.off_table_laws.proofs.Rows.{Rows, row_written, rows_after, all_written}
 use Rattle.off_book.specs.Run.{Turn, Run, effect_of}
 use Rattle.off_laws.proofs.StepLaws.{tables_by_commit}

@@ -12,8 +12,8 @@ use Rattle.off_defs.specs.Clock.{later_by}
 use Rattle.off_defs.specs.State.{Tables, State}
 use Rattle.off_defs.specs.Tables.{write_all}
 use Rattle.off_dhcp.specs.Datagram.{Received}
-use Rattle.off_rules.specs.Rows.{lease_in, held_in}
-use Rattle.off_rules.specs.Good.{Good}
+use Rattle.off_account_rules.specs.Rows.{lease_in, held_in}
+use Rattle.off_account_rules.specs.Good.{Good}
 use Rattle.off_table_laws.specs.Laws.{owner_in}
 use Rattle.off_lease_rules.specs.Asking.{client}
 use Rattle.off_lease_laws.specs.Effects.{bound_until}
@@ -24,8 +24,8 @@ use Rattle.off_book.specs.Run.{Turn, Run, effect_of}
 use Rattle.off_laws.specs.Leases.{DoesNotServe, IsBoundUntil, moment_of}
 use Rattle.off_laws.proofs.StepLaws.{moment_is_greatest, step_good, tables_by_commit}
 use Rattle.off_laws.proofs.RunLaws.{run_keeps_good}
-use Rattle.off_file_runs.specs.Answering.{Ask, Aside, Passes, Speaks, ask, AnswersBy, AnswersUpTo}
-use Rattle.off_file_runs.proofs.Whole.{who_answers_gets_all}
+use Rattle.off_transfer_runs.specs.Answering.{Ask, Aside, Passes, Speaks, ask, AnswersBy, AnswersUpTo}
+use Rattle.off_transfer_runs.proofs.Whole.{who_answers_gets_all}
 use Rattle.off_boot_laws.specs.Went.{GoesWell}
 use Rattle.off_boot_laws.specs.Stages.{Discovers, IsOffered, Requests, IsAcknowledged, AsksForFile, IsGivenFile}
 use Rattle.off_boot_laws.specs.Waiting.{LeaseLasts, IsBoundTo, WaitsThrough}

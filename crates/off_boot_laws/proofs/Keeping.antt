@@ -5,8 +5,8 @@ use Rattle.off_base.specs.declared.macs.Mac.{Mac}
 use Rattle.off_defs.specs.declared.tables.Pool.{Pool}
 use Rattle.off_defs.specs.State.{State}
 use Rattle.off_dhcp.specs.Datagram.{Received}
-use Rattle.off_rules.specs.Rows.{held_in, has_address}
-use Rattle.off_rules.specs.Good.{Good}
+use Rattle.off_account_rules.specs.Rows.{held_in, has_address}
+use Rattle.off_account_rules.specs.Good.{Good}
 use Rattle.off_table_laws.specs.Laws.{owner_in}
 use Rattle.off_lease_rules.specs.Asking.{client}
 use Rattle.off_lease_rules.specs.Free.{pool_for}

@@ -25,8 +25,8 @@ use Rattle.off_defs.specs.Clock.{later_by}
 use Rattle.off_defs.specs.State.{Tables, State, Effect, at_moment}
 use Rattle.off_defs.specs.Tables.{write_all}
 use Rattle.off_dhcp.specs.Datagram.{Received, mac_of_client, option_in}
-use Rattle.off_rules.specs.Rows.{passes, site_in, modem_in, lease_in, held_in, has_address}
-use Rattle.off_rules.specs.Good.{Good, owner_of, is_address}
+use Rattle.off_account_rules.specs.Rows.{passes, site_in, modem_in, lease_in, held_in, has_address}
+use Rattle.off_account_rules.specs.Good.{Good, owner_of, is_address}
 use Rattle.off_table_laws.specs.Laws.{owner_in}
 use Rattle.off_lease_rules.specs.Asking.{is_discover, is_request, asks, client, claimed, named_server, serial_number, remote_identifier, form_of, named_address, at_address, asked_by, is_formless, is_selecting}
 use Rattle.off_lease_rules.specs.declared.forms.Named.TheVariants.{Absent, At}

@@ -5,8 +5,8 @@ use Rattle.std.specs.List.{find}
 use Rattle.off_defs.specs.declared.tables.Pool.{Pool}
 use Rattle.off_defs.specs.State.{Tables}
 use Rattle.off_dhcp.specs.Datagram.{Received}
-use Rattle.off_rules.specs.Rows.{pools, pool_in, has_address, overlaps}
-use Rattle.off_rules.specs.Good.{Good}
+use Rattle.off_account_rules.specs.Rows.{pools, pool_in, has_address, overlaps}
+use Rattle.off_account_rules.specs.Good.{Good}
 use Rattle.off_table_laws.proofs.Judging.{good_rows, pool_in_raw}
 use Rattle.off_table_laws.proofs.ListLemmas.{In, none_found}
 use Rattle.off_table_laws.proofs.Reading.{pool_row, pools_raw}

@@ -16,7 +16,7 @@ use Rattle.off_defs.specs.declared.results.Outcome.TheVariants.{Did}
 use Rattle.off_defs.specs.declared.tables.Lease.{Lease}
 use Rattle.off_defs.specs.declared.tables.Hold.TheVariants.{Bound}
 use Rattle.off_defs.specs.State.{Tables, State, Transfer, Effect, at_moment}
-use Rattle.off_rules.specs.Good.{Good}
+use Rattle.off_account_rules.specs.Good.{Good}
 use Rattle.off_lease_laws.specs.Effects.{bound_until}
 use Rattle.off_transfer_rules.specs.Packets.{Reads, packet_of}
 use Rattle.off_transfer_rules.specs.View.{View, view, holder}
@@ -29,9 +29,9 @@ use Rattle.off_book.specs.Step.{Step, Does}
 use Rattle.off_book.specs.Tftp.{TftpDid}
 use Rattle.off_book.specs.Run.{Turn, effect_of}
 use Rattle.off_laws.specs.Leases.{IsBoundUntil, moment_of}
-use Rattle.off_file_runs.specs.Turns.{packets_to, says_accepted}
-use Rattle.off_file_runs.specs.Served.{IsAccepted, FileIsServed}
-use Rattle.off_file_runs.proofs.Runs.{served_at}
+use Rattle.off_transfer_runs.specs.Turns.{packets_to, says_accepted}
+use Rattle.off_transfer_runs.specs.Served.{IsAccepted, FileIsServed}
+use Rattle.off_transfer_runs.proofs.Runs.{served_at}
 use Rattle.off_boot_laws.specs.Stages.{HasPlace, AsksForFile, ReadsAreAccepted}
 
 -- ---- the way of the request

@@ -13,8 +13,8 @@ use Rattle.off_defs.specs.declared.tables.Lease.{Lease}
 use Rattle.off_defs.specs.State.{State, Effect, at_moment}
 use Rattle.off_dhcp.specs.declared.faults.DhcpFault.{DhcpFault}
 use Rattle.off_dhcp.specs.Datagram.{Received, message_of}
-use Rattle.off_rules.specs.Rows.{lease_in}
-use Rattle.off_rules.specs.Good.{Good, owner_of}
+use Rattle.off_account_rules.specs.Rows.{lease_in}
+use Rattle.off_account_rules.specs.Good.{Good, owner_of}
 use Rattle.off_lease_rules.specs.declared.words.DhcpWord.{DhcpWord}
 use Rattle.off_lease_rules.specs.Asking.{client}
 use Rattle.off_book.specs.Dhcp.{dhcp_line}

@@ -8,7 +8,7 @@ use Rattle.off_defs.specs.declared.keys.Key.TheVariants as key
 use Rattle.off_defs.specs.declared.orders.Write.{Write}
 use Rattle.off_defs.specs.declared.orders.Write.TheVariants.{Put, Drop}
 use Rattle.off_defs.specs.State.{Tables, State}
-use Rattle.off_rules.specs.Rows.{site_in, modem_in, pool_in}
+use Rattle.off_account_rules.specs.Rows.{site_in, modem_in, pool_in}
 use Rattle.off_book.specs.Run.{Turn, Run}
 
 abbrev pub key_written : Write → Key

@@ -8,16 +8,16 @@ use Rattle.off_defs.specs.declared.tables.Modem.{Modem}
 use Rattle.off_defs.specs.State.{Tables, State}
 use Rattle.off_defs.specs.Tables.{write_all}
 use Rattle.off_dhcp.specs.Datagram.{Received}
-use Rattle.off_rules.specs.Rows.{site_in, modem_in}
-use Rattle.off_rules.specs.Good.{Good}
+use Rattle.off_account_rules.specs.Rows.{site_in, modem_in}
+use Rattle.off_account_rules.specs.Good.{Good}
 use Rattle.off_file_rules.specs.Name.{name_of}
 use Rattle.off_lease_rules.specs.Asking.{client}
 use Rattle.off_transfer_rules.specs.Transfers.{size_for, first_number, is_last_number}
 use Rattle.off_book.specs.Run.{Turn, Run}
 use Rattle.off_laws.specs.Leases.{moment_of}
-use Rattle.off_file_runs.specs.Turns.{block_given}
-use Rattle.off_file_runs.specs.Got.{got, is_done}
-use Rattle.off_file_runs.specs.Answering.{AnswersUpTo}
+use Rattle.off_transfer_runs.specs.Turns.{block_given}
+use Rattle.off_transfer_runs.specs.Got.{got, is_done}
+use Rattle.off_transfer_runs.specs.Answering.{AnswersUpTo}
 use Rattle.off_boot_laws.specs.Went.{GoesWell}
 use Rattle.off_boot_laws.specs.Stages.{Discovers, IsOffered, Requests, IsAcknowledged, AsksForFile, IsGivenFile}
 use Rattle.off_boot_laws.specs.Waiting.{LeaseLasts, IsBoundTo, WaitsThrough}

@@ -4,8 +4,8 @@ use Rattle.off_base.specs.declared.addresses.Ip4.{Ip4}
 use Rattle.off_base.specs.declared.macs.Mac.{Mac}
 use Rattle.off_defs.specs.State.{State}
 use Rattle.off_dhcp.specs.Datagram.{Received}
-use Rattle.off_rules.specs.Rows.{has_address}
-use Rattle.off_rules.specs.Good.{Good}
+use Rattle.off_account_rules.specs.Rows.{has_address}
+use Rattle.off_account_rules.specs.Good.{Good}
 use Rattle.off_table_laws.specs.Laws.{owner_in}
 use Rattle.off_lease_rules.specs.Asking.{client}
 use Rattle.off_book.specs.Step.{Step}

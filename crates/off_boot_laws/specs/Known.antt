@@ -9,7 +9,7 @@ use Rattle.off_defs.specs.declared.tables.Modem.{Modem}
 use Rattle.off_defs.specs.State.{Tables}
 use Rattle.off_dhcp.specs.Datagram.{Received, mac_of_client, option_in}
 use Rattle.off_docsis.specs.Cable.{begins_as_modem}
-use Rattle.off_rules.specs.Rows.{site_in, modem_in, pool_in, has_address}
+use Rattle.off_account_rules.specs.Rows.{site_in, modem_in, pool_in, has_address}
 use Rattle.off_lease_rules.specs.Asking.{ip, client, vendor_parts, relay_parts, serial_number, remote_identifier}
 use Rattle.off_lease_rules.specs.Free.{is_renewal}
 

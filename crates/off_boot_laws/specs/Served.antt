@@ -1,7 +1,7 @@
 -- The same for an operator: where every turn of a run goes well, nothing is asked of a turn.
 use Rattle.std.specs.Prelude.{List, All}
 use Rattle.off_defs.specs.State.{State}
-use Rattle.off_rules.specs.Good.{Good}
+use Rattle.off_account_rules.specs.Good.{Good}
 use Rattle.off_book.specs.Run.{Turn}
 use Rattle.off_boot_laws.specs.Went.{GoesWell, Anyhow}
 use Rattle.off_boot_laws.specs.Boot.{BootsBy}

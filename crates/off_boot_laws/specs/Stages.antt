@@ -15,8 +15,8 @@ use Rattle.off_defs.specs.declared.tables.Hold.TheVariants.{Offered}
 use Rattle.off_defs.specs.Clock.{later_by}
 use Rattle.off_defs.specs.State.{Tables, State}
 use Rattle.off_dhcp.specs.Datagram.{Received, option_in}
-use Rattle.off_rules.specs.Rows.{site_in, modem_in, lease_in, held_in, has_address}
-use Rattle.off_rules.specs.Good.{Good}
+use Rattle.off_account_rules.specs.Rows.{site_in, modem_in, lease_in, held_in, has_address}
+use Rattle.off_account_rules.specs.Good.{Good}
 use Rattle.off_table_laws.specs.Laws.{owner_in}
 use Rattle.off_file_rules.specs.Name.{name_of}
 use Rattle.off_lease_rules.specs.Asking.{client, claimed, named_server}
@@ -29,8 +29,8 @@ use Rattle.off_transfer_rules.specs.Transfers.{Transfers, size_for, first_number
 use Rattle.off_book.specs.Step.{Step}
 use Rattle.off_book.specs.Run.{Turn, Run, effect_of, sent_in}
 use Rattle.off_laws.specs.Leases.{TakesMessage, IsBoundUntil, moment_of}
-use Rattle.off_file_runs.specs.Turns.{packets_to}
-use Rattle.off_file_runs.specs.Served.{IsAccepted, FileIsServed}
+use Rattle.off_transfer_runs.specs.Turns.{packets_to}
+use Rattle.off_transfer_runs.specs.Served.{IsAccepted, FileIsServed}
 use Rattle.off_boot_laws.specs.Known.{IsOfModem}
 use Rattle.off_boot_laws.specs.Went.{GoesWell}
 

@@ -1,1 +1,3 @@
 pub mod ReadBack
+pub mod TreeLemmas
+pub mod ArrayLemmas

@@ -19,6 +19,7 @@ use Rattle.serde_json.specs.Read.{read, max_depth, of_json}
 use Rattle.serde_json.specs.Written.{compact_text, outline}
 use Rattle.serde_json.proofs.Numbers.{number_of-decimal}
 use Rattle.serde_json.proofs.Texts.{print-outline}
+use Rattle.off_base.specs.Choices.{when}
 use Rattle.off_base.specs.declared.macs.Mac.{Mac}
 use Rattle.off_defs.specs.declared.keys.Key.TheVariants as key
 use Rattle.off_defs.specs.declared.tables.Modem.{Modem}
@@ -32,7 +33,7 @@ use Rattle.off_clerk_rules.specs.declared.faults.ClerkErr.{ClerkErr}
 use Rattle.off_clerk_rules.specs.declared.faults.ClerkErr.TheVariants.{Value}
 use Rattle.off_clerk_rules.specs.declared.names.Name.TheVariants as field
 use Rattle.off_clerk_rules.specs.Commands.{◌>>=◌, object_in, modem_in, subscriber_in, put_read}
-use Rattle.off_clerk_rules.specs.Fields.{number_in, text_in, only_if}
+use Rattle.off_clerk_rules.specs.Fields.{number_in, text_in}
 use Rattle.off_clerk_rules.specs.Paths.{last_number}
 use Rattle.off_clerk_rules.specs.Replies.{row_text, flag_text}
 use Rattle.off_clerk.specs.Laws.{ShownReadBack}
@@ -60,13 +61,13 @@ within : (least most n : ℕ) → least ≤ n → n ≤ most → is_in_range lea
 within least most n a b = grind (arith, nat_tests)
 
 number_read : (least most n : ℕ) → is_in_range least most n ≡ true → number_in least most (number (unsigned n)) ≡ Some n
-number_read least most n e = ap (λ (b : Bool). only_if b n) e
+number_read least most n e = ap (λ (b : Bool). when b n) e
 
 short : (text : List ℕ) → length text ≤ 64 → nat_le (length text) 64 ≡ true
 short text h = grind (arith, nat_tests)
 
 text_read : (text : List ℕ) → length text ≤ 64 → text_in (string text) ≡ Some text
-text_read text h = ap (λ (b : Bool). only_if b text) (short text h)
+text_read text h = ap (λ (b : Bool). when b text) (short text h)
 
 -- three fields that are read
 three : {A B C D : Type 0} (f : A → B → C → D) (x : Result A ClerkErr) (y : Result B ClerkErr) (z : Result C ClerkErr) (a : A) (b : B) (c : C) → x ≡ Ok a → y ≡ Ok b → z ≡ Ok c

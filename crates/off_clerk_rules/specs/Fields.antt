@@ -7,6 +7,7 @@ use Rattle.std.specs.Result.{result_ok}
 use Rattle.hex.specs.Hex.{decode_of}
 use Rattle.serde_json.specs.Data.{Data, Items, no_items, item}
 use Rattle.serde_json.specs.Find.{get, as_str, as_number, as_array, as_u64, as_i64}
+use Rattle.off_base.specs.Choices.{when}
 use Rattle.off_base.specs.AddressText.{ip_of}
 use Rattle.off_base.specs.Tree.{Tree, leaf, group, row_of}
 use Rattle.off_base.specs.declared.addresses.Ip4.{Ip4}
@@ -27,13 +28,10 @@ member_in missing which read (Some held) = ok_or (read held) (Value which)
 abbrev pub field_in : {A : Type 0} → Name → (Data → Option A) → Data → Result A ClerkErr
 field_in which read body = member_in (Err (Field which)) which read (get (name_text which) body)
 
-abbrev pub only_if : {A : Type 0} → Bool → A → Option A
-only_if good x = if good then Some x else None
-
 -- a whole number within bounds
 abbrev pub number_in : ℕ → ℕ → Data → Option ℕ
 number_in least most held =
-    option_and_then (λ n. only_if (is_in_range least most n) n)
+    option_and_then (λ n. when (is_in_range least most n) n)
     (option_and_then as_u64 (as_number held))
 
 abbrev pub is_word : ℤ → Bool
@@ -43,11 +41,11 @@ is_word (negsuc n) = nat_le n (2 ^ 31 - 1)
 -- a whole number of 32 bits with a sign
 abbrev pub offset_in : Data → Option ℤ
 offset_in held =
-    option_and_then (λ z. only_if (is_word z) z) (option_and_then as_i64 (as_number held))
+    option_and_then (λ z. when (is_word z) z) (option_and_then as_i64 (as_number held))
 
 -- a text of at most 64 bytes
 abbrev pub text_in : Data → Option (List ℕ)
-text_in held = option_and_then (λ text. only_if (nat_le (length text) 64) text) (as_str held)
+text_in held = option_and_then (λ text. when (nat_le (length text) 64) text) (as_str held)
 
 -- an address in dotted decimal
 abbrev pub address_in : Data → Option Ip4
@@ -56,7 +54,7 @@ address_in held = option_map ip_with (option_and_then ip_of (as_str held))
 -- one that isn't 0.0.0.0
 abbrev pub relay_in : Data → Option Ip4
 relay_in held =
-    option_and_then (λ address. only_if (not (address.0 == 0)) address) (address_in held)
+    option_and_then (λ address. when (not (address.0 == 0)) address) (address_in held)
 
 -- the bytes of pairs of hexadecimal digits in either case
 abbrev pub hex_of : ℕ → List ℕ → Option (List ℕ)

@@ -1,7 +1,7 @@
 //! What the office speaks of: events, keys, rows, writes, commands and the rules that refuse them,
 //! as plain types, with how the tables are read and written (`specs/`).
 //!
-//! What the office does stands in `off_rules`, when tables are good and what each command does, and
+//! What the office does stands in `off_account_rules`, when tables are good and what each command does, and
 //! in `off_book`, one event and a run of them.
 #![tactic(auto)]
 

@@ -4,11 +4,12 @@ use Rattle.std.specs.Prelude.{IsOk}
 use Rattle.std.specs.Option.{option_map}
 use Rattle.std.specs.Result.{result_err}
 use Rattle.std.proofs.lemmas.Bool.{ltb-false, eqb-true, not-false}
+use Rattle.off_base.specs.Choices.{when, first_there}
 use Rattle.off_base.specs.Parts.{Part, Cut, IsReading, parts_in, bytes_of}
 use Rattle.off_base.specs.Parts.Cut.{cut_length, cut_value, cut_behind_pad, cut_behind_part}
 use Rattle.off_dhcp.specs.declared.faults.DhcpFault.{DhcpFault}
 use Rattle.off_dhcp.specs.declared.faults.DhcpFault.TheVariants.{Short, Long, NoType, OptionCut}
-use Rattle.off_dhcp.specs.Datagram.{first_there, message_fault, fixed_faults, option_faults, options_in, option_in, fault_if, message_of, received, received_unless}
+use Rattle.off_dhcp.specs.Datagram.{message_fault, fixed_faults, option_faults, options_in, option_in, message_of, received, received_unless}
 
 -- ---- the first of several
 
@@ -26,7 +27,7 @@ both_none : {X : Type 0} (o : Option X) (more : List (Option X)) → first_there
 both_none None more is = (refl, is)
 both_none (Some x) more is = cc
 
-not_if_none : (test : Bool) (fault : DhcpFault) → fault_if test fault ≡ None → test ≡ false
+not_if_none : (test : Bool) (fault : DhcpFault) → when test fault ≡ None → test ≡ false
 not_if_none true fault is = cc
 not_if_none false fault is = refl
 

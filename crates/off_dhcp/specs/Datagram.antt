@@ -6,6 +6,7 @@ use Rattle.std.specs.List.{slice_range}
 use Rattle.std.specs.Option.{option_map}
 use Rattle.std.specs.Result.{result_err}
 use Rattle.std.specs.Str.{bytes_eq}
+use Rattle.off_base.specs.Choices.{when, first_there}
 use Rattle.off_base.specs.Parts.{IsReading, parts_in, joined, bytes_of}
 use Rattle.off_dhcp.specs.declared.faults.DhcpFault.{DhcpFault}
 use Rattle.off_dhcp.specs.declared.faults.DhcpFault.TheVariants.{Short, NotRequest, Hardware, Cookie, OptionCut, NoType, Overload, Long}
@@ -54,30 +55,21 @@ received bytes = record {
 
 -- ---- the faults, in the order in which they are told
 
-abbrev pub fault_if : Bool → DhcpFault → Option DhcpFault
-fault_if test fault = if test then Some fault else None
-
 abbrev pub fixed_faults : List ℕ → List (Option DhcpFault)
 fixed_faults bytes =
-    fault_if (nat_lt (length bytes) 240) Short
-    ∷ fault_if (nat_lt 1500 (length bytes)) Long
-    ∷ fault_if (not (slice_index bytes 0 == 1)) NotRequest
-    ∷ fault_if (not ((slice_index bytes 1 == 1) && (slice_index bytes 2 == 6))) Hardware
-    ∷ fault_if (not (bytes_eq (slice_range bytes 236 240) magic_cookie)) Cookie
+    when (nat_lt (length bytes) 240) Short
+    ∷ when (nat_lt 1500 (length bytes)) Long
+    ∷ when (not (slice_index bytes 0 == 1)) NotRequest
+    ∷ when (not ((slice_index bytes 1 == 1) && (slice_index bytes 2 == 6))) Hardware
+    ∷ when (not (bytes_eq (slice_range bytes 236 240) magic_cookie)) Cookie
     ∷ []
 
 abbrev pub option_faults : List ℕ → List (Option DhcpFault)
 option_faults options =
     option_map OptionCut (option_map (λ place. place + 240) (result_err (parts_in true options)))
-    ∷ fault_if (not (length (bytes_of (option_in 53 options)) == 1)) NoType
-    ∷ fault_if (is_some (option_in 52 options)) Overload
+    ∷ when (not (length (bytes_of (option_in 53 options)) == 1)) NoType
+    ∷ when (is_some (option_in 52 options)) Overload
     ∷ []
-
--- the first of those that are there
-abbrev pub first_there : {X : Type 0} → List (Option X) → Option X
-first_there [] = None
-first_there (Some x ∷ more) = Some x
-first_there (None ∷ more) = first_there more
 
 unfoldable pub message_fault : List ℕ → Option DhcpFault
 message_fault bytes = first_there (fixed_faults bytes ++ option_faults (options_in bytes))

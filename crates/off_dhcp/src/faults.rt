@@ -1,5 +1,6 @@
 ghost use Rattle.std.specs.Prelude.{◌≡◌, ◌≤◌, ◌==◌, ◌&&◌, length, None, IfNone};
-ghost use Rattle.off_dhcp.specs.Datagram.{first_there, fixed_faults, option_faults};
+ghost use Rattle.off_base.specs.Choices.{first_there};
+ghost use Rattle.off_dhcp.specs.Datagram.{fixed_faults, option_faults};
 
 use off_base::{Joined, first_cut};
 

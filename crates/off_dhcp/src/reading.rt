@@ -1,9 +1,10 @@
 ghost use Rattle.std.specs.Prelude.{◌≡◌, ◌+◌, ◌≤◌, length, None};
 ghost use Rattle.std.specs.Int.{w16, w32, from_be_bytes};
 ghost use Rattle.std.specs.List.{slice_range};
+ghost use Rattle.off_base.specs.Choices.{first_there};
 ghost use Rattle.off_dhcp.specs.Datagram.{message_of, option_in, options_in, mac_of_client};
 ghost use Rattle.off_dhcp.specs.Datagram.{ReadsOptions};
-ghost use Rattle.off_dhcp.specs.Datagram.{first_there, fixed_faults};
+ghost use Rattle.off_dhcp.specs.Datagram.{fixed_faults};
 
 use crate::DhcpFault;
 use crate::faults::{MESSAGE_TYPE, OPTIONS, fixed_fault, option_fault};

@@ -5,6 +5,7 @@ use Rattle.std.proofs.lemmas.List.Sums.{count_by-le-length}
 use Rattle.std.specs.FinMap as map
 use Rattle.std.specs.List.{filter, find, flat_map, AllByRecursion}
 use Rattle.std.specs.Ordering.{eq_by_cmp}
+use Rattle.off_base.specs.Choices.{when, first_there}
 use Rattle.off_base.specs.declared.addresses.Ip4.{Ip4}
 use Rattle.off_tree.specs.declared.tables.Kind.TheVariants as tree
 use Rattle.off_tree.specs.Table.{table_of}
@@ -29,8 +30,8 @@ use Rattle.off_defs.specs.State.{Tables}
 use Rattle.off_defs.specs.Tables.{row_at, with_row, write_all}
 use Rattle.off_defs.proofs.KeyLemmas.{key_total}
 use Rattle.off_defs.proofs.TableLemmas.{row_with, row_with_here}
-use Rattle.off_rules.specs.Rows.{seen_at, count_of, is_counted, class_is_good, pools, leases, pool_in, possible, as_subscriber, as_class, subscriber_in, class_in}
-use Rattle.off_rules.specs.Clerk.{when, first_broken, limit_of, limit, is_other_overlapping, is_other_with_relay, is_live, gives_up, lost_leases, lease_drops, rules_of, writes_of, by_rule, accepted, stepped_by, clerk_step}
+use Rattle.off_account_rules.specs.Rows.{seen_at, count_of, is_counted, class_is_good, pools, leases, pool_in, possible, as_subscriber, as_class, subscriber_in, class_in}
+use Rattle.off_account_rules.specs.Clerk.{limit_of, limit, is_other_overlapping, is_other_with_relay, is_live, gives_up, lost_leases, lease_drops, rules_of, writes_of, by_rule, accepted, stepped_by, clerk_step}
 use Rattle.off_table_laws.proofs.ListLemmas.{In}
 use Rattle.off_table_laws.proofs.LostLeases.{all_in_lease}
 use Rattle.off_table_laws.proofs.Reading.{pool_row}
@@ -83,12 +84,12 @@ pub site_step : (clerk_step map.empty begins_at set_site).tables ≡ with_site
 unfolding clerk_step
 site_step = refl
 
-no_rule : (rules : List (Option Rule)) → AllByRecursion (λ (o : Option Rule). o ≡ None) rules → first_broken rules ≡ None
+no_rule : (rules : List (Option Rule)) → AllByRecursion (λ (o : Option Rule). o ≡ None) rules → first_there rules ≡ None
 no_rule [] all = refl
-no_rule (o ∷ rules) all = ap (λ (v : Option Rule). first_broken (v ∷ rules)) all.0 ∙ no_rule rules all.1
+no_rule (o ∷ rules) all = ap (λ (v : Option Rule). first_there (v ∷ rules)) all.0 ∙ no_rule rules all.1
 
 module _ (t : Tables) (writes : List Write) (rules : List (Option Rule)) where
-  done_by : AllByRecursion (λ (o : Option Rule). o ≡ None) rules → (stepped_by t (by_rule 0 (accepted writes Done) (first_broken rules))).tables ≡ write_all t writes
+  done_by : AllByRecursion (λ (o : Option Rule). o ≡ None) rules → (stepped_by t (by_rule 0 (accepted writes Done) (first_there rules))).tables ≡ write_all t writes
   done_by all = ap (λ (o : Option Rule). (stepped_by t (by_rule 0 (accepted writes Done) o)).tables) (no_rule rules all)
 
 class_good : first_fault tree.Class class.settings ≡ None

@@ -11,7 +11,7 @@ use Rattle.off_defs.specs.Counts.{commits_after}
 use Rattle.off_defs.specs.State.{Tables, State, Held, Said, state_of, held_at, held_at_start}
 use Rattle.off_defs.specs.Tables.{write_all, doubt_behind}
 use Rattle.off_defs.proofs.ToldLemmas.{told_then, told_self}
-use Rattle.off_rules.specs.Clerk.{Stepped, clerk_step}
+use Rattle.off_account_rules.specs.Clerk.{Stepped, clerk_step}
 use Rattle.off_book.specs.Step.{Step, completed}
 use Rattle.off_book.specs.Run.{Turn, effect_of, commits_by}
 use Rattle.off_book.specs.Crashes.{Begins, Doubt, doubt_in, Lasts}

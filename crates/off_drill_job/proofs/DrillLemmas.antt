@@ -14,7 +14,7 @@ use Rattle.off_defs.specs.Tables.{is_after, next_entry}
 use Rattle.off_defs.proofs.ToldLemmas.{told_then, told_weaker}
 use Rattle.off_defs.proofs.CountLemmas.{later_grew}
 use Rattle.off_defs.specs.Told.{Told}
-use Rattle.off_rules.specs.Good.{Good, IsLeastBad}
+use Rattle.off_account_rules.specs.Good.{Good, IsLeastBad}
 use Rattle.off_book.specs.Run.{Turn}
 use Rattle.off_outside.specs.declared.keeper.KeepErr.{KeepErr}
 use Rattle.off_outside.specs.declared.keeper.KeepErr.TheVariants as keep
@@ -27,7 +27,7 @@ use Rattle.off_jobs.specs.Jobs.{Tells}
 use Rattle.off_office.specs.Conditions.{Fits}
 use Rattle.off_office.specs.Desk.{Desk}
 use Rattle.off_office.specs.declared.office.StartErr.TheVariants as start_err
-use Rattle.off_sending.proofs.UpLemmas.{up_chain}
+use Rattle.off_office.proofs.UpLemmas.{up_chain}
 use Rattle.off_drill_rules.specs.declared.tally.Tally.{Tally}
 use Rattle.off_drill_rules.specs.Rows.{peopled, drill_tables}
 use Rattle.off_drill_rules.specs.Law.{FrontDrill, held_behind, drill_state}

@@ -10,14 +10,14 @@ use Rattle.off_defs.specs.declared.orders.Write.{Write}
 use Rattle.off_defs.specs.declared.results.Outcome.TheVariants.{Did}
 use Rattle.off_defs.proofs.ToldLemmas.{told_then, told_self, told_weaker}
 use Rattle.off_defs.proofs.CountLemmas.{grew_self, later_grew}
-use Rattle.off_rules.specs.Good.{Good}
-use Rattle.off_rules.specs.Clerk.{Stepped, clerk_step, step_refused}
+use Rattle.off_account_rules.specs.Good.{Good}
+use Rattle.off_account_rules.specs.Clerk.{Stepped, clerk_step, step_refused}
 use Rattle.off_defs.specs.declared.rules.Rule.{Rule}
 use Rattle.off_rows.specs.Sound.{is_sound}
 use Rattle.off_table_laws.specs.Laws.{secret_fits}
 use Rattle.off_table_laws.proofs.StepLaws.{step_keeps_good}
-use Rattle.off_deciding.specs.declared.results.AccountErr.{AccountErr}
-use Rattle.off_deciding.specs.declared.results.AccountErr.TheVariants.{Refused, Failed, Memory}
+use Rattle.off_accounts.specs.declared.results.AccountErr.{AccountErr}
+use Rattle.off_accounts.specs.declared.results.AccountErr.TheVariants.{Refused, Failed, Memory}
 use Rattle.off_outside.specs.declared.keeper.KeepErr.{KeepErr}
 use Rattle.off_outside.specs.declared.keeper.KeepErr.TheVariants as keep
 use Rattle.off_outside.specs.KeeperSeen.{KeeperSeen, Rests}

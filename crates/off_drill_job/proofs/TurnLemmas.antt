@@ -22,8 +22,8 @@ use Rattle.off_outside.specs.LinkSeen.{LinkSeen}
 use Rattle.off_outside.specs.LinkCalls.{LinkUnasked}
 use Rattle.off_office.specs.Acting.{Acts}
 use Rattle.off_office.specs.Desk.{Desk}
-use Rattle.off_sending.specs.Sending.{SentAll}
-use Rattle.off_sending.proofs.UpLemmas.{up_chain}
+use Rattle.off_office.specs.Sending.{SentAll}
+use Rattle.off_office.proofs.UpLemmas.{up_chain}
 use Rattle.off_drill_rules.specs.declared.tally.Tally.{Tally}
 use Rattle.off_drill_rules.specs.Numbers.{plus, none_yet, tally_of, tally_by}
 use Rattle.off_drill_laws.specs.Stages.{Stage, Waits, Stands, served, Moves}

@@ -7,7 +7,7 @@ use Rattle.off_defs.specs.declared.results.Outcome.TheVariants.{Did}
 use Rattle.off_defs.specs.Counts.{Grew, Tallied}
 use Rattle.off_defs.specs.Told.{Told, Stays}
 use Rattle.off_defs.specs.State.{State, state_of}
-use Rattle.off_rules.specs.Good.{Good}
+use Rattle.off_account_rules.specs.Good.{Good}
 use Rattle.off_book.specs.Step.{Step}
 use Rattle.off_book.specs.Run.{Turn, effect_of, sent_by, lost_by}
 use Rattle.off_outside.specs.declared.keeper.KeepErr.{KeepErr}

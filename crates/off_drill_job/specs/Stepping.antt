@@ -9,7 +9,7 @@ use Rattle.off_defs.specs.Counts.{commits_after}
 use Rattle.off_defs.specs.Told.{Told}
 use Rattle.off_defs.specs.State.{Tables, State, Held, state_of, held_at, start}
 use Rattle.off_defs.specs.Tables.{write_all, doubt_behind}
-use Rattle.off_rules.specs.Clerk.{clerk_step}
+use Rattle.off_account_rules.specs.Clerk.{clerk_step}
 use Rattle.off_book.specs.Run.{Turn, commits_by}
 use Rattle.off_book.specs.Crashes.{doubt_in, Lasts}
 use Rattle.off_outside.specs.KeeperSeen.{KeeperSeen}

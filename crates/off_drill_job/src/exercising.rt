@@ -7,9 +7,8 @@ ghost use Rattle.off_drill_job.specs.Exercising.{TookTurn, LosesTurn, Exercised,
 use crate::messages::{Ask, hoped_line, message};
 use crate::tallying::count_said;
 use off_drill_rules::Tally;
-use off_office::Office;
+use off_office::{Office, send_all};
 use off_outside::{Event, KeepErr, Keeper, Link, Outcome, Replies};
-use off_sending::send_all;
 use std::alloc::Global;
 
 /// How many packets a modem acknowledges of one file at most.

@@ -10,8 +10,8 @@ ghost use Rattle.off_drill_job.specs.Asking.{event_for, hoped_line};
 
 use crate::rows::{RELAY, SECRET, address_of, mac_of, moment_of};
 use off_base::{Bytes, NoMemory, Peer};
+use off_files::file_name;
 use off_outside::{Event, Service, What};
-use off_profile::file_name;
 use std::alloc::Global;
 
 // The four bytes in front of a message's options (RFC 2131, section 3).

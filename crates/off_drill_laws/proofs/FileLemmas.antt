@@ -12,7 +12,7 @@ use Rattle.off_defs.specs.declared.tables.Modem.{Modem}
 use Rattle.off_defs.specs.declared.tables.Subscriber.{Subscriber}
 use Rattle.off_defs.specs.declared.tables.Class.{Class}
 use Rattle.off_defs.specs.State.{Tables}
-use Rattle.off_rules.specs.Rows.{class_in}
+use Rattle.off_account_rules.specs.Rows.{class_in}
 use Rattle.off_table_laws.proofs.ListLemmas.{made_same}
 use Rattle.off_file_rules.specs.Block.{block}
 use Rattle.off_file_rules.specs.File.{with_stamps}

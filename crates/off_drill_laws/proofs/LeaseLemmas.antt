@@ -17,8 +17,8 @@ use Rattle.off_defs.specs.State.{Tables}
 use Rattle.off_dhcp.specs.Datagram.{Received, message_fault, message_of}
 use Rattle.off_dhcp.specs.Reply.{zeros, four, option}
 use Rattle.off_docsis.specs.Cable.{begins_as_modem}
-use Rattle.off_rules.specs.Rows.{passes, has_address, lease_in, held_in}
-use Rattle.off_rules.specs.Good.{is_address}
+use Rattle.off_account_rules.specs.Rows.{passes, has_address, lease_in, held_in}
+use Rattle.off_account_rules.specs.Good.{is_address}
 use Rattle.off_table_laws.proofs.Reading.{row_lease, row_held}
 use Rattle.off_defs.specs.Tables.{with_row}
 use Rattle.off_defs.proofs.TableLemmas.{row_with_here}

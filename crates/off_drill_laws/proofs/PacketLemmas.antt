@@ -24,8 +24,8 @@ use Rattle.off_defs.specs.declared.results.Sent.{Sent}
 use Rattle.off_defs.specs.State.{Transfer, peer_cmp}
 use Rattle.off_file_rules.specs.Name.{name_of, name_key}
 use Rattle.off_file_rules.specs.File.{with_stamps}
-use Rattle.off_rules.specs.Rows.{passes}
-use Rattle.off_rules.specs.Good.{is_mac}
+use Rattle.off_account_rules.specs.Rows.{passes}
+use Rattle.off_account_rules.specs.Good.{is_mac}
 use Rattle.off_table_laws.proofs.Reading.{row_lease}
 use Rattle.off_transfer_rules.specs.Packets.{Reads, Acknowledges, is_zero, packet_of}
 use Rattle.off_transfer_rules.specs.View.{View, view_by, view, holder, agrees, is_of_subscriber, is_own_name, IsBuiltBy}

@@ -17,7 +17,7 @@ use Rattle.off_defs.specs.State.{Tables}
 use Rattle.off_defs.specs.Tables.{row_at, with_row}
 use Rattle.off_defs.proofs.TableLemmas.{same_key, same_tables, row_with, row_with_here}
 use Rattle.off_dhcp.specs.Datagram.{Received}
-use Rattle.off_rules.specs.Rows.{possible, class_is_good, as_site, as_subscriber, as_add_on, as_modem, as_class, as_lease, as_held, site_in, subscriber_in, add_on_in, modem_in, class_in, lease_in, held_in, pool_of, pools}
+use Rattle.off_account_rules.specs.Rows.{possible, class_is_good, as_site, as_subscriber, as_add_on, as_modem, as_class, as_lease, as_held, site_in, subscriber_in, add_on_in, modem_in, class_in, lease_in, held_in, pool_of, pools}
 use Rattle.off_table_laws.proofs.ListLemmas.{In, none_found, in_made}
 use Rattle.off_table_laws.proofs.EntryRows.{row_in}
 use Rattle.off_table_laws.proofs.Reading.{pool_row}

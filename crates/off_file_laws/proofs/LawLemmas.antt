@@ -23,7 +23,7 @@ use Rattle.off_defs.specs.declared.tables.Site.{Site}
 use Rattle.off_defs.specs.declared.tables.Subscriber.{Subscriber}
 use Rattle.off_defs.specs.State.{Tables}
 use Rattle.off_defs.specs.Tables.{row_at}
-use Rattle.off_rules.specs.Rows.{class_is_good, add_on_is_good, possible, as_class, as_add_on, subscriber_in, modem_in, class_in, add_on_in}
+use Rattle.off_account_rules.specs.Rows.{class_is_good, add_on_is_good, possible, as_class, as_add_on, subscriber_in, modem_in, class_in, add_on_in}
 use Rattle.off_defs.specs.Bounds.{add_on_numbers}
 use Rattle.off_file_rules.specs.Profile.{profile_of, numbered_add_on, add_ons_in, profile_at, profile_in}
 use Rattle.off_file_rules.specs.File.{stamps, with_stamps}

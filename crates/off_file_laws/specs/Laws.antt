@@ -14,7 +14,7 @@ use Rattle.off_defs.specs.declared.tables.Site.{Site}
 use Rattle.off_defs.specs.declared.tables.Subscriber.{Subscriber}
 use Rattle.off_defs.specs.declared.tables.Modem.{Modem}
 use Rattle.off_defs.specs.declared.tables.Class.{Class}
-use Rattle.off_rules.specs.Rows.{site_in, subscriber_in, modem_in, class_in}
+use Rattle.off_account_rules.specs.Rows.{site_in, subscriber_in, modem_in, class_in}
 use Rattle.off_file_rules.specs.Profile.{profile_in}
 use Rattle.off_file_rules.specs.File.{with_stamps, IsFile}
 

@@ -9,7 +9,7 @@ use Rattle.off_defs.specs.declared.tables.Site.{Site}
 use Rattle.off_defs.specs.State.{Tables}
 use Rattle.off_defs.specs.Clock.{time_bytes}
 use Rattle.off_mic.specs.Mic.{Sealed}
-use Rattle.off_rules.specs.Rows.{site_in}
+use Rattle.off_account_rules.specs.Rows.{site_in}
 use Rattle.off_file_rules.specs.Profile.{profile_in}
 
 -- setting 19, the time of the server that made the file (annex C.1.1.10), and setting 20, the

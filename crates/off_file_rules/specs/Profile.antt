@@ -8,7 +8,7 @@ use Rattle.off_base.specs.declared.macs.Mac.{Mac}
 use Rattle.off_tree.specs.Fault.{is_classifier}
 use Rattle.off_defs.specs.Bounds.{add_on_numbers}
 use Rattle.off_defs.specs.State.{Tables}
-use Rattle.off_rules.specs.Rows.{subscriber_in, class_in, modem_in, add_on_in}
+use Rattle.off_account_rules.specs.Rows.{subscriber_in, class_in, modem_in, add_on_in}
 
 -- Add-ons are written with references of their own, from 1 or from 0 on. In a profile those of
 -- add-on k are raised, so that they differ from the class's and from another add-on's. The

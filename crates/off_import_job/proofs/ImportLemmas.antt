@@ -15,8 +15,8 @@ use Rattle.off_defs.specs.declared.orders.ImportRow.{ImportRow}
 use Rattle.off_defs.specs.declared.orders.Reply.{Reply}
 use Rattle.off_defs.specs.declared.rules.Rule.{Rule}
 use Rattle.off_defs.specs.declared.orders.Reply.TheVariants.{Rows}
-use Rattle.off_rules.specs.Good.{Good, IsLeastBad}
-use Rattle.off_rules.specs.Clerk.{Stepped, clerk_step, step_done, step_refused}
+use Rattle.off_account_rules.specs.Good.{Good, IsLeastBad}
+use Rattle.off_account_rules.specs.Clerk.{Stepped, clerk_step, step_done, step_refused}
 use Rattle.off_rows.specs.Sound.{is_sound}
 use Rattle.off_table_laws.specs.Laws.{secret_fits}
 use Rattle.off_table_laws.proofs.StepLaws.{step_keeps_good}
@@ -26,8 +26,8 @@ use Rattle.off_defs.specs.Tables.{write_all}
 use Rattle.off_import_rules.specs.Reading.{◌>>=◌, import_in, table_of_records}
 use Rattle.off_import_rules.specs.declared.faults.ImportFault.{ImportFault}
 use Rattle.off_import_rules.specs.declared.faults.ImportErr.TheVariants as import_err
-use Rattle.off_deciding.specs.declared.results.AccountErr.{AccountErr}
-use Rattle.off_deciding.specs.declared.results.AccountErr.TheVariants as account_err
+use Rattle.off_accounts.specs.declared.results.AccountErr.{AccountErr}
+use Rattle.off_accounts.specs.declared.results.AccountErr.TheVariants as account_err
 use Rattle.off_outside.specs.KeeperSeen.{KeeperSeen, Rests}
 use Rattle.off_outside.specs.KeeperCalls.{Reads, NotCommitted}
 use Rattle.off_outside.specs.Streams.{SourceSeen, SinkSeen}

@@ -10,12 +10,12 @@ use Rattle.off_defs.specs.declared.orders.Command.{Command}
 use Rattle.off_defs.specs.declared.orders.Reply.{Reply}
 use Rattle.off_defs.specs.declared.orders.Reply.TheVariants.{Rows}
 use Rattle.off_defs.specs.declared.orders.Write.{Write}
-use Rattle.off_rules.specs.Good.{Good}
-use Rattle.off_rules.specs.Clerk.{clerk_step, step_done, step_refused}
+use Rattle.off_account_rules.specs.Good.{Good}
+use Rattle.off_account_rules.specs.Clerk.{clerk_step, step_done, step_refused}
 use Rattle.off_import_rules.specs.Reading.{import_in, GivesFault}
 use Rattle.off_import_rules.specs.declared.faults.ImportErr.{ImportErr}
-use Rattle.off_deciding.specs.declared.results.AccountErr.{AccountErr}
-use Rattle.off_deciding.specs.declared.results.AccountErr.TheVariants as account_err
+use Rattle.off_accounts.specs.declared.results.AccountErr.{AccountErr}
+use Rattle.off_accounts.specs.declared.results.AccountErr.TheVariants as account_err
 use Rattle.off_outside.specs.KeeperSeen.{KeeperSeen}
 use Rattle.off_outside.specs.KeeperCalls.{Reads, IsWritten, Settled, NotCommitted}
 use Rattle.off_outside.specs.Streams.{SourceSeen, SourceUnasked, SinkSeen}

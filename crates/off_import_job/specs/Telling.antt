@@ -6,8 +6,8 @@ use Rattle.off_clerk_rules.specs.Faults.{rule_word}
 use Rattle.off_import_rules.specs.Faults.{fault_words}
 use Rattle.off_import_rules.specs.declared.faults.ImportErr.{ImportErr}
 use Rattle.off_import_rules.specs.declared.faults.ImportErr.TheVariants as import_err
-use Rattle.off_deciding.specs.declared.results.AccountErr.{AccountErr}
-use Rattle.off_deciding.specs.declared.results.AccountErr.TheVariants as account_err
+use Rattle.off_accounts.specs.declared.results.AccountErr.{AccountErr}
+use Rattle.off_accounts.specs.declared.results.AccountErr.TheVariants as account_err
 use Rattle.off_jobs.specs.Text.{refused, too_long, memory_refused, source_refused}
 use Rattle.off_jobs.specs.declared.input.InputErr.{InputErr}
 use Rattle.off_jobs.specs.declared.input.InputErr.TheVariants as input_err

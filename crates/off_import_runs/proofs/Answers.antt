@@ -8,6 +8,7 @@ use Rattle.std.specs.Fmt.{digits}
 use Rattle.std.specs.Cmp.{tied_itself}
 use Rattle.std.specs.Cmp.Lexicographic.{slice_cmp}
 use Rattle.std.specs.Ordering.{eq_by_cmp, is_eq, nat_cmp}
+use Rattle.off_base.specs.Choices.{when}
 use Rattle.off_defs.specs.declared.keys.Key.TheVariants as key
 use Rattle.off_defs.specs.declared.tables.Batch.{Batch}
 use Rattle.off_defs.specs.declared.tables.ImportKind.{ImportKind}
@@ -26,8 +27,8 @@ use Rattle.off_defs.specs.State.{Tables}
 use Rattle.off_defs.specs.Tables.{row_at, write_all}
 use Rattle.off_defs.proofs.EntryLemmas.{is_equal}
 use Rattle.off_defs.proofs.TableLemmas.{own_key}
-use Rattle.off_rules.specs.Rows.{batch_in}
-use Rattle.off_rules.specs.Clerk.{Refusal, accepted, by_rule, when, limit, rows_written, is_kind, batch_row, imported_as, import_decided, stepped_by, clerk_step, row_writes, row_breaks, then_writes, unless_broken}
+use Rattle.off_account_rules.specs.Rows.{batch_in}
+use Rattle.off_account_rules.specs.Clerk.{Refusal, accepted, by_rule, limit, rows_written, is_kind, batch_row, imported_as, import_decided, stepped_by, clerk_step, row_writes, row_breaks, then_writes, unless_broken}
 use Rattle.off_clerk_rules.specs.declared.faults.Fault.TheVariants as fault
 use Rattle.off_clerk_rules.specs.Replies.{reply_text}
 use Rattle.off_table_laws.proofs.Rows as rows

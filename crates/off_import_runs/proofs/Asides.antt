@@ -17,8 +17,8 @@ use Rattle.off_defs.specs.State.{Tables}
 use Rattle.off_dhcp.specs.declared.faults.DhcpFault.{DhcpFault}
 use Rattle.off_dhcp.specs.Datagram.{Received, message_of}
 use Rattle.off_rows.specs.Sound.{is_sound, is_removable}
-use Rattle.off_rules.specs.Good.{owner_of}
-use Rattle.off_rules.specs.Clerk.{held_drop, lease_drops, lost_leases, removal_writes, writes_of, row_writes}
+use Rattle.off_account_rules.specs.Good.{owner_of}
+use Rattle.off_account_rules.specs.Clerk.{held_drop, lease_drops, lost_leases, removal_writes, writes_of, row_writes}
 use Rattle.off_table_laws.proofs.Rows.{Rows, row_written, rows_after}
 use Rattle.off_lease_rules.specs.Steps.{step_of, dhcp_step}
 use Rattle.off_lease_laws.proofs.KindLemmas.{is_lease_write, kinds}

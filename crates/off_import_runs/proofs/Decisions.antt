@@ -2,6 +2,7 @@
 use Rattle.std.proofs.Common.{◌≡◌, ◌⊎◌, ℕ, ◌+◌, Bool, true, false, cond, eqb, Option, Some, None, option_and_then, List, [], ◌∷◌, ◌++◌, length, Result, Ok, Err, IfOk, inl, inr, refl, sym, ap, subst, ◌∙◌, arith}
 use Rattle.std.proofs.lemmas.Bool.{false_from_ne_true, eqb-true, eq-eqb}
 use Rattle.std.specs.Ordering.{eq_by_cmp}
+use Rattle.off_base.specs.Choices.{first_there}
 use Rattle.off_defs.specs.declared.keys.Key.{Key}
 use Rattle.off_defs.specs.declared.keys.Key.TheVariants as key
 use Rattle.off_defs.specs.declared.tables.Row.{Row}
@@ -24,8 +25,8 @@ use Rattle.off_defs.specs.State.{Tables}
 use Rattle.off_defs.specs.Tables.{row_at, write_all}
 use Rattle.off_defs.proofs.TableLemmas.{same_key, own_key}
 use Rattle.off_rows.specs.Sound.{is_sound}
-use Rattle.off_rules.specs.Rows.{possible, seen_at, as_batch, batch_in}
-use Rattle.off_rules.specs.Clerk.{Refusal, Decision, Accepted, accepted, by_rule, shown, limit, first_broken, rules_of, writes_of, row_writes, row_breaks, then_writes, unless_broken, rows_written, batch_row, imported_as, import_decided, decided}
+use Rattle.off_account_rules.specs.Rows.{possible, seen_at, as_batch, batch_in}
+use Rattle.off_account_rules.specs.Clerk.{Refusal, Decision, Accepted, accepted, by_rule, shown, limit, rules_of, writes_of, row_writes, row_breaks, then_writes, unless_broken, rows_written, batch_row, imported_as, import_decided, decided}
 use Rattle.off_table_laws.proofs.Rows as rows
 use Rattle.off_table_laws.proofs.Rows.{rows_after, all_written}
 use Rattle.off_table_laws.proofs.LostLeases.{rows_append}
@@ -129,8 +130,8 @@ module _ (n : ℕ) where
     ruled writes reply None fate = fate
     ruled writes reply (Some broken) fate = tt
 
-    ruled_aside : is_sound command ≡ true → DecisionFate (by_rule 0 (accepted (writes_of t command) Done) (first_broken (rules_of t now command)))
-    ruled_aside sound = ruled (writes_of t command) Done (first_broken (rules_of t now command)) (aside_fate (writes_of t command) (command_aside t command sound))
+    ruled_aside : is_sound command ≡ true → DecisionFate (by_rule 0 (accepted (writes_of t command) Done) (first_there (rules_of t now command)))
+    ruled_aside sound = ruled (writes_of t command) Done (first_there (rules_of t now command)) (aside_fate (writes_of t command) (command_aside t command sound))
 
     shown_fate : (q : Key) (o : Option ShownRow) → DecisionFate (shown q o)
     shown_fate q None = tt

@@ -9,7 +9,7 @@ use Rattle.off_defs.specs.declared.orders.Reply.TheVariants.{Rows}
 use Rattle.off_defs.specs.declared.orders.Write.{Write}
 use Rattle.off_defs.specs.declared.orders.Write.TheVariants.{Put, Drop}
 use Rattle.off_defs.specs.declared.rules.Rule.TheVariants as rule
-use Rattle.off_rules.specs.Clerk.{accepted, refusal, repeated}
+use Rattle.off_account_rules.specs.Clerk.{accepted, refusal, repeated}
 use Rattle.off_import_runs.specs.Puts.{puts_in, PutOnce}
 
 abbrev batch : Batch

@@ -2,7 +2,7 @@
 use Rattle.std.proofs.Common.{◌≡◌, ℕ, ◌+◌, Option, Some, None, List, [], ◌∷◌, ◌++◌, codes, sym, ap, subst, ◌∙◌, arith}
 use Rattle.off_defs.specs.declared.tables.Batch.{Batch}
 use Rattle.off_defs.specs.State.{State, Effect}
-use Rattle.off_rules.specs.Rows.{batch_in}
+use Rattle.off_account_rules.specs.Rows.{batch_in}
 use Rattle.off_http.specs.Reply.{reply}
 use Rattle.off_book.specs.Http.{answer_and_close}
 use Rattle.off_book.specs.Run.{Turn, Run}

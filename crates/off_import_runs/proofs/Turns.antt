@@ -16,8 +16,8 @@ use Rattle.off_defs.specs.State.{Tables, State, Effect, at_moment}
 use Rattle.off_defs.specs.Tables.{row_at, write_all}
 use Rattle.off_http.proofs.Meanings.{one_meaning}
 use Rattle.off_http.specs.Request.{Asked}
-use Rattle.off_rules.specs.Rows.{batch_in}
-use Rattle.off_rules.specs.Clerk.{Decision, decided, stepped_by, clerk_step, batch_row}
+use Rattle.off_account_rules.specs.Rows.{batch_in}
+use Rattle.off_account_rules.specs.Clerk.{Decision, decided, stepped_by, clerk_step, batch_row}
 use Rattle.off_clerk_rules.specs.declared.faults.ClerkErr.{ClerkErr}
 use Rattle.off_clerk_rules.specs.declared.faults.Fault.TheVariants as fault
 use Rattle.off_clerk_rules.specs.Commands.{command_read}

@@ -1,7 +1,7 @@
 -- Laws of imports over whole runs.
 use Rattle.std.specs.Prelude.{◌≡◌, ◌⊎◌, ℕ, List, ◌∷◌}
 use Rattle.off_defs.specs.State.{State}
-use Rattle.off_rules.specs.Rows.{batch_in}
+use Rattle.off_account_rules.specs.Rows.{batch_in}
 use Rattle.off_book.specs.Step.{Step}
 use Rattle.off_book.specs.Run.{Turn, Run, effect_of}
 use Rattle.off_import_runs.specs.Puts.{puts_in, puts_by, PutOnce}

@@ -7,8 +7,8 @@ use Rattle.off_defs.specs.declared.orders.Write.TheVariants.{Put}
 use Rattle.off_defs.specs.declared.rules.Rule.TheVariants as rule
 use Rattle.off_defs.specs.declared.tables.Batch.{Batch}
 use Rattle.off_defs.specs.State.{State}
-use Rattle.off_rules.specs.Rows.{batch_in}
-use Rattle.off_rules.specs.Clerk.{batch_row}
+use Rattle.off_account_rules.specs.Rows.{batch_in}
+use Rattle.off_account_rules.specs.Clerk.{batch_row}
 use Rattle.off_clerk_rules.specs.declared.faults.Fault.TheVariants as fault
 use Rattle.off_clerk_rules.specs.Faults.{fault_text}
 use Rattle.off_clerk_rules.specs.Replies.{reply_text}

@@ -21,7 +21,7 @@ use Rattle.off_defs.specs.Keys.{key_cmp}
 use Rattle.off_defs.specs.State.{Tables}
 use Rattle.off_defs.specs.Tables.{row_at, written, write_all}
 use Rattle.off_defs.proofs.TableLemmas.{same_key, row_with, row_without}
-use Rattle.off_rules.specs.Rows.{possible, as_subscriber, as_add_on, as_modem, as_class, subscriber_in, add_on_in, modem_in, class_in}
+use Rattle.off_account_rules.specs.Rows.{possible, as_subscriber, as_add_on, as_modem, as_class, subscriber_in, add_on_in, modem_in, class_in}
 use Rattle.off_file_rules.specs.Profile.{profile_of, add_ons_in, profile_at, profile_in}
 use Rattle.off_kept.specs.declared.bodies.KeptBody.{KeptBody}
 use Rattle.off_kept.specs.Same.{is_same_mac}

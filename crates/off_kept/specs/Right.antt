@@ -4,7 +4,7 @@ use Rattle.std.specs.List.{All}
 use Rattle.off_base.specs.Tree.{Tree, spelling}
 use Rattle.off_defs.specs.declared.tables.Modem.{Modem}
 use Rattle.off_defs.specs.State.{Tables}
-use Rattle.off_rules.specs.Rows.{modem_in}
+use Rattle.off_account_rules.specs.Rows.{modem_in}
 use Rattle.off_file_rules.specs.Profile.{profile_at}
 use Rattle.off_kept.specs.Entries.{Entry, Entries}
 

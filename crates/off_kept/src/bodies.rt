@@ -1,4 +1,4 @@
-use off_build::Body;
+use off_files::Body;
 
 /// A body that was built, with the numbers of the rows by which it was.
 #[derive(Drop)]

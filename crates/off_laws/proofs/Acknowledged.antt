@@ -10,7 +10,7 @@ use Rattle.off_defs.specs.declared.results.Outcome.{Outcome}
 use Rattle.off_defs.specs.declared.results.Outcome.TheVariants.{Did, Memory, Keeper}
 use Rattle.off_defs.specs.State.{State, Effect, at_moment}
 use Rattle.off_dhcp.specs.Datagram.{Received, message_of}
-use Rattle.off_rules.specs.Rows.{lease_in}
+use Rattle.off_account_rules.specs.Rows.{lease_in}
 use Rattle.off_lease_rules.specs.Asking.{client}
 use Rattle.off_lease_rules.specs.Steps.{lease_step, dhcp_step}
 use Rattle.off_lease_rules.specs.declared.words.DhcpWord.{DhcpWord}

@@ -11,8 +11,8 @@ use Rattle.off_defs.specs.declared.rules.Rule.TheVariants as rule
 use Rattle.off_defs.specs.declared.orders.Write.{Write}
 use Rattle.off_defs.specs.State.{Tables}
 use Rattle.off_defs.specs.Tables.{write_all}
-use Rattle.off_rules.specs.Good.{Good}
-use Rattle.off_rules.specs.Clerk.{Refusal, Decision, decided, stepped_by, clerk_step}
+use Rattle.off_account_rules.specs.Good.{Good}
+use Rattle.off_account_rules.specs.Clerk.{Refusal, Decision, decided, stepped_by, clerk_step}
 use Rattle.off_http.specs.declared.answers.HttpFault.{HttpFault}
 use Rattle.off_http.specs.declared.answers.HttpFault.TheVariants as http
 use Rattle.off_clerk_rules.specs.declared.faults.ClerkErr.{ClerkErr}

@@ -9,6 +9,7 @@ use Rattle.hex.specs.declared.error.FromHexError.{FromHexError}
 use Rattle.hex.proofs.HexLemmas.{decode_of-ok}
 use Rattle.serde_json.specs.Data.{Data}
 use Rattle.serde_json.specs.Find.{get, as_bool, as_str, as_number, as_u64}
+use Rattle.off_base.specs.Choices.{when}
 use Rattle.off_base.specs.declared.addresses.Ip4.{Ip4}
 use Rattle.off_defs.specs.declared.tables.Site.{Site}
 use Rattle.off_defs.specs.declared.tables.Subscriber.{Subscriber}
@@ -19,7 +20,7 @@ use Rattle.off_clerk_rules.specs.declared.faults.ClerkErr.TheVariants.{Field}
 use Rattle.off_clerk_rules.specs.declared.names.Name.{Name}
 use Rattle.off_clerk_rules.specs.declared.names.Name.TheVariants as field
 use Rattle.off_clerk_rules.specs.Commands.{◌>>=◌, site_in, subscriber_in, pool_in}
-use Rattle.off_clerk_rules.specs.Fields.{member_in, field_in, only_if, number_in, offset_in, text_in, address_in, relay_in, hex_of, hex_in}
+use Rattle.off_clerk_rules.specs.Fields.{member_in, field_in, number_in, offset_in, text_in, address_in, relay_in, hex_of, hex_in}
 use Rattle.off_clerk_rules.specs.Names.{name_text}
 use Rattle.off_clerk_rules.specs.Paths.{last_number}
 
@@ -38,23 +39,23 @@ field_ok : {A : Type 0} (P : A → Type 0) (which : Name) (read : Data → Optio
 field_ok P which read body all = member_ok P which read (get (name_text which) body) all
 
 -- a number within bounds, an address that isn't 0.0.0.0, a secret of at most so many bytes
-ranged_if : (least most n : ℕ) (b : Bool) → is_in_range least most n ≡ b → IfSome (only_if b n) (λ (m : ℕ). is_in_range least most m ≡ true)
+ranged_if : (least most n : ℕ) (b : Bool) → is_in_range least most n ≡ b → IfSome (when b n) (λ (m : ℕ). is_in_range least most m ≡ true)
 ranged_if least most n true e = e
 ranged_if least most n false e = tt
 
 ranged_of : (least most : ℕ) (read : Option ℕ)
-    → IfSome (option_and_then (λ n. only_if (is_in_range least most n) n) read) (λ (m : ℕ). is_in_range least most m ≡ true)
+    → IfSome (option_and_then (λ n. when (is_in_range least most n) n) read) (λ (m : ℕ). is_in_range least most m ≡ true)
 ranged_of least most (Some n) = ranged_if least most n _ refl
 ranged_of least most None = tt
 
 ranged : (least most : ℕ) (d : Data) → IfSome (number_in least most d) (λ (n : ℕ). is_in_range least most n ≡ true)
 ranged least most d = ranged_of least most (option_and_then as_u64 (as_number d))
 
-relay_if : (address : Ip4) (b : Bool) → not (address.0 == 0) ≡ b → IfSome (only_if b address) (λ (a : Ip4). not (a.0 == 0) ≡ true)
+relay_if : (address : Ip4) (b : Bool) → not (address.0 == 0) ≡ b → IfSome (when b address) (λ (a : Ip4). not (a.0 == 0) ≡ true)
 relay_if address true e = e
 relay_if address false e = tt
 
-relay_of : (read : Option Ip4) → IfSome (option_and_then (λ (address : Ip4). only_if (not (address.0 == 0)) address) read) (λ (a : Ip4). not (a.0 == 0) ≡ true)
+relay_of : (read : Option Ip4) → IfSome (option_and_then (λ (address : Ip4). when (not (address.0 == 0)) address) read) (λ (a : Ip4). not (a.0 == 0) ≡ true)
 relay_of (Some address) = relay_if address _ refl
 relay_of None = tt
 

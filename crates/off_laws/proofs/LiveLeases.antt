@@ -4,6 +4,7 @@ use Rattle.std.proofs.Common.{◌≡◌, ℕ, ◌+◌, ◌<◌, true, false, con
 use Rattle.std.proofs.lemmas.Bool.{leb-true, le-leb, ltb-false}
 use Rattle.std.specs.Prelude.{nat_lt}
 use Rattle.std.specs.List.{flat_map}
+use Rattle.off_base.specs.Choices.{first_there}
 use Rattle.off_base.specs.declared.addresses.Ip4.{Ip4}
 use Rattle.off_defs.specs.declared.keys.Key.{Key}
 use Rattle.off_defs.specs.declared.keys.Key.TheVariants as key
@@ -27,8 +28,8 @@ use Rattle.off_defs.specs.Shown.{shown_row}
 use Rattle.off_defs.specs.State.{Tables}
 use Rattle.off_defs.specs.Tables.{row_at, write_all}
 use Rattle.off_rows.specs.Sound.{is_sound, is_removable}
-use Rattle.off_rules.specs.Rows.{possible, seen_at, as_lease, lease_in, pool_in, batch_in, leases}
-use Rattle.off_rules.specs.Clerk.{Refusal, Decision, Accepted, accepted, by_rule, shown, limit, first_broken, rules_of, removal_rules, writes_of, removal_writes, gives_up, lost_leases, is_live, lease_drops, pool_has_leases, row_writes, row_breaks, then_writes, unless_broken, rows_written, batch_row, imported_as, import_decided, decided, stepped_by, clerk_step}
+use Rattle.off_account_rules.specs.Rows.{possible, seen_at, as_lease, lease_in, pool_in, batch_in, leases}
+use Rattle.off_account_rules.specs.Clerk.{Refusal, Decision, Accepted, accepted, by_rule, shown, limit, rules_of, removal_rules, writes_of, removal_writes, gives_up, lost_leases, is_live, lease_drops, pool_has_leases, row_writes, row_breaks, then_writes, unless_broken, rows_written, batch_row, imported_as, import_decided, decided, stepped_by, clerk_step}
 use Rattle.off_table_laws.proofs.ListLemmas.{none_found, in_kept}
 use Rattle.off_table_laws.proofs.Rows as rows
 use Rattle.off_table_laws.proofs.Rows.{rows_after, all_written}
@@ -48,7 +49,7 @@ abbrev NoneBroken : List (Option Rule) → Type 0
 NoneBroken [] = Unit {0}
 NoneBroken (rule ∷ rules) = (rule ≡ None) × NoneBroken rules
 
-none_broken : (rules : List (Option Rule)) → first_broken rules ≡ None → NoneBroken rules
+none_broken : (rules : List (Option Rule)) → first_there rules ≡ None → NoneBroken rules
 none_broken [] e = tt
 none_broken (None ∷ rules) e = (refl, none_broken rules e)
 none_broken (Some broken ∷ rules) e = cc
@@ -154,7 +155,7 @@ module _ (address : Ip4) where
           | false ↦ λ stays. inl refl
         ] refl)
 
-    removal_fate : (removed : Key) → is_removable removed ≡ true → first_broken (removal_rules t now removed) ≡ None
+    removal_fate : (removed : Key) → is_removable removed ≡ true → first_there (removal_rules t now removed) ≡ None
         → Fate (rows_after (row_at t) (removal_writes t removed) (key.Lease address))
     removal_fate (key.Subscriber n) sound whole = inl refl
     removal_fate (key.AddOn n k) sound whole = inl refl
@@ -171,18 +172,18 @@ module _ (address : Ip4) where
     command_fate (Show q) sound = let o : Option ShownRow = option_and_then shown_row (seen_at t q) in stays_so (shown q o) (shown_leaves q o)
     command_fate (Import kind batch digest read) sound =
         stays_so (import_decided t now kind batch digest read (batch_in t batch)) (import_leaves t now kind batch digest read (batch_in t batch))
-    command_fate (SetSite site) sound = ruled_fate (writes_of t (SetSite site)) Done (first_broken (rules_of t now (SetSite site))) (λ _. inl refl)
+    command_fate (SetSite site) sound = ruled_fate (writes_of t (SetSite site)) Done (first_there (rules_of t now (SetSite site))) (λ _. inl refl)
     command_fate (PutSubscriber n subscriber) sound =
-        ruled_fate (writes_of t (PutSubscriber n subscriber)) Done (first_broken (rules_of t now (PutSubscriber n subscriber))) (λ _. inl refl)
+        ruled_fate (writes_of t (PutSubscriber n subscriber)) Done (first_there (rules_of t now (PutSubscriber n subscriber))) (λ _. inl refl)
     command_fate (PutAddOn n number settings) sound =
-        ruled_fate (writes_of t (PutAddOn n number settings)) Done (first_broken (rules_of t now (PutAddOn n number settings))) (λ _. inl refl)
-    command_fate (PutModem mac modem) sound = ruled_fate (writes_of t (PutModem mac modem)) Done (first_broken (rules_of t now (PutModem mac modem))) (λ _. inl refl)
-    command_fate (PutClass n class) sound = ruled_fate (writes_of t (PutClass n class)) Done (first_broken (rules_of t now (PutClass n class))) (λ _. inl refl)
+        ruled_fate (writes_of t (PutAddOn n number settings)) Done (first_there (rules_of t now (PutAddOn n number settings))) (λ _. inl refl)
+    command_fate (PutModem mac modem) sound = ruled_fate (writes_of t (PutModem mac modem)) Done (first_there (rules_of t now (PutModem mac modem))) (λ _. inl refl)
+    command_fate (PutClass n class) sound = ruled_fate (writes_of t (PutClass n class)) Done (first_there (rules_of t now (PutClass n class))) (λ _. inl refl)
     command_fate (PutPool n pool) sound =
-        ruled_fate (writes_of t (PutPool n pool)) Done (first_broken (rules_of t now (PutPool n pool)))
+        ruled_fate (writes_of t (PutPool n pool)) Done (first_there (rules_of t now (PutPool n pool)))
         (λ whole. pool_fate n (Some pool) (none_broken (rules_of t now (PutPool n pool)) whole).1.1.1.0)
     command_fate (Remove removed) sound =
-        ruled_fate (writes_of t (Remove removed)) Done (first_broken (rules_of t now (Remove removed))) (removal_fate removed sound)
+        ruled_fate (writes_of t (Remove removed)) Done (first_there (rules_of t now (Remove removed))) (removal_fate removed sound)
 
   read_fate : (t : Tables) (g : GoodRows (row_at t)) (now : ℕ) (after : Option Row) → Fate t g now after → StaysOrWasOver now (lease_in t address) (lease_read address after)
   read_fate t g now after (inl same) = inl (ap (lease_read address) same)

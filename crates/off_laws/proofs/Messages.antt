@@ -1,7 +1,7 @@
 -- What becomes of a datagram to the DHCP port.
 use Rattle.std.proofs.Common.{◌≡◌, ℕ, false, List, [], Result, Ok, Err, refl}
 use Rattle.off_defs.specs.Tables.{write_all}
-use Rattle.off_rules.specs.Good.{Good}
+use Rattle.off_account_rules.specs.Good.{Good}
 use Rattle.off_defs.specs.State.{Tables}
 use Rattle.off_dhcp.specs.declared.faults.DhcpFault.{DhcpFault}
 use Rattle.off_dhcp.specs.Datagram.{Received, message_of}

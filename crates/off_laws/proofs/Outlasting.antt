@@ -16,9 +16,9 @@ use Rattle.off_defs.specs.State.{Tables, State, Effect, at_moment}
 use Rattle.off_defs.specs.Tables.{write_all}
 use Rattle.off_dhcp.specs.declared.faults.DhcpFault.{DhcpFault}
 use Rattle.off_dhcp.specs.Datagram.{Received, message_of}
-use Rattle.off_rules.specs.Rows.{lease_in}
-use Rattle.off_rules.specs.Good.{Good, owner_of}
-use Rattle.off_rules.specs.Clerk.{Refusal, clerk_step}
+use Rattle.off_account_rules.specs.Rows.{lease_in}
+use Rattle.off_account_rules.specs.Good.{Good, owner_of}
+use Rattle.off_account_rules.specs.Clerk.{Refusal, clerk_step}
 use Rattle.off_clerk_rules.specs.declared.faults.ClerkErr.{ClerkErr}
 use Rattle.off_clerk_rules.specs.Commands.{command_read}
 use Rattle.off_lease_rules.specs.Asking.{client}

@@ -6,7 +6,7 @@ use Rattle.off_defs.specs.Counts.{commits_after}
 use Rattle.std.specs.Ordering.{nat_cmp}
 use Rattle.std.specs.FinMap as map
 use Rattle.off_defs.specs.State.{Tables, State, Effect, start}
-use Rattle.off_rules.specs.Good.{Good}
+use Rattle.off_account_rules.specs.Good.{Good}
 use Rattle.off_book.specs.Step.{Step}
 use Rattle.off_book.specs.Run.{Turn, Run, effect_of, tables_after, moment_after, commits_by}
 use Rattle.off_laws.specs.Laws.{OneEnd, MomentNeverFalls, RunKeepsGood, FewAreLive, RunTells, OneCommit}

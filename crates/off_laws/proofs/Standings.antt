@@ -7,8 +7,8 @@ use Rattle.off_defs.specs.declared.tables.Hold.{Hold}
 use Rattle.off_defs.specs.declared.tables.Hold.TheVariants.{Offered, Bound, Declined}
 use Rattle.off_defs.specs.declared.tables.Lease.{Lease}
 use Rattle.off_defs.specs.State.{State}
-use Rattle.off_rules.specs.Rows.{lease_in}
-use Rattle.off_rules.specs.Good.{Good}
+use Rattle.off_account_rules.specs.Rows.{lease_in}
+use Rattle.off_account_rules.specs.Good.{Good}
 use Rattle.off_lease_rules.specs.Free.{has_ended}
 use Rattle.off_lease_laws.specs.Laws.{Standing, free, offered_to, bound_to, resting, standing_of, standing, live_for}
 use Rattle.off_lease_laws.proofs.GoodLemmas.{good_agree}

@@ -12,7 +12,7 @@ use Rattle.off_defs.specs.declared.results.Outcome.{Outcome}
 use Rattle.off_defs.specs.declared.results.Outcome.TheVariants.{Did, Memory, Keeper}
 use Rattle.off_defs.specs.State.{State, Effect, at_moment}
 use Rattle.off_defs.specs.Tables.{write_all}
-use Rattle.off_rules.specs.Good.{Good}
+use Rattle.off_account_rules.specs.Good.{Good}
 use Rattle.off_http.proofs.Meanings.{one_meaning}
 use Rattle.off_http.specs.Request.{Meaning, Waits, Refused, Asked}
 use Rattle.off_book.specs.Http.{Answered, heard_of, close_connection, answer_request, by_meaning, is_full, TakesPiece}

@@ -2,7 +2,7 @@
 use Rattle.std.proofs.Common.{◌≡◌, ℕ, List, ◌∷◌, ◌++◌, codes, All, subst}
 use Rattle.off_defs.specs.State.{State}
 use Rattle.off_dhcp.specs.Datagram.{Received}
-use Rattle.off_rules.specs.Good.{Good}
+use Rattle.off_account_rules.specs.Good.{Good}
 use Rattle.off_lease_rules.specs.Asking.{client}
 use Rattle.off_book.specs.Run.{Turn, Run}
 use Rattle.off_laws.specs.Leases.{TakesMessage, DoesNotServe, IsGiven, LeasesHold, LeasesHoldThrough}

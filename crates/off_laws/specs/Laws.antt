@@ -11,7 +11,7 @@ use Rattle.off_defs.specs.declared.results.Sent.{Sent}
 use Rattle.off_defs.specs.declared.results.Sent.TheVariants.{Datagram, Answer, Close}
 use Rattle.off_defs.specs.State.{Tables, State, Effect, start, at_moment}
 use Rattle.off_defs.specs.Tables.{write_all}
-use Rattle.off_rules.specs.Good.{Good}
+use Rattle.off_account_rules.specs.Good.{Good}
 use Rattle.off_book.specs.Http.{most_connections, heard_of}
 use Rattle.off_book.specs.Step.{Step, service_word}
 use Rattle.off_book.specs.Run.{Turn, Run, tables_after, moment_after, commits_by}

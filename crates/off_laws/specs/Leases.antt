@@ -19,9 +19,9 @@ use Rattle.off_defs.specs.Clock.{later_by}
 use Rattle.off_defs.specs.State.{Tables, State}
 use Rattle.off_dhcp.specs.Datagram.{Received, message_of}
 use Rattle.off_rows.specs.Sound.{is_sound}
-use Rattle.off_rules.specs.Rows.{site_in, lease_in}
-use Rattle.off_rules.specs.Good.{Good, owner_of}
-use Rattle.off_rules.specs.Clerk.{clerk_step}
+use Rattle.off_account_rules.specs.Rows.{site_in, lease_in}
+use Rattle.off_account_rules.specs.Good.{Good, owner_of}
+use Rattle.off_account_rules.specs.Clerk.{clerk_step}
 use Rattle.off_table_laws.specs.Laws.{owner_in, LiesInOnePool}
 use Rattle.off_lease_rules.specs.Asking.{client, claimed}
 use Rattle.off_lease_rules.specs.Free.{has_ended, pool_for}

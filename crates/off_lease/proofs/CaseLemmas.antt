@@ -5,7 +5,7 @@ use Rattle.off_defs.specs.declared.tables.Lease.{Lease}
 use Rattle.off_defs.specs.declared.tables.Site.{Site}
 use Rattle.off_defs.specs.State.{Tables}
 use Rattle.off_dhcp.specs.Datagram.{Received}
-use Rattle.off_rules.specs.Rows.{lease_in, site_in, held_in}
+use Rattle.off_account_rules.specs.Rows.{lease_in, site_in, held_in}
 use Rattle.off_outside.specs.KeeperSeen.{KeeperSeen}
 use Rattle.off_outside.specs.KeeperCalls.{Spent}
 use Rattle.off_outside.proofs.KeeperLemmas.{spent_within}

@@ -9,7 +9,7 @@ use Rattle.off_docsis.specs.declared.agent.RelayParts.{RelayParts}
 use Rattle.off_docsis.specs.declared.spans.PartCut.{PartCut}
 use Rattle.off_docsis.specs.declared.spans.Span.{Span}
 use Rattle.off_docsis.specs.declared.vendor.DeviceParts.{DeviceParts}
-use Rattle.off_rules.specs.Rows.{passes}
+use Rattle.off_account_rules.specs.Rows.{passes}
 use Rattle.off_lease_rules.specs.Asking.{value_in}
 
 pub vendor_cut : (read : Result (List Part) ℕ) → is_err (device_of read) ≡ is_err read

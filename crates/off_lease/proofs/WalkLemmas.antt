@@ -11,7 +11,7 @@ use Rattle.off_defs.specs.State.{Tables}
 use Rattle.off_defs.specs.Tables.{behind, next_entry}
 use Rattle.off_dhcp.specs.Datagram.{Received}
 use Rattle.off_rows.specs.KeyBytes.{kind_of}
-use Rattle.off_rules.specs.Rows.{pool_of, pools}
+use Rattle.off_account_rules.specs.Rows.{pool_of, pools}
 use Rattle.off_readers.proofs.WalkLemmas.{kinds_rise, kinds_fall}
 use Rattle.off_readers.proofs.KindLemmas.{only_pools}
 use Rattle.off_readers.proofs.FoldLemmas.{fold_next, fold_none, fold_begin, fold_past}

@@ -6,7 +6,7 @@ use Rattle.off_defs.specs.declared.tables.Site.{Site}
 use Rattle.off_defs.specs.declared.tables.Pool.{Pool}
 use Rattle.off_defs.specs.State.{Tables}
 use Rattle.off_dhcp.specs.Datagram.{Received}
-use Rattle.off_rules.specs.Rows.{passes, pool_fits, pool_of, site_in, held_in}
+use Rattle.off_account_rules.specs.Rows.{passes, pool_fits, pool_of, site_in, held_in}
 use Rattle.off_lease_rules.specs.Asking.{client, asks}
 use Rattle.off_lease_rules.specs.Free.{case_of, serves, provided}
 use Rattle.off_lease_rules.specs.Rules.{is_served, has_no_form, has_cut_part, relays_another, is_no_modem, has_other_serial, is_for_a_server, names_another_server}

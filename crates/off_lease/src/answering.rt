@@ -1,5 +1,5 @@
 ghost use Rattle.std.specs.Prelude.{◌≡◌, IfSome, MatchResult, Ok, None, false};
-ghost use Rattle.off_rules.specs.Rows.{site_in};
+ghost use Rattle.off_account_rules.specs.Rows.{site_in};
 ghost use Rattle.off_lease_rules.specs.Rules.{early, refused_by};
 ghost use Rattle.off_lease_rules.specs.Asking.{asks};
 ghost use Rattle.off_lease_rules.specs.Steps.{lease_step, settled_in};

@@ -2,7 +2,7 @@
 
 ghost use Rattle.std.specs.Prelude.{◌≡◌, true, false, Some, None, option_and_then, if◌then◌else◌};
 ghost use Rattle.std.specs.Option.{option_or};
-ghost use Rattle.off_rules.specs.Rows.{has_address, lease_in};
+ghost use Rattle.off_account_rules.specs.Rows.{has_address, lease_in};
 ghost use Rattle.off_lease_rules.specs.Asking.{is_discover};
 ghost use Rattle.off_lease_rules.specs.Free.{provided, is_free, least_free, choice, chosen_in};
 ghost use Rattle.off_outside.specs.KeeperCalls.{Looks, Spent};

@@ -1,5 +1,5 @@
 ghost use Rattle.std.specs.Prelude.{◌≡◌, IfOk, None, false};
-ghost use Rattle.off_rules.specs.Rows.{site_in, held_in};
+ghost use Rattle.off_account_rules.specs.Rows.{site_in, held_in};
 ghost use Rattle.off_lease_rules.specs.Asking.{asks, client};
 ghost use Rattle.off_lease_rules.specs.Free.{case_of};
 ghost use Rattle.off_lease.specs.Stages.{seen_case, HasGoodPool};

@@ -2,8 +2,8 @@
 
 ghost use Rattle.std.specs.Prelude.{◌≡◌, ◌==◌, ◌≤◌, ◌&&◌, not, length};
 ghost use Rattle.std.specs.Str.{bytes_eq};
-ghost use Rattle.off_rules.specs.Rows.{passes, has_address};
-ghost use Rattle.off_rules.specs.Good.{is_address};
+ghost use Rattle.off_account_rules.specs.Rows.{passes, has_address};
+ghost use Rattle.off_account_rules.specs.Good.{is_address};
 ghost use Rattle.off_lease_rules.specs.Rules.{is_served, has_no_form, has_cut_part};
 ghost use Rattle.off_lease_rules.specs.Rules.{relays_another, is_no_modem, has_other_serial};
 ghost use Rattle.off_lease_rules.specs.Rules.{is_for_a_server, names_another_server};

@@ -6,7 +6,7 @@ ghost use Rattle.std.specs.Str.{bytes_eq};
 ghost use Rattle.off_base.specs.Parts.{bytes_of};
 ghost use Rattle.off_dhcp.specs.Datagram.{option_in};
 ghost use Rattle.off_docsis.specs.Cable.{begins_as_modem};
-ghost use Rattle.off_rules.specs.Rows.{passes};
+ghost use Rattle.off_account_rules.specs.Rows.{passes};
 ghost use Rattle.off_lease_rules.specs.Asking.{vendor_parts, relay_parts, serial_number};
 ghost use Rattle.off_lease_rules.specs.Asking.{remote_identifier};
 

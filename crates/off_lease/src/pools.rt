@@ -1,5 +1,5 @@
 ghost use Rattle.std.specs.Prelude.{◌≡◌, IfOk, IfSome, IsTrue, option_map};
-ghost use Rattle.off_rules.specs.Rows.{pool_fits, pool_of};
+ghost use Rattle.off_account_rules.specs.Rows.{pool_fits, pool_of};
 ghost use Rattle.off_lease_rules.specs.Free.{is_renewal, serves, pool_for};
 ghost use Rattle.off_lease.specs.Stages.{serving};
 ghost use Rattle.off_outside.specs.KeeperCalls.{Looks};

@@ -5,7 +5,7 @@ ghost use Rattle.std.specs.Prelude.{option_and_then};
 ghost use Rattle.off_defs.specs.declared.events.Service.TheVariants.{Dhcp};
 ghost use Rattle.off_defs.specs.declared.results.Sent.TheVariants.{Datagram};
 ghost use Rattle.off_dhcp.specs.Reply.{reply_bytes};
-ghost use Rattle.off_rules.specs.Rows.{pool_fits};
+ghost use Rattle.off_account_rules.specs.Rows.{pool_fits};
 ghost use Rattle.off_lease_rules.specs.Asking.{ip};
 ghost use Rattle.off_lease_rules.specs.Steps.{destination, nak_to, offer_of, offer_to, reply_for};
 ghost use Rattle.off_lease.specs.Stages.{HasGoodPool};
@@ -14,8 +14,8 @@ use crate::asking::client;
 use off_base::{Ip4, NoMemory, Peer};
 use off_defs::{Pool, Sent, Service, Site};
 use off_dhcp::{Message, Offer, write_nak, write_reply};
+use off_files::file_name;
 use off_lease_rules::Case;
-use off_profile::file_name;
 use std::alloc::Global;
 
 // The UDP ports of servers and clients (RFC 2131, section 4.1).

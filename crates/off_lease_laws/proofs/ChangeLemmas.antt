@@ -16,8 +16,8 @@ use Rattle.off_defs.specs.Clock.{later_by}
 use Rattle.off_defs.specs.State.{Tables}
 use Rattle.off_defs.specs.Tables.{row_at, write_all}
 use Rattle.off_defs.proofs.TableLemmas.{own_key}
-use Rattle.off_rules.specs.Rows.{lease_in, held_in}
-use Rattle.off_rules.specs.Good.{owner_of, is_address}
+use Rattle.off_account_rules.specs.Rows.{lease_in, held_in}
+use Rattle.off_account_rules.specs.Good.{owner_of, is_address}
 use Rattle.off_table_laws.specs.Laws.{owner_in}
 use Rattle.off_lease_rules.specs.Free.{provided}
 use Rattle.off_lease_rules.specs.Steps.{held_elsewhere, former_owner, bound, set_aside, given_up}

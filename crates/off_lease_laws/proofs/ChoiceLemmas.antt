@@ -13,7 +13,7 @@ use Rattle.off_defs.specs.declared.tables.Pool.{Pool}
 use Rattle.off_defs.specs.State.{Tables}
 use Rattle.off_defs.specs.Tables.{row_at}
 use Rattle.off_dhcp.specs.Datagram.{Received}
-use Rattle.off_rules.specs.Rows.{possible, as_pool, pool_fits, fitting_pool, pool_of, pools, pool_in, lease_in, has_address}
+use Rattle.off_account_rules.specs.Rows.{possible, as_pool, pool_fits, fitting_pool, pool_of, pools, pool_in, lease_in, has_address}
 use Rattle.off_table_laws.proofs.ListLemmas.{In, made_in}
 use Rattle.off_table_laws.proofs.EntryRows.{in_row}
 use Rattle.off_lease_rules.specs.Free.{serves, pool_for, has_ended, is_free, addresses, least_free, provided, choice}

@@ -17,7 +17,7 @@ use Rattle.off_defs.specs.State.{Tables}
 use Rattle.off_defs.specs.Tables.{with_row, without}
 use Rattle.off_defs.proofs.KeyLemmas.{key_exact}
 use Rattle.off_defs.proofs.TableLemmas.{entries_with, entries_without}
-use Rattle.off_rules.specs.Rows.{is_possible, is_of_kind, is_counted, count_of, counts_of}
+use Rattle.off_account_rules.specs.Rows.{is_possible, is_of_kind, is_counted, count_of, counts_of}
 
 -- entries of a key that doesn't count
 module _ {K X : Type 0} (R : K → K → Ordering) (exact : (a b : K) → R a b ≡ Equal → a ≡ b) (p : K × X → Bool) (key : K) (never : (x : X) → p (key, x) ≡ false) where

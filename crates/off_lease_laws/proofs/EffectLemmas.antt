@@ -10,8 +10,8 @@ use Rattle.off_defs.specs.Clock.{later_by}
 use Rattle.off_defs.specs.State.{Tables}
 use Rattle.off_defs.specs.Tables.{write_all}
 use Rattle.off_dhcp.specs.Datagram.{Received}
-use Rattle.off_rules.specs.Rows.{passes, lease_in, held_in, has_address}
-use Rattle.off_rules.specs.Good.{owner_of}
+use Rattle.off_account_rules.specs.Rows.{passes, lease_in, held_in, has_address}
+use Rattle.off_account_rules.specs.Good.{owner_of}
 use Rattle.off_lease_rules.specs.Words.{acts}
 use Rattle.off_lease_rules.specs.Asking.{client, named_address, at_address}
 use Rattle.off_lease_rules.specs.Free.{has_ended, is_free}

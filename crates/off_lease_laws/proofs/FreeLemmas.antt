@@ -9,8 +9,8 @@ use Rattle.off_defs.specs.declared.tables.Hold.{Hold}
 use Rattle.off_defs.specs.declared.tables.Hold.TheVariants.{Offered, Bound, Declined}
 use Rattle.off_defs.specs.declared.tables.Lease.{Lease}
 use Rattle.off_defs.specs.State.{Tables}
-use Rattle.off_rules.specs.Rows.{lease_in, has_address}
-use Rattle.off_rules.specs.Good.{owner_of}
+use Rattle.off_account_rules.specs.Rows.{lease_in, has_address}
+use Rattle.off_account_rules.specs.Good.{owner_of}
 use Rattle.off_table_laws.proofs.ListLemmas.{In, none_found}
 use Rattle.off_lease_rules.specs.Asking.{ip}
 use Rattle.off_lease_rules.specs.Free.{has_ended, is_free, addresses, least_free, provided, choice}

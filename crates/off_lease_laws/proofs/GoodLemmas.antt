@@ -10,8 +10,8 @@ use Rattle.off_defs.specs.Kinds.{kind_of}
 use Rattle.off_defs.specs.State.{Tables}
 use Rattle.off_defs.specs.Tables.{row_at, write_all}
 use Rattle.off_dhcp.specs.Datagram.{Received}
-use Rattle.off_rules.specs.Rows.{as_site, site_in, lease_in, held_in}
-use Rattle.off_rules.specs.Good.{owner_of, Good}
+use Rattle.off_account_rules.specs.Rows.{as_site, site_in, lease_in, held_in}
+use Rattle.off_account_rules.specs.Good.{owner_of, Good}
 use Rattle.off_table_laws.proofs.GoodRows.{Has, OnePool, OwnedBy, GoodRows}
 use Rattle.off_table_laws.proofs.Judging.{good_rows, good_tables}
 use Rattle.off_table_laws.proofs.Reading.{lease_row, held_row, pool_row, row_lease, row_held, row_pool, has_read}

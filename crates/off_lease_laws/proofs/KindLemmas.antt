@@ -19,7 +19,7 @@ use Rattle.off_defs.specs.Kinds.{kind_of}
 use Rattle.off_defs.specs.State.{Tables}
 use Rattle.off_defs.specs.Tables.{row_at, written, write_all}
 use Rattle.off_dhcp.specs.Datagram.{Received}
-use Rattle.off_rules.specs.Rows.{passes, is_of_kind, counts_of, lease_in}
+use Rattle.off_account_rules.specs.Rows.{passes, is_of_kind, counts_of, lease_in}
 use Rattle.off_table_laws.proofs.Rows.{Rows, row_written, rows_after, all_written}
 use Rattle.off_table_laws.proofs.GoodRows.{Possible}
 use Rattle.off_table_laws.proofs.RowChanges.{possible_put, possible_drop}

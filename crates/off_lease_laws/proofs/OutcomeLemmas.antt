@@ -7,7 +7,7 @@ use Rattle.off_defs.specs.declared.tables.Pool.{Pool}
 use Rattle.off_defs.specs.declared.tables.Lease.{Lease}
 use Rattle.off_defs.specs.State.{Tables}
 use Rattle.off_dhcp.specs.Datagram.{Received}
-use Rattle.off_rules.specs.Rows.{passes, lease_in, has_address}
+use Rattle.off_account_rules.specs.Rows.{passes, lease_in, has_address}
 use Rattle.off_lease_rules.specs.declared.words.DhcpWord.{DhcpWord}
 use Rattle.off_lease_rules.specs.Asking.{client, is_discover, is_request, is_decline, is_release, asks, gives_back, named_address, at_address, is_selecting, form_of, claimed}
 use Rattle.off_lease_rules.specs.Free.{case_of, choice, chosen_in}

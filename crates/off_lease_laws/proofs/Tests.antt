@@ -7,8 +7,8 @@ use Rattle.off_base.specs.declared.macs.Mac.{Mac}
 use Rattle.off_defs.specs.declared.keys.Key.TheVariants as key
 use Rattle.off_defs.specs.Keys.{key_cmp}
 use Rattle.off_defs.proofs.TableLemmas.{same_key, own_key}
-use Rattle.off_rules.specs.Rows.{passes}
-use Rattle.off_rules.specs.Good.{is_address}
+use Rattle.off_account_rules.specs.Rows.{passes}
+use Rattle.off_account_rules.specs.Good.{is_address}
 
 pub second_false : (a b : Bool) → a ≡ true → (a && b) ≡ false → b ≡ false
 second_false true b p e = e

@@ -11,7 +11,7 @@ use Rattle.off_defs.specs.Clock.{later_by}
 use Rattle.off_defs.specs.State.{Tables}
 use Rattle.off_defs.specs.Tables.{write_all}
 use Rattle.off_dhcp.specs.Datagram.{Received}
-use Rattle.off_rules.specs.Rows.{site_in, lease_in, held_in}
+use Rattle.off_account_rules.specs.Rows.{site_in, lease_in, held_in}
 use Rattle.off_lease_rules.specs.Free.{pool_for}
 use Rattle.off_lease_rules.specs.Asking.{client, claimed}
 use Rattle.off_lease_rules.specs.Steps.{offer_to}

@@ -13,8 +13,8 @@ use Rattle.off_defs.specs.State.{Tables}
 use Rattle.off_defs.specs.Tables.{row_at, write_all}
 use Rattle.off_dhcp.specs.declared.faults.DhcpFault.{DhcpFault}
 use Rattle.off_dhcp.specs.Datagram.{Received, message_of}
-use Rattle.off_rules.specs.Rows.{lease_in, has_address, counts_of}
-use Rattle.off_rules.specs.Good.{Good, owner_of}
+use Rattle.off_account_rules.specs.Rows.{lease_in, has_address, counts_of}
+use Rattle.off_account_rules.specs.Good.{Good, owner_of}
 use Rattle.off_table_laws.specs.Laws.{owner_in}
 use Rattle.off_lease_rules.specs.Words.{acts, unread}
 use Rattle.off_lease_rules.specs.Asking.{client}

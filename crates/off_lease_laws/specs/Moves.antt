@@ -5,7 +5,7 @@ use Rattle.off_base.specs.declared.addresses.Ip4.{Ip4}
 use Rattle.off_base.specs.declared.macs.Mac.{Mac}
 use Rattle.off_defs.specs.declared.tables.Pool.{Pool}
 use Rattle.off_defs.specs.State.{Tables}
-use Rattle.off_rules.specs.Rows.{site_in, lease_in, held_in, pool_in, has_address}
+use Rattle.off_account_rules.specs.Rows.{site_in, lease_in, held_in, pool_in, has_address}
 use Rattle.off_table_laws.specs.Laws.{owner_in}
 use Rattle.off_lease_rules.specs.Free.{has_ended}
 

@@ -5,7 +5,7 @@ use Rattle.off_defs.specs.declared.tables.Site.{Site}
 use Rattle.off_defs.specs.declared.tables.Pool.{Pool}
 use Rattle.off_defs.specs.State.{Tables}
 use Rattle.off_dhcp.specs.Datagram.{Received}
-use Rattle.off_rules.specs.Rows.{site_in, lease_in, held_in, has_address}
+use Rattle.off_account_rules.specs.Rows.{site_in, lease_in, held_in, has_address}
 use Rattle.off_lease_rules.specs.Words.{acts}
 use Rattle.off_lease_rules.specs.Asking.{client, named_address, at_address, claimed}
 use Rattle.off_lease_rules.specs.Free.{pool_for, case_of, choice}

@@ -8,7 +8,7 @@ use Rattle.off_defs.specs.declared.tables.Pool.{Pool}
 use Rattle.off_defs.specs.declared.tables.Lease.{Lease}
 use Rattle.off_defs.specs.State.{Tables}
 use Rattle.off_dhcp.specs.Datagram.{Received}
-use Rattle.off_rules.specs.Rows.{site_in, modem_in, lease_in, held_in, pools, has_address}
+use Rattle.off_account_rules.specs.Rows.{site_in, modem_in, lease_in, held_in, pools, has_address}
 use Rattle.off_lease_rules.specs.Asking.{ip, client, is_request, is_discover, is_renewing, form_of, named_address, at_address, claimed}
 use Rattle.off_lease_rules.specs.declared.cases.Case.{Case}
 

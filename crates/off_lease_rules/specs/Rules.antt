@@ -9,8 +9,8 @@ use Rattle.off_defs.specs.declared.tables.Site.{Site}
 use Rattle.off_defs.specs.declared.tables.Modem.{Modem}
 use Rattle.off_dhcp.specs.Datagram.{Received, mac_of_client, option_in}
 use Rattle.off_docsis.specs.Cable.{begins_as_modem}
-use Rattle.off_rules.specs.Rows.{passes, has_address}
-use Rattle.off_rules.specs.Good.{is_address}
+use Rattle.off_account_rules.specs.Rows.{passes, has_address}
+use Rattle.off_account_rules.specs.Good.{is_address}
 use Rattle.off_lease_rules.specs.Asking.{is_discover, is_request, asks, gives_back, named_server, at_address, is_formless, is_selecting, form_of, claimed, vendor_parts, relay_parts, serial_number, remote_identifier}
 use Rattle.off_lease_rules.specs.declared.cases.Case.{Case}
 use Rattle.off_lease_rules.specs.declared.words.DhcpWord.{DhcpWord}

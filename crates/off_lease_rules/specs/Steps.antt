@@ -24,9 +24,9 @@ use Rattle.off_dhcp.specs.declared.faults.DhcpFault.{DhcpFault}
 use Rattle.off_dhcp.specs.declared.offers.Offer.{Offer}
 use Rattle.off_dhcp.specs.Datagram.{Received, message_of}
 use Rattle.off_dhcp.specs.Reply.{nak_bytes, reply_bytes}
-use Rattle.off_rules.specs.Rows.{passes, lease_in}
-use Rattle.off_rules.specs.Good.{owner_of, is_address}
-use Rattle.off_rules.specs.Clerk.{held_drop}
+use Rattle.off_account_rules.specs.Rows.{passes, lease_in}
+use Rattle.off_account_rules.specs.Good.{owner_of, is_address}
+use Rattle.off_account_rules.specs.Clerk.{held_drop}
 use Rattle.off_file_rules.specs.Name.{name_of}
 use Rattle.off_lease_rules.specs.Asking.{ip, client, is_discover, is_request, is_decline}
 use Rattle.off_lease_rules.specs.Free.{case_of, chosen_in, provided}

@@ -5,7 +5,7 @@ use Rattle.off_defs.specs.declared.orders.Command.{Command}
 use Rattle.off_defs.specs.declared.rules.Rule.{Rule}
 use Rattle.off_defs.specs.State.{Tables, Said}
 use Rattle.off_defs.specs.Tables.{write_all}
-use Rattle.off_rules.specs.Clerk.{Stepped, clerk_step, step_refused}
+use Rattle.off_account_rules.specs.Clerk.{Stepped, clerk_step, step_refused}
 use Rattle.off_defs.specs.declared.events.What.TheVariants.{Piece}
 use Rattle.off_defs.specs.declared.results.Outcome.TheVariants.{Did}
 use Rattle.off_clerk_rules.specs.declared.faults.Fault.{Fault}
@@ -19,9 +19,9 @@ use Rattle.off_outside.specs.declared.keeper.KeepErr.TheVariants as keep
 use Rattle.off_outside.specs.KeeperSeen.{KeeperSeen, Rests}
 use Rattle.off_outside.specs.KeeperCalls.{Reads, Settled, NotCommitted, IsWritten}
 use Rattle.off_outside.proofs.KeeperLemmas.{reads_told, reads_forgotten, settled_none, settled_then, not_begun, not_begun_then, not_committed_as}
-use Rattle.off_deciding.specs.declared.results.Planned.{Planned}
-use Rattle.off_deciding.specs.declared.results.AccountErr.{AccountErr}
-use Rattle.off_deciding.specs.declared.results.AccountErr.TheVariants.{Refused, Failed, Memory}
+use Rattle.off_accounts.specs.declared.results.Planned.{Planned}
+use Rattle.off_accounts.specs.declared.results.AccountErr.{AccountErr}
+use Rattle.off_accounts.specs.declared.results.AccountErr.TheVariants.{Refused, Failed, Memory}
 use Rattle.off_office.specs.Desk.{Desk}
 use Rattle.off_office.specs.Conditions.{Mirrors}
 use Rattle.off_office.proofs.CommandLemmas.{mirrors_behind}

@@ -10,21 +10,21 @@ use Rattle.off_defs.specs.Told.{Told}
 use Rattle.off_defs.proofs.ToldLemmas.{told_weaker}
 use Rattle.off_defs.specs.declared.orders.Reply.{Reply}
 use Rattle.off_rows.specs.Sound.{is_sound}
-use Rattle.off_rules.specs.Good.{Good}
+use Rattle.off_account_rules.specs.Good.{Good}
 use Rattle.off_table_laws.specs.Laws.{secret_fits}
 use Rattle.off_table_laws.proofs.StepLaws.{step_keeps_good}
-use Rattle.off_rules.specs.Rows.{counts_of}
-use Rattle.off_rules.specs.Clerk.{Accepted, Refusal, accepted, refusal, decided, Stepped, stepped_by, clerk_step, step_done, step_refused}
+use Rattle.off_account_rules.specs.Rows.{counts_of}
+use Rattle.off_account_rules.specs.Clerk.{Accepted, Refusal, accepted, refusal, decided, Stepped, stepped_by, clerk_step, step_done, step_refused}
 use Rattle.off_outside.specs.declared.keeper.KeepErr.{KeepErr}
 use Rattle.off_outside.specs.declared.keeper.KeepErr.TheVariants as keep
 use Rattle.off_outside.specs.KeeperSeen.{KeeperSeen, Rests}
 use Rattle.off_outside.specs.KeeperCalls.{Reads, Commits, Settled, NotCommitted, IsWritten, Spent, WasCounted}
 use Rattle.off_outside.proofs.KeeperLemmas.{reads_as, settled_commit, settled_then, not_begun, not_begun_then, not_committed_as, spent_none, spent_one, spent_then, spent_within}
-use Rattle.off_deciding.specs.declared.results.Planned.{Planned}
-use Rattle.off_deciding.specs.declared.results.AccountErr.{AccountErr}
-use Rattle.off_deciding.specs.declared.results.AccountErr.TheVariants.{Refused, Failed, Memory}
-use Rattle.off_deciding.specs.Deciding.{IsDecided, NotDecided, AnswersCommand, not_kept}
-use Rattle.off_import_deciding.specs.Deciding.{AnswersImport}
+use Rattle.off_accounts.specs.declared.results.Planned.{Planned}
+use Rattle.off_accounts.specs.declared.results.AccountErr.{AccountErr}
+use Rattle.off_accounts.specs.declared.results.AccountErr.TheVariants.{Refused, Failed, Memory}
+use Rattle.off_accounts.specs.Deciding.{IsDecided, NotDecided, AnswersCommand, not_kept}
+use Rattle.off_accounts.specs.Commands.{AnswersImport}
 use Rattle.off_kept.specs.Entries.{without_written}
 use Rattle.off_kept.proofs.RightLemmas.{kept_stays_right}
 use Rattle.off_office.specs.Desk.{Desk}

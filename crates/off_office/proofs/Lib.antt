@@ -6,3 +6,5 @@ pub mod CommandLemmas
 pub mod AnswerLemmas
 pub mod RequestLemmas
 pub mod PieceLemmas
+pub mod UpLemmas
+pub mod SendLemmas

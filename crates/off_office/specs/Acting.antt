@@ -12,7 +12,7 @@ use Rattle.off_defs.specs.declared.results.Sent.{Sent}
 use Rattle.off_defs.specs.Told.{Told}
 use Rattle.off_defs.specs.Counts.{Grew, commits_after}
 use Rattle.off_defs.specs.State.{Tables, State, Said, Effect, state_of, held_at}
-use Rattle.off_rules.specs.Good.{IsLeastBad}
+use Rattle.off_account_rules.specs.Good.{IsLeastBad}
 use Rattle.off_defs.specs.Tables.{doubt_behind}
 use Rattle.off_book.specs.Step.{Step, Does, TellsOutcome, completed}
 use Rattle.off_book.specs.Http.{without_connection}

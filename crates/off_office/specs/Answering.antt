@@ -15,7 +15,7 @@ use Rattle.off_defs.specs.declared.events.What.TheVariants.{Piece}
 use Rattle.off_defs.specs.Told.{Told}
 use Rattle.off_defs.specs.State.{Tables, Said, state_of}
 use Rattle.off_defs.specs.Tables.{write_all}
-use Rattle.off_rules.specs.Clerk.{clerk_step, step_done, step_refused}
+use Rattle.off_account_rules.specs.Clerk.{clerk_step, step_done, step_refused}
 use Rattle.off_clerk_rules.specs.declared.faults.Fault.{Fault}
 use Rattle.off_clerk_rules.specs.declared.faults.Fault.TheVariants as fault
 use Rattle.off_clerk_rules.specs.Faults.{word_of, status_of, fault_text}
@@ -25,9 +25,9 @@ use Rattle.off_outside.specs.declared.keeper.KeepErr.{KeepErr}
 use Rattle.off_outside.specs.declared.keeper.KeepErr.TheVariants as keep
 use Rattle.off_outside.specs.KeeperSeen.{KeeperSeen}
 use Rattle.off_outside.specs.KeeperCalls.{Reads, NotDone, IsWritten, Settled, NotCommitted}
-use Rattle.off_deciding.specs.declared.results.Planned.{Planned}
-use Rattle.off_deciding.specs.declared.results.AccountErr.{AccountErr}
-use Rattle.off_deciding.specs.declared.results.AccountErr.TheVariants.{Refused, Failed, Memory}
+use Rattle.off_accounts.specs.declared.results.Planned.{Planned}
+use Rattle.off_accounts.specs.declared.results.AccountErr.{AccountErr}
+use Rattle.off_accounts.specs.declared.results.AccountErr.TheVariants.{Refused, Failed, Memory}
 use Rattle.off_kept.specs.Entries.{without_written}
 use Rattle.off_office.specs.Desk.{Desk}
 use Rattle.off_office.specs.Conditions.{Mirrors, Under}

@@ -18,7 +18,7 @@ use Rattle.off_clerk_rules.specs.Commands.{command_read}
 use Rattle.off_book.specs.Http.{is_full, heard_of}
 use Rattle.off_outside.specs.KeeperSeen.{KeeperSeen}
 use Rattle.off_outside.specs.KeeperCalls.{Spent}
-use Rattle.off_deciding.specs.Deciding.{most_calls}
+use Rattle.off_accounts.specs.Deciding.{most_calls}
 use Rattle.off_tftp.specs.Keeping.{FewWhereKept, FewWhereBegun}
 use Rattle.off_office.specs.Desk.{Desk}
 

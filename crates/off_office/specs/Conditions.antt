@@ -2,8 +2,8 @@
 -- comes to keep of the tables is one more field of `Mirrors`.
 use Rattle.std.specs.Prelude.{◌≡◌}
 use Rattle.off_defs.specs.State.{Tables}
-use Rattle.off_rules.specs.Good.{Good}
-use Rattle.off_rules.specs.Rows.{counts_of}
+use Rattle.off_account_rules.specs.Good.{Good}
+use Rattle.off_account_rules.specs.Rows.{counts_of}
 use Rattle.off_kept.specs.Right.{AllRight}
 use Rattle.off_office.specs.Desk.{Desk}
 

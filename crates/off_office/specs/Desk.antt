@@ -4,7 +4,7 @@ use Rattle.std.specs.Prelude.{ℕ, refl}
 use Rattle.std.specs.Coded.{Coded, code_by, coded×, coded_ℕ}
 use Rattle.off_defs.specs.State.{Held}
 use Rattle.off_defs.specs.Codes.{held_code}
-use Rattle.off_rules.specs.declared.counts.Counts.{Counts}
+use Rattle.off_account_rules.specs.declared.counts.Counts.{Counts}
 use Rattle.off_kept.specs.Entries.{Entries, kept_code}
 
 pub record Desk : Type 0 where

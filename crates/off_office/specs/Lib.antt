@@ -7,3 +7,4 @@ pub mod Saying
 pub mod Leasing
 pub mod Transferring
 pub mod Acting
+pub mod Sending

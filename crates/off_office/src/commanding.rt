@@ -3,7 +3,7 @@ ghost use Rattle.off_defs.specs.State.{held_at};
 ghost use Rattle.off_defs.specs.Told.{Told};
 ghost use Rattle.off_rows.specs.Sound.{is_sound};
 ghost use Rattle.off_table_laws.specs.Laws.{secret_fits};
-ghost use Rattle.off_deciding.specs.Deciding.{most_calls};
+ghost use Rattle.off_accounts.specs.Deciding.{most_calls};
 ghost use Rattle.off_outside.specs.KeeperCalls.{Reads, Settled, NotCommitted, IsWritten, Spent};
 ghost use Rattle.off_office.specs.Asking.{SpentWithin, command_calls, most_commits};
 ghost use Rattle.off_office.specs.Asking.{commit_calls};
@@ -12,11 +12,11 @@ ghost use Rattle.off_office.specs.Answering.{IsPlanned, NotPlanned, Commanded, N
 ghost use Rattle.off_office.specs.Answering.{CountsRows, desk_written};
 
 use crate::office::Office;
+use off_account_rules::Counts;
 use off_accounts::{AccountErr, Planned, decide};
 use off_base::Moment;
 use off_defs::{Command, Reply, Writes};
 use off_outside::{KeepErr, Keeper};
-use off_rules::Counts;
 use std::alloc::Global;
 
 impl Office {

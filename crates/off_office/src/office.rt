@@ -10,12 +10,12 @@ ghost use Rattle.off_office.specs.Saying.{SaysTime};
 ghost use Rattle.off_office.specs.declared.office.StartErr.TheVariants as start;
 
 use crate::connections::Connections;
+use off_account_rules::Counts;
 use off_accounts::{Opening, open_tables};
 use off_base::{Bytes, Moment, NoMemory, Peer};
 use off_defs::{Key, time_of_day};
 use off_kept::Kept;
 use off_outside::{Event, KeepErr, Keeper, Outcome, Replies, Sent, Service, What};
-use off_rules::Counts;
 use off_tftp::Transfers;
 use std::alloc::Global;
 use std::marker::Model;

@@ -18,9 +18,9 @@ use Rattle.off_defs.specs.Keys.{key_cmp}
 use Rattle.off_defs.specs.State.{Tables}
 use Rattle.off_defs.specs.Tables.{row_at}
 use Rattle.off_defs.proofs.KeyLemmas.{key_total, key_exact}
-use Rattle.off_rules.specs.declared.counts.Counts.{Counts}
-use Rattle.off_rules.specs.Rows.{is_possible, count_of, counts_of}
-use Rattle.off_rules.specs.Good.{raw_pool_of, raw_pools, stands_right, keeps, Judged}
+use Rattle.off_account_rules.specs.declared.counts.Counts.{Counts}
+use Rattle.off_account_rules.specs.Rows.{is_possible, count_of, counts_of}
+use Rattle.off_account_rules.specs.Good.{raw_pool_of, raw_pools, stands_right, keeps, Judged}
 use Rattle.off_outside.specs.declared.keeper.KeepErr.{KeepErr}
 use Rattle.off_outside.specs.declared.keeper.KeepErr.TheVariants as keep
 use Rattle.off_outside.specs.KeeperSeen.{KeeperSeen}

@@ -8,8 +8,8 @@ use Rattle.off_defs.specs.declared.tables.Row.TheVariants as row
 use Rattle.off_defs.specs.declared.tables.Pool.{Pool}
 use Rattle.off_defs.specs.declared.orders.Kind.{Kind}
 use Rattle.off_defs.specs.State.{Tables}
-use Rattle.off_rules.specs.Rows.{is_possible, is_of_kind}
-use Rattle.off_rules.specs.Good.{owner_of}
+use Rattle.off_account_rules.specs.Rows.{is_possible, is_of_kind}
+use Rattle.off_account_rules.specs.Good.{owner_of}
 use Rattle.off_opening.specs.declared.marks.Mark.{Mark}
 use Rattle.off_opening.specs.declared.marks.Tie.{Tie}
 use Rattle.off_opening.specs.declared.marks.Tie.TheVariants as tie

@@ -6,8 +6,8 @@ use Rattle.off_base.specs.declared.macs.Mac.{Mac}
 use Rattle.off_defs.specs.declared.keys.Key.{Key}
 use Rattle.off_defs.specs.declared.keys.Key.TheVariants as key
 use Rattle.off_defs.specs.State.{Tables}
-use Rattle.off_rules.specs.Rows.{counts_of}
-use Rattle.off_rules.specs.Good.{raw_pools, is_there, is_apart, pools_around, owner_holds, owns, Good, IsLeastBad}
+use Rattle.off_account_rules.specs.Rows.{counts_of}
+use Rattle.off_account_rules.specs.Good.{raw_pools, is_there, is_apart, pools_around, owner_holds, owns, Good, IsLeastBad}
 use Rattle.off_opening.specs.declared.marks.Mark.{Mark}
 use Rattle.off_opening.specs.declared.marks.Tie.{Tie}
 use Rattle.off_opening.specs.declared.marks.Tie.TheVariants as tie

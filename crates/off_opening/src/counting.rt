@@ -1,13 +1,13 @@
 ghost use Rattle.std.specs.Prelude.{◌≡◌, ◌&&◌, count_by};
 ghost use Rattle.off_defs.specs.State.{Tables};
 ghost use Rattle.off_outside.specs.KeeperCalls.{Looks, WalksOnce};
-ghost use Rattle.off_rules.specs.Rows.{counts_of, is_of_kind};
+ghost use Rattle.off_account_rules.specs.Rows.{counts_of, is_of_kind};
 ghost use Rattle.off_opening.specs.Marks.{marks_of, is_marked};
 
 use crate::marks::{Mark, read_marks};
+use off_account_rules::Counts;
 use off_defs::{Key, Kind};
 use off_outside::{KeepErr, Keeper};
-use off_rules::Counts;
 use std::alloc::Global;
 
 /// How many possible rows there are of each kind of which there may be only so many. It changes

@@ -1,16 +1,16 @@
 ghost use Rattle.std.specs.Prelude.{◌≡◌, IfOk, IfErr};
 ghost use Rattle.off_defs.specs.State.{Tables};
 ghost use Rattle.off_outside.specs.KeeperCalls.{Looks, WalksOnce};
-ghost use Rattle.off_rules.specs.Good.{raw_pools, Judged};
+ghost use Rattle.off_account_rules.specs.Good.{raw_pools, Judged};
 ghost use Rattle.off_opening.specs.Marks.{marks_of};
 ghost use Rattle.off_opening.specs.Standing.{Opens};
 
 use crate::counting::counts_in;
 use crate::marks::{Mark, NumberedPool, pools_in, read_marks};
 use crate::standing::keeps;
+use off_account_rules::Counts;
 use off_defs::Key;
 use off_outside::{KeepErr, Keeper};
-use off_rules::Counts;
 use std::alloc::Global;
 
 /// What the tables are when the office opens.

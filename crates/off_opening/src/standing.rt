@@ -3,9 +3,9 @@
 ghost use Rattle.std.specs.Prelude.{◌≡◌, ◌==◌, ◌&&◌, count_by, IsTrue};
 ghost use Rattle.std.specs.List.{list_all};
 ghost use Rattle.off_defs.specs.State.{Tables};
-ghost use Rattle.off_rules.specs.Rows.{passes, has_address};
-ghost use Rattle.off_rules.specs.Good.{raw_pools, is_there, is_apart, is_mac};
-ghost use Rattle.off_rules.specs.Good.{owner_holds, owns};
+ghost use Rattle.off_account_rules.specs.Rows.{passes, has_address};
+ghost use Rattle.off_account_rules.specs.Good.{raw_pools, is_there, is_apart, is_mac};
+ghost use Rattle.off_account_rules.specs.Good.{owner_holds, owns};
 ghost use Rattle.off_opening.specs.Marks.{marks_of};
 ghost use Rattle.off_opening.specs.Standing.{tie_stands, lease_tied, modem_tied, is_kept};
 

@@ -4,8 +4,8 @@ use Rattle.off_defs.specs.declared.keys.Key.{Key}
 use Rattle.off_defs.specs.declared.keys.Key.TheVariants as key
 use Rattle.off_defs.specs.declared.tables.Row.{Row}
 use Rattle.off_rows.specs.KeyBytes.{kind_of}
-use Rattle.off_rules.specs.Rows.{modem_of, pool_of, lease_of}
-use Rattle.off_rules.specs.Good.{raw_pool_of}
+use Rattle.off_account_rules.specs.Rows.{modem_of, pool_of, lease_of}
+use Rattle.off_account_rules.specs.Good.{raw_pool_of}
 use Rattle.off_readers.proofs.WalkLemmas.{OnlyAt}
 
 no_modem : (k : Key) (r : Row) → ¬ (kind_of k ≡ 4) → modem_of (k, r) ≡ None

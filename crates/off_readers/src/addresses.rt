@@ -1,6 +1,6 @@
 ghost use Rattle.std.specs.Prelude.{◌≡◌};
-ghost use Rattle.off_rules.specs.Rows.{has_address, overlaps};
-ghost use Rattle.off_rules.specs.Good.{owner_of};
+ghost use Rattle.off_account_rules.specs.Rows.{has_address, overlaps};
+ghost use Rattle.off_account_rules.specs.Good.{owner_of};
 
 use off_base::{Ip4, Mac};
 use off_defs::{Hold, Pool};

@@ -1,9 +1,9 @@
 ghost use Rattle.std.specs.Prelude.{◌≡◌, ◌&&◌, nat_le};
 ghost use Rattle.off_defs.specs.Bounds.{last_add_on};
-ghost use Rattle.off_rules.specs.Rows.{passes, is_possible, site_fits, is_offset, is_lease_time};
-ghost use Rattle.off_rules.specs.Rows.{subscriber_fits, class_is_good, add_on_is_good};
-ghost use Rattle.off_rules.specs.Rows.{has_pool_size, pool_fits};
-ghost use Rattle.off_rules.specs.Rows.{as_site, as_subscriber, as_add_on, as_class, as_pool};
+ghost use Rattle.off_account_rules.specs.Rows.{passes, is_possible, site_fits, is_offset, is_lease_time};
+ghost use Rattle.off_account_rules.specs.Rows.{subscriber_fits, class_is_good, add_on_is_good};
+ghost use Rattle.off_account_rules.specs.Rows.{has_pool_size, pool_fits};
+ghost use Rattle.off_account_rules.specs.Rows.{as_site, as_subscriber, as_add_on, as_class, as_pool};
 
 use off_base::Settings;
 use off_defs::{
@@ -115,14 +115,14 @@ fn subscriber_fits(subscriber: &Subscriber) -> bool
     1 <= subscriber.cpes && subscriber.cpes <= MOST_DEVICES
 }
 
-#[tactic(auto, unfolding(off_rules::specs::Rows::class_is_good))]
+#[tactic(auto, unfolding(off_account_rules::specs::Rows::class_is_good))]
 fn class_is_good(settings: &Settings) -> bool
     ensures { result ≡ class_is_good settings.now }
 {
     check_class(settings).is_ok()
 }
 
-#[tactic(auto, unfolding(off_rules::specs::Rows::add_on_is_good))]
+#[tactic(auto, unfolding(off_account_rules::specs::Rows::add_on_is_good))]
 fn add_on_is_good(settings: &Settings) -> bool
     ensures { result ≡ add_on_is_good settings.now }
 {

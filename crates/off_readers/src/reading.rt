@@ -1,5 +1,5 @@
 ghost use Rattle.std.specs.Prelude.{◌≡◌, is_some, IfOk, IfSome, IsTrue};
-ghost use Rattle.off_rules.specs.Rows.{seen_at, possible, is_possible};
+ghost use Rattle.off_account_rules.specs.Rows.{seen_at, possible, is_possible};
 ghost use Rattle.off_outside.specs.KeeperCalls.{Looks, WasCounted};
 
 use crate::possible::is_possible;

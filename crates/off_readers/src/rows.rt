@@ -2,10 +2,10 @@
 //! impossible row as none.
 
 ghost use Rattle.std.specs.Prelude.{◌≡◌, option_and_then};
-ghost use Rattle.off_rules.specs.Rows.{site_in, subscriber_in, add_on_in, modem_in, class_in};
-ghost use Rattle.off_rules.specs.Rows.{pool_in, lease_in, held_in, batch_in};
-ghost use Rattle.off_rules.specs.Rows.{as_site, as_subscriber, as_add_on, as_modem, as_class};
-ghost use Rattle.off_rules.specs.Rows.{as_pool, as_lease, as_held, as_batch};
+ghost use Rattle.off_account_rules.specs.Rows.{site_in, subscriber_in, add_on_in, modem_in, class_in};
+ghost use Rattle.off_account_rules.specs.Rows.{pool_in, lease_in, held_in, batch_in};
+ghost use Rattle.off_account_rules.specs.Rows.{as_site, as_subscriber, as_add_on, as_modem, as_class};
+ghost use Rattle.off_account_rules.specs.Rows.{as_pool, as_lease, as_held, as_batch};
 ghost use Rattle.off_outside.specs.KeeperCalls.{Looks, WasCounted};
 
 use crate::reading::read_row;

@@ -8,14 +8,14 @@ use Rattle.off_book.specs.Run.{Turn, SaysMemory, commits_by, lost_by}
 use Rattle.off_book.proofs.StepLemmas.{turns_did}
 use Rattle.off_defs.proofs.CountLemmas.{later_grew}
 use Rattle.off_defs.proofs.ToldLemmas.{stays_self}
-use Rattle.off_rules.specs.Good.{Good}
+use Rattle.off_account_rules.specs.Good.{Good}
 use Rattle.off_outside.specs.LinkSeen.{LinkSeen}
 use Rattle.off_outside.specs.KeeperSeen.{KeeperSeen, Rests}
 use Rattle.off_defs.specs.Counts.{Grew, one_more, most_count}
 use Rattle.off_outside.specs.KeeperCalls.{Reads, Quiet}
 use Rattle.off_outside.specs.LinkCalls.{LinkUnasked}
 use Rattle.off_laws.proofs.Stretches.{leases_hold_through}
-use Rattle.off_file_runs.proofs.Runs.{files_of_runs}
+use Rattle.off_transfer_runs.proofs.Runs.{files_of_runs}
 use Rattle.off_boot_laws.specs.Went.{Anyhow}
 use Rattle.off_boot_laws.specs.Served.{ModemsAreServed}
 use Rattle.off_boot_laws.proofs.Went.{all_go_well}
@@ -36,7 +36,7 @@ use Rattle.off_jobs.specs.Text.{memory_refused}
 use Rattle.off_import_job.specs.Opening.{closed_status, closed_line}
 use Rattle.off_serve.specs.Headline.{WroteText, CutText, LastsIn, RanTurns, KeeperRan, RanFrom, RanOffice, Stops, Served, OwnLine, Ended, Ends, NoFault, AllUp, Completed, ServesAsOffice, own_writes, link_refused}
 use Rattle.off_serve.proofs.ServeLemmas.{wrote_more, wrote_same, wrote_none, cut_more, cut_same}
-use Rattle.off_sending.proofs.UpLemmas.{up_chain}
+use Rattle.off_office.proofs.UpLemmas.{up_chain}
 
 own_line : (of : ℕ) (own text : List ℕ) (status : ℕ) (a b c : SinkSeen) → WroteText text a b → Tells of own status b c → OwnLine of own text status a c
 own_line of own text status a b c wrote (inl w) = inl (w.0, wrote_more wrote w.1)

@@ -27,7 +27,7 @@ use Rattle.off_office.specs.Acting.{CountsFaults, EventBegins}
 use Rattle.off_serve.specs.declared.serving.Stop.TheVariants as stop
 use Rattle.off_serve.specs.Serving.{World, OfficeTurn, TurnMade, LineWritten, TurnWritten, TurnCut, NoTurn, LacksMemory, Missed, most_missed}
 use Rattle.off_serve.specs.Headline.{WroteText, CutText, LastsIn, RanTurns, CountsMissed, KeeperRan, RanFrom, SoFar, Served}
-use Rattle.off_sending.proofs.UpLemmas.{up_behind, up_chain, by_first, both_chain}
+use Rattle.off_office.proofs.UpLemmas.{up_behind, up_chain, by_first, both_chain}
 
 -- `n` turns so far
 pub record Going (n : ℕ) (first last : Desk) (old new : World) : Type 0 where

@@ -7,7 +7,7 @@ use Rattle.off_defs.proofs.CountLemmas.{tallied_none, tallied_one, tallied_then,
 use Rattle.off_outside.specs.declared.link.LinkErr.TheVariants as link_err
 use Rattle.off_outside.specs.LinkSeen.{LinkSeen}
 use Rattle.off_outside.specs.LinkCalls.{Took, NotTook}
-use Rattle.off_sending.proofs.UpLemmas.{up_chain}
+use Rattle.off_office.proofs.UpLemmas.{up_chain}
 use Rattle.off_serve.specs.Serving.{Missed, TookBehind, LacksMemory, most_missed}
 
 pub missed_none : {s : LinkSeen} → s.missed ≡ 0 → Missed 0 s s

@@ -16,9 +16,9 @@ use Rattle.off_outside.specs.Streams.{SinkSeen}
 use Rattle.off_office.specs.Desk.{Desk}
 use Rattle.off_office.specs.Acting.{Acts}
 use Rattle.off_serve.specs.Serving.{World, world_of, TookBehind, LineWritten, LineCut, Acted, ActWritten, ActCut, TurnMade, TurnWritten, TurnCut}
-use Rattle.off_sending.specs.Sending.{SentAll}
-use Rattle.off_sending.proofs.SendLemmas.{sent_then}
-use Rattle.off_sending.proofs.UpLemmas.{by_first, by_second, both_chain}
+use Rattle.off_office.specs.Sending.{SentAll}
+use Rattle.off_office.proofs.SendLemmas.{sent_then}
+use Rattle.off_office.proofs.UpLemmas.{by_first, by_second, both_chain}
 
 -- the turn that an event becomes
 abbrev turn_of : Event → Outcome → Said → List Write → List Bool → Turn

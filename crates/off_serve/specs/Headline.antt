@@ -9,12 +9,12 @@ use Rattle.off_defs.specs.declared.results.Outcome.TheVariants as outcome
 use Rattle.off_book.specs.Run.{Turn, Run, SaysMemory, TellsItsOutcome, failures_by, troubles_by, commits_by, writes_by, sent_by, lost_by, lines_from, line_of, events_of, first_events, is_end, IsNoEnd, EndsLast}
 use Rattle.off_book.specs.Crashes.{Lasts}
 use Rattle.off_laws.specs.Leases.{LeasesHoldThrough}
-use Rattle.off_file_runs.specs.Served.{FilesAreServedThrough}
+use Rattle.off_transfer_runs.specs.Served.{FilesAreServedThrough}
 use Rattle.off_boot_laws.specs.Went.{GoesWell, Anyhow}
 use Rattle.off_boot_laws.specs.Served.{ModemsAreServed}
 use Rattle.off_isolation.specs.Alone.{IsolatedThrough}
 use Rattle.off_import_runs.specs.Once.{ImportsActOnceThrough}
-use Rattle.off_rules.specs.Good.{Good}
+use Rattle.off_account_rules.specs.Good.{Good}
 use Rattle.off_outside.specs.LinkSeen.{LinkSeen}
 use Rattle.off_outside.specs.KeeperSeen.{KeeperSeen}
 use Rattle.off_office.specs.Desk.{Desk}

@@ -1,7 +1,7 @@
 ghost use Rattle.off_defs.specs.declared.results.Sent.TheVariants as sent;
 ghost use Rattle.off_book.specs.Step.{added_items};
 ghost use Rattle.off_book.specs.Http.{answer_and_close, no_memory_reply, no_keeper_reply};
-ghost use Rattle.off_sending.specs.Sending.{SentOne, SentAll};
+ghost use Rattle.off_office.specs.Sending.{SentOne, SentAll};
 
 use off_outside::{Link, Outcome, What};
 

@@ -5,9 +5,8 @@ ghost use Rattle.off_serve.specs.Serving.{Turns, ActWritten, ActCut, world_of};
 use crate::lines::write_line;
 use crate::sending::send_added;
 use crate::taking::{Taken, take_event};
-use off_office::Office;
+use off_office::{Office, send_all};
 use off_outside::{Event, Failed, Keeper, Link, Replies, Sink, What};
-use off_sending::send_all;
 use std::alloc::Global;
 
 /// What came of one turn.

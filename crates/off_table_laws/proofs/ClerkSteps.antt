@@ -2,6 +2,7 @@
 use Rattle.std.proofs.Common.{◌≡◌, ℕ, Bool, true, false, not, ◌&&◌, eqb, leb, Option, Some, None, is_none, option_map, List, [], ◌∷◌, length, refl, sym, ap, subst, ◌∙◌, arith}
 use Rattle.std.proofs.lemmas.Bool.{and_from, eqb-false, ne_eqb, le-leb, not-false, not_from_false}
 use Rattle.std.specs.List.{find, flat_map, list_any}
+use Rattle.off_base.specs.Choices.{when, first_there}
 use Rattle.off_base.specs.declared.macs.Mac.{Mac}
 use Rattle.off_base.specs.Tree.{Tree}
 use Rattle.off_tree.specs.declared.tables.Kind.TheVariants as tree
@@ -18,9 +19,9 @@ use Rattle.off_defs.specs.declared.rules.Rule.{Rule}
 use Rattle.off_defs.specs.State.{Tables}
 use Rattle.off_defs.specs.Tables.{row_at, write_all}
 use Rattle.off_rows.specs.Sound.{is_sound, is_sound_pool, is_removable}
-use Rattle.off_rules.specs.Rows.{is_lease_time, is_offset, site_fits, class_is_good, add_on_is_good, has_pool_size, pool_fits, overlaps, as_subscriber, as_class, modems, pools}
-use Rattle.off_rules.specs.Good.{Good}
-use Rattle.off_rules.specs.Clerk.{when, first_broken, rules_of, removal_rules, writes_of, removal_writes, is_other_overlapping, is_other_with_relay, lost_leases, lease_drops}
+use Rattle.off_account_rules.specs.Rows.{is_lease_time, is_offset, site_fits, class_is_good, add_on_is_good, has_pool_size, pool_fits, overlaps, as_subscriber, as_class, modems, pools}
+use Rattle.off_account_rules.specs.Good.{Good}
+use Rattle.off_account_rules.specs.Clerk.{rules_of, removal_rules, writes_of, removal_writes, is_other_overlapping, is_other_with_relay, lost_leases, lease_drops}
 use Rattle.off_table_laws.specs.Laws.{secret_fits}
 use Rattle.off_table_laws.proofs.ListLemmas.{In, none_in, none_found}
 use Rattle.off_table_laws.proofs.Rows.{Rows, rows_after, all_written}
@@ -37,7 +38,7 @@ abbrev Whole : List (Option Rule) → Type 0
 Whole [] = Unit {0}
 Whole (rule ∷ rules) = (rule ≡ None) × Whole rules
 
-unbroken : (rules : List (Option Rule)) → first_broken rules ≡ None → Whole rules
+unbroken : (rules : List (Option Rule)) → first_there rules ≡ None → Whole rules
 unbroken [] e = tt
 unbroken (None ∷ rules) e = (refl, unbroken rules e)
 unbroken (Some broken ∷ rules) e = cc
@@ -96,7 +97,7 @@ module _ (t : Tables) (g : GoodRows (row_at t)) where
   no_modem_of_class n none mac modem e is =
       eqb-false modem.class n (none_in (λ (entry : Mac × Modem). eqb entry.1.class n) (modems t) none (mac, modem) (modem_in_all t mac modem e)) is
 
-  removal : (now : ℕ) (removed : Key) → is_removable removed ≡ true → first_broken (removal_rules t now removed) ≡ None → GoodRows (rows_after (row_at t) (removal_writes t removed))
+  removal : (now : ℕ) (removed : Key) → is_removable removed ≡ true → first_there (removal_rules t now removed) ≡ None → GoodRows (rows_after (row_at t) (removal_writes t removed))
   removal now (key.Subscriber n) sound h =
       let whole = unbroken (removal_rules t now (key.Subscriber n)) h in
       drop_subscriber (row_at t) g n (no_subscribers_modem n (not_when _ _ whole.1.0))
@@ -108,7 +109,7 @@ module _ (t : Tables) (g : GoodRows (row_at t)) where
   removal now (key.Pool n) sound h = pool_step n None (λ pool e. cc) (λ pool e. cc)
   removal now removed sound h = cc
 
-  pub command_rows : (now : ℕ) (command : Command) → is_sound command ≡ true → secret_fits command ≡ true → first_broken (rules_of t now command) ≡ None
+  pub command_rows : (now : ℕ) (command : Command) → is_sound command ≡ true → secret_fits command ≡ true → first_there (rules_of t now command) ≡ None
       → GoodRows (rows_after (row_at t) (writes_of t command))
   command_rows now (SetSite site) sound short h =
       let whole = unbroken (rules_of t now (SetSite site)) h in
@@ -136,7 +137,7 @@ module _ (t : Tables) (g : GoodRows (row_at t)) where
   command_rows now (Import kind batch digest rows) sound short h = g
 
 -- so are the tables after a command's writes
-pub command_good : (t : Tables) (now : ℕ) (command : Command) → is_sound command ≡ true → secret_fits command ≡ true → Good t → first_broken (rules_of t now command) ≡ None
+pub command_good : (t : Tables) (now : ℕ) (command : Command) → is_sound command ≡ true → secret_fits command ≡ true → Good t → first_there (rules_of t now command) ≡ None
     → Good (write_all t (writes_of t command))
 command_good t now command sound short good h =
     good_tables (write_all t (writes_of t command))

@@ -14,8 +14,8 @@ use Rattle.off_defs.specs.State.{Tables}
 use Rattle.off_defs.specs.Tables.{row_at}
 use Rattle.off_defs.proofs.TableLemmas.{row_with_here}
 use Rattle.off_rows.specs.Sound.{is_sound}
-use Rattle.off_rules.specs.Good.{Good}
-use Rattle.off_rules.specs.Clerk.{clerk_step}
+use Rattle.off_account_rules.specs.Good.{Good}
+use Rattle.off_account_rules.specs.Clerk.{clerk_step}
 
 no_tables : Tables
 no_tables = map.empty

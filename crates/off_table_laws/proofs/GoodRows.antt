@@ -9,8 +9,8 @@ use Rattle.off_defs.specs.declared.tables.Row.TheVariants as row
 use Rattle.off_defs.specs.declared.tables.Modem.{Modem}
 use Rattle.off_defs.specs.declared.tables.Pool.{Pool}
 use Rattle.off_defs.specs.declared.tables.Lease.{Lease}
-use Rattle.off_rules.specs.Rows.{is_possible, has_address}
-use Rattle.off_rules.specs.Good.{is_apart, owner_of}
+use Rattle.off_account_rules.specs.Rows.{is_possible, has_address}
+use Rattle.off_account_rules.specs.Good.{is_apart, owner_of}
 use Rattle.off_table_laws.proofs.Rows.{Rows}
 
 abbrev pub Has : Rows → Key → Type 0

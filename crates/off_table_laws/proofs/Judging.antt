@@ -15,8 +15,8 @@ use Rattle.off_defs.specs.declared.tables.Lease.{Lease}
 use Rattle.off_defs.specs.State.{Tables}
 use Rattle.off_defs.specs.Tables.{row_at}
 use Rattle.off_defs.proofs.TableLemmas.{same_key, own_key}
-use Rattle.off_rules.specs.Rows.{passes, is_possible, has_address, as_lease, as_held}
-use Rattle.off_rules.specs.Good.{is_address, is_there, raw_pool_of, raw_pools, is_apart, pools_around, owner_of, is_mac, holds, owner_holds, owns, stands_right, Good}
+use Rattle.off_account_rules.specs.Rows.{passes, is_possible, has_address, as_lease, as_held}
+use Rattle.off_account_rules.specs.Good.{is_address, is_there, raw_pool_of, raw_pools, is_apart, pools_around, owner_of, is_mac, holds, owner_holds, owns, stands_right, Good}
 use Rattle.off_table_laws.proofs.ListLemmas.{In, Distinct, all_in, in_all, one_counted, counted_one, in_made, made_in, distinct_made}
 use Rattle.off_table_laws.proofs.EntryRows.{row_in, in_row, distinct_entries}
 use Rattle.off_table_laws.proofs.GoodRows.{OnePool, OwnedBy, GoodRows}

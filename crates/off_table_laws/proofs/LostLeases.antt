@@ -18,9 +18,9 @@ use Rattle.off_defs.specs.Keys.{key_cmp}
 use Rattle.off_defs.specs.State.{Tables}
 use Rattle.off_defs.specs.Tables.{row_at}
 use Rattle.off_defs.proofs.TableLemmas.{same_key, own_key}
-use Rattle.off_rules.specs.Rows.{lease_of, leases, pool_in}
-use Rattle.off_rules.specs.Good.{owner_of}
-use Rattle.off_rules.specs.Clerk.{gives_up, lost_leases, held_drop, lease_drops}
+use Rattle.off_account_rules.specs.Rows.{lease_of, leases, pool_in}
+use Rattle.off_account_rules.specs.Good.{owner_of}
+use Rattle.off_account_rules.specs.Clerk.{gives_up, lost_leases, held_drop, lease_drops}
 use Rattle.off_table_laws.proofs.ListLemmas.{In, in_any, any_none, kept_in, in_kept, in_made, made_in}
 use Rattle.off_table_laws.proofs.EntryRows.{row_in, in_row}
 use Rattle.off_table_laws.proofs.Rows.{Rows, drop_row, rows_after}

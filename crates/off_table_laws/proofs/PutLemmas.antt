@@ -10,7 +10,7 @@ use Rattle.off_defs.specs.declared.tables.Subscriber.{Subscriber}
 use Rattle.off_defs.specs.declared.tables.Modem.{Modem}
 use Rattle.off_defs.specs.declared.tables.Class.{Class}
 use Rattle.off_defs.specs.declared.tables.Batch.{Batch}
-use Rattle.off_rules.specs.Rows.{is_possible}
+use Rattle.off_account_rules.specs.Rows.{is_possible}
 use Rattle.off_table_laws.proofs.Rows.{Rows, put_row}
 use Rattle.off_table_laws.proofs.GoodRows.{Has, GoodRows}
 use Rattle.off_table_laws.proofs.RowChanges.{put_case, has_put, possible_put}

@@ -12,8 +12,8 @@ use Rattle.off_defs.specs.declared.tables.Pool.{Pool}
 use Rattle.off_defs.specs.declared.tables.Lease.{Lease}
 use Rattle.off_defs.specs.State.{Tables}
 use Rattle.off_defs.specs.Tables.{row_at}
-use Rattle.off_rules.specs.Rows.{is_possible, possible, seen_at, as_modem, as_pool, as_lease, as_held, modem_in, pool_in, lease_in, held_in, pool_fits, fitting_pool, pool_of, pools, modem_of, modems}
-use Rattle.off_rules.specs.Good.{raw_pool_of, raw_pools}
+use Rattle.off_account_rules.specs.Rows.{is_possible, possible, seen_at, as_modem, as_pool, as_lease, as_held, modem_in, pool_in, lease_in, held_in, pool_fits, fitting_pool, pool_of, pools, modem_of, modems}
+use Rattle.off_account_rules.specs.Good.{raw_pool_of, raw_pools}
 use Rattle.off_table_laws.proofs.ListLemmas.{In, in_made, made_same}
 use Rattle.off_table_laws.proofs.EntryRows.{row_in, in_row}
 use Rattle.off_table_laws.proofs.GoodRows.{Has, Possible}

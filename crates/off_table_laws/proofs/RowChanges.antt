@@ -6,7 +6,7 @@ use Rattle.off_defs.specs.declared.tables.Row.{Row}
 use Rattle.off_defs.specs.declared.orders.Write.TheVariants.{Drop}
 use Rattle.off_defs.specs.Keys.{key_cmp}
 use Rattle.off_defs.proofs.TableLemmas.{same_key, own_key}
-use Rattle.off_rules.specs.Rows.{is_possible}
+use Rattle.off_account_rules.specs.Rows.{is_possible}
 use Rattle.off_table_laws.proofs.ListLemmas.{In}
 use Rattle.off_table_laws.proofs.Rows.{Rows, put_row, drop_row, rows_after}
 use Rattle.off_table_laws.proofs.GoodRows.{Has, Possible}

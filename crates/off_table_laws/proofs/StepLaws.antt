@@ -2,6 +2,7 @@
 use Rattle.std.proofs.Common.{◌≡◌, ℕ, ◌+◌, true, leb, Option, Some, None, option_and_then, Result, Ok, Err, List, [], ◌∷◌, ◌++◌, length, refl, sym, ap, subst, ◌∙◌}
 use Rattle.std.proofs.lemmas.Bool.{and_parts}
 use Rattle.std.specs.List.{list_all}
+use Rattle.off_base.specs.Choices.{first_there}
 use Rattle.off_defs.specs.declared.keys.Key.{Key}
 use Rattle.off_defs.specs.declared.keys.Key.TheVariants as key
 use Rattle.off_defs.specs.declared.tables.Row.{Row}
@@ -24,9 +25,9 @@ use Rattle.off_defs.specs.Shown.{shown_row}
 use Rattle.off_defs.specs.State.{Tables}
 use Rattle.off_defs.specs.Tables.{row_at, written, write_all}
 use Rattle.off_rows.specs.Sound.{is_sound, is_row_of}
-use Rattle.off_rules.specs.Rows.{seen_at, batch_in}
-use Rattle.off_rules.specs.Good.{Good}
-use Rattle.off_rules.specs.Clerk.{Refusal, Decision, accepted, by_rule, shown, limit, first_broken, rules_of, writes_of, command_of, then_writes, unless_broken, rows_written, batch_row, imported_as, import_decided, decided, stepped_by, clerk_step}
+use Rattle.off_account_rules.specs.Rows.{seen_at, batch_in}
+use Rattle.off_account_rules.specs.Good.{Good}
+use Rattle.off_account_rules.specs.Clerk.{Refusal, Decision, accepted, by_rule, shown, limit, rules_of, writes_of, command_of, then_writes, unless_broken, rows_written, batch_row, imported_as, import_decided, decided, stepped_by, clerk_step}
 use Rattle.off_table_laws.specs.Laws.{secret_fits, StepKeepsGood, RefusedChangesNothing}
 use Rattle.off_table_laws.proofs.Rows as rows
 use Rattle.off_table_laws.proofs.Rows.{all_written}
@@ -74,7 +75,7 @@ import_good : (now : ℕ) (kind : ImportKind) (rows : List ImportRow) (t : Table
 import_good now kind [] t at all good sound e = let none : [] ≡ all = cc in subst (λ (writes : List Write). Good (write_all t writes)) none good
 import_good now kind (first ∷ rest) t at all good sound e =
     let parts = and_parts (is_row_of kind first) (list_all (is_row_of kind) rest) sound in
-    let done = not_broken at (first_broken (rules_of t now (command_of first))) _ all e in
+    let done = not_broken at (first_there (rules_of t now (command_of first))) _ all e in
     let both = then_both (writes_of t (command_of first)) _ all done.1 in
     let one = command_good t now (command_of first) (row_sound kind first parts.0) (row_fits first) good done.0 in
     let more = import_good now kind rest (write_all t (writes_of t (command_of first))) (at + 1) both.0 one parts.1 both.1 in
@@ -106,15 +107,15 @@ step_good : (t : Tables) (now : ℕ) (command : Command) → is_sound command �
 step_good t now (Show q) sound short good = seen_good t q (option_and_then shown_row (seen_at t q)) good
 step_good t now (Import kind batch digest rows) sound short good =
     decided_good t now kind batch digest rows (batch_in t batch) good (and_parts (leb (length rows) 2000) (list_all (is_row_of kind) rows) sound).1
-step_good t now (SetSite site) sound short good = ruled t (writes_of t (SetSite site)) Done (first_broken (rules_of t now (SetSite site))) good (command_good t now (SetSite site) sound short good)
+step_good t now (SetSite site) sound short good = ruled t (writes_of t (SetSite site)) Done (first_there (rules_of t now (SetSite site))) good (command_good t now (SetSite site) sound short good)
 step_good t now (PutSubscriber n subscriber) sound short good =
-    ruled t (writes_of t (PutSubscriber n subscriber)) Done (first_broken (rules_of t now (PutSubscriber n subscriber))) good (command_good t now (PutSubscriber n subscriber) sound short good)
+    ruled t (writes_of t (PutSubscriber n subscriber)) Done (first_there (rules_of t now (PutSubscriber n subscriber))) good (command_good t now (PutSubscriber n subscriber) sound short good)
 step_good t now (PutAddOn n number settings) sound short good =
-    ruled t (writes_of t (PutAddOn n number settings)) Done (first_broken (rules_of t now (PutAddOn n number settings))) good (command_good t now (PutAddOn n number settings) sound short good)
-step_good t now (PutModem mac modem) sound short good = ruled t (writes_of t (PutModem mac modem)) Done (first_broken (rules_of t now (PutModem mac modem))) good (command_good t now (PutModem mac modem) sound short good)
-step_good t now (PutClass n class) sound short good = ruled t (writes_of t (PutClass n class)) Done (first_broken (rules_of t now (PutClass n class))) good (command_good t now (PutClass n class) sound short good)
-step_good t now (PutPool n pool) sound short good = ruled t (writes_of t (PutPool n pool)) Done (first_broken (rules_of t now (PutPool n pool))) good (command_good t now (PutPool n pool) sound short good)
-step_good t now (Remove removed) sound short good = ruled t (writes_of t (Remove removed)) Done (first_broken (rules_of t now (Remove removed))) good (command_good t now (Remove removed) sound short good)
+    ruled t (writes_of t (PutAddOn n number settings)) Done (first_there (rules_of t now (PutAddOn n number settings))) good (command_good t now (PutAddOn n number settings) sound short good)
+step_good t now (PutModem mac modem) sound short good = ruled t (writes_of t (PutModem mac modem)) Done (first_there (rules_of t now (PutModem mac modem))) good (command_good t now (PutModem mac modem) sound short good)
+step_good t now (PutClass n class) sound short good = ruled t (writes_of t (PutClass n class)) Done (first_there (rules_of t now (PutClass n class))) good (command_good t now (PutClass n class) sound short good)
+step_good t now (PutPool n pool) sound short good = ruled t (writes_of t (PutPool n pool)) Done (first_there (rules_of t now (PutPool n pool))) good (command_good t now (PutPool n pool) sound short good)
+step_good t now (Remove removed) sound short good = ruled t (writes_of t (Remove removed)) Done (first_there (rules_of t now (Remove removed))) good (command_good t now (Remove removed) sound short good)
 
 pub step_keeps_good : StepKeepsGood
 unfolding clerk_step

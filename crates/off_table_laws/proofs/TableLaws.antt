@@ -14,8 +14,8 @@ use Rattle.off_defs.specs.Keys.{key_cmp}
 use Rattle.off_defs.specs.State.{Tables}
 use Rattle.off_defs.specs.Tables.{row_at}
 use Rattle.off_defs.proofs.KeyLemmas.{key_total, key_exact}
-use Rattle.off_rules.specs.Rows.{is_possible, possible, overlaps, as_site, as_subscriber, as_add_on, as_class, lease_in}
-use Rattle.off_rules.specs.Good.{owner_of, Keeps, IsLeastBad}
+use Rattle.off_account_rules.specs.Rows.{is_possible, possible, overlaps, as_site, as_subscriber, as_add_on, as_class, lease_in}
+use Rattle.off_account_rules.specs.Good.{owner_of, Keeps, IsLeastBad}
 use Rattle.off_table_laws.specs.Laws.{owner_in, OneLeaseAModem, OwnersHold, PoolsAreApart, ModemsStand, AddOnsStand, LeasesStand, GoodHaveNoBadKey, OneJudgement, SeenAsTheyStand}
 use Rattle.off_table_laws.proofs.GoodRows.{Has, GoodRows}
 use Rattle.off_table_laws.proofs.Judging.{good_rows}

@@ -12,9 +12,9 @@ use Rattle.off_defs.specs.declared.orders.Command.TheVariants.{SetSite}
 use Rattle.off_defs.specs.State.{Tables}
 use Rattle.off_defs.specs.Tables.{row_at}
 use Rattle.off_rows.specs.Sound.{is_sound}
-use Rattle.off_rules.specs.Rows.{has_address, seen_at, site_in, subscriber_in, add_on_in, modem_in, class_in, pool_in, lease_in, held_in, pools}
-use Rattle.off_rules.specs.Good.{owner_of, raw_pools, Good, IsLeastBad, Judged}
-use Rattle.off_rules.specs.Clerk.{Refusal, clerk_step}
+use Rattle.off_account_rules.specs.Rows.{has_address, seen_at, site_in, subscriber_in, add_on_in, modem_in, class_in, pool_in, lease_in, held_in, pools}
+use Rattle.off_account_rules.specs.Good.{owner_of, raw_pools, Good, IsLeastBad, Judged}
+use Rattle.off_account_rules.specs.Clerk.{Refusal, clerk_step}
 
 -- A site's secret has at most 64 bytes, by its type. But a law ranges over lists of any length, and
 -- no rule of a command refuses a longer one, so the law of steps has this as a premise.

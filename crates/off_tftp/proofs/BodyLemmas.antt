@@ -10,8 +10,8 @@ use Rattle.off_defs.specs.declared.tables.Hold.TheVariants.{Bound, Offered, Decl
 use Rattle.off_defs.specs.declared.tables.Lease.{Lease}
 use Rattle.off_defs.specs.declared.tables.Modem.{Modem}
 use Rattle.off_defs.specs.State.{Tables, Transfer}
-use Rattle.off_rules.specs.Rows.{modem_in, lease_in}
-use Rattle.off_rules.specs.Good.{owner_of}
+use Rattle.off_account_rules.specs.Rows.{modem_in, lease_in}
+use Rattle.off_account_rules.specs.Good.{owner_of}
 use Rattle.off_file_rules.specs.Profile.{profile_at, profile_in}
 use Rattle.off_file_laws.proofs.LawLemmas.{profiles_spell}
 use Rattle.off_lease_rules.specs.Free.{has_ended}

@@ -11,7 +11,7 @@ use Rattle.off_defs.specs.declared.results.Sent.{Sent}
 use Rattle.off_defs.specs.declared.tables.Site.{Site}
 use Rattle.off_defs.specs.declared.tables.Modem.{Modem}
 use Rattle.off_defs.specs.State.{Tables, Said, Transfer}
-use Rattle.off_rules.specs.Rows.{passes, site_in, lease_in}
+use Rattle.off_account_rules.specs.Rows.{passes, site_in, lease_in}
 use Rattle.off_file_rules.specs.Profile.{profile_in}
 use Rattle.off_file_laws.specs.Laws.{SpellsProfile}
 use Rattle.off_file_laws.proofs.LawLemmas.{profiles_spell, files_are_short}

@@ -9,7 +9,7 @@ use Rattle.off_base.specs.declared.macs.Mac.{Mac}
 use Rattle.off_defs.specs.declared.tables.Site.{Site}
 use Rattle.off_defs.specs.declared.tables.Modem.{Modem}
 use Rattle.off_defs.specs.State.{Said, Transfer}
-use Rattle.off_rules.specs.Rows.{passes}
+use Rattle.off_account_rules.specs.Rows.{passes}
 use Rattle.off_kept.specs.declared.bodies.KeptBody.{KeptBody}
 use Rattle.off_kept.specs.Entries.{Entries, with_first}
 use Rattle.off_transfer_rules.specs.Transfers.{Transfers, begun, first_word}

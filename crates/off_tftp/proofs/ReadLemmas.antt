@@ -10,7 +10,7 @@ use Rattle.off_defs.specs.Bounds.{add_on_numbers}
 use Rattle.off_defs.specs.declared.tables.Site.{Site}
 use Rattle.off_defs.specs.declared.tables.Modem.{Modem}
 use Rattle.off_defs.specs.declared.tables.Lease.{Lease}
-use Rattle.off_rules.specs.Rows.{site_in, modem_in, lease_in, add_on_in}
+use Rattle.off_account_rules.specs.Rows.{site_in, modem_in, lease_in, add_on_in}
 use Rattle.off_file_rules.specs.Profile.{numbered_add_on, profile_in}
 use Rattle.off_transfer_rules.specs.View.{View, view, owner_by}
 use Rattle.off_tftp.specs.Listed.{with_add_on}

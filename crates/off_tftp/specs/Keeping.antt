@@ -7,7 +7,7 @@ use Rattle.off_base.specs.declared.addresses.Peer.{Peer}
 use Rattle.off_base.specs.declared.macs.Mac.{Mac}
 use Rattle.off_defs.specs.declared.tables.Modem.{Modem}
 use Rattle.off_defs.specs.State.{Tables, Said, Transfer}
-use Rattle.off_rules.specs.Rows.{lease_in}
+use Rattle.off_account_rules.specs.Rows.{lease_in}
 use Rattle.off_kept.specs.Entries.{Entries, kept_of, with_first}
 use Rattle.off_kept.specs.Right.{AllRight}
 use Rattle.off_kept.specs.declared.bodies.KeptBody.{KeptBody}

@@ -7,7 +7,7 @@ use Rattle.off_defs.specs.declared.tables.Site.{Site}
 use Rattle.off_defs.specs.declared.tables.Subscriber.{Subscriber}
 use Rattle.off_defs.specs.declared.tables.Class.{Class}
 use Rattle.off_defs.specs.declared.tables.Lease.{Lease}
-use Rattle.off_rules.specs.Rows.{passes}
+use Rattle.off_account_rules.specs.Rows.{passes}
 use Rattle.off_lease_rules.specs.Free.{has_ended}
 use Rattle.off_file_rules.specs.Profile.{profile_of}
 use Rattle.off_transfer_rules.specs.View.{View, bound_to, holder, is_own_name}

@@ -5,7 +5,7 @@ ghost use Rattle.std.specs.Prelude.{Some, MatchResult};
 ghost use Rattle.off_kept.specs.Entries.{kept_of};
 ghost use Rattle.off_base.specs.Tree.{AllFit, spelling};
 ghost use Rattle.off_base.specs.declared.macs.Mac.{Mac as MacSeen};
-ghost use Rattle.off_rules.specs.Rows.{modem_in};
+ghost use Rattle.off_account_rules.specs.Rows.{modem_in};
 ghost use Rattle.off_file_rules.specs.Profile.{profile_in};
 ghost use Rattle.off_kept.specs.Right.{AllRight};
 ghost use Rattle.off_outside.specs.declared.keeper.KeepErr.TheVariants.{Memory};
@@ -14,8 +14,8 @@ ghost use Rattle.off_tftp.specs.Keeping.{entry_of};
 
 use crate::gathering::read_profile;
 use off_base::{Mac, NoMemory, Secret, Settings};
-use off_build::Body;
 use off_defs::{Modem, Site};
+use off_files::Body;
 use off_kept::{Kept, KeptBody};
 use off_outside::{KeepErr, Keeper};
 use off_tlv::spelled_len;

@@ -5,7 +5,7 @@ ghost use Rattle.off_file_rules.specs.File.{IsBuilt};
 ghost use Rattle.off_tftp.specs.Built.{CanBuild};
 
 use off_base::{Ip4, Moment};
-use off_build::{BlockPieces, Body, FileTail, pieces, tail};
+use off_files::{BlockPieces, Body, FileTail, pieces, tail};
 use std::marker::Model;
 
 // A file has at most so many bytes.

@@ -3,7 +3,7 @@
 ghost use Rattle.std.specs.Prelude.{◌≡◌, ◌++◌, ◌∷◌, [], None, Ok, option_and_then, IfOk};
 ghost use Rattle.std.specs.Prelude.{true, option_map, MatchResult};
 ghost use Rattle.off_defs.specs.declared.tables.Modem.{Modem as ModemSeen};
-ghost use Rattle.off_rules.specs.Rows.{modem_in};
+ghost use Rattle.off_account_rules.specs.Rows.{modem_in};
 ghost use Rattle.off_file_rules.specs.Profile.{profile_at, profile_in, add_ons_in};
 ghost use Rattle.off_transfer_rules.specs.View.{view, owner_by};
 ghost use Rattle.off_kept.specs.Right.{AllRight};
@@ -19,9 +19,9 @@ use crate::bodies::kept_or_built;
 use crate::judging::names_file;
 use off_base::{Ip4, Mac, Moment, Settings};
 use off_defs::{ADD_ONS, Class, Lease, Modem, Site, Subscriber};
+use off_files::{AddOns, profile_of};
 use off_kept::{Kept, KeptBody};
 use off_outside::{KeepErr, Keeper};
-use off_profile::{AddOns, profile_of};
 use off_readers::{
     owner_of, read_add_on, read_class, read_lease, read_modem, read_site, read_subscriber,
 };

@@ -1,8 +1,8 @@
 //! A peer's requests against what was read for it.
 
 ghost use Rattle.std.specs.Prelude.{◌≡◌};
-ghost use Rattle.off_rules.specs.Rows.{passes};
-ghost use Rattle.off_rules.specs.Good.{is_mac};
+ghost use Rattle.off_account_rules.specs.Rows.{passes};
+ghost use Rattle.off_account_rules.specs.Good.{is_mac};
 ghost use Rattle.off_lease_rules.specs.Free.{has_ended};
 ghost use Rattle.off_transfer_rules.specs.View.{bound_to, is_own_name, is_of_subscriber, agrees};
 ghost use Rattle.off_tftp.specs.Seen.{view_of, held_by, names_file};
@@ -11,7 +11,7 @@ use crate::gathering::Seen;
 use crate::live::Live;
 use off_base::{Ip4, Mac, Moment};
 use off_defs::{Hold, Lease, Modem, Site};
-use off_profile::file_name;
+use off_files::file_name;
 use std::cmp::Ordering;
 
 /// Whether the tables agree with a transfer.

@@ -9,7 +9,7 @@ use Rattle.off_defs.specs.declared.tables.Class.{Class}
 use Rattle.off_defs.specs.declared.tables.Subscriber.{Subscriber}
 use Rattle.off_defs.specs.declared.tables.Modem.{Modem}
 use Rattle.off_defs.specs.State.{Tables}
-use Rattle.off_rules.specs.Rows.{modem_in, lease_in}
+use Rattle.off_account_rules.specs.Rows.{modem_in, lease_in}
 use Rattle.off_file_rules.specs.Profile.{profile_of, add_ons_in, profile_at, profile_in}
 use Rattle.off_transfer_rules.specs.View.{owner_by, view}
 use Rattle.off_transfer_laws.specs.SameRows.{SameForModem, SameRows, RowsDecide}

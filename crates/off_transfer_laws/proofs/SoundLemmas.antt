@@ -7,7 +7,7 @@ use Rattle.off_base.specs.declared.addresses.Ip4.{Ip4}
 use Rattle.off_base.specs.declared.addresses.Peer.{Peer}
 use Rattle.off_base.specs.declared.macs.Mac.{Mac}
 use Rattle.off_defs.specs.State.{Tables, Transfer, peer_cmp}
-use Rattle.off_rules.specs.Rows.{lease_in}
+use Rattle.off_account_rules.specs.Rows.{lease_in}
 use Rattle.off_file_laws.proofs.LawLemmas.{files_are_short}
 use Rattle.off_transfer_rules.specs.View.{view, IsBuiltBy}
 use Rattle.off_transfer_rules.specs.Transfers.{Transfers, has_no_room, size_for, first_number, begun, is_last_number, is_at_last, gone_on, asked_again, sent_again}

@@ -6,7 +6,7 @@ use Rattle.off_base.specs.declared.addresses.Ip4.{Ip4}
 use Rattle.off_base.specs.declared.addresses.Peer.{Peer}
 use Rattle.off_base.specs.declared.macs.Mac.{Mac}
 use Rattle.off_defs.specs.State.{Tables, Transfer}
-use Rattle.off_rules.specs.Rows.{passes, lease_in}
+use Rattle.off_account_rules.specs.Rows.{passes, lease_in}
 use Rattle.off_transfer_rules.specs.View.{View, view, is_of_subscriber, is_own_name, IsBuiltBy}
 use Rattle.off_transfer_rules.specs.Transfers.{Transfers, has_no_room, first_word, begun, gone_on, asked_again}
 use Rattle.off_transfer_rules.specs.Steps.{Way, Denies, Repeats, Accepts, Ignores, Finishes, BreaksOff, GoesOn, Leaves, way, Given, gives, error_to, last_to, GivesBy, TftpStep, no_longer_agreed}

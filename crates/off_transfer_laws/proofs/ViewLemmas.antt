@@ -19,8 +19,8 @@ use Rattle.off_defs.specs.declared.tables.Lease.{Lease}
 use Rattle.off_defs.specs.State.{Tables}
 use Rattle.off_mic.specs.Mic.{Sealed}
 use Rattle.off_mic.proofs.SealLemmas.{sealed_is_one}
-use Rattle.off_rules.specs.Rows.{passes, site_in, modem_in, lease_in, subscriber_in, class_in}
-use Rattle.off_rules.specs.Good.{owner_of, is_mac, Good}
+use Rattle.off_account_rules.specs.Rows.{passes, site_in, modem_in, lease_in, subscriber_in, class_in}
+use Rattle.off_account_rules.specs.Good.{owner_of, is_mac, Good}
 use Rattle.off_file_rules.specs.Name.{name_of}
 use Rattle.off_file_rules.specs.Profile.{profile_of, add_ons_in, profile_at, profile_in}
 use Rattle.off_file_rules.specs.File.{with_stamps, IsFile}

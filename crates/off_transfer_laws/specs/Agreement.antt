@@ -7,7 +7,7 @@ use Rattle.off_defs.specs.declared.tables.Modem.{Modem}
 use Rattle.off_defs.specs.declared.tables.Lease.{Lease}
 use Rattle.off_defs.specs.declared.tables.Hold.TheVariants.{Bound}
 use Rattle.off_defs.specs.State.{Tables}
-use Rattle.off_rules.specs.Rows.{site_in, modem_in, lease_in}
+use Rattle.off_account_rules.specs.Rows.{site_in, modem_in, lease_in}
 use Rattle.off_file_rules.specs.Name.{name_of}
 
 -- the address is bound to the modem by a lease that hasn't ended, the modem is the subscriber's,

@@ -6,7 +6,7 @@ use Rattle.off_base.specs.declared.addresses.Peer.{Peer}
 use Rattle.off_base.specs.declared.macs.Mac.{Mac}
 use Rattle.off_defs.specs.declared.results.Sent.{Sent}
 use Rattle.off_defs.specs.State.{Tables, Transfer}
-use Rattle.off_rules.specs.Good.{Good}
+use Rattle.off_account_rules.specs.Good.{Good}
 use Rattle.off_file_rules.specs.File.{IsFile}
 use Rattle.off_transfer_rules.specs.View.{view, agrees, IsBuiltBy}
 use Rattle.off_transfer_rules.specs.Transfers.{Transfers, most_transfers, sent_again, packet_to}

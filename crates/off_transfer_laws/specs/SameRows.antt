@@ -6,7 +6,7 @@ use Rattle.off_base.specs.declared.addresses.Peer.{Peer}
 use Rattle.off_base.specs.declared.macs.Mac.{Mac}
 use Rattle.off_defs.specs.declared.tables.Modem.{Modem}
 use Rattle.off_defs.specs.State.{Tables}
-use Rattle.off_rules.specs.Rows.{site_in, subscriber_in, add_on_in, modem_in, class_in, lease_in}
+use Rattle.off_account_rules.specs.Rows.{site_in, subscriber_in, add_on_in, modem_in, class_in, lease_in}
 use Rattle.off_transfer_rules.specs.View.{owner_by}
 use Rattle.off_transfer_rules.specs.Transfers.{Transfers}
 use Rattle.off_transfer_rules.specs.Steps.{Given, TftpStep}

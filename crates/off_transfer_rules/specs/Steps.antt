@@ -9,7 +9,7 @@ use Rattle.off_base.specs.declared.macs.Mac.{Mac}
 use Rattle.off_defs.specs.declared.results.Sent.{Sent}
 use Rattle.off_defs.specs.declared.tables.Modem.{Modem}
 use Rattle.off_defs.specs.State.{Tables, Transfer}
-use Rattle.off_rules.specs.Rows.{passes}
+use Rattle.off_account_rules.specs.Rows.{passes}
 use Rattle.off_transfer_rules.specs.Packets.{Meant, Reads, Writes, Acknowledges, GivesUp, IsOther, packet_of}
 use Rattle.off_transfer_rules.specs.Replies.{error_packet}
 use Rattle.off_transfer_rules.specs.View.{View, view, holder, is_own_name, agrees, IsBuiltBy}

@@ -11,8 +11,8 @@ use Rattle.off_defs.specs.declared.tables.Lease.{Lease}
 use Rattle.off_defs.specs.declared.tables.Hold.{Hold}
 use Rattle.off_defs.specs.declared.tables.Hold.TheVariants.{Bound}
 use Rattle.off_defs.specs.State.{Tables}
-use Rattle.off_rules.specs.Rows.{passes, site_in, modem_in, lease_in}
-use Rattle.off_rules.specs.Good.{owner_of, is_mac}
+use Rattle.off_account_rules.specs.Rows.{passes, site_in, modem_in, lease_in}
+use Rattle.off_account_rules.specs.Good.{owner_of, is_mac}
 use Rattle.off_file_rules.specs.Name.{name_of}
 use Rattle.off_file_rules.specs.Profile.{profile_in}
 use Rattle.off_file_rules.specs.File.{IsBuilt}

@@ -1,5 +1,5 @@
 ghost use Rattle.std.specs.Prelude.{◌≡◌, false, IfOk, IfSome};
-ghost use Rattle.off_deciding.specs.Deciding.{is_import};
+ghost use Rattle.off_accounts.specs.Deciding.{is_import};
 
 use off_accounts::{AccountErr, Counts, Planned, decide};
 use off_base::Moment;

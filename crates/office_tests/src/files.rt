@@ -1,10 +1,9 @@
 use md5::{Digest, Md5};
 use off_base::{Bytes, Ip4, Mac, Moment, NoMemory, Secret, Settings, Short};
-use off_build::{Body, FileTail, block, tail};
 use off_defs::{Key, Subscriber, Write, Writes};
+use off_files::{AddOns, Body, FileTail, block, file_name, profile_of, tail};
 use off_kept::{Kept, KeptBody};
 use off_mic::verify;
-use off_profile::{AddOns, file_name, profile_of};
 use off_tlv::{read_settings, spelled_len};
 use off_tree::{check_addon, check_class};
 use std::alloc::Global;

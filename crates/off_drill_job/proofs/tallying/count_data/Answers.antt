@@ -1,7 +1,7 @@
 use Rattle.std.proofs.Common.{ap, ◌∙◌, List, arith}
 use Rattle.std.proofs.lemmas.List.{take_all}
 use Rattle.off_defs.specs.declared.results.Sent.{Sent}
-use Rattle.off_sending.proofs.SendLemmas.{one_more_item}
+use Rattle.off_office.proofs.SendLemmas.{one_more_item}
 use Rattle.off_drill_job.specs.Tallying.{raised_by, data_tally}
 use Rattle.off_drill_job.proofs.TallyLemmas.{counted_none, counted_more}
 use Rattle.off_drill_job.proofs.tallying.count_data.Goals as goal

@@ -1,6 +1,6 @@
 use Rattle.std.proofs.Common.{◌≡◌}
 use Rattle.off_defs.specs.State.{Tables}
-use Rattle.off_rules.specs.Rows.{site_in}
+use Rattle.off_account_rules.specs.Rows.{site_in}
 use Rattle.off_lease_rules.specs.Free.{chosen_in}
 use Rattle.off_lease_rules.specs.Steps.{lease_step, settled_in, refuses}
 use Rattle.off_lease_rules.specs.declared.results.LeaseStep.{LeaseStep}

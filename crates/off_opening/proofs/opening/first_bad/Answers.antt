@@ -1,4 +1,4 @@
-use Rattle.off_rules.specs.Good.{Judged}
+use Rattle.off_account_rules.specs.Good.{Judged}
 use Rattle.off_opening.proofs.StandingLemmas.{looked}
 use Rattle.off_opening.proofs.opening.first_bad.Goals as goal
 

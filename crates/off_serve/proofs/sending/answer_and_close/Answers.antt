@@ -1,4 +1,4 @@
-use Rattle.off_sending.proofs.SendLemmas.{sent_two}
+use Rattle.off_office.proofs.SendLemmas.{sent_two}
 use Rattle.off_serve.proofs.sending.answer_and_close.Goals as goal
 
 pub returns : goal.returns

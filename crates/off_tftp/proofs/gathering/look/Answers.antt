@@ -1,5 +1,5 @@
 use Rattle.std.proofs.Common.{◌≡◌}
-use Rattle.off_rules.specs.Rows.{site_in, lease_in}
+use Rattle.off_account_rules.specs.Rows.{site_in, lease_in}
 use Rattle.off_outside.proofs.KeeperLemmas.{reads_then}
 use Rattle.off_tftp.proofs.ReadLemmas.{look_is}
 use Rattle.off_tftp.proofs.gathering.look.Goals as goal

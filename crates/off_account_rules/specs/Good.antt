@@ -1,0 +1,123 @@
+-- When tables are good: each key's row is possible and stands in the right relations to the other
+-- rows. Here rows are read as they are, also impossible ones, so that the least bad key is named
+-- and not one that stands on it.
+use Rattle.std.specs.Prelude.{◌≡◌, ◌==◌, Bool, true, false, not, ◌&&◌, ◌||◌, IsTrue, List, Option, Some, None, is_some, option_and_then}
+use Rattle.std.specs.List.{filter_map, list_all, count_by}
+use Rattle.std.specs.Ordering.{eq_by_cmp, nat_cmp}
+use Rattle.std.specs.Cmp.Lexicographic.{slice_cmp}
+use Rattle.std.specs.declared.cmp.Ordering.TheVariants.{Less}
+use Rattle.std.specs.FinMap as map
+use Rattle.std.specs.Prelude.{ℕ}
+use Rattle.off_base.specs.declared.addresses.Ip4.{Ip4}
+use Rattle.off_base.specs.declared.macs.Mac.{Mac}
+use Rattle.off_defs.specs.declared.keys.Key.{Key}
+use Rattle.off_defs.specs.declared.keys.Key.TheVariants as key
+use Rattle.off_defs.specs.declared.tables.Row.{Row}
+use Rattle.off_defs.specs.declared.tables.Row.TheVariants as row
+use Rattle.off_defs.specs.declared.tables.Pool.{Pool}
+use Rattle.off_defs.specs.declared.tables.Hold.{Hold}
+use Rattle.off_defs.specs.declared.tables.Hold.TheVariants.{Offered, Bound, Declined}
+use Rattle.off_defs.specs.Keys.{key_cmp}
+use Rattle.off_defs.specs.State.{Tables}
+use Rattle.off_defs.specs.Tables.{row_at}
+use Rattle.off_defs.specs.declared.tables.Modem.{Modem}
+use Rattle.off_defs.specs.declared.tables.Lease.{Lease}
+use Rattle.off_account_rules.specs.Rows.{passes, is_possible, has_address, overlaps, as_modem, as_pool, as_lease, as_held}
+
+abbrev pub is_there : Tables → Key → Bool
+is_there tables key = is_some (row_at tables key)
+
+-- all rows that are pools at the key of a pool, whatever their values
+abbrev pub raw_pool_of : Key × Row → Option (ℕ × Pool)
+raw_pool_of (key.Pool n, row.Pool pool) = Some (n, pool)
+raw_pool_of entry = None
+
+abbrev pub raw_pools : Tables → List (ℕ × Pool)
+raw_pools tables = filter_map raw_pool_of (map.entries tables)
+
+-- no other pool has an address of this one or its relay
+abbrev pub is_apart : ℕ → Pool → ℕ × Pool → Bool
+is_apart n pool other =
+    (other.0 == n) || (not (overlaps pool other.1) && not (other.1.relay.0 == pool.relay.0))
+
+-- how many pools have the address
+abbrev pub pools_around : Tables → Ip4 → ℕ
+pools_around tables address = count_by (λ other. has_address other.1 address) (raw_pools tables)
+
+-- the modem that has an address
+abbrev pub owner_of : Hold → Option Mac
+owner_of (Offered mac) = Some mac
+owner_of (Bound mac) = Some mac
+owner_of Declined = None
+
+abbrev pub is_mac : Mac → Mac → Bool
+is_mac mac other = eq_by_cmp (slice_cmp nat_cmp) mac.0 other.0
+
+-- the modem holds this address; this modem owns the lease of an address
+abbrev pub is_address : Ip4 → Ip4 → Bool
+is_address address other = other.0 == address.0
+
+abbrev pub stored_held : Tables → Mac → Option Ip4
+stored_held tables mac = option_and_then as_held (row_at tables (key.Held mac))
+
+abbrev pub holds : Tables → Ip4 → Mac → Bool
+holds tables address mac = passes (is_address address) (stored_held tables mac)
+
+abbrev pub owner_holds : Tables → Ip4 → Option Mac → Bool
+owner_holds tables address None = true
+owner_holds tables address (Some mac) = holds tables address mac
+
+abbrev pub owner_at : Tables → Ip4 → Option Mac
+owner_at tables address =
+    option_and_then (λ lease. owner_of lease.hold)
+    (option_and_then as_lease (row_at tables (key.Lease address)))
+
+abbrev pub owns : Tables → Mac → Ip4 → Bool
+owns tables mac address = passes (is_mac mac) (owner_at tables address)
+
+-- a modem has its subscriber and its class
+abbrev pub modem_stands : Tables → Modem → Bool
+modem_stands tables modem =
+    is_there tables (key.Subscriber modem.subscriber) && is_there tables (key.Class modem.class)
+
+-- a lease has its site and its one pool, and its owner holds its address
+abbrev pub lease_stands : Tables → Ip4 → Lease → Bool
+lease_stands tables address lease =
+    is_there tables key.Site && ((pools_around tables address == 1)
+    && owner_holds tables address (owner_of lease.hold))
+
+-- an add-on has its subscriber; no pool has an address or the relay of another; who holds an
+-- address owns its lease
+abbrev pub stands_right : Tables → Key → Row → Bool
+stands_right tables key.Site held = true
+stands_right tables (key.Subscriber n) held = true
+stands_right tables (key.AddOn n number) held = is_there tables (key.Subscriber n)
+stands_right tables (key.Modem mac) held = passes (modem_stands tables) (as_modem held)
+stands_right tables (key.Class n) held = true
+stands_right tables (key.Pool n) held =
+    passes (λ pool. list_all (is_apart n pool) (raw_pools tables)) (as_pool held)
+stands_right tables (key.Lease address) held = passes (lease_stands tables address) (as_lease held)
+stands_right tables (key.Held mac) held = passes (owns tables mac) (as_held held)
+stands_right tables (key.Batch n) held = true
+
+abbrev pub keeps : Tables → Key → Row → Bool
+keeps tables key held = is_possible key held && stands_right tables key held
+
+-- a key keeps its line, or has no row
+abbrev pub Keeps : Tables → Key → Type 0
+Keeps tables key = (held : Row) → row_at tables key ≡ Some held → IsTrue (keeps tables key held)
+
+abbrev pub Good : Tables → Type 0
+Good tables = (key : Key) → Keeps tables key
+
+-- a key whose row breaks its line, and all keys below it keep theirs
+pub record IsLeastBad (tables : Tables) (bad : Key) : Type 0 where
+  pub held : Row
+  pub there : row_at tables bad ≡ Some held
+  pub breaks : keeps tables bad held ≡ false
+  pub least : (key : Key) → key_cmp key bad ≡ Less → Keeps tables key
+
+-- what a test of the tables says: they are good, or this is their least bad key
+abbrev pub Judged : Tables → Option Key → Type 0
+Judged tables None = Good tables
+Judged tables (Some key) = IsLeastBad tables key

@@ -1,0 +1,18 @@
+pub mod AfterLemmas
+pub mod ChangeLemmas
+pub mod CountsLemmas
+pub mod DecideLemmas
+pub mod DropLemmas
+pub mod FoundLemmas
+pub mod LimitLemmas
+pub mod PlanLemmas
+pub mod PresentLemmas
+pub mod RemovalLemmas
+pub mod SearchLemmas
+pub mod TestLemmas
+pub mod TriedLemmas
+mod ProgressLemmas
+mod JudgeLemmas
+mod RowsLemmas
+mod ImportLemmas
+pub mod GoodLemmas

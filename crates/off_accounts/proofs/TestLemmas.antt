@@ -1,0 +1,90 @@
+-- The tests of a command say what its rules say.
+use Rattle.std.proofs.Common.{◌≡◌, ℕ, zero, suc, ◌+◌, not, option_map, Option, Some, None, List, [], ◌∷◌, ◌++◌, map, refl, sym, ap, ◌∙◌}
+use Rattle.off_base.specs.Choices.{when, first_there}
+use Rattle.off_base.specs.declared.moments.Moment.{Moment}
+use Rattle.off_defs.specs.declared.keys.Key.{Key}
+use Rattle.off_defs.specs.declared.keys.Key.TheVariants as key
+use Rattle.off_defs.specs.declared.tables.Pool.{Pool}
+use Rattle.off_defs.specs.declared.rules.Rule.{Rule}
+use Rattle.off_defs.specs.declared.rules.Rule.TheVariants as rule
+use Rattle.off_defs.specs.declared.orders.Kind.TheVariants.{Subscribers, AddOns, Modems, Classes, Pools}
+use Rattle.off_defs.specs.declared.orders.Command.{Command}
+use Rattle.off_defs.specs.declared.orders.Command.TheVariants.{SetSite, PutSubscriber, PutAddOn, PutModem, PutClass, PutPool, Remove, Show, Import}
+use Rattle.off_defs.specs.State.{Tables}
+use Rattle.off_tree.specs.declared.tables.Kind.TheVariants as tree
+use Rattle.off_tree.specs.Fault.{first_fault}
+use Rattle.off_account_rules.specs.declared.counts.Counts.{Counts}
+use Rattle.off_account_rules.specs.Rows.{has_pool_size, counts_of}
+use Rattle.off_account_rules.specs.Clerk.{limit, no_subscriber, no_class, no_row, pool_overlap, relay_taken, pool_has_leases, has_modems, class_in_use, rules_of, removal_rules}
+use Rattle.off_accounts.specs.declared.subject.Subject.{Subject}
+use Rattle.off_accounts.specs.Searches.{live_lost}
+use Rattle.off_accounts.specs.Tests.{says, SubjectStands, IsSubject, live_test, tests_of, removal_tests}
+use Rattle.off_accounts.proofs.LimitLemmas.{limit_is}
+use Rattle.off_accounts.proofs.PresentLemmas.{row_is}
+use Rattle.off_accounts.proofs.FoundLemmas.{none_lost}
+
+-- rules that aren't there are never broken
+abbrev nones : ℕ → List (Option Rule)
+nones zero = []
+nones (suc k) = None ∷ nones k
+
+only_nones : (k : ℕ) → first_there (nones k) ≡ None
+only_nones zero = refl
+only_nones (suc k) = only_nones k
+
+padded : (rules : List (Option Rule)) (k : ℕ) → first_there (rules ++ nones k) ≡ first_there rules
+padded [] k = only_nones k
+padded (None ∷ rules) k = padded rules k
+padded (Some broken ∷ rules) k = refl
+
+live_is : (now : Moment) (old new : Option Pool) (t : Tables) → says t (live_test now old new) ≡ live_lost now.0 old new t
+live_is now None new t = sym (none_lost now.0 new t)
+live_is now (Some old) new t = refl
+
+live_says : (now : Moment) (n : ℕ) (new : Option Pool) (subject : Subject) (t : Tables) → SubjectStands t (key.Pool n) subject → says t (live_test now subject.pool new) ≡ pool_has_leases t now.0 n new
+live_says now n new subject t stands = live_is now subject.pool new t ∙ ap (λ (old : Option Pool). live_lost now.0 old new t) stands.1
+
+module _ (now : Moment) (subject : Subject) (t : Tables) where
+  row_alone : (removed : Key) → SubjectStands t removed subject → first_there (when (not subject.is_there) rule.NoRow ∷ nones 4) ≡ first_there (no_row t removed ∷ [])
+  row_alone removed stands = ap (λ (r : Option Rule). first_there (r ∷ nones 4)) (row_is removed t subject.is_there stands.0) ∙ padded (no_row t removed ∷ []) 4
+
+  removal_says : (removed : Key) → SubjectStands t removed subject → first_there (map (says t) (removal_tests now subject removed)) ≡ first_there (removal_rules t now.0 removed)
+  removal_says (key.Subscriber n) stands =
+      ap (λ (r : Option Rule). first_there (r ∷ has_modems t n ∷ nones 3)) (row_is (key.Subscriber n) t subject.is_there stands.0)
+      ∙ padded (no_row t (key.Subscriber n) ∷ has_modems t n ∷ []) 3
+  removal_says (key.Class n) stands =
+      ap (λ (r : Option Rule). first_there (r ∷ class_in_use t n ∷ nones 3)) (row_is (key.Class n) t subject.is_there stands.0)
+      ∙ padded (no_row t (key.Class n) ∷ class_in_use t n ∷ []) 3
+  removal_says (key.Pool n) stands =
+      ap (λ (r : Option Rule). first_there (r ∷ says t (live_test now subject.pool None) ∷ nones 3)) (row_is (key.Pool n) t subject.is_there stands.0)
+      ∙ ap (λ (r : Option Rule). first_there (no_row t (key.Pool n) ∷ r ∷ nones 3)) (live_says now n None subject t stands)
+      ∙ padded (no_row t (key.Pool n) ∷ pool_has_leases t now.0 n None ∷ []) 3
+  removal_says key.Site stands = row_alone key.Site stands
+  removal_says (key.AddOn n number) stands = row_alone (key.AddOn n number) stands
+  removal_says (key.Modem mac) stands = row_alone (key.Modem mac) stands
+  removal_says (key.Lease address) stands = row_alone (key.Lease address) stands
+  removal_says (key.Held mac) stands = row_alone (key.Held mac) stands
+  removal_says (key.Batch n) stands = row_alone (key.Batch n) stands
+
+  pub tests_say : (counts : Counts) (c : Command) → counts ≡ counts_of t → IsSubject c subject t → first_there (map (says t) (tests_of counts now subject c)) ≡ first_there (rules_of t now.0 c)
+  tests_say counts (SetSite site) agree stands = padded (rules_of t now.0 (SetSite site)) 1
+  tests_say counts (PutSubscriber n subscriber) agree stands =
+      ap (λ (r : Option Rule). first_there (r ∷ nones 4)) (limit_is (key.Subscriber n) Subscribers counts t subject.is_there stands.0 agree)
+      ∙ padded (limit t (key.Subscriber n) Subscribers ∷ []) 4
+  tests_say counts (PutAddOn n number settings) agree stands =
+      ap (λ (r : Option Rule). first_there (no_subscriber t n ∷ option_map rule.Tree (first_fault tree.AddOn settings) ∷ r ∷ nones 2)) (limit_is (key.AddOn n number) AddOns counts t subject.is_there stands.0 agree)
+      ∙ padded (rules_of t now.0 (PutAddOn n number settings)) 2
+  tests_say counts (PutModem mac modem) agree stands =
+      ap (λ (r : Option Rule). first_there (no_subscriber t modem.subscriber ∷ no_class t modem.class ∷ r ∷ nones 2)) (limit_is (key.Modem mac) Modems counts t subject.is_there stands.0 agree)
+      ∙ padded (rules_of t now.0 (PutModem mac modem)) 2
+  tests_say counts (PutClass n class) agree stands =
+      ap (λ (r : Option Rule). first_there (option_map rule.Tree (first_fault tree.Class class.settings) ∷ r ∷ nones 3)) (limit_is (key.Class n) Classes counts t subject.is_there stands.0 agree)
+      ∙ padded (rules_of t now.0 (PutClass n class)) 3
+  tests_say counts (PutPool n pool) agree stands =
+      ap (λ (r : Option Rule). first_there (when (not (has_pool_size pool)) rule.PoolSize ∷ pool_overlap t n pool ∷ relay_taken t n pool ∷ says t (live_test now subject.pool (Some pool)) ∷ r ∷ []))
+      (limit_is (key.Pool n) Pools counts t subject.is_there stands.0 agree)
+      ∙ ap (λ (r : Option Rule). first_there (when (not (has_pool_size pool)) rule.PoolSize ∷ pool_overlap t n pool ∷ relay_taken t n pool ∷ r ∷ limit t (key.Pool n) Pools ∷ []))
+      (live_says now n (Some pool) subject t stands)
+  tests_say counts (Remove removed) agree stands = removal_says removed stands
+  tests_say counts (Show shown) agree stands = row_alone shown stands
+  tests_say counts (Import kind batch digest rows) agree stands = refl

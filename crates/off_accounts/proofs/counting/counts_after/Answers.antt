@@ -1,0 +1,44 @@
+use Rattle.std.proofs.Common.{sym, ap, ◌∙◌, refl}
+use Rattle.off_outside.proofs.KeeperLemmas.{reads_none}
+use Rattle.off_defs.specs.declared.orders.Command.TheVariants.{PutSubscriber, PutAddOn, PutModem, PutClass, PutPool}
+use Rattle.off_rows.specs.Sound.{is_sound}
+use Rattle.off_accounts.proofs.AfterLemmas.{counted_as, site_put, subscriber_put, add_on_put, modem_put, class_put, pool_put}
+use Rattle.off_accounts.proofs.counting.counts_after.Goals as goal
+
+pub returns-in-PutSubscriber-clause-told : goal.returns-in-PutSubscriber-clause-told
+returns-in-PutSubscriber-clause-told g c = reads_none (λ t.
+    counted_as c.args.counts.now c.counts_put.result c.args.subject.now t c.args.c.now (PutSubscriber c.in-PutSubscriber.field-0 c.in-PutSubscriber.field-1) c.in-PutSubscriber.is
+    (subscriber_put c.args.counts.now c.counts_put.result c.args.subject.now t c.in-PutSubscriber.field-0 c.in-PutSubscriber.field-1 (sym (ap is_sound c.in-PutSubscriber.is) ∙ c.requires) c.counts_put.ensures))
+
+pub returns-in-PutAddOn-clause-told : goal.returns-in-PutAddOn-clause-told
+returns-in-PutAddOn-clause-told g c = reads_none (λ t.
+    counted_as c.args.counts.now c.counts_put-in-PutAddOn.result c.args.subject.now t c.args.c.now (PutAddOn c.in-PutAddOn.field-0 c.in-PutAddOn.field-1 c.in-PutAddOn.field-2) c.in-PutAddOn.is
+    (add_on_put c.args.counts.now c.counts_put-in-PutAddOn.result c.args.subject.now t c.in-PutAddOn.field-0 c.in-PutAddOn.field-1 c.in-PutAddOn.field-2 (sym (ap is_sound c.in-PutAddOn.is) ∙ c.requires) c.counts_put-in-PutAddOn.ensures))
+
+pub returns-in-PutModem-clause-told : goal.returns-in-PutModem-clause-told
+returns-in-PutModem-clause-told g c = reads_none (λ t.
+    counted_as c.args.counts.now c.counts_put-in-PutModem.result c.args.subject.now t c.args.c.now (PutModem c.in-PutModem.field-0 c.in-PutModem.field-1) c.in-PutModem.is
+    (modem_put c.args.counts.now c.counts_put-in-PutModem.result c.args.subject.now t c.in-PutModem.field-0 c.in-PutModem.field-1 c.counts_put-in-PutModem.ensures))
+
+pub returns-in-PutClass-clause-told : goal.returns-in-PutClass-clause-told
+returns-in-PutClass-clause-told g c = reads_none (λ t.
+    counted_as c.args.counts.now c.counts_put-in-PutClass.result c.args.subject.now t c.args.c.now (PutClass c.in-PutClass.field-0 c.in-PutClass.field-1) c.in-PutClass.is
+    (class_put c.args.counts.now c.counts_put-in-PutClass.result c.args.subject.now t c.in-PutClass.field-0 c.in-PutClass.field-1 c.counts_put-in-PutClass.ensures))
+
+pub returns-in-PutPool-clause-told : goal.returns-in-PutPool-clause-told
+returns-in-PutPool-clause-told g c = reads_none (λ t.
+    counted_as c.args.counts.now c.counts_put-in-PutPool.result c.args.subject.now t c.args.c.now (PutPool c.in-PutPool.field-0 c.in-PutPool.field-1) c.in-PutPool.is
+    (pool_put c.args.counts.now c.counts_put-in-PutPool.result c.args.subject.now t c.in-PutPool.field-0 c.in-PutPool.field-1 (sym (ap is_sound c.in-PutPool.is) ∙ c.requires) c.counts_put-in-PutPool.ensures))
+
+pub returns-in-SetSite-clause-told : goal.returns-in-SetSite-clause-told
+returns-in-SetSite-clause-told g c = reads_none (λ t.
+    counted_as c.args.counts.now c.args.counts.now c.args.subject.now t c.args.c.now _ c.in-SetSite.is
+    (site_put c.args.counts.now c.args.counts.now c.args.subject.now t _ refl))
+
+pub returns-in-Show-clause-told : goal.returns-in-Show-clause-told
+returns-in-Show-clause-told g c = reads_none (λ t.
+    counted_as c.args.counts.now c.args.counts.now c.args.subject.now t c.args.c.now _ c.in-Show.is (λ now agree stands none. agree))
+
+pub returns-in-Import-clause-told : goal.returns-in-Import-clause-told
+returns-in-Import-clause-told g c = reads_none (λ t.
+    counted_as c.args.counts.now c.args.counts.now c.args.subject.now t c.args.c.now _ c.in-Import.is (λ now agree stands none. agree))

@@ -1,0 +1,7 @@
+pub mod After
+pub mod Changes
+pub mod Deciding
+pub mod Searches
+pub mod Tests
+pub mod Commands
+pub mod Imports

@@ -1,0 +1,181 @@
+-- The rules of a command as they are tested: on what is known already, or by looking into the
+-- tables.
+use Rattle.std.specs.Prelude.{◌≡◌, ℕ, Bool, true, false, not, ◌&&◌, ◌||◌, nat_le, ◌+◌, ◌==◌, length, List, [], ◌∷◌, Option, Some, None, is_some, option_map, option_and_then}
+use Rattle.off_base.specs.Choices.{when}
+use Rattle.off_tree.specs.declared.tables.Kind.TheVariants as tree
+use Rattle.off_tree.specs.Fault.{first_fault}
+use Rattle.off_defs.specs.declared.keys.Key.{Key}
+use Rattle.off_defs.specs.declared.keys.Key.TheVariants as key
+use Rattle.off_defs.specs.declared.tables.Pool.{Pool}
+use Rattle.off_defs.specs.declared.rules.Rule.{Rule}
+use Rattle.off_defs.specs.declared.rules.Rule.TheVariants as rule
+use Rattle.off_base.specs.declared.moments.Moment.{Moment}
+use Rattle.off_defs.specs.declared.tables.Site.{Site}
+use Rattle.off_defs.specs.declared.orders.Kind.{Kind}
+use Rattle.off_defs.specs.declared.orders.Kind.TheVariants.{Subscribers, AddOns, Modems, Classes, Pools}
+use Rattle.off_defs.specs.declared.orders.Command.{Command}
+use Rattle.off_defs.specs.declared.orders.Command.TheVariants.{SetSite, PutSubscriber, PutAddOn, PutModem, PutClass, PutPool, Remove, Show, Import}
+use Rattle.off_defs.specs.State.{Tables}
+use Rattle.off_account_rules.specs.declared.counts.Counts.{Counts}
+use Rattle.off_account_rules.specs.Rows.{seen_at, as_pool, is_lease_time, is_offset, has_pool_size}
+use Rattle.off_account_rules.specs.Clerk.{limit_of, no_subscriber, no_class, pool_overlap, relay_taken, has_modems, class_in_use}
+use Rattle.off_accounts.specs.declared.subject.Subject.{Subject}
+use Rattle.off_accounts.specs.declared.searching.Sought.{Sought}
+use Rattle.off_accounts.specs.declared.searching.Sought.TheVariants.{Overlapping, WithRelay, LiveLost, OfSubscriber, OfClass}
+use Rattle.off_accounts.specs.declared.testing.Test.{Test}
+use Rattle.off_accounts.specs.declared.testing.Test.TheVariants.{Tested, HasSubscriber, HasClass, FindsNone}
+use Rattle.off_accounts.specs.Changes.{count_in}
+use Rattle.off_accounts.specs.Searches.{live_lost, pool_number, lease_address}
+
+-- the rule that is broken by what is found, and the same as the book says it
+abbrev pub found_rule : Sought → Option Key → Option Rule
+found_rule (Overlapping n pool) found = option_map rule.PoolOverlap (pool_number found)
+found_rule (WithRelay n pool) found = option_map rule.RelayTaken (pool_number found)
+found_rule (LiveLost now lost) found = option_map rule.PoolHasLeases (lease_address found)
+found_rule (OfSubscriber n) found = when (is_some found) rule.HasModems
+found_rule (OfClass n) found = when (is_some found) rule.ClassInUse
+
+abbrev pub sought_rule : Sought → Tables → Option Rule
+sought_rule (Overlapping n pool) t = pool_overlap t n pool
+sought_rule (WithRelay n pool) t = relay_taken t n pool
+sought_rule (LiveLost now lost) t = live_lost now.0 (Some lost.old) lost.new t
+sought_rule (OfSubscriber n) t = has_modems t n
+sought_rule (OfClass n) t = class_in_use t n
+
+-- what a test says of tables: the rule that is broken
+abbrev pub says : Tables → Test → Option Rule
+says t (Tested broken) = broken
+says t (HasSubscriber n) = no_subscriber t n
+says t (HasClass n) = no_class t n
+says t (FindsNone sought) = sought_rule sought t
+
+-- how many keys the tests look up, and whether one of them searches
+abbrev pub looks_up : Test → ℕ
+looks_up (Tested broken) = 0
+looks_up (HasSubscriber n) = 1
+looks_up (HasClass n) = 1
+looks_up (FindsNone sought) = 0
+
+abbrev pub searches : Test → Bool
+searches (Tested broken) = false
+searches (HasSubscriber n) = false
+searches (HasClass n) = false
+searches (FindsNone sought) = true
+
+-- what the tables have at the key of a command, before it
+abbrev pub SubjectStands : Tables → Key → Subject → Type 0
+SubjectStands t key subject =
+    (subject.is_there ≡ is_some (seen_at t key))
+    × (subject.pool ≡ option_and_then as_pool (seen_at t key))
+
+abbrev pub IsSubject : Command → Subject → Tables → Type 0
+IsSubject (SetSite site) subject t = Unit {0}
+IsSubject (PutSubscriber n subscriber) subject t = SubjectStands t (key.Subscriber n) subject
+IsSubject (PutAddOn n number settings) subject t = SubjectStands t (key.AddOn n number) subject
+IsSubject (PutModem mac modem) subject t = SubjectStands t (key.Modem mac) subject
+IsSubject (PutClass n class) subject t = SubjectStands t (key.Class n) subject
+IsSubject (PutPool n pool) subject t = SubjectStands t (key.Pool n) subject
+IsSubject (Remove removed) subject t = SubjectStands t removed subject
+IsSubject (Show shown) subject t = SubjectStands t shown subject
+IsSubject (Import kind batch digest rows) subject t = Unit {0}
+
+-- how many calls that takes
+abbrev pub calls_for_subject : Command → ℕ
+calls_for_subject (SetSite site) = 0
+calls_for_subject (Import kind batch digest rows) = 0
+calls_for_subject (PutSubscriber n subscriber) = 1
+calls_for_subject (PutAddOn n number settings) = 1
+calls_for_subject (PutModem mac modem) = 1
+calls_for_subject (PutClass n class) = 1
+calls_for_subject (PutPool n pool) = 1
+calls_for_subject (Remove removed) = 1
+calls_for_subject (Show shown) = 1
+
+-- the limit of a kind, where the counts and whether the key is there are known
+abbrev pub limit_rule : Counts → Kind → Bool → Option Rule
+limit_rule counts kind there =
+    when (not there && nat_le (limit_of kind) (count_in kind counts))
+    (rule.Limit kind (limit_of kind))
+
+abbrev pub limit_test : Counts → Kind → Subject → Test
+limit_test counts kind subject = Tested (limit_rule counts kind subject.is_there)
+
+abbrev pub row_test : Subject → Test
+row_test subject = Tested (when (not subject.is_there) rule.NoRow)
+
+-- no lease that hasn't expired is lost where a pool, or none, takes the place of the pool, or none,
+-- that is there
+abbrev pub live_test : Moment → Option Pool → Option Pool → Test
+live_test now None new = Tested None
+live_test now (Some old) new = FindsNone (LiveLost now (record { old = old; new = new }))
+
+-- what is tested of no rule
+abbrev pub no_test : Test
+no_test = Tested None
+
+-- The tests of a command, one for each of its rules, five in all.
+abbrev pub removal_tests : Moment → Subject → Key → List Test
+removal_tests now subject (key.Subscriber n) =
+    row_test subject ∷ FindsNone (OfSubscriber n) ∷ no_test ∷ no_test ∷ no_test ∷ []
+removal_tests now subject (key.Class n) =
+    row_test subject ∷ FindsNone (OfClass n) ∷ no_test ∷ no_test ∷ no_test ∷ []
+removal_tests now subject (key.Pool n) =
+    row_test subject ∷ live_test now subject.pool None ∷ no_test ∷ no_test ∷ no_test ∷ []
+removal_tests now subject key.Site = row_test subject ∷ no_test ∷ no_test ∷ no_test ∷ no_test ∷ []
+removal_tests now subject (key.AddOn n number) =
+    row_test subject ∷ no_test ∷ no_test ∷ no_test ∷ no_test ∷ []
+removal_tests now subject (key.Modem mac) =
+    row_test subject ∷ no_test ∷ no_test ∷ no_test ∷ no_test ∷ []
+removal_tests now subject (key.Lease address) =
+    row_test subject ∷ no_test ∷ no_test ∷ no_test ∷ no_test ∷ []
+removal_tests now subject (key.Held mac) =
+    row_test subject ∷ no_test ∷ no_test ∷ no_test ∷ no_test ∷ []
+removal_tests now subject (key.Batch n) =
+    row_test subject ∷ no_test ∷ no_test ∷ no_test ∷ no_test ∷ []
+
+abbrev pub site_tests : Site → List Test
+site_tests site =
+    Tested (when (site.server.0 == 0) (rule.Site 1))
+    ∷ Tested (when (length site.secret == 0) (rule.Site 2))
+    ∷ Tested (when (not (is_lease_time site.lease)) (rule.Site 3))
+    ∷ Tested (when (not (is_offset site.offset)) (rule.Site 4))
+    ∷ no_test
+    ∷ []
+
+abbrev pub pool_tests : Counts → Moment → Subject → ℕ → Pool → List Test
+pool_tests counts now subject n pool =
+    Tested (when (not (has_pool_size pool)) rule.PoolSize)
+    ∷ FindsNone (Overlapping n pool)
+    ∷ FindsNone (WithRelay n pool)
+    ∷ live_test now subject.pool (Some pool)
+    ∷ limit_test counts Pools subject
+    ∷ []
+
+abbrev pub tests_of : Counts → Moment → Subject → Command → List Test
+tests_of counts now subject (SetSite site) = site_tests site
+tests_of counts now subject (PutSubscriber n subscriber) =
+    limit_test counts Subscribers subject ∷ no_test ∷ no_test ∷ no_test ∷ no_test ∷ []
+tests_of counts now subject (PutAddOn n number settings) =
+    HasSubscriber n ∷ Tested (option_map rule.Tree (first_fault tree.AddOn settings))
+    ∷ limit_test counts AddOns subject ∷ no_test ∷ no_test ∷ []
+tests_of counts now subject (PutModem mac modem) =
+    HasSubscriber modem.subscriber ∷ HasClass modem.class ∷ limit_test counts Modems subject
+    ∷ no_test ∷ no_test ∷ []
+tests_of counts now subject (PutClass n class) =
+    Tested (option_map rule.Tree (first_fault tree.Class class.settings))
+    ∷ limit_test counts Classes subject ∷ no_test ∷ no_test ∷ no_test ∷ []
+tests_of counts now subject (PutPool n pool) = pool_tests counts now subject n pool
+tests_of counts now subject (Remove removed) = removal_tests now subject removed
+tests_of counts now subject (Show shown) =
+    row_test subject ∷ no_test ∷ no_test ∷ no_test ∷ no_test ∷ []
+tests_of counts now subject (Import kind batch digest rows) =
+    no_test ∷ no_test ∷ no_test ∷ no_test ∷ no_test ∷ []
+
+-- how many keys the tests look up, in all
+abbrev pub lookups : List Test → ℕ
+lookups [] = 0
+lookups (test ∷ tests) = looks_up test + lookups tests
+
+abbrev pub any_searches : List Test → Bool
+any_searches [] = false
+any_searches (test ∷ tests) = searches test || any_searches tests

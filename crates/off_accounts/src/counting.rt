@@ -1,0 +1,85 @@
+//! How many rows of each kind there are behind a command, once its rules are passed.
+
+ghost use Rattle.std.specs.Prelude.{◌≡◌, true, is_some, count_by};
+ghost use Rattle.off_rows.specs.Sound.{is_sound, is_removable};
+ghost use Rattle.off_account_rules.specs.Rows.{seen_at};
+ghost use Rattle.off_account_rules.specs.Clerk.{add_on_keys};
+ghost use Rattle.off_outside.specs.KeeperCalls.{Looks, Spent};
+ghost use Rattle.off_accounts.specs.Deciding.{most_calls, most_calls_removing};
+ghost use Rattle.off_accounts.specs.After.{CountsAfter, CountsAfterRemoval};
+
+use crate::limits::{counts_put, fewer_add_ons, one_less};
+use crate::subject::Subject;
+use off_account_rules::Counts;
+use off_defs::{ADD_ONS, Command, Key, Kind};
+use off_outside::{KeepErr, Keeper};
+use off_readers::has_row;
+use std::alloc::Global;
+
+/// How many rows there are of each kind behind the command.
+pub(crate) fn counts_after<K: Keeper>(
+    alloc: Global,
+    keeper: &mut K,
+    counts: &Counts,
+    subject: &Subject,
+    c: &Command,
+) -> Result<Counts, KeepErr>
+    requires { is_sound c.now ≡ true }
+    ensures told { Looks result (K.seen keeper.old) (K.seen keeper.new)
+        (λ after t. CountsAfter counts.now subject.now c.now t after) }
+    ensures spent { is_some (most_calls c.now) ≡ true
+        → Spent 0 (K.seen keeper.old) (K.seen keeper.new) }
+{
+    let is_there = subject.is_there;
+    match c {
+        Command::PutSubscriber(_, _) => Ok(counts_put(counts, Kind::Subscribers, is_there)),
+        Command::PutAddOn(_, _, _) => Ok(counts_put(counts, Kind::AddOns, is_there)),
+        Command::PutModem(_, _) => Ok(counts_put(counts, Kind::Modems, is_there)),
+        Command::PutClass(_, _) => Ok(counts_put(counts, Kind::Classes, is_there)),
+        Command::PutPool(_, _) => Ok(counts_put(counts, Kind::Pools, is_there)),
+        Command::Remove(key) => counts_after_removal(alloc, keeper, counts, key),
+        Command::SetSite(_) => Ok(*counts),
+        Command::Show(_) => Ok(*counts),
+        Command::Import { .. } => Ok(*counts),
+    }
+}
+
+fn counts_after_removal<K: Keeper>(
+    alloc: Global,
+    keeper: &mut K,
+    counts: &Counts,
+    key: &Key,
+) -> Result<Counts, KeepErr>
+    requires { is_removable key.now ≡ true }
+    ensures told { Looks result (K.seen keeper.old) (K.seen keeper.new)
+        (λ after t. CountsAfterRemoval counts.now key.now t after) }
+    ensures spent { is_some (most_calls_removing key.now) ≡ true
+        → Spent 0 (K.seen keeper.old) (K.seen keeper.new) }
+{
+    match *key {
+        Key::Subscriber(n) => {
+            let lost = count_add_ons(alloc, keeper, n)?;
+            Ok(fewer_add_ons(&one_less(counts, Kind::Subscribers), lost))
+        }
+        Key::AddOn(_, _) => Ok(one_less(counts, Kind::AddOns)),
+        Key::Modem(_) => Ok(one_less(counts, Kind::Modems)),
+        Key::Class(_) => Ok(one_less(counts, Kind::Classes)),
+        Key::Pool(_) => Ok(one_less(counts, Kind::Pools)),
+        // A clerk doesn't remove these.
+        Key::Site | Key::Lease(_) | Key::Held(_) | Key::Batch(_) => unreachable!(),
+    }
+}
+
+// How many add-ons the subscriber has.
+fn count_add_ons<K: Keeper>(alloc: Global, keeper: &mut K, n: u32) -> Result<u64, KeepErr>
+    ensures { Looks result (K.seen keeper.old) (K.seen keeper.new)
+        (λ count t. count ≡ count_by (λ key. is_some (seen_at t key)) (add_on_keys n)) }
+{
+    let mut count: u64 = 0;
+    for number in 0..ADD_ONS {
+        if has_row(alloc, keeper, &Key::AddOn(n, number))? {
+            count += 1;
+        }
+    }
+    Ok(count)
+}

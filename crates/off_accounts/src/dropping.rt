@@ -1,0 +1,98 @@
+ghost use Rattle.std.specs.Prelude.{◌≡◌, ◌∷◌, ◌++◌, Some, OnOk};
+ghost use Rattle.std.specs.List.{flat_map};
+ghost use Rattle.off_account_rules.specs.Clerk.{lease_drops, held_drop};
+ghost use Rattle.off_account_rules.specs.Good.{owner_of};
+ghost use Rattle.off_outside.specs.KeeperCalls.{Looks};
+ghost use Rattle.off_accounts.specs.Searches.{lost_from, drops_of, drops_at};
+
+use crate::lost::{Lost, before_lost, gives_up, is_past_lost};
+use off_base::{Ip4, NoMemory};
+use off_defs::{Hold, Key, Lease, Pool, Row, Write, Writes};
+use off_outside::{KeepErr, Keeper};
+use off_readers::{next_behind, owner_of};
+use std::alloc::Global;
+
+/// Appends the drops of the leases that are lost where a pool changes, and of the rows of who holds
+/// them.
+pub(crate) fn drop_lost<K: Keeper>(
+    alloc: Global,
+    keeper: &mut K,
+    lost: &Lost,
+    writes: &mut Writes,
+) -> Result<(), KeepErr>
+    ensures { Looks result (K.seen keeper.old) (K.seen keeper.new)
+        (λ _ t. writes.new
+        ≡ writes.old ++ flat_map lease_drops (lost_from (Some lost.now.old) lost.now.new t)) }
+{
+    let mut place = before_lost(lost);
+    'walk: loop {
+        let Some((key, row)) = next_behind(alloc, keeper, Some(place))? else {
+            return Ok(());
+        };
+        if is_past_lost(lost, &key) {
+            return Ok(());
+        }
+        push_drops(lost, &key, &row, writes)?;
+        place = key;
+    }
+}
+
+/// A write, and behind it the drops of the leases that are lost where one pool, or none, takes the
+/// place of another one, or none.
+pub(crate) fn with_drops<K: Keeper>(
+    alloc: Global,
+    keeper: &mut K,
+    write: Write,
+    old: Option<Pool>,
+    new: Option<Pool>,
+) -> Result<Writes, KeepErr>
+    ensures { Looks result (K.seen keeper.old) (K.seen keeper.new)
+        (λ writes t. writes ≡ write ∷ flat_map lease_drops (lost_from old new t)) }
+{
+    let mut writes = Writes::new(alloc);
+    writes.push(write)?;
+    let Some(old) = old else {
+        return Ok(writes);
+    };
+    drop_lost(alloc, keeper, &Lost { old, new }, &mut writes)?;
+    Ok(writes)
+}
+
+// Appends what is dropped of an entry.
+fn push_drops(lost: &Lost, key: &Key, row: &Row, writes: &mut Writes) -> Result<(), NoMemory>
+    ensures { OnOk result (writes.new ≡ writes.old ++ drops_at lost.now (key.now, row.now)) }
+{
+    match key {
+        Key::Lease(address) => match row {
+            Row::Lease(lease) => push_given_up(lost, *address, lease, writes),
+            _ => Ok(()),
+        },
+        _ => Ok(()),
+    }
+}
+
+fn push_given_up(
+    lost: &Lost,
+    address: Ip4,
+    lease: &Lease,
+    writes: &mut Writes,
+) -> Result<(), NoMemory>
+    ensures { OnOk result (writes.new
+        ≡ writes.old ++ drops_of lost.now (Some (address, lease.now))) }
+{
+    if !gives_up(lost, address) {
+        return Ok(());
+    }
+    writes.push(Write::Drop(Key::Lease(address)))?;
+    push_held(lease.hold, writes)
+}
+
+// Appends the drop of the row of who holds an address.
+fn push_held(hold: Hold, writes: &mut Writes) -> Result<(), NoMemory>
+    ensures { OnOk result (writes.new ≡ writes.old ++ held_drop (owner_of hold)) }
+{
+    match owner_of(hold) {
+        Some(mac) => writes.push(Write::Drop(Key::Held(mac))),
+        None => Ok(()),
+    }
+}

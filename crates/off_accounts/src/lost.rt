@@ -1,0 +1,56 @@
+ghost use Rattle.std.specs.Prelude.{◌≡◌, true, false};
+ghost use Rattle.off_defs.specs.declared.keys.Key.{Key};
+ghost use Rattle.off_defs.specs.declared.tables.Row.{Row};
+ghost use Rattle.off_defs.specs.Tables.{is_after};
+ghost use Rattle.off_account_rules.specs.Rows.{lease_of};
+ghost use Rattle.off_account_rules.specs.Clerk.{gives_up};
+ghost use Rattle.off_account_rules.specs.Rows.{passes};
+ghost use Rattle.off_accounts.specs.Searches.{is_given_up};
+
+use off_base::Ip4;
+use off_defs::{Key, Pool};
+use off_readers::has_address;
+
+/// A pool in whose place there comes another one, or none.
+#[derive(Clone, Copy, Debug, PartialEq, Eq)]
+pub struct Lost {
+    pub old: Pool,
+    pub new: Option<Pool>,
+}
+
+/// Whether the address is in no pool any more.
+pub(crate) fn gives_up(lost: &Lost, address: Ip4) -> bool
+    ensures { result ≡ gives_up (Some lost.now.old) lost.now.new address }
+{
+    match &lost.new {
+        None => has_address(&lost.old, address),
+        Some(new) => has_address(&lost.old, address) && !has_address(new, address),
+    }
+}
+
+/// The place from which a walk finds all leases that are lost.
+pub(crate) fn before_lost(lost: &Lost) -> Key
+    ensures { (entry : Key × Row) → is_after (Some result) entry ≡ false
+        → passes (is_given_up lost.now) (lease_of entry) ≡ false }
+{
+    let first = lost.old.first.0;
+    if first == 0 {
+        return Key::Pool(u32::MAX);
+    }
+    Key::Lease(Ip4(first - 1))
+}
+
+/// Whether the walk has passed by all leases that are lost.
+pub(crate) fn is_past_lost(lost: &Lost, key: &Key) -> bool
+    ensures here { (row : Row) → result ≡ true
+        → passes (is_given_up lost.now) (lease_of (key.now, row)) ≡ false }
+    ensures later { (entry : Key × Row) → result ≡ true → is_after (Some key.now) entry ≡ true
+        → passes (is_given_up lost.now) (lease_of entry) ≡ false }
+{
+    match *key {
+        Key::Lease(address) => lost.old.last.0 < address.0,
+        Key::Held(_) | Key::Batch(_) => true,
+        Key::Site | Key::Subscriber(_) | Key::AddOn(_, _) => false,
+        Key::Modem(_) | Key::Class(_) | Key::Pool(_) => false,
+    }
+}

@@ -1,0 +1,115 @@
+//! What a command writes, once its rules are passed. The rows that it puts are equal to their
+//! sources.
+
+ghost use Rattle.std.specs.Prelude.{◌≡◌, [], ◌∷◌, true, is_some, MatchResult, map};
+ghost use Rattle.off_defs.specs.declared.keys.Key.TheVariants as key;
+ghost use Rattle.off_defs.specs.declared.tables.Row.TheVariants as row;
+ghost use Rattle.off_defs.specs.declared.orders.Write.TheVariants.{Drop};
+ghost use Rattle.off_outside.specs.declared.keeper.KeepErr.TheVariants.{Memory};
+ghost use Rattle.off_outside.specs.KeeperCalls.{Looks, Spent};
+ghost use Rattle.off_account_rules.specs.Clerk.{add_on_keys, removal_writes, writes_of};
+ghost use Rattle.off_accounts.specs.Deciding.{most_calls, most_calls_removing};
+ghost use Rattle.off_accounts.specs.Tests.{SubjectStands, IsSubject};
+
+use crate::dropping::with_drops;
+use crate::subject::Subject;
+use off_base::Settings;
+use off_defs::{ADD_ONS, Class, Command, Key, Row, Write, Writes};
+use off_outside::{KeepErr, Keeper};
+use std::alloc::Global;
+
+/// What the command writes.
+pub(crate) fn writes_for<K: Keeper>(
+    alloc: Global,
+    keeper: &mut K,
+    subject: &Subject,
+    c: &Command,
+) -> Result<Writes, KeepErr>
+    ensures told { Looks result (K.seen keeper.old) (K.seen keeper.new)
+        (λ writes t. IsSubject c.now subject.now t → writes ≡ writes_of t c.now) }
+    ensures spent { is_some (most_calls c.now) ≡ true
+        → Spent 0 (K.seen keeper.old) (K.seen keeper.new) }
+{
+    match c {
+        Command::SetSite(site) => one_write(alloc, Write::Put(Key::Site, Row::Site(site.copy()))),
+        Command::PutSubscriber(n, subscriber) => one_write(
+            alloc,
+            Write::Put(Key::Subscriber(*n), Row::Subscriber(subscriber.copy())),
+        ),
+        Command::PutAddOn(n, number, settings) => one_write(
+            alloc,
+            Write::Put(Key::AddOn(*n, *number), add_on_row(settings)?),
+        ),
+        Command::PutModem(mac, modem) => one_write(
+            alloc,
+            Write::Put(Key::Modem(*mac), Row::Modem(modem.copy())),
+        ),
+        Command::PutClass(n, class) => one_write(
+            alloc,
+            Write::Put(Key::Class(*n), class_row(class)?),
+        ),
+        Command::PutPool(n, pool) => with_drops(
+            alloc,
+            keeper,
+            Write::Put(Key::Pool(*n), Row::Pool(*pool)),
+            subject.pool,
+            Some(*pool),
+        ),
+        Command::Remove(key) => removal_writes(alloc, keeper, subject, key),
+        Command::Show(_) | Command::Import { .. } => Ok(Writes::new(alloc)),
+    }
+}
+
+fn removal_writes<K: Keeper>(
+    alloc: Global,
+    keeper: &mut K,
+    subject: &Subject,
+    key: &Key,
+) -> Result<Writes, KeepErr>
+    ensures told { Looks result (K.seen keeper.old) (K.seen keeper.new)
+        (λ writes t. SubjectStands t key.now subject.now → writes ≡ removal_writes t key.now) }
+    ensures spent { is_some (most_calls_removing key.now) ≡ true
+        → Spent 0 (K.seen keeper.old) (K.seen keeper.new) }
+{
+    match *key {
+        Key::Subscriber(n) => subscriber_drops(alloc, n),
+        Key::Pool(_) => with_drops(alloc, keeper, Write::Drop(*key), subject.pool, None),
+        Key::Site | Key::AddOn(_, _) | Key::Modem(_) => one_write(alloc, Write::Drop(*key)),
+        Key::Class(_) | Key::Lease(_) => one_write(alloc, Write::Drop(*key)),
+        Key::Held(_) | Key::Batch(_) => one_write(alloc, Write::Drop(*key)),
+    }
+}
+
+fn one_write(alloc: Global, write: Write) -> Result<Writes, KeepErr>
+    ensures { MatchResult result (λ writes. writes ≡ write ∷ []) (λ err. err ≡ Memory) }
+{
+    let mut writes = Writes::new(alloc);
+    writes.push(write)?;
+    Ok(writes)
+}
+
+// The drops of a subscriber and of all add-ons that it may have.
+fn subscriber_drops(alloc: Global, n: u32) -> Result<Writes, KeepErr>
+    ensures { MatchResult result
+        (λ writes. writes ≡ Drop (key.Subscriber n) ∷ map Drop (add_on_keys n))
+        (λ err. err ≡ Memory) }
+{
+    let mut writes = Writes::new(alloc);
+    writes.push(Write::Drop(Key::Subscriber(n)))?;
+    for number in 0..ADD_ONS {
+        writes.push(Write::Drop(Key::AddOn(n, number)))?;
+    }
+    Ok(writes)
+}
+
+fn add_on_row(settings: &Settings) -> Result<Row, KeepErr>
+    ensures { MatchResult result (λ made. made ≡ row.AddOn settings.now) (λ err. err ≡ Memory) }
+{
+    Ok(Row::AddOn(settings.copy()?))
+}
+
+fn class_row(class: &Class) -> Result<Row, KeepErr>
+    ensures { MatchResult result (λ made. made ≡ row.Class class.now) (λ err. err ≡ Memory) }
+{
+    Ok(Row::Class(class.copy()?))
+}

@@ -1,0 +1,120 @@
+//! The rules of each command, in their order.
+
+ghost use Rattle.std.specs.Prelude.{◌≡◌};
+ghost use Rattle.off_accounts.specs.Tests.{tests_of, pool_tests, removal_tests, site_tests};
+ghost use Rattle.off_accounts.specs.Tests.{live_test, limit_test, row_test};
+
+use crate::limits::limit_rule;
+use crate::lost::Lost;
+use crate::results::Asked;
+use crate::searching::Sought;
+use crate::subject::Subject;
+use crate::testing::{Test, unless};
+use crate::values::{add_on_fault, class_fault};
+use off_base::Moment;
+use off_defs::{Command, Key, Kind, Pool, Rule, Site};
+use off_readers::{has_pool_size, is_lease_time, is_offset};
+
+// Where a command has fewer rules.
+const NO_TEST: Test = Test::Tested(None);
+
+/// The tests of a command, one for each of its rules, behind what the tables have at its key.
+pub(crate) fn tests_of(asked: &Asked, subject: &Subject, c: &Command) -> [Test; 5]
+    ensures { result ≡ tests_of asked.now.counts asked.now.at subject.now c.now }
+{
+    match c {
+        Command::SetSite(site) => site_tests(site),
+        Command::PutSubscriber(_, _) => [
+            limit_test(asked, Kind::Subscribers, subject),
+            NO_TEST,
+            NO_TEST,
+            NO_TEST,
+            NO_TEST,
+        ],
+        Command::PutAddOn(n, _, settings) => [
+            Test::HasSubscriber(*n),
+            Test::Tested(add_on_fault(settings)),
+            limit_test(asked, Kind::AddOns, subject),
+            NO_TEST,
+            NO_TEST,
+        ],
+        Command::PutModem(_, modem) => [
+            Test::HasSubscriber(modem.subscriber),
+            Test::HasClass(modem.class),
+            limit_test(asked, Kind::Modems, subject),
+            NO_TEST,
+            NO_TEST,
+        ],
+        Command::PutClass(_, class) => [
+            Test::Tested(class_fault(&class.settings)),
+            limit_test(asked, Kind::Classes, subject),
+            NO_TEST,
+            NO_TEST,
+            NO_TEST,
+        ],
+        Command::PutPool(n, pool) => pool_tests(asked, subject, *n, pool),
+        Command::Remove(key) => removal_tests(asked.at, subject, key),
+        Command::Show(_) => [row_test(subject), NO_TEST, NO_TEST, NO_TEST, NO_TEST],
+        Command::Import { .. } => [NO_TEST, NO_TEST, NO_TEST, NO_TEST, NO_TEST],
+    }
+}
+
+fn pool_tests(asked: &Asked, subject: &Subject, n: u32, pool: &Pool) -> [Test; 5]
+    ensures { result ≡ pool_tests asked.now.counts asked.now.at subject.now n pool.now }
+{
+    [
+        Test::Tested(unless(has_pool_size(pool), Rule::PoolSize)),
+        Test::FindsNone(Sought::Overlapping(n, *pool)),
+        Test::FindsNone(Sought::WithRelay(n, *pool)),
+        live_test(asked.at, subject.pool, Some(*pool)),
+        limit_test(asked, Kind::Pools, subject),
+    ]
+}
+
+fn removal_tests(at: Moment, subject: &Subject, key: &Key) -> [Test; 5]
+    ensures { result ≡ removal_tests at subject.now key.now }
+{
+    let second = match *key {
+        Key::Subscriber(n) => Test::FindsNone(Sought::OfSubscriber(n)),
+        Key::Class(n) => Test::FindsNone(Sought::OfClass(n)),
+        Key::Pool(_) => live_test(at, subject.pool, None),
+        Key::Site | Key::AddOn(_, _) | Key::Modem(_) => NO_TEST,
+        Key::Lease(_) | Key::Held(_) | Key::Batch(_) => NO_TEST,
+    };
+    [row_test(subject), second, NO_TEST, NO_TEST, NO_TEST]
+}
+
+fn site_tests(site: &Site) -> [Test; 5]
+    ensures { result ≡ site_tests site.now }
+{
+    [
+        Test::Tested(unless(site.server.0 != 0, Rule::Site(1))),
+        Test::Tested(unless(!site.secret.as_slice().is_empty(), Rule::Site(2))),
+        Test::Tested(unless(is_lease_time(site.lease), Rule::Site(3))),
+        Test::Tested(unless(is_offset(site.offset), Rule::Site(4))),
+        NO_TEST,
+    ]
+}
+
+fn limit_test(asked: &Asked, kind: Kind, subject: &Subject) -> Test
+    ensures { result ≡ limit_test asked.now.counts kind subject.now }
+{
+    Test::Tested(limit_rule(&asked.counts, kind, subject.is_there))
+}
+
+fn row_test(subject: &Subject) -> Test
+    ensures { result ≡ row_test subject.now }
+{
+    Test::Tested(unless(subject.is_there, Rule::NoRow))
+}
+
+// No lease that hasn't expired is lost where a pool, or none, takes the place of another, or of
+// none.
+fn live_test(at: Moment, old: Option<Pool>, new: Option<Pool>) -> Test
+    ensures { result ≡ live_test at old new }
+{
+    match old {
+        None => NO_TEST,
+        Some(old) => Test::FindsNone(Sought::LiveLost(at, Lost { old, new })),
+    }
+}

@@ -1,0 +1,83 @@
+ghost use Rattle.std.specs.Prelude.{◌≡◌, true, false};
+ghost use Rattle.off_defs.specs.declared.keys.Key.{Key};
+ghost use Rattle.off_defs.specs.declared.tables.Row.{Row};
+ghost use Rattle.off_defs.specs.Tables.{is_after};
+ghost use Rattle.off_outside.specs.KeeperCalls.{Looks};
+ghost use Rattle.off_accounts.specs.Searches.{is_wanted, least_wanted};
+
+use crate::lost::{Lost, before_lost, is_past_lost};
+use crate::wanted::is_wanted;
+use off_base::Moment;
+use off_defs::{Key, Pool};
+use off_outside::{KeepErr, Keeper};
+use off_readers::{is_past_modems, is_past_pools, next_behind};
+use std::alloc::Global;
+
+/// What is looked for: the least key of such a row.
+#[derive(Clone, Copy, Debug, PartialEq, Eq)]
+pub enum Sought {
+    /// Another pool than that of the number, which has an address of this one.
+    Overlapping(u32, Pool),
+    /// Another pool than that of the number, which has the relay of this one.
+    WithRelay(u32, Pool),
+    /// A lease that is lost before it has expired.
+    LiveLost(Moment, Lost),
+    /// A modem of the subscriber.
+    OfSubscriber(u32),
+    /// A modem of the class.
+    OfClass(u32),
+}
+
+/// The least key of a row that is sought, or `None` where there is none. It walks over the rows of
+/// one kind.
+pub(crate) fn search<K: Keeper>(
+    alloc: Global,
+    keeper: &mut K,
+    sought: &Sought,
+) -> Result<Option<Key>, KeepErr>
+    ensures { Looks result (K.seen keeper.old) (K.seen keeper.new)
+        (λ found t. found ≡ least_wanted sought.now t) }
+{
+    let mut place = before(sought);
+    'walk: loop {
+        let Some((key, row)) = next_behind(alloc, keeper, Some(place))? else {
+            return Ok(None);
+        };
+        if is_past(sought, &key) {
+            return Ok(None);
+        }
+        if is_wanted(sought, &key, &row) {
+            return Ok(Some(key));
+        }
+        place = key;
+    }
+}
+
+// The place from which a walk finds all that is sought.
+fn before(sought: &Sought) -> Key
+    ensures { (entry : Key × Row) → is_after (Some result) entry ≡ false
+        → is_wanted sought.now entry ≡ false }
+{
+    match sought {
+        Sought::Overlapping(_, _) => Key::Class(u32::MAX),
+        Sought::WithRelay(_, _) => Key::Class(u32::MAX),
+        Sought::LiveLost(_, lost) => before_lost(lost),
+        Sought::OfSubscriber(_) => Key::AddOn(u32::MAX, u8::MAX),
+        Sought::OfClass(_) => Key::AddOn(u32::MAX, u8::MAX),
+    }
+}
+
+// Whether the walk has passed by all that is sought.
+fn is_past(sought: &Sought, key: &Key) -> bool
+    ensures here { (row : Row) → result ≡ true → is_wanted sought.now (key.now, row) ≡ false }
+    ensures later { (entry : Key × Row) → result ≡ true → is_after (Some key.now) entry ≡ true
+        → is_wanted sought.now entry ≡ false }
+{
+    match sought {
+        Sought::Overlapping(_, _) => is_past_pools(key),
+        Sought::WithRelay(_, _) => is_past_pools(key),
+        Sought::LiveLost(_, lost) => is_past_lost(lost, key),
+        Sought::OfSubscriber(_) => is_past_modems(key),
+        Sought::OfClass(_) => is_past_modems(key),
+    }
+}

@@ -1,0 +1,143 @@
+ghost use Rattle.std.specs.Prelude.{◌≡◌, false, not, map};
+ghost use Rattle.off_base.specs.Choices.{when, first_there};
+ghost use Rattle.off_outside.specs.KeeperCalls.{Looks, Spent, WasCounted};
+ghost use Rattle.off_account_rules.specs.Clerk.{no_subscriber, no_class};
+ghost use Rattle.off_accounts.specs.Searches.{pool_number, lease_address};
+ghost use Rattle.off_accounts.specs.Tests.{says, looks_up, searches, lookups, any_searches};
+ghost use Rattle.off_accounts.specs.Tests.{found_rule, sought_rule};
+
+use crate::searching::{Sought, search};
+use off_base::Ip4;
+use off_defs::{Key, Rule};
+use off_outside::{KeepErr, Keeper};
+use off_readers::has_row;
+use std::alloc::Global;
+
+/// A rule, as it's tested.
+#[derive(Clone, Copy, Debug, PartialEq, Eq)]
+pub enum Test {
+    /// It's tested already: the rule where it's broken, or `None`.
+    Tested(Option<Rule>),
+    /// There is the subscriber.
+    HasSubscriber(u32),
+    /// There is the class.
+    HasClass(u32),
+    /// There is nothing of what is looked for.
+    FindsNone(Sought),
+}
+
+/// The first rule that is broken, in their order, or `None` where none is. What comes behind it
+/// isn't tested.
+pub fn first_broken<K: Keeper>(
+    alloc: Global,
+    keeper: &mut K,
+    tests: &[Test],
+) -> Result<Option<Rule>, KeepErr>
+    ensures told { Looks result (K.seen keeper.old) (K.seen keeper.new)
+        (λ broken t. broken ≡ first_there (map (says t) tests.now)) }
+    ensures spent { any_searches tests.now ≡ false
+        → Spent (lookups tests.now) (K.seen keeper.old) (K.seen keeper.new) }
+{
+    for test in tests {
+        let broken = broken_by(alloc, keeper, test)?;
+        if broken.is_some() {
+            return Ok(broken);
+        }
+    }
+    Ok(None)
+}
+
+// The rule of the test, where it's broken.
+#[tactic(auto, using(off_readers::proofs::ReadRules::one_read))]
+fn broken_by<K: Keeper>(alloc: Global, keeper: &mut K, test: &Test) -> Result<Option<Rule>, KeepErr>
+    ensures told { Looks result (K.seen keeper.old) (K.seen keeper.new)
+        (λ broken t. broken ≡ says t test.now) }
+    ensures spent { searches test.now ≡ false
+        → Spent (looks_up test.now) (K.seen keeper.old) (K.seen keeper.new) }
+{
+    match *test {
+        Test::Tested(broken) => Ok(broken),
+        Test::HasSubscriber(n) => no_subscriber(alloc, keeper, n),
+        Test::HasClass(n) => no_class(alloc, keeper, n),
+        Test::FindsNone(sought) => what_is_found(alloc, keeper, &sought),
+    }
+}
+
+fn no_subscriber<K: Keeper>(alloc: Global, keeper: &mut K, n: u32) -> Result<Option<Rule>, KeepErr>
+    ensures told { Looks result (K.seen keeper.old) (K.seen keeper.new)
+        (λ broken t. broken ≡ no_subscriber t n) }
+    ensures counted { WasCounted (K.seen keeper.old) (K.seen keeper.new) }
+{
+    let is_there = has_row(alloc, keeper, &Key::Subscriber(n))?;
+    Ok(unless(is_there, Rule::NoSubscriber))
+}
+
+fn no_class<K: Keeper>(alloc: Global, keeper: &mut K, n: u32) -> Result<Option<Rule>, KeepErr>
+    ensures told { Looks result (K.seen keeper.old) (K.seen keeper.new)
+        (λ broken t. broken ≡ no_class t n) }
+    ensures counted { WasCounted (K.seen keeper.old) (K.seen keeper.new) }
+{
+    let is_there = has_row(alloc, keeper, &Key::Class(n))?;
+    Ok(unless(is_there, Rule::NoClass))
+}
+
+/// The rule, unless the condition holds.
+pub(crate) fn unless(holds: bool, rule: Rule) -> Option<Rule>
+    ensures { result ≡ when (not holds) rule }
+{
+    if holds { None } else { Some(rule) }
+}
+
+// The rule that is broken by the least of what is looked for.
+fn what_is_found<K: Keeper>(
+    alloc: Global,
+    keeper: &mut K,
+    sought: &Sought,
+) -> Result<Option<Rule>, KeepErr>
+    ensures { Looks result (K.seen keeper.old) (K.seen keeper.new)
+        (λ broken t. broken ≡ sought_rule sought.now t) }
+{
+    let found = search(alloc, keeper, sought)?;
+    Ok(found_rule(sought, found))
+}
+
+fn found_rule(sought: &Sought, found: Option<Key>) -> Option<Rule>
+    ensures { result ≡ found_rule sought.now found }
+{
+    match sought {
+        Sought::Overlapping(_, _) => match pool_number(found) {
+            Some(n) => Some(Rule::PoolOverlap(n)),
+            None => None,
+        },
+        Sought::WithRelay(_, _) => match pool_number(found) {
+            Some(n) => Some(Rule::RelayTaken(n)),
+            None => None,
+        },
+        Sought::LiveLost(_, _) => match lease_address(found) {
+            Some(address) => Some(Rule::PoolHasLeases(address)),
+            None => None,
+        },
+        Sought::OfSubscriber(_) => unless(found.is_none(), Rule::HasModems),
+        Sought::OfClass(_) => unless(found.is_none(), Rule::ClassInUse),
+    }
+}
+
+fn pool_number(found: Option<Key>) -> Option<u32>
+    ensures { result ≡ pool_number found }
+{
+    let Some(key) = found else { return None };
+    match key {
+        Key::Pool(n) => Some(n),
+        _ => None,
+    }
+}
+
+fn lease_address(found: Option<Key>) -> Option<Ip4>
+    ensures { result ≡ lease_address found }
+{
+    let Some(key) = found else { return None };
+    match key {
+        Key::Lease(address) => Some(address),
+        _ => None,
+    }
+}

@@ -1,2 +1,0 @@
-mod BlockLemmas
-mod TailLemmas

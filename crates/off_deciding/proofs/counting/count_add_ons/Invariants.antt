@@ -1,9 +1,0 @@
--- The add-ons of lesser numbers are counted.
-use Rattle.std.proofs.Common.{◌≡◌, ◌≤◌}
-use Rattle.off_outside.specs.KeeperCalls.{Reads}
-use Rattle.off_deciding.proofs.RemovalLemmas.{add_ons_below}
-use Rattle.off_deciding.proofs.counting.count_add_ons.Given as goal
-
-abbrev pub invariant-loop-number : goal.invariant-loop-number
-invariant-loop-number g l =
-    (l.count ≤ l.number) × Reads (λ t. l.count ≡ add_ons_below t l.n l.number) (g.K.Keeper.seen l.initial.keeper) (g.K.Keeper.seen l.keeper)

@@ -1,5 +1,0 @@
-pub mod After
-pub mod Changes
-pub mod Deciding
-pub mod Searches
-pub mod Tests

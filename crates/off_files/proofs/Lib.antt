@@ -1,0 +1,3 @@
+mod LoopLemmas
+mod BlockLemmas
+mod TailLemmas

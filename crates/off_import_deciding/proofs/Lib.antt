@@ -1,5 +1,0 @@
-mod ProgressLemmas
-mod JudgeLemmas
-mod RowsLemmas
-mod ImportLemmas
-pub mod GoodLemmas

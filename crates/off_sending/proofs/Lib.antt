@@ -1,2 +1,0 @@
-pub mod UpLemmas
-pub mod SendLemmas
