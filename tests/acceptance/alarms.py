@@ -12,8 +12,8 @@ import subprocess
 import sys
 import tempfile
 
-from every_word import FAULTS, sections, text_of
-from time_service import ROOT, check, failures
+from harness import ROOT, check, failures, text_of
+from every_word import FAULTS, sections
 
 RULES = os.path.join(ROOT, "packaging", "prometheus-rules.yml")
 SECTIONS = {"dhcp": "DHCP", "tftp": "TFTP", "time": "Time", "http": "Clerks in the log"}

@@ -2,8 +2,8 @@
 """Clerks among crowds: more of them than the office takes at a time, and peers that say nothing, or a byte now and then.
 
 Eight peers that drip, 64 of them, 2,000 silent ones: a clerk is answered within 31 seconds once those before it are accepted. A peer that has sent nothing for 5 seconds
-is closed, and one whose request isn't whole after 30. `ab` sends PUTs of 9,597 bytes over 64 connections, and none fails. The times are
-printed. It ends what it started, and takes about 80 seconds, most of them waiting.
+is closed, and one whose request isn't whole after 30. `ab` sends PUTs of 9,597 bytes over 64 connections, and none fails. Of 65, 100, 200 and 500 clerks at once,
+and of 100 beside 2,000 silent peers, no request is lost. The times are printed. It ends what it started, and takes about 90 seconds, most of them waiting.
 """
 import os
 import re
@@ -17,9 +17,9 @@ import tempfile
 import threading
 import time
 
-from clerk_connections import ANN, DONE, connect, is_open, read_to_end, reply, request, wait_until_answering
-from listening import stop
-from time_service import PROGRAM, check, failures, free_ports, start
+from harness import PROGRAM, check, failures, free_ports, start, stop
+from harness.clerks import (ANN, DONE, connect, is_open, read_to_end, request,
+                            wait_until_answering)
 
 SILENT = 2000
 DRIPPING = 64
@@ -166,6 +166,37 @@ def silent_ones(port):
         crowd.end()
 
 
+def at_once(port, count, each):
+    """So many clerks at once, each with so many requests: none is lost. How long the slowest waited."""
+    waits, lost = [], []
+
+    def clerk():
+        for _ in range(each):
+            try:
+                waits.append(delay(port, 60))
+            except OSError as error:
+                lost.append(error)
+
+    clerks = [threading.Thread(target=clerk) for _ in range(count)]
+    for one in clerks:
+        one.start()
+    for one in clerks:
+        one.join()
+    lost += [wait for wait in waits if wait is None]
+    check(not lost and len(waits) == count * each, f"{count} clerks at once: none of {count * each} requests is lost, not {len(lost)}: {lost[:3]}")
+    return max((wait for wait in waits if wait is not None), default=0.0)
+
+
+def more_than_are_held(port):
+    """More clerks at once than the link holds connections: the others wait in the listener's queue. Then the same beside peers that say nothing."""
+    for count in (65, 100, 200, 500):
+        print(f"{count} clerks at once: the slowest of {4 * count} requests took {at_once(port, count, 4):.2f} s")
+    crowd = Crowd(port, SILENT, 0, 1)
+    crowd.start()
+    print(f"100 clerks beside {SILENT} silent peers: the slowest took {at_once(port, 100, 2):.2f} s")
+    crowd.end()
+
+
 def longer_bodies(port):
     """`ab` with bodies that come in three pieces, over as many connections as the link holds."""
     if not shutil.which("ab"):
@@ -194,6 +225,7 @@ def main():
     resource.setrlimit(resource.RLIMIT_NOFILE, (min(most, 16384), most))
     offices([longer_bodies])
     offices([silent_ones])
+    offices([more_than_are_held])
     offices([
         patience,
         lambda port: drips(port, "8 dripping", 0, 8, 1),

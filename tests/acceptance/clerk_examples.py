@@ -12,13 +12,10 @@ import re
 import subprocess
 import sys
 import tempfile
-import time
-import urllib.request
 
-from clerk_api import table, text_of
-from first_office import loaded
-from listening import stop
-from time_service import PROGRAM, ROOT, check, failures, free_ports, start
+from harness import (PROGRAM, ROOT, check, failures, free_ports, loaded, start, stop, text_of,
+                     wait_for)
+from clerk_api import table
 
 CLERK = os.path.join(ROOT, "bin", "office-clerk")
 FLOWS = [{"code": code, "parts": [{"code": 1, "hex": reference}, {"code": 6, "hex": "07"}]}
@@ -29,17 +26,6 @@ ANN, GOLD = {"active": True, "cpes": 2, "name": "Ann"}, {"name": "gold", "settin
 SITE = {"server": "10.0.0.2", "secret": "00", "offset": 0, "lease": 3600, "log": "0.0.0.0"}
 MODEM = {"subscriber": 7, "class": 1, "serial": ""}
 NAMES = {"subscribers": "subscriber,active,cpes,name", "modems": "mac,subscriber,class,serial"}
-
-
-def wait_for(port):
-    """Waits until an office answers there."""
-    for _ in range(400):
-        try:
-            urllib.request.urlopen(f"http://127.0.0.1:{port}/site", timeout=2).close()
-        except urllib.error.HTTPError:
-            return
-        except OSError:
-            time.sleep(0.05)
 
 
 def pasted(port):

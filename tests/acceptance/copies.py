@@ -17,7 +17,7 @@ import sys
 import tempfile
 import time
 
-from time_service import PROGRAM, ROOT, check, failures
+from harness import PROGRAM, ROOT, check, failures
 
 COPY, READER = (os.path.join(ROOT, "bin", name) for name in ("office-copy", "office-sql"))
 COPIES, LIVE_COPIES = 40, 20

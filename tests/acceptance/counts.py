@@ -16,8 +16,7 @@ import sys
 import tempfile
 import time
 
-from first_office import loaded
-from time_service import ROOT, check, failures
+from harness import ROOT, check, failures, loaded
 
 COUNTS = os.path.join(ROOT, "bin", "office-counts")
 PLAIN = ["dhcp offer", "dhcp ack", "dhcp not-your-address", "time sent", "tftp oack", "tftp done",

@@ -25,12 +25,10 @@ import tempfile
 import time
 import urllib.parse
 
-from clerk_examples import people, wait_for
-from every_word import text_of
-from first_office import loaded
-from listening import stop
+from harness import (PROGRAM, ROOT, check, failures, free_ports, loaded, start, stop, text_of,
+                     wait_for)
+from clerk_examples import people
 from store_reader import made
-from time_service import PROGRAM, ROOT, check, failures, free_ports, start
 
 DESK = os.path.join(ROOT, "bin", "office-desk")
 CHROMIUM = next(filter(None, map(shutil.which, ("chromium", "chromium-browser",

@@ -8,7 +8,7 @@ import subprocess
 import sys
 import time
 
-from time_service import PROGRAM, check, failures
+from harness import PROGRAM, check, failures
 
 
 def drilled(*words, output=subprocess.PIPE):

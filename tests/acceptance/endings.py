@@ -11,9 +11,7 @@ import subprocess
 import sys
 import tempfile
 
-from clerk_examples import wait_for
-from listening import stop
-from time_service import PROGRAM, check, failures, free_ports, start
+from harness import PROGRAM, check, failures, free_ports, start, stop, wait_for
 
 ENDING = (signal.SIGHUP, signal.SIGINT, signal.SIGQUIT, signal.SIGTERM, signal.SIGUSR1,
           signal.SIGKILL)
@@ -77,6 +75,33 @@ def by_what_it_reads(folder):
         check(found == (7, b"source refused\n"), f"{words[0]} of a folder: {found}")
 
 
+def at(pid, descriptor):
+    try:
+        return os.readlink(f"/proc/{pid}/fd/{descriptor}")
+    except FileNotFoundError:
+        return None
+
+
+def without_standard_streams(folder):
+    """A standard descriptor that is closed at the start is the null device then, and none of the office's own files or sockets."""
+    for closed in ((0,), (1,), (2,), (0, 1), (1, 2), (0, 1, 2)):
+        ports = free_ports()
+        words = [PROGRAM, "serve", "--store", os.path.join(folder, f"{len(closed)}{closed[0]}.db"), "--ports",
+                 ",".join(map(str, ports)), "--turns", "1000000"]
+        shut = " ".join(f"{descriptor}>&-" for descriptor in closed)
+        with open(os.path.join(folder, "log"), "wb") as log:
+            program = subprocess.Popen(["sh", "-c", f'exec "$@" {shut}', "sh", *words], stdin=subprocess.DEVNULL,
+                                       stdout=log, stderr=log)
+        try:
+            wait_for(ports[3])
+            found = {descriptor: at(program.pid, descriptor) for descriptor in closed}
+            check(set(found.values()) == {"/dev/null"}, f"{closed} closed: {found}")
+        finally:
+            stop(program)
+    done = subprocess.run(["sh", "-c", 'exec "$1" drill 5 <&- >&- 2>&-', "sh", PROGRAM], timeout=60)
+    check(done.returncode == 0, f"a drill with all three closed: {done.returncode}")
+
+
 def main():
     if not os.path.exists(PROGRAM):
         print("officed isn't built: run bin/officed once")
@@ -85,6 +110,7 @@ def main():
     with tempfile.TemporaryDirectory() as folder:
         without_turns(folder)
         by_what_it_reads(folder)
+        without_standard_streams(folder)
     print(f"acceptance: {len(failures)} failed")
     return 1 if failures else 0
 

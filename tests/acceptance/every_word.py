@@ -5,12 +5,10 @@ The words are said here, section by section, as the rules of the office have the
 with the page, and with the texts of the program's definitions (crates/*/specs), both ways. The
 statuses are compared with what bin/officed and the unit of systemd say of them.
 """
-import os
 import re
 import sys
 
-from first_office import loaded
-from time_service import ROOT, check, failures
+from harness import check, failures, loaded, text_of
 
 DHCP = """offer ack declined released dhcp-short dhcp-long dhcp-not-request dhcp-hardware
 dhcp-cookie dhcp-option-cut dhcp-no-type dhcp-overload no-site not-served request-form part-cut
@@ -74,11 +72,6 @@ DEFINED = {
                          ("off_import_rules", "Faults", r'^fault_word [^=]*= codes "([^"]*)"')],
     "Keys of rows": [("off_defs", "KeyText", r'^key_text_of .*?codes "([^"]*)"')],
 }
-
-
-def text_of(*parts):
-    with open(os.path.join(ROOT, *parts), encoding="utf-8") as held:
-        return held.read()
 
 
 def bare(word):

@@ -19,9 +19,9 @@ import sys
 import tempfile
 import time
 
-import leases_over_sockets as office
-from listening import forge_from, only_alone, stop
-from time_service import PROGRAM, SECONDS_BEFORE_1970, check, failures, start, written
+from harness import PROGRAM, SECONDS_BEFORE_1970, check, failures, only_alone, start, stop, written
+from harness import modems as office
+from listening import forge_from
 
 sys.dont_write_bytecode = True
 import leases  # noqa: E402

@@ -19,9 +19,8 @@ import tempfile
 import time
 
 import files_over_sockets as files
-import leases_over_sockets as office
-from listening import only_alone, stop
-from time_service import PROGRAM, check, failures, start
+from harness import PROGRAM, check, failures, only_alone, start, stop
+from harness import modems as office
 
 sys.dont_write_bytecode = True
 import leases  # noqa: E402

@@ -9,18 +9,15 @@ in one bit. It ends what it started, and takes some seconds.
 """
 # needs: curl
 import contextlib
-import importlib.machinery
-import importlib.util
 import io
 import os
 import re
-import shutil
 import socket
 import subprocess
 import sys
 import threading
 
-from time_service import PROGRAM, ROOT, check, failures, free_ports
+from harness import PROGRAM, ROOT, check, failures, free_ports, loaded, may_be_alone
 
 sys.dont_write_bytecode = True
 sys.path.insert(0, os.path.join(ROOT, "tests", "examples"))
@@ -28,21 +25,6 @@ from examples import sealed, spelled, time_reply  # noqa: E402
 
 RUN = os.path.join(ROOT, "examples", "first-office", "run")
 STANDARD = "67,37,69,8080"
-
-
-def loaded(name):
-    """A program of bin/ as a module."""
-    path = os.path.join(ROOT, "bin", name)
-    loader = importlib.machinery.SourceFileLoader(name.replace("-", "_"), path)
-    module = importlib.util.module_from_spec(importlib.util.spec_from_loader(loader.name, loader))
-    loader.exec_module(module)
-    return module
-
-
-def may_unshare():
-    tried = ["unshare", "-rn", "true"]
-    return bool(shutil.which("unshare")) and not subprocess.run(
-        tried, stderr=subprocess.DEVNULL).returncode
 
 
 def may_relay():
@@ -88,7 +70,7 @@ def screen():
 def boots():
     shown = [alike(line) for line in screen()]
     ways = [("on loopback", None, ())]
-    ways += [("on the standard ports", STANDARD, ("unshare", "-rn"))] if may_unshare() else []
+    ways += [("on the standard ports", STANDARD, ("unshare", "-rn"))] if may_be_alone() else []
     for what, ports, before in ways:
         status, lines = run(ports=ports, before=before)
         check(status == 0, f"{what}: a modem boots")
@@ -210,7 +192,7 @@ def main():
     if not os.path.exists(PROGRAM):
         print("officed isn't built: run bin/officed once")
         return 1
-    if may_relay() or may_unshare():
+    if may_relay() or may_be_alone():
         boots()
     else:
         print("boots: skipped, since neither port 67 nor a network of its own can be had here")

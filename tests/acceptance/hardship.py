@@ -15,9 +15,8 @@ import tempfile
 import threading
 import time
 
-from clerk_connections import ANN, connect, read_to_end, request, wait_until_answering
-from listening import stop
-from time_service import PROGRAM, check, failures, free_ports, start, wait_until_ready
+from harness import PROGRAM, check, failures, free_ports, start, stop, wait_until_ready
+from harness.clerks import ANN, connect, read_to_end, request, wait_until_answering
 
 
 def asks(port):

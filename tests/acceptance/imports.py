@@ -14,8 +14,7 @@ import sys
 import tempfile
 
 sys.path.insert(0, os.path.dirname(os.path.abspath(__file__)))
-from listening import stop  # noqa: E402
-from time_service import PROGRAM, check, failures, free_ports, start, wait_until_ready  # noqa: E402
+from harness import PROGRAM, check, failures, free_ports, start, stop, wait_until_ready
 
 PORTS = free_ports()
 MOST = 1_048_576

@@ -8,8 +8,6 @@ It ends what it started, and takes some seconds.
 """
 import fcntl
 import os
-import shutil
-import signal
 import socket
 import struct
 import subprocess
@@ -17,33 +15,8 @@ import sys
 import tempfile
 import time
 
-from time_service import PROGRAM, check, failures, free_ports, start, wait_until_ready, written
-
-
-def stop(program):
-    program.send_signal(signal.SIGTERM)
-    program.wait(timeout=10)
-
-
-def may_be_alone():
-    """Whether a network of its own can be had here."""
-    return bool(shutil.which("unshare")) and subprocess.run(["unshare", "-rn", "true"], stderr=subprocess.DEVNULL).returncode == 0
-
-
-def alone(script, word, seconds, what):
-    """Runs a script with this word in a network of its own, where what it tries holds if it ends with status 0."""
-    done = subprocess.run(["unshare", "-rn", sys.executable, os.path.abspath(script), word], timeout=seconds)
-    check(done.returncode == 0, what)
-
-
-def only_alone(script, word, seconds, what):
-    """The whole of a script that needs such a network: its status."""
-    if not may_be_alone():
-        print("skipped, since `unshare -rn` gives no network of its own here")
-        return 0
-    alone(script, word, seconds, what)
-    print(f"acceptance: {len(failures)} failed")
-    return 1 if failures else 0
+from harness import (PROGRAM, alone, check, failures, free_ports, may_be_alone, start, stop,
+                     wait_until_ready, written)
 
 
 def is_heard(address, port):

@@ -12,8 +12,7 @@ import socket
 import sys
 import time
 
-from listening import stop
-from time_service import PROGRAM, check, failures, free_ports, start, wait_until_ready
+from harness import PROGRAM, check, failures, free_ports, start, stop, wait_until_ready
 
 BURST = 200
 # So many events are taken at most before the system is asked again, and a tick may come between.

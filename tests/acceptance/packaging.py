@@ -13,8 +13,7 @@ import subprocess
 import sys
 import tempfile
 
-from every_word import text_of
-from time_service import PROGRAM, ROOT, check, failures, free_ports
+from harness import PROGRAM, ROOT, check, failures, free_ports, text_of
 
 DOC = "share/doc/officed"
 HELPERS = ["office-all", "office-clerk", "office-copy", "office-counts", "office-desk",

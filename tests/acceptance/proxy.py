@@ -14,9 +14,8 @@ import sys
 import tempfile
 import time
 
-from clerk_examples import CLERK, wait_for
-from listening import stop
-from time_service import PROGRAM, ROOT, check, failures, free_ports, start
+from harness import PROGRAM, ROOT, check, failures, free_ports, start, stop, wait_for
+from clerk_examples import CLERK
 
 ANN = {"active": True, "cpes": 2, "name": "Ann"}
 NAMES = ["access_log", "auth_basic_user_file", "ssl_certificate", "ssl_certificate_key"]

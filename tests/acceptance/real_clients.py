@@ -18,10 +18,8 @@ import sys
 import tempfile
 import time
 
-import leases_over_sockets as modems
-from first_office import loaded
-from listening import alone, may_be_alone, stop
-from time_service import PROGRAM, check, failures, start
+from harness import PROGRAM, alone, check, failures, loaded, may_be_alone, start, stop
+from harness import modems
 
 OFFICE, ROUTER, RELAY = "10.0.0.2", "10.0.0.1", "10.64.0.1"
 MAC, SERIAL, SECRET = "02:aa:bb:cc:dd:ee", "SN01", b"secret"

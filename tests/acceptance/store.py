@@ -25,10 +25,9 @@ import time
 
 # Before the modems, whose models have a module of this name too.
 from imports import table
-import leases_over_sockets as modems
-from clerk_connections import read_to_end, request
-from listening import stop
-from time_service import PROGRAM, ROOT, check, failures, free_ports, start
+from harness import PROGRAM, ROOT, check, failures, free_ports, start, stop
+from harness.clerks import read_to_end, request
+from harness import modems
 
 try:
     import sqlite3

@@ -18,10 +18,8 @@ import sys
 import tempfile
 import time
 
-from clerk_examples import wait_for
-from first_office import may_relay, may_unshare, run
-from listening import stop
-from time_service import PROGRAM, ROOT, check, failures, free_ports
+from harness import PROGRAM, ROOT, check, failures, free_ports, may_be_alone, stop, wait_for
+from first_office import may_relay, run
 
 READER = os.path.join(ROOT, "bin", "office-sql")
 TABLE = "CREATE TABLE office(ident BLOB PRIMARY KEY NOT NULL, val BLOB NOT NULL) STRICT"
@@ -260,7 +258,7 @@ def by_the_program(folder):
     if not os.path.exists(PROGRAM) or serving(path, 0)[0].wait(timeout=60) == 11:
         print("a store of the program: skipped, since it keeps none on disk")
         return
-    if not may_relay() and not may_unshare():
+    if not may_relay() and not may_be_alone():
         print("a store of the program: skipped, since no modem can boot here")
         return
     check(run(store=path)[0] == 0, "a modem boots")

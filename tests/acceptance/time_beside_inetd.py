@@ -18,8 +18,7 @@ import sys
 import tempfile
 import time
 
-from listening import stop
-from time_service import PROGRAM, check, failures, start, wait_until_ready
+from harness import PROGRAM, check, failures, start, stop, wait_until_ready
 
 HERE = os.path.dirname(os.path.abspath(__file__))
 CLIENTS = os.path.join(HERE, "..", "bench", "time_clients.c")

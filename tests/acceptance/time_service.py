@@ -6,9 +6,7 @@ figures for an idle program and for an answer's delay are printed and not judged
 started, and takes under a minute.
 """
 import os
-import random
 import re
-import resource
 import signal
 import socket
 import statistics
@@ -18,47 +16,8 @@ import sys
 import tempfile
 import time
 
-ROOT = os.path.dirname(os.path.dirname(os.path.dirname(os.path.abspath(__file__))))
-BUILT = os.path.join(ROOT, "crates", "officed", "out", "officed")
-PROGRAM = os.environ.get("OFFICE_PROGRAM", BUILT)
-SECONDS_BEFORE_1970 = 2_208_988_800
-failures = []
-
-
-def check(holds, what):
-    if not holds:
-        failures.append(what)
-        print("FAILED", what)
-
-
-def free_ports():
-    """Three UDP ports and a TCP port of this machine that nobody has, below those that the system gives to clients meanwhile."""
-    with open("/proc/sys/net/ipv4/ip_local_port_range") as file:
-        below = max(int(file.read().split()[0]), 20_000)
-    kinds, ports = [socket.SOCK_DGRAM] * 3 + [socket.SOCK_STREAM], []
-    while len(ports) < len(kinds):
-        port = random.randrange(10_000, below)
-        with socket.socket(socket.AF_INET, kinds[len(ports)]) as each:
-            try:
-                each.bind(("0.0.0.0", port))
-            except OSError:
-                continue
-        if port not in ports:
-            ports.append(port)
-    return ports
-
-
-def start(ports, turns, log, addresses=None, limits=None, store="memory"):
-    """Starts the program; `addresses` are variables of its environment, and `limits` is called in it before it begins."""
-    words = ["serve", "--store", store, "--ports", ",".join(map(str, ports)), "--turns", str(turns)]
-    environment = {name: value for name, value in os.environ.items() if not name.startswith("OFFICED_")}
-    environment.update(addresses or {})
-    return subprocess.Popen([PROGRAM, *words], stdout=log, stderr=subprocess.DEVNULL, env=environment, preexec_fn=limits)
-
-
-def written(log):
-    """What a log has by now. The program writes on where it was: the file's place is one for both."""
-    return os.pread(log.fileno(), os.fstat(log.fileno()).st_size, 0)
+from harness import (BUILT, PROGRAM, ROOT, SECONDS_BEFORE_1970, check, failures, free_ports,
+                     processor_seconds, start, wait_until_ready)
 
 
 def ask(client, port, payload=b""):
@@ -78,27 +37,6 @@ def ask(client, port, payload=b""):
     high = (int(after) + SECONDS_BEFORE_1970) % 2**32
     check(low <= told <= high, f"the time {told} lies between {low} and {high}")
     return delay
-
-
-def wait_until_ready(client, port):
-    """Waits for the program, and gives the client five seconds for an answer. It asks by a socket of its own: answers of questions that were sent twice
-    don't come to the client."""
-    client.settimeout(5.0)
-    with socket.socket(socket.AF_INET, socket.SOCK_DGRAM) as first:
-        first.settimeout(0.2)
-        for _ in range(100):
-            first.sendto(b"", ("127.0.0.1", port))
-            try:
-                first.recvfrom(2048)
-                return True
-            except (socket.timeout, ConnectionRefusedError):
-                time.sleep(0.05)
-    return False
-
-
-def processor_seconds(pid):
-    fields = open(f"/proc/{pid}/stat").read().rsplit(")", 1)[1].split()
-    return (int(fields[11]) + int(fields[12])) / os.sysconf("SC_CLK_TCK")
 
 
 def status_of(words):

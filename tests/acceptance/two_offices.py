@@ -17,9 +17,8 @@ import sys
 import tempfile
 import time
 
-import leases_over_sockets as modems
-from listening import only_alone, stop
-from time_service import PROGRAM, ROOT, check, failures, start
+from harness import PROGRAM, ROOT, check, failures, only_alone, start, stop
+from harness import modems
 
 ALL, COPY, MODEM, SQL = (os.path.join(ROOT, "bin", name)
                          for name in ("office-all", "office-copy", "modem", "office-sql"))

@@ -15,7 +15,7 @@ import sys
 import tempfile
 import time
 
-from time_service import PROGRAM, ROOT, check, failures, free_ports
+from harness import PROGRAM, ROOT, check, failures, free_ports
 
 SYSTEMD = "/lib/systemd/systemd"
 # Makes a root of its own: this machine's files below, and what is written in memory above.

@@ -19,11 +19,9 @@ import tempfile
 import threading
 import time
 
-import leases_over_sockets as modems
-from first_office import loaded
-from listening import alone, may_be_alone, stop
+from harness import PROGRAM, ROOT, alone, check, failures, loaded, may_be_alone, start, stop
+from harness import modems
 from store_reader import made
-from time_service import PROGRAM, ROOT, check, failures, start
 
 WATCH, MODEM = (os.path.join(ROOT, "bin", name) for name in ("office-watch", "modem"))
 PORTS = ",".join(map(str, modems.PORTS[:3]))

@@ -6,14 +6,16 @@ and tftp.py, to which the drill's messages are given as RFC 2131 and RFC 1350 ha
 """
 import ipaddress
 
+import messages
 from examples import outcome
 from leases import name_of
+from messages import DISCOVER, REQUEST, option
 from transfers import played, sends
 
 SECRET = b"drill"
 GOLD = "24{ 1=0001 6=07 8=00989680 } 25{ 1=0002 6=07 8=05f5e100 }"
 FOUNDED = [f"site 10.0.0.2 {SECRET.hex()} 0 86400 0.0.0.0", f'class 1 "gold" {GOLD}', "pool 1 10.64.16.0 10.64.31.255 20 10.64.0.1 10.64.0.1"]
-FIRST = ipaddress.IPv4Address("10.64.16.0")
+FIRST, RELAY, SERVER = (ipaddress.IPv4Address(each) for each in ("10.64.16.0", "10.64.0.1", "10.0.0.2"))
 
 
 def mac(i):
@@ -24,14 +26,10 @@ def address(i):
     return FIRST + (i - 1)
 
 
-def option(code, data):
-    return bytes([code, len(data)]) + data
-
-
 def message(i, kind, more=b""):
     """A message of modem i through its relay: without option 43, with the remote identifier alone in option 82."""
-    fixed = bytes([1, 1, 6, 0]) + i.to_bytes(4, "big") + bytes(16) + ipaddress.IPv4Address("10.64.0.1").packed + mac(i) + bytes(202) + bytes.fromhex("63825363")
-    return fixed + option(53, bytes([kind])) + more + option(60, b"docsis3.1:") + option(82, option(2, mac(i))) + b"\xff"
+    options = more + option(60, b"docsis3.1:") + option(82, option(2, mac(i)))
+    return messages.message(kind, mac(i), options, relay=RELAY.packed, xid=i)
 
 
 def rows(count):
@@ -42,8 +40,8 @@ def rows(count):
 def events(count):
     for i in range(1, count + 1):
         moment, held = f"t+{i}", str(address(i))
-        yield moment, "offer", message(i, 1)
-        yield moment, "ack", message(i, 3, option(50, address(i).packed) + option(54, ipaddress.IPv4Address("10.0.0.2").packed))
+        yield moment, "offer", message(i, DISCOVER)
+        yield moment, "ack", message(i, REQUEST, option(50, address(i).packed) + option(54, SERVER.packed))
         asked = b"\0\1" + name_of(SECRET, mac(i), address(i).packed) + b"\0octet\0blksize\0" + b"44\0"
         yield moment, "oack", sends(asked, held, 5000)
         last = 3 if i % 10 else 2

@@ -6,6 +6,7 @@
 mod addresses;
 mod cursors;
 mod dotted;
+mod items;
 mod joined;
 mod macs;
 mod moments;
@@ -20,6 +21,7 @@ mod wording;
 pub use addresses::{Ip4, Peer};
 pub use cursors::{Cursor, JoinedBytes};
 pub use dotted::{IpText, NotIp, ip_text, read_ip};
+pub use items::Items;
 pub use joined::{Joined, first_cut};
 pub use macs::{Mac, NotMac, mac_text, read_mac};
 pub use moments::Moment;

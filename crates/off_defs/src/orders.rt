@@ -1,12 +1,7 @@
-ghost use Rattle.std.specs.Prelude.{◌≡◌, ◌==◌, ◌<◌, ◌++◌, [], ◌∷◌, length, Some, slice_get};
-ghost use Rattle.std.specs.Prelude.{OnOk, OnErr};
-
 use crate::keys::Key;
 use crate::shown::ShownRow;
 use crate::tables::{Class, ImportKind, Modem, Pool, Row, Site, Subscriber};
-use off_base::{Mac, NoMemory, Settings};
-use std::alloc::Global;
-use std::marker::Model;
+use off_base::{Items, Mac, Settings};
 
 /// One change of the tables.
 #[derive(Drop)]
@@ -17,68 +12,8 @@ pub enum Write {
     Drop(Key),
 }
 
-/// Changes of the tables, in order. Contracts see a list of them.
-#[derive(Drop)]
-pub struct Writes {
-    items: Vec<Write>,
-}
-
-impl Model for Writes {
-    ghost use Rattle.std.specs.Prelude.{List};
-    ghost use Rattle.std.specs.Coded.{codes};
-    ghost use Rattle.off_defs.specs.declared.orders.Write.{Write};
-    ghost use Rattle.off_defs.specs.contracts.orders.Write as write;
-
-    ghost Value = { List Write };
-
-    ghost coded = { Prim.hlevel (codes, write.the_row.coded) };
-
-    ghost view = { λ w. w.items.items };
-}
-
-impl Writes {
-    /// No changes. It takes no memory.
-    pub fn new(alloc: Global) -> Writes
-        ensures { result ≡ [] }
-    {
-        Writes {
-            items: Vec::new(alloc),
-        }
-    }
-
-    /// Appends a change. After `NoMemory` the list is as before.
-    pub fn push(&mut self, item: Write) -> Result<(), NoMemory>
-        ensures ok { OnOk result (self.new ≡ self.old ++ item ∷ []) }
-        ensures err { OnErr result (self.new ≡ self.old) }
-    {
-        match self.items.push(item) {
-            Ok(()) => Ok(()),
-            Err(_refused) => Err(NoMemory),
-        }
-    }
-
-    /// How many changes there are.
-    pub fn len(&self) -> usize
-        ensures { result ≡ length self.now }
-    {
-        self.items.len()
-    }
-
-    /// Whether there are none.
-    pub fn is_empty(&self) -> bool
-        ensures { result ≡ (length self.now == 0) }
-    {
-        self.items.is_empty()
-    }
-
-    /// The change at a place, the first at 0.
-    pub fn get(&self, i: usize) -> &Write
-        requires { i < length self.now }
-        ensures { slice_get self.now i ≡ Some result.now }
-    {
-        &self.items[i]
-    }
-}
+/// Changes of the tables, in order.
+pub type Writes = Items<Write>;
 
 /// One row of an import.
 #[derive(Drop)]
@@ -89,68 +24,8 @@ pub enum ImportRow {
     Modem(Mac, Modem),
 }
 
-/// The rows of an import, in order. Contracts see a list of them.
-#[derive(Drop)]
-pub struct ImportRows {
-    items: Vec<ImportRow>,
-}
-
-impl Model for ImportRows {
-    ghost use Rattle.std.specs.Prelude.{List};
-    ghost use Rattle.std.specs.Coded.{codes};
-    ghost use Rattle.off_defs.specs.declared.orders.ImportRow.{ImportRow};
-    ghost use Rattle.off_defs.specs.contracts.orders.ImportRow as row;
-
-    ghost Value = { List ImportRow };
-
-    ghost coded = { Prim.hlevel (codes, row.the_row.coded) };
-
-    ghost view = { λ r. r.items.items };
-}
-
-impl ImportRows {
-    /// No rows. It takes no memory.
-    pub fn new(alloc: Global) -> ImportRows
-        ensures { result ≡ [] }
-    {
-        ImportRows {
-            items: Vec::new(alloc),
-        }
-    }
-
-    /// Appends a row. After `NoMemory` the list is as before.
-    pub fn push(&mut self, item: ImportRow) -> Result<(), NoMemory>
-        ensures ok { OnOk result (self.new ≡ self.old ++ item ∷ []) }
-        ensures err { OnErr result (self.new ≡ self.old) }
-    {
-        match self.items.push(item) {
-            Ok(()) => Ok(()),
-            Err(_refused) => Err(NoMemory),
-        }
-    }
-
-    /// How many rows there are.
-    pub fn len(&self) -> usize
-        ensures { result ≡ length self.now }
-    {
-        self.items.len()
-    }
-
-    /// Whether there are none.
-    pub fn is_empty(&self) -> bool
-        ensures { result ≡ (length self.now == 0) }
-    {
-        self.items.is_empty()
-    }
-
-    /// The row at a place, the first at 0.
-    pub fn get(&self, i: usize) -> &ImportRow
-        requires { i < length self.now }
-        ensures { slice_get self.now i ≡ Some result.now }
-    {
-        &self.items[i]
-    }
-}
+/// The rows of an import, in order.
+pub type ImportRows = Items<ImportRow>;
 
 /// What a clerk wants done.
 #[derive(Drop)]

@@ -1,10 +1,11 @@
 ghost use Rattle.std.specs.Prelude.{◌≡◌, ◌<◌, IfSome, vec_len};
 
 use crate::datagrams::{Asked, socket_address};
-use crate::system::is_readable;
+use crate::system::{is_readable, is_want};
+use crate::watching::Watched;
 use mio::event::Event;
 use mio::net::{TcpListener, TcpStream};
-use mio::{Interest, Registry, Token};
+use mio::{Interest, Registry};
 use off_base::{Ip4, NoMemory};
 use off_outside::{Failed, What};
 use off_peers::{Connection, Heard, Numbers, Unsent};
@@ -21,9 +22,6 @@ const MOST_OPEN: usize = 8;
 
 // How many connections are accepted before another socket is asked.
 const MOST_ACCEPTED: u32 = 64;
-
-// The listener's token; a connection's is its number and this one more.
-const LISTENER: usize = 3;
 
 // So many milliseconds pass before it is tried again to accept a connection for which no place is
 // free.
@@ -72,7 +70,7 @@ impl Clerks {
         port: u16,
     ) -> io::Result<Clerks> {
         let mut listener = TcpListener::bind(rt, socket_address(address, port))?;
-        registry.register(&mut listener, Token(LISTENER), Interest::READABLE)?;
+        registry.register(&mut listener, Watched::Listener.token(), Interest::READABLE)?;
         Ok(Clerks {
             listener,
             live: Vec::new(rt.alloc()),
@@ -97,18 +95,18 @@ impl Clerks {
         self.due
     }
 
-    /// Takes in what the system tells at the moment `now`, where the token is the listener's or a
-    /// connection's.
-    pub fn hear(&mut self, told: &Event, now: u64) {
-        let token = told.token().0;
-        if token == LISTENER {
-            self.is_waited_for = true;
-            self.is_stirred = true;
-        }
+    /// Takes it that a connection may wait to be accepted.
+    pub fn hear_of_another(&mut self) {
+        self.is_waited_for = true;
+        self.is_stirred = true;
+    }
+
+    /// Takes in what the system tells of the connection of a number at the moment `now`.
+    pub fn hear(&mut self, number: u32, told: &Event, now: u64) {
         if let Some(connection) = self
             .live
             .iter_mut()
-            .find(|connection| token_of(connection.number) == token)
+            .find(|connection| connection.number == number)
         {
             connection.hear(told, now);
             self.is_stirred = true;
@@ -249,7 +247,7 @@ impl Clerks {
         };
         let Ok(()) = registry.register(
             &mut stream,
-            Token(token_of(number)),
+            Watched::Connection(number).token(),
             Interest::READABLE | Interest::WRITABLE,
         ) else {
             return;
@@ -365,10 +363,6 @@ impl Clerks {
     }
 }
 
-fn token_of(number: u32) -> usize {
-    LISTENER + number as usize
-}
-
 // What an error of `accept` comes to. One of the connection that waited, or a signal, says nothing
 // of the next.
 fn accept_failed(error: &io::Error) -> Result<Accepted, Failed> {
@@ -382,12 +376,7 @@ fn accept_failed(error: &io::Error) -> Result<Accepted, Failed> {
         | ErrorKind::NetworkDown
         | ErrorKind::TimedOut
         | ErrorKind::PermissionDenied => Ok(Accepted::Took),
-        _ if is_for_want(error) => Ok(Accepted::NoRoom),
+        _ if error.raw_os_error().is_some_and(is_want) => Ok(Accepted::NoRoom),
         _ => Err(Failed),
     }
-}
-
-// Whether the system has no descriptor or no memory for one more connection.
-fn is_for_want(error: &io::Error) -> bool {
-    matches!(error.raw_os_error(), Some(12 | 23 | 24 | 105))
 }

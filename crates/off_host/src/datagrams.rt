@@ -6,8 +6,9 @@ ghost use Rattle.off_host.specs.Heard.{is_of_service, GivesDatagram, IsSocketAdd
 
 use crate::addresses::Addresses;
 use crate::system::ask_for_room;
+use crate::watching::Watched;
 use mio::net::UdpSocket;
-use mio::{Interest, Registry, Token};
+use mio::{Interest, Registry};
 use off_base::{Bytes, Ip4, Moment, NoMemory, Peer};
 use off_outside::{Failed, Service, What};
 use off_peers::{OwnPorts, is_acknowledgement, is_reflection, is_time_answer};
@@ -55,15 +56,6 @@ pub struct Datagrams {
     own: OwnPorts,
 }
 
-/// The token of a service's socket.
-pub const fn token_of(service: Service) -> usize {
-    match service {
-        Service::Dhcp => 0,
-        Service::Time => 1,
-        Service::Tftp => 2,
-    }
-}
-
 impl Datagrams {
     /// Opens the sockets, on ports in the order DHCP, time, TFTP.
     pub fn open(
@@ -95,14 +87,9 @@ impl Datagrams {
         self.dhcp.may_have || self.time.may_have || self.tftp.may_have
     }
 
-    /// Takes it that a datagram has come, where the token is a service's.
-    pub fn hear(&mut self, token: usize) {
-        match token {
-            0 => self.dhcp.may_have = true,
-            1 => self.time.may_have = true,
-            2 => self.tftp.may_have = true,
-            _ => {}
-        }
+    /// Takes it that a datagram has come for a service.
+    pub fn hear(&mut self, service: Service) {
+        self.port_mut(service).may_have = true;
     }
 
     /// The next datagram of a service, if one has come. One for which memory was refused is
@@ -169,7 +156,11 @@ impl Port {
     ) -> io::Result<Port> {
         let mut socket = UdpSocket::bind(rt, socket_address(address, number))?;
         ask_for_room(socket.as_raw_fd(), WAITING_BYTES);
-        registry.register(&mut socket, Token(token_of(service)), Interest::READABLE)?;
+        registry.register(
+            &mut socket,
+            Watched::Datagrams(service).token(),
+            Interest::READABLE,
+        )?;
         Ok(Port {
             socket,
             may_have: true,

@@ -9,8 +9,10 @@ mod log;
 mod socket_link;
 mod standard;
 mod system;
+mod watching;
 
 pub use addresses::Addresses;
 pub use log::{Log, LogSink};
 pub use socket_link::{OpenErr, SocketLink};
 pub use standard::{StandardInput, StandardOutput};
+pub use system::open_standard_streams;

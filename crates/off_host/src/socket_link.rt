@@ -6,6 +6,7 @@ use crate::addresses::Addresses;
 use crate::clerks::Clerks;
 use crate::datagrams::{Asked, Datagrams};
 use crate::log::Log;
+use crate::watching::Watched;
 use mio::{Events, Poll};
 use off_base::{Moment, NoMemory, Peer};
 use off_outside::{Event, Failed, Link, LinkErr, Service, What};
@@ -247,8 +248,11 @@ impl Asking {
         };
         self.looked = self.uptime()?;
         for told in self.ready.iter() {
-            self.datagrams.hear(told.token().0);
-            self.clerks.hear(told, self.looked);
+            match Watched::by_token(told.token()) {
+                Watched::Datagrams(service) => self.datagrams.hear(service),
+                Watched::Listener => self.clerks.hear_of_another(),
+                Watched::Connection(number) => self.clerks.hear(number, told, self.looked),
+            }
         }
         Ok(())
     }

@@ -17,7 +17,7 @@ use Rattle.off_defs.proofs.EntryLemmas.{is_equal, is_less, holds, first, second}
 use Rattle.off_table_laws.proofs.ListLemmas.{In, Distinct}
 
 module _ {K X : Type 0} (R : K → K → Ordering) where
-  found_in : map.IsAntisymmetric R → (es : List (K × X)) (q : K) (x : X) → list.find R q es ≡ Some x → In (q, x) es
+  pub found_in : map.IsAntisymmetric R → (es : List (K × X)) (q : K) (x : X) → list.find R q es ≡ Some x → In (q, x) es
   found_in exact [] q x f = cc
   found_in exact (e ∷ es) q x f =
       elim (eq_by_cmp R q e.0) as (λ b. eq_by_cmp R q e.0 ≡ b → cond b (Some e.1) (list.find R q es) ≡ Some x → In (q, x) (e ∷ es)) [
@@ -31,7 +31,7 @@ module _ {K X : Type 0} (R : K → K → Ordering) where
     below_in k (y ∷ ys) h e (inl same) = is_less (R k e.0) (holds _ (subst (λ (v : K × X). T (is_lt (R k v.0))) (sym same) (first _ _ h)))
     below_in k (y ∷ ys) h e (inr rest) = below_in k ys (second _ _ h) e rest
 
-    in_found : (es : List (K × X)) → T (list.is_sorted R es) → (q : K) (x : X) → In (q, x) es → list.find R q es ≡ Some x
+    pub in_found : (es : List (K × X)) → T (list.is_sorted R es) → (q : K) (x : X) → In (q, x) es → list.find R q es ≡ Some x
     in_found [] s q x i = absurd i
     in_found (e ∷ es) s q x (inl same) =
         let k : q ≡ e.0 = ap (λ (v : K × X). v.0) same in

@@ -6,7 +6,8 @@ ghost use Rattle.officed.specs.Ending.{exit_status};
 pub(crate) enum Ended {
     /// The top call answered this status.
     Ran(u8),
-    /// The last lines of the log couldn't be written.
+    /// The last lines of the log couldn't be written, or a standard stream is closed and there is no
+    /// null device to take its place.
     LogLost,
     /// Memory was wanted outside of the top call, and refused.
     NoMemory,

@@ -11,7 +11,10 @@ mod ended;
 mod hearing;
 
 use ended::Ended;
-use off_host::{Addresses, Log, LogSink, OpenErr, SocketLink, StandardInput, StandardOutput};
+use off_host::{
+    Addresses, Log, LogSink, OpenErr, SocketLink, StandardInput, StandardOutput,
+    open_standard_streams,
+};
 use off_keepmem::MemKeeper;
 use off_outside::{Calls, Events, Keeper, Link, MemLink, Sink, Source};
 use off_serve::{Wanted, place, run};
@@ -26,6 +29,9 @@ const DRILLED_ITEMS: usize = 24_000;
 const DRILLED_OCTETS: usize = 3_200_000;
 
 fn main(rt: HostRuntime) -> ExitCode {
+    if !open_standard_streams() {
+        return ExitCode::from(Ended::LogLost.status());
+    }
     let mut words = Vec::new(rt.alloc());
     match env::args(&rt) {
         Ok(args) => {
