@@ -24,6 +24,8 @@ mod lying;
 #[cfg(test)]
 mod offering;
 #[cfg(test)]
+mod runs;
+#[cfg(test)]
 mod silence;
 #[cfg(test)]
 mod straying;

@@ -1,0 +1,12 @@
+pub mod RunLemmas
+pub mod EachLemmas
+pub mod GatherLemmas
+pub mod StandLemmas
+pub mod PlaceLemmas
+pub mod ListedLemmas
+pub mod ShelfLemmas
+pub mod LeaseLemmas
+pub mod ApplyLemmas
+pub mod WriteLemmas
+pub mod SeenLemmas
+pub mod ReadLemmas

@@ -1,0 +1,250 @@
+-- What walks over the tables find: the pools, and the leases of their addresses.
+use Rattle.std.proofs.Common.{◌≡◌, ℕ, ◌<◌, ◌==◌, Bool, true, false, cond, T, List, [], ◌∷◌, ◌++◌, Option, Some, None, refl, sym, ap, subst, ◌∙◌, append_assoc, arith}
+use Rattle.std.proofs.lemmas.List.{append-nil}
+use Rattle.std.proofs.lemmas.List.Elements.{All-nil, All-weaker}
+use Rattle.std.specs.List.{All, filter_map, cons_option}
+use Rattle.std.specs.FinMap.{nat_cmp-IsAntisymmetric}
+use Rattle.std.specs.FinMap as map
+use Rattle.std.specs.FinMap.Entries as list
+use Rattle.std.specs.Ordering.{nat_cmp, is_eq, eq_by_cmp}
+use Rattle.off_base.specs.declared.addresses.Ip4.{Ip4}
+use Rattle.off_defs.proofs.EntryLemmas.{is_equal, is_less, holds, first, second}
+use Rattle.off_defs.specs.declared.keys.Key.{Key}
+use Rattle.off_defs.specs.declared.keys.Key.TheVariants as key
+use Rattle.off_defs.specs.declared.tables.Row.{Row}
+use Rattle.off_defs.specs.declared.tables.Pool.{Pool}
+use Rattle.off_defs.specs.declared.orders.Write.{Write}
+use Rattle.off_defs.specs.Keys.{key_cmp}
+use Rattle.off_defs.specs.State.{Tables}
+use Rattle.off_defs.specs.Tables.{row_at, next_entry}
+use Rattle.off_account_rules.specs.Rows.{pools, pool_in}
+use Rattle.off_rows.specs.KeyBytes.{kind_of}
+use Rattle.off_outside.specs.KeeperSeen.{KeeperSeen}
+use Rattle.off_outside.specs.KeeperCalls.{Reads}
+use Rattle.off_outside.proofs.KeeperLemmas.{reads_none}
+use Rattle.off_readers.proofs.GatherLemmas.{Gathered}
+use Rattle.off_readers.proofs.WalkLemmas.{OnlyAt, left_of, left_next, left_none, kind_begins, kind_ends}
+use Rattle.off_runs.specs.Runs.{address}
+use Rattle.off_runs.specs.Held.{PoolHeld, RunsHeld, head, heads, HasLeases, HasHub, Exact, StandsFor}
+use Rattle.off_runs.specs.Changes.{EachBecomes, Passed, Settles}
+use Rattle.off_runs.specs.Leases.{expiry_in, expiry_held, hub_in, ground, fitting, pools_after, expiries_by, expiries_after, lease_write, LeasesTaken, Moves}
+use Rattle.off_runs.specs.Reading.{pool_put, lease_put, pools_put, leases_put, no_ground, bare_ground}
+use Rattle.off_runs.proofs.EachLemmas.{becomes_all, becomes_map}
+use Rattle.off_runs.proofs.StandLemmas.{stands_by, same_head, same_hub, passed_leases, passed_exact, settles_by}
+use Rattle.off_runs.proofs.LeaseLemmas.{nothing_taken}
+use Rattle.off_runs.proofs.WriteLemmas.{same_number, read_pool, put_pool, read_expiry, put_expiry}
+use Rattle.off_runs.proofs.SeenLemmas.{pools_sorted, pool_seen}
+
+none_below : (k : Key) (es : List (Key × Row)) → T (list.below_all key_cmp k es) → list.find key_cmp k es ≡ None
+none_below k [] h = refl
+none_below k (e ∷ es) h =
+    ap (λ r. cond (is_eq r) (Some e.1) (list.find key_cmp k es)) (is_less (key_cmp k e.0) (holds _ (first _ _ h))) ∙ none_below k es (second _ _ h)
+
+-- ---- leases
+
+abbrev expiry_kept : Option Row → ℕ → ℕ
+expiry_kept None was = was
+expiry_kept (Some held) was = expiry_held held
+
+abbrev lease_row : List (Key × Row) → ℕ → Option Row
+lease_row es a = list.find key_cmp (key.Lease (address a)) es
+
+at_lease : (expiry : ℕ → ℕ) (m : Ip4) (held : Row) (es : List (Key × Row)) → T (list.below_all key_cmp (key.Lease m) es) → (a : ℕ)
+    → expiry_kept (lease_row es a) (cond (a == m.0) (expiry_held held) (expiry a)) ≡ expiry_kept (cond (eq_by_cmp nat_cmp a m.0) (Some held) (lease_row es a)) (expiry a)
+at_lease expiry m held es h a =
+    elim (eq_by_cmp nat_cmp a m.0) as (λ b. eq_by_cmp nat_cmp a m.0 ≡ b
+    → expiry_kept (lease_row es a) (cond (a == m.0) (expiry_held held) (expiry a)) ≡ expiry_kept (cond b (Some held) (lease_row es a)) (expiry a)) [
+      | true ↦ λ e.
+          let same : a ≡ m.0 = nat_cmp-IsAntisymmetric a m.0 (is_equal (nat_cmp a m.0) e) in
+          let none : lease_row es a ≡ None = none_below (key.Lease (address a)) es (subst (λ n. T (list.below_all key_cmp (key.Lease (address n)) es)) (sym same) h) in
+          ap (λ o. expiry_kept o (cond (a == m.0) (expiry_held held) (expiry a))) none ∙ ap (λ b. cond b (expiry_held held) (expiry a)) (sym (same_number a m.0) ∙ e)
+      | false ↦ λ e. ap (λ b. expiry_kept (lease_row es a) (cond b (expiry_held held) (expiry a))) (sym (same_number a m.0) ∙ e)
+    ] refl
+
+lease_first : (k : Key) (held : Row) (expiry : ℕ → ℕ) (es : List (Key × Row)) (a : ℕ) → T (list.below_all key_cmp k es)
+    → ((was : ℕ → ℕ) → expiries_after was (filter_map lease_put es) a ≡ expiry_kept (lease_row es a) (was a))
+    → expiries_after expiry (filter_map lease_put ((k, held) ∷ es)) a ≡ expiry_kept (lease_row ((k, held) ∷ es) a) (expiry a)
+lease_first (key.Lease m) held expiry es a h rest = rest (λ b. cond (b == m.0) (expiry_held held) (expiry b)) ∙ at_lease expiry m held es h a
+lease_first key.Site held expiry es a h rest = rest expiry
+lease_first (key.Subscriber n) held expiry es a h rest = rest expiry
+lease_first (key.AddOn n i) held expiry es a h rest = rest expiry
+lease_first (key.Modem mac) held expiry es a h rest = rest expiry
+lease_first (key.Class n) held expiry es a h rest = rest expiry
+lease_first (key.Pool n) held expiry es a h rest = rest expiry
+lease_first (key.Held mac) held expiry es a h rest = rest expiry
+lease_first (key.Batch n) held expiry es a h rest = rest expiry
+
+by_leases : (expiry : ℕ → ℕ) (es : List (Key × Row)) → T (list.is_sorted key_cmp es) → (a : ℕ) → expiries_after expiry (filter_map lease_put es) a ≡ expiry_kept (lease_row es a) (expiry a)
+by_leases expiry [] s a = refl
+by_leases expiry (e ∷ es) s a = lease_first e.0 e.1 expiry es a (first _ _ s) (λ was. by_leases was es (second _ _ s) a)
+
+kept_expiry : (a : ℕ) (o : Option Row) → expiry_kept o 0 ≡ read_expiry a o
+kept_expiry a None = refl
+kept_expiry a (Some held) = sym (put_expiry a held)
+
+leases_read : (t : Tables) (a : ℕ) → expiries_after (λ b. 0) (leases_put t) a ≡ expiry_in t a
+leases_read t a =
+    by_leases (λ b. 0) (map.entries t) (map.entries_sorted t) a ∙ ap (λ (o : Option Row). expiry_kept o 0) (sym (map.get-entries t (key.Lease (address a))))
+    ∙ kept_expiry a (row_at t (key.Lease (address a)))
+
+-- ---- pools
+
+abbrev pool_kept : Option Row → Option Pool → Option Pool
+pool_kept None was = was
+pool_kept (Some held) was = fitting held
+
+abbrev pool_row : List (Key × Row) → ℕ → Option Row
+pool_row es n = list.find key_cmp (key.Pool n) es
+
+at_pool : (by : ℕ → Option Pool) (m : ℕ) (held : Row) (es : List (Key × Row)) → T (list.below_all key_cmp (key.Pool m) es) → (n : ℕ)
+    → pool_kept (pool_row es n) (cond (eq_by_cmp nat_cmp n m) (fitting held) (by n)) ≡ pool_kept (cond (eq_by_cmp nat_cmp n m) (Some held) (pool_row es n)) (by n)
+at_pool by m held es h n =
+    elim (eq_by_cmp nat_cmp n m) as (λ b. eq_by_cmp nat_cmp n m ≡ b
+    → pool_kept (pool_row es n) (cond b (fitting held) (by n)) ≡ pool_kept (cond b (Some held) (pool_row es n)) (by n)) [
+      | true ↦ λ e.
+          let same : n ≡ m = nat_cmp-IsAntisymmetric n m (is_equal (nat_cmp n m) e) in
+          ap (λ o. pool_kept o (fitting held)) (none_below (key.Pool n) es (subst (λ k. T (list.below_all key_cmp (key.Pool k) es)) (sym same) h))
+      | false ↦ λ e. refl
+    ] refl
+
+pool_first : (k : Key) (held : Row) (by : ℕ → Option Pool) (es : List (Key × Row)) (n : ℕ) → T (list.below_all key_cmp k es)
+    → ((was : ℕ → Option Pool) → pools_after was (filter_map pool_put es) n ≡ pool_kept (pool_row es n) (was n))
+    → pools_after by (filter_map pool_put ((k, held) ∷ es)) n ≡ pool_kept (pool_row ((k, held) ∷ es) n) (by n)
+pool_first (key.Pool m) held by es n h rest = rest (λ q. cond (eq_by_cmp nat_cmp q m) (fitting held) (by q)) ∙ at_pool by m held es h n
+pool_first key.Site held by es n h rest = rest by
+pool_first (key.Subscriber m) held by es n h rest = rest by
+pool_first (key.AddOn m i) held by es n h rest = rest by
+pool_first (key.Modem mac) held by es n h rest = rest by
+pool_first (key.Class m) held by es n h rest = rest by
+pool_first (key.Lease m) held by es n h rest = rest by
+pool_first (key.Held mac) held by es n h rest = rest by
+pool_first (key.Batch m) held by es n h rest = rest by
+
+by_pools : (by : ℕ → Option Pool) (es : List (Key × Row)) → T (list.is_sorted key_cmp es) → (n : ℕ) → pools_after by (filter_map pool_put es) n ≡ pool_kept (pool_row es n) (by n)
+by_pools by [] s n = refl
+by_pools by (e ∷ es) s n = pool_first e.0 e.1 by es n (first _ _ s) (λ was. by_pools was es (second _ _ s) n)
+
+kept_pool : (n : ℕ) (o : Option Row) → pool_kept o None ≡ read_pool n o
+kept_pool n None = refl
+kept_pool n (Some held) = sym (put_pool n held)
+
+pools_read : (t : Tables) (n : ℕ) → pools_after (λ q. None) (pools_put t) n ≡ pool_in t n
+pools_read t n =
+    by_pools (λ q. None) (map.entries t) (map.entries_sorted t) n ∙ ap (λ (o : Option Row). pool_kept o None) (sym (map.get-entries t (key.Pool n)))
+    ∙ kept_pool n (row_at t (key.Pool n))
+
+-- a pool that is put is no lease
+no_lease_first : (k : Key) (held : Row) (expiry : ℕ → ℕ) (es : List (Key × Row)) → expiries_after expiry (filter_map pool_put es) ≡ expiry
+    → expiries_after expiry (filter_map pool_put ((k, held) ∷ es)) ≡ expiry
+no_lease_first key.Site held expiry es rest = rest
+no_lease_first (key.Subscriber n) held expiry es rest = rest
+no_lease_first (key.AddOn n i) held expiry es rest = rest
+no_lease_first (key.Modem mac) held expiry es rest = rest
+no_lease_first (key.Class n) held expiry es rest = rest
+no_lease_first (key.Pool n) held expiry es rest = rest
+no_lease_first (key.Lease n) held expiry es rest = rest
+no_lease_first (key.Held mac) held expiry es rest = rest
+no_lease_first (key.Batch n) held expiry es rest = rest
+
+no_leases : (expiry : ℕ → ℕ) (es : List (Key × Row)) → expiries_after expiry (filter_map pool_put es) ≡ expiry
+no_leases expiry [] = refl
+no_leases expiry (e ∷ es) = no_lease_first e.0 e.1 expiry es (no_leases expiry es)
+
+pub pools_move : (t : Tables) → Moves (pools_put t) (λ n. None) no_ground (bare_ground t)
+pools_move t = record {
+  no_hubs = λ n. refl;
+  same_hubs = λ n. refl;
+  before_sorted = tt;
+  before = λ n. refl;
+  around = λ a h. absurd (omega (arith, h));
+  after_sorted = pools_sorted t;
+  after = λ n. pool_seen t n ∙ sym (pools_read t n);
+  expiries = λ a. ap (λ (e : ℕ → ℕ). e a) (no_leases (λ b. 0) (map.entries t));
+}
+
+pub new_stands : (h : RunsHeld) → h.at ≡ 0 → h.pools ≡ [] → StandsFor h no_ground 0
+new_stands h at none =
+    stands_by h no_ground 0 at (ap (λ (ps : List PoolHeld). heads ps) none)
+    (subst (λ (ps : List PoolHeld). All (HasLeases (λ a. 0)) ps) (sym none) (All-nil (HasLeases (λ a. 0))))
+    (subst (λ (ps : List PoolHeld). All (HasHub (λ n. 0)) ps) (sym none) (All-nil (HasHub (λ n. 0))))
+    (subst (λ (ps : List PoolHeld). All (Exact 0) ps) (sym none) (All-nil (Exact 0)))
+
+-- ---- the walk over leases
+
+no_put : (k : Key) (held : Row) → ¬ (kind_of k ≡ 7) → lease_put (k, held) ≡ None
+no_put (key.Lease a) held other = absurd (other refl)
+no_put _ held other = refl
+
+only_leases : OnlyAt 7 lease_put
+only_leases = record { others = λ entry other. no_put entry.0 entry.1 other }
+
+not_pool : (k : Key) (held : Row) → ¬ (kind_of k ≡ 6) → pool_put (k, held) ≡ None
+not_pool (key.Pool n) held other = absurd (other refl)
+not_pool _ held other = refl
+
+pub only_pools : OnlyAt 6 pool_put
+only_pools = record { others = λ entry other. not_pool entry.0 entry.1 other }
+
+pub no_pools_yet : (place : Key) (found : List Write) (a : KeeperSeen) → kind_of place < 6 → found ≡ [] → Reads (Gathered pool_put pools_put found (Some place)) a a
+no_pools_yet place found a lower none = reads_none (λ t.
+    sym (ap (λ (v : List Write). v ++ left_of pool_put (Some place) t) none ∙ kind_begins only_pools place t lower))
+
+-- what a walk has put, and what is left of it, are all leases
+pub record TakenUpTo (first now : List PoolHeld) (place : Key) (t : Tables) : Type 0 where
+  pub taken : List Write
+  pub all : leases_put t ≡ taken ++ left_of lease_put (Some place) t
+  pub done : LeasesTaken taken first now
+
+pub none_yet : (place : Key) (pools : List PoolHeld) (t : Tables) → kind_of place < 7 → TakenUpTo pools pools place t
+none_yet place pools t lower = record { taken = []; all = sym (kind_begins only_leases place t lower); done = nothing_taken pools }
+
+after_append : (expiry : ℕ → ℕ) (ws vs : List Write) → expiries_after expiry (ws ++ vs) ≡ expiries_after (expiries_after expiry ws) vs
+after_append expiry [] vs = refl
+after_append expiry (w ∷ ws) vs = after_append (expiries_by (lease_write w) expiry) ws vs
+
+taken_then : (ws vs : List Write) (first old new : List PoolHeld) → LeasesTaken ws first old → LeasesTaken vs old new → LeasesTaken (ws ++ vs) first new
+taken_then ws vs first old new before more = record {
+  heads_are = more.heads_are ∙ before.heads_are;
+  hubs = λ hub all. more.hubs hub (before.hubs hub all);
+  leases = λ expiry all. subst (λ (e : ℕ → ℕ). All (HasLeases e) new) (sym (after_append expiry ws vs)) (more.leases (expiries_after expiry ws) (before.leases expiry all));
+  settles = λ now all. more.settles now (before.settles now all);
+}
+
+joined : (given : Option Write) (xs ys : List Write) → xs ++ cons_option given ys ≡ (xs ++ cons_option given []) ++ ys
+joined None xs ys = ap (λ (v : List Write). v ++ ys) (sym (append-nil xs))
+joined (Some x) xs ys = sym (append_assoc xs (x ∷ []) ys)
+
+pub one_more : (first old new : List PoolHeld) (place : Key) (entry : Key × Row) (t : Tables) → TakenUpTo first old place t → Some entry ≡ next_entry (Some place) t
+    → LeasesTaken (cons_option (lease_put entry) []) old new → TakenUpTo first new entry.0 t
+one_more first old new place entry t so_far next one = record {
+  taken = so_far.taken ++ cons_option (lease_put entry) [];
+  all =
+      so_far.all ∙ ap (λ (v : List Write). so_far.taken ++ v) (left_next lease_put (Some place) entry t next)
+      ∙ joined (lease_put entry) so_far.taken (left_of lease_put (Some entry.0) t);
+  done = taken_then so_far.taken (cons_option (lease_put entry) []) first old new so_far.done one;
+}
+
+ended : (first now : List PoolHeld) (place : Key) (t : Tables) → TakenUpTo first now place t → left_of lease_put (Some place) t ≡ [] → LeasesTaken (leases_put t) first now
+ended first now place t so_far none =
+    subst (λ (ws : List Write). LeasesTaken ws first now) (sym (so_far.all ∙ ap (λ (v : List Write). so_far.taken ++ v) none ∙ append-nil so_far.taken)) so_far.done
+
+pub at_end : (first now : List PoolHeld) (place : Key) (t : Tables) → TakenUpTo first now place t → None ≡ next_entry (Some place) t → LeasesTaken (leases_put t) first now
+at_end first now place t so_far none = ended first now place t so_far (left_none lease_put (Some place) t none)
+
+pub past_leases : (first now : List PoolHeld) (place : Key) (entry : Key × Row) (t : Tables) → TakenUpTo first now place t → Some entry ≡ next_entry (Some place) t → 7 < kind_of entry.0
+    → LeasesTaken (leases_put t) first now
+past_leases first now place entry t so_far next past = ended first now place t so_far (kind_ends only_leases (Some place) entry t past next)
+
+-- ---- both
+
+pub kept_stands : (t : Tables) (old new : RunsHeld) (now : ℕ) (leased : List PoolHeld) → StandsFor old (bare_ground t) now → LeasesTaken (leases_put t) old.pools leased
+    → EachBecomes (Passed old.at) leased new.pools → new.at ≡ old.at → StandsFor new (ground t) now
+kept_stands t old new now leased s taken passed at =
+    let reached = subst (λ i. EachBecomes (Passed i) leased new.pools) s.moment passed in
+    stands_by new (ground t) now (at ∙ s.moment) (becomes_map (Passed now) head (λ x y p. same_head x y p.same) leased new.pools reached ∙ taken.heads_are ∙ s.pools)
+    (All-weaker (HasLeases (expiries_after (λ a. 0) (leases_put t))) (HasLeases (expiry_in t)) (λ p has a inside. has a inside ∙ leases_read t a) new.pools
+    (becomes_all (Passed now) (HasLeases (expiries_after (λ a. 0) (leases_put t))) (HasLeases (expiries_after (λ a. 0) (leases_put t)))
+    (passed_leases (expiries_after (λ a. 0) (leases_put t)) now) leased new.pools reached (taken.leases (λ a. 0) s.leases)))
+    (becomes_all (Passed now) (HasHub (hub_in t)) (HasHub (hub_in t)) (λ x y p. same_hub (hub_in t) x y p.same) leased new.pools reached (taken.hubs (hub_in t) s.hubs))
+    (becomes_all (Passed now) (Settles now) (Exact now) (λ x y p e. passed_exact now now (omega arith) x y p e) leased new.pools reached
+    (taken.settles now (All-weaker (Exact now) (Settles now) (settles_by now) old.pools s.kept)))

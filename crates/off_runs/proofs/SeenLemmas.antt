@@ -1,0 +1,122 @@
+-- The pools of the tables are a map by number, and it's the one that is read.
+use Rattle.std.proofs.Common.{◌≡◌, ℕ, ◌<◌, Bool, true, false, cond, ◌&&◌, T, List, [], ◌∷◌, Option, Some, None, option_and_then, refl, sym, ap, subst, ◌∙◌, arith}
+use Rattle.std.specs.List.{filter_map, cons_option, list_any}
+use Rattle.std.specs.FinMap as map
+use Rattle.std.specs.FinMap.Entries as list
+use Rattle.std.specs.Ordering.{nat_cmp, is_lt}
+use Rattle.off_defs.proofs.EntryLemmas.{first, second}
+use Rattle.off_defs.specs.declared.keys.Key.{Key}
+use Rattle.off_defs.specs.declared.keys.Key.TheVariants as key
+use Rattle.off_defs.specs.declared.tables.Row.{Row}
+use Rattle.off_defs.specs.declared.tables.Row.TheVariants as row
+use Rattle.off_defs.specs.declared.tables.Pool.{Pool}
+use Rattle.off_defs.specs.Keys.{key_cmp}
+use Rattle.off_defs.specs.State.{Tables}
+use Rattle.off_account_rules.specs.Rows.{possible, as_pool, pool_fits, pool_of, pools, pool_in, lease_in, fitting_pool}
+use Rattle.std.proofs.lemmas.Cmp.{nat_cmp_total}
+use Rattle.std.specs.FinMap.{nat_cmp-IsAntisymmetric}
+use Rattle.off_defs.specs.declared.tables.Lease.{Lease}
+use Rattle.off_defs.specs.Tables.{row_at, write_all}
+use Rattle.off_account_rules.specs.Good.{Good}
+use Rattle.off_table_laws.proofs.ListLemmas.{made_in, in_made, in_any}
+use Rattle.off_table_laws.proofs.EntryRows.{row_in, in_row, found_in, in_found}
+use Rattle.off_table_laws.proofs.Reading.{pool_row}
+use Rattle.off_table_laws.proofs.TableLaws.{leases_stand}
+use Rattle.off_runs.specs.Runs.{address, in_pool}
+use Rattle.off_runs.specs.Leases.{expiry_of, LeasesMove}
+use Rattle.off_runs.proofs.WriteLemmas.{pools_written, expiries_written}
+
+and_both : (a b : Bool) → T a → T b → T (a && b)
+and_both true b p q = q
+and_both false b p q = absurd p
+
+abbrev number_or : ℕ → Option (ℕ × Pool) → ℕ
+number_or d None = d
+number_or d (Some e) = e.0
+
+abbrev pool_or : Pool → Option (ℕ × Pool) → Pool
+pool_or d None = d
+pool_or d (Some e) = e.1
+
+-- a pool's entry has its number
+number_of : (k : Key) (held : Row) (n : ℕ) (pool : Pool) → pool_of (k, held) ≡ Some (n, pool) → k ≡ key.Pool n
+number_of (key.Pool m) (row.Pool p) n pool e =
+    elim (pool_fits p) as (λ b. fitting_pool b m p ≡ Some (n, pool) → key.Pool m ≡ key.Pool n) [ true ↦ λ f. let same : m ≡ n = ap (number_or m) f in ap key.Pool same | false ↦ λ f. cc ] e
+number_of k held n pool e = cc
+
+below_made : (n : ℕ) (es : List (Key × Row)) → T (list.below_all key_cmp (key.Pool n) es) → T (list.below_all nat_cmp n (filter_map pool_of es))
+below_made n [] h = tt
+below_made n (e ∷ es) h =
+    let after = below_made n es (second _ _ h) in
+    elim (pool_of e) as (λ o. pool_of e ≡ o → T (list.below_all nat_cmp n (cons_option o (filter_map pool_of es)))) [
+      | None ↦ λ f. after
+      | Some p ↦ λ f.
+          let is : e.0 ≡ key.Pool p.0 = number_of e.0 e.1 p.0 p.1 f in
+          and_both (is_lt (nat_cmp n p.0)) (list.below_all nat_cmp n (filter_map pool_of es)) (subst (λ (k : Key). T (is_lt (key_cmp (key.Pool n) k))) is (first _ _ h)) after
+    ] refl
+
+sorted_made : (es : List (Key × Row)) → T (list.is_sorted key_cmp es) → T (list.is_sorted nat_cmp (filter_map pool_of es))
+sorted_made [] h = tt
+sorted_made (e ∷ es) h =
+    let after = sorted_made es (second _ _ h) in
+    elim (pool_of e) as (λ o. pool_of e ≡ o → T (list.is_sorted nat_cmp (cons_option o (filter_map pool_of es)))) [
+      | None ↦ λ f. after
+      | Some p ↦ λ f.
+          let is : e.0 ≡ key.Pool p.0 = number_of e.0 e.1 p.0 p.1 f in
+          and_both (list.below_all nat_cmp p.0 (filter_map pool_of es)) (list.is_sorted nat_cmp (filter_map pool_of es))
+          (below_made p.0 es (subst (λ (k : Key). T (list.below_all key_cmp k es)) is (first _ _ h))) after
+    ] refl
+
+pub pools_sorted : (t : Tables) → T (list.is_sorted nat_cmp (pools t))
+pools_sorted t = sorted_made (map.entries t) (map.entries_sorted t)
+
+abbrev read_pool : ℕ → Option Row → Option Pool
+read_pool n o = option_and_then as_pool (possible (key.Pool n) o)
+
+read_fits : (n : ℕ) (pool : Pool) → read_pool n (Some (row.Pool pool)) ≡ Some pool → pool_fits pool ≡ true
+read_fits n pool e = elim (pool_fits pool) as (λ b. option_and_then as_pool (cond b (Some (row.Pool pool)) None) ≡ Some pool → b ≡ true) [ true ↦ λ f. refl | false ↦ λ f. cc ] e
+
+made_reads : (k : Key) (held : Row) (n : ℕ) (pool : Pool) → pool_of (k, held) ≡ Some (n, pool) → read_pool n (Some held) ≡ Some pool
+made_reads (key.Pool m) (row.Pool p) n pool e =
+    elim (pool_fits p) as (λ b. fitting_pool b m p ≡ Some (n, pool) → option_and_then as_pool (cond b (Some (row.Pool p)) None) ≡ Some pool) [
+      | true ↦ λ f. let same : p ≡ pool = ap (pool_or p) f in ap Some same
+      | false ↦ λ f. cc
+    ] e
+made_reads k held n pool e = cc
+
+pub pool_seen : (t : Tables) (n : ℕ) → list.find nat_cmp n (pools t) ≡ pool_in t n
+pool_seen t n = go (pool_in t n) refl (list.find nat_cmp n (pools t)) refl
+  where
+    go : (o : Option Pool) → pool_in t n ≡ o → (f : Option Pool) → list.find nat_cmp n (pools t) ≡ f → f ≡ o
+    go (Some pool) is f e =
+        let r = pool_row t n pool is in
+        let fits : pool_fits pool ≡ true = read_fits n pool (ap (read_pool n) (sym r) ∙ is) in
+        let made : pool_of (key.Pool n, row.Pool pool) ≡ Some (n, pool) = ap (λ b. fitting_pool b n pool) fits in
+        let inside = in_made pool_of (map.entries t) (key.Pool n, row.Pool pool) (n, pool) (row_in t (key.Pool n) (row.Pool pool) r) made in
+        sym e ∙ in_found nat_cmp nat_cmp_total (pools t) (pools_sorted t) n pool inside
+    go None is None e = refl
+    go None is (Some pool) e =
+        let m = made_in pool_of (map.entries t) (n, pool) (found_in nat_cmp nat_cmp-IsAntisymmetric (pools t) n pool e) in
+        let there : row_at t (key.Pool n) ≡ Some (m.0).1 = ap (row_at t) (sym (number_of (m.0).0 (m.0).1 n pool m.2)) ∙ in_row t (m.0).0 (m.0).1 m.1 in
+        let read : pool_in t n ≡ Some pool = ap (read_pool n) there ∙ made_reads (m.0).0 (m.0).1 n pool m.2 in
+        cc
+
+-- in good tables a lease that has an expiry lies in a pool
+lies_around : (t : Tables) (a : ℕ) → Good t → (o : Option Lease) → lease_in t (address a) ≡ o → 0 < expiry_of o → list_any (λ e. in_pool e.1 a) (pools t) ≡ true
+lies_around t a good None is h = absurd (omega (arith, h))
+lies_around t a good (Some lease) is h =
+    let one = (leases_stand t good (address a) lease is).1 in
+    let inside = found_in nat_cmp nat_cmp-IsAntisymmetric (pools t) one.number one.pool (pool_seen t one.number ∙ one.there) in
+    in_any (λ e. in_pool e.1 a) (pools t) (one.number, one.pool) inside one.within
+
+pub moves : LeasesMove
+moves t good writes = record {
+  no_hubs = λ n. refl;
+  same_hubs = λ n. refl;
+  before_sorted = pools_sorted t;
+  before = pool_seen t;
+  around = λ a h. lies_around t a good (lease_in t (address a)) refl h;
+  after_sorted = pools_sorted (write_all t writes);
+  after = λ n. pool_seen (write_all t writes) n ∙ sym (pools_written t writes n);
+  expiries = expiries_written t writes;
+}

@@ -1,0 +1,117 @@
+-- What writes make of the tables' pools and leases.
+use Rattle.std.proofs.Common.{◌≡◌, ℕ, ◌==◌, Bool, true, false, cond, List, [], ◌∷◌, Option, Some, None, option_and_then, refl, sym, ap, ◌∙◌, arith}
+use Rattle.std.proofs.lemmas.Bool.Decides.{nat_tests}
+use Rattle.std.proofs.lemmas.Cmp.{nat_cmp_total}
+use Rattle.std.specs.Cmp.{tied_itself}
+use Rattle.std.specs.FinMap.{nat_cmp-IsAntisymmetric}
+use Rattle.std.specs.Ordering.{nat_cmp, is_eq, eq_by_cmp}
+use Rattle.off_defs.proofs.EntryLemmas.{is_equal}
+use Rattle.off_defs.proofs.TableLemmas.{row_with, row_without}
+use Rattle.off_defs.specs.declared.keys.Key.TheVariants as key
+use Rattle.off_defs.specs.declared.tables.Row.{Row}
+use Rattle.off_defs.specs.declared.tables.Row.TheVariants as row
+use Rattle.off_defs.specs.declared.tables.Pool.{Pool}
+use Rattle.off_defs.specs.declared.orders.Write.{Write}
+use Rattle.off_defs.specs.declared.orders.Write.TheVariants.{Put, Drop}
+use Rattle.off_defs.specs.State.{Tables}
+use Rattle.off_defs.specs.Tables.{row_at, written, write_all}
+use Rattle.off_account_rules.specs.Rows.{possible, as_pool, as_lease, pool_fits, pool_in}
+use Rattle.off_runs.specs.Runs.{address}
+use Rattle.off_runs.specs.Leases.{expiry_of, expiry_in, expiry_held, fitting, pool_write, lease_write, pools_by, pools_after, expiries_by, expiries_after}
+
+-- two numbers are equal by their order as by the test
+pub same_number : (a b : ℕ) → eq_by_cmp nat_cmp a b ≡ (a == b)
+same_number a b =
+    elim (eq_by_cmp nat_cmp a b) as (λ t. eq_by_cmp nat_cmp a b ≡ t → t ≡ (a == b)) [
+      | true ↦ λ e. let same : a ≡ b = nat_cmp-IsAntisymmetric a b (is_equal (nat_cmp a b) e) in grind (arith, nat_tests)
+      | false ↦ λ e. apart (a == b) refl e
+    ] refl
+  where
+    apart : (t : Bool) → (a == b) ≡ t → eq_by_cmp nat_cmp a b ≡ false → false ≡ t
+    apart true e f =
+        let same : a ≡ b = grind (arith, nat_tests) in
+        let tied : eq_by_cmp nat_cmp a b ≡ true = ap (λ x. eq_by_cmp nat_cmp a x) (sym same) ∙ ap is_eq (tied_itself nat_cmp_total a) in
+        cc
+    apart false e f = refl
+
+-- ---- pools
+
+abbrev pub read_pool : ℕ → Option Row → Option Pool
+read_pool n o = option_and_then as_pool (possible (key.Pool n) o)
+
+pub put_pool : (n : ℕ) (held : Row) → read_pool n (Some held) ≡ fitting held
+put_pool n (row.Pool pool) = elim (pool_fits pool) as (λ b. option_and_then as_pool (cond b (Some (row.Pool pool)) None) ≡ cond b (Some pool) None) [ true ↦ refl | false ↦ refl ]
+put_pool n held = refl
+
+pool_at : (n : ℕ) (b : Bool) (o : Option Row) (pool : Option Pool) (was : Option Row) → read_pool n o ≡ pool → read_pool n (cond b o was) ≡ cond b pool (read_pool n was)
+pool_at n true o pool was is = is
+pool_at n false o pool was is = refl
+
+pub pool_written : (t : Tables) (w : Write) (n : ℕ) → pool_in (written t w) n ≡ pools_by (pool_write w) (pool_in t) n
+pool_written t (Put (key.Pool m) held) n =
+    ap (read_pool n) (row_with t (key.Pool m) held (key.Pool n)) ∙ pool_at n (eq_by_cmp nat_cmp n m) (Some held) (fitting held) (row_at t (key.Pool n)) (put_pool n held)
+pool_written t (Drop (key.Pool m)) n =
+    ap (read_pool n) (row_without t (key.Pool m) (key.Pool n)) ∙ pool_at n (eq_by_cmp nat_cmp n m) None None (row_at t (key.Pool n)) refl
+pool_written t (Put key.Site held) n = ap (read_pool n) (row_with t key.Site held (key.Pool n))
+pool_written t (Drop key.Site) n = ap (read_pool n) (row_without t key.Site (key.Pool n))
+pool_written t (Put (key.Subscriber a) held) n = ap (read_pool n) (row_with t (key.Subscriber a) held (key.Pool n))
+pool_written t (Drop (key.Subscriber a)) n = ap (read_pool n) (row_without t (key.Subscriber a) (key.Pool n))
+pool_written t (Put (key.AddOn a i) held) n = ap (read_pool n) (row_with t (key.AddOn a i) held (key.Pool n))
+pool_written t (Drop (key.AddOn a i)) n = ap (read_pool n) (row_without t (key.AddOn a i) (key.Pool n))
+pool_written t (Put (key.Modem a) held) n = ap (read_pool n) (row_with t (key.Modem a) held (key.Pool n))
+pool_written t (Drop (key.Modem a)) n = ap (read_pool n) (row_without t (key.Modem a) (key.Pool n))
+pool_written t (Put (key.Class a) held) n = ap (read_pool n) (row_with t (key.Class a) held (key.Pool n))
+pool_written t (Drop (key.Class a)) n = ap (read_pool n) (row_without t (key.Class a) (key.Pool n))
+pool_written t (Put (key.Lease a) held) n = ap (read_pool n) (row_with t (key.Lease a) held (key.Pool n))
+pool_written t (Drop (key.Lease a)) n = ap (read_pool n) (row_without t (key.Lease a) (key.Pool n))
+pool_written t (Put (key.Held a) held) n = ap (read_pool n) (row_with t (key.Held a) held (key.Pool n))
+pool_written t (Drop (key.Held a)) n = ap (read_pool n) (row_without t (key.Held a) (key.Pool n))
+pool_written t (Put (key.Batch a) held) n = ap (read_pool n) (row_with t (key.Batch a) held (key.Pool n))
+pool_written t (Drop (key.Batch a)) n = ap (read_pool n) (row_without t (key.Batch a) (key.Pool n))
+
+pub pools_written : (t : Tables) (ws : List Write) (n : ℕ) → pools_after (pool_in t) ws n ≡ pool_in (write_all t ws) n
+pools_written t [] n = refl
+pools_written t (w ∷ ws) n = ap (λ (by : ℕ → Option Pool). pools_after by ws n) (λ i q. sym (pool_written t w q) i) ∙ pools_written (written t w) ws n
+
+-- ---- leases
+
+abbrev pub read_expiry : ℕ → Option Row → ℕ
+read_expiry a o = expiry_of (option_and_then as_lease (possible (key.Lease (address a)) o))
+
+pub put_expiry : (a : ℕ) (held : Row) → read_expiry a (Some held) ≡ expiry_held held
+put_expiry a (row.Lease lease) = refl
+put_expiry a held = refl
+
+expiry_at : (a : ℕ) (b : Bool) (o : Option Row) (ends : ℕ) (was : Option Row) → read_expiry a o ≡ ends → read_expiry a (cond b o was) ≡ cond b ends (read_expiry a was)
+expiry_at a true o ends was is = is
+expiry_at a false o ends was is = refl
+
+pub expiry_written : (t : Tables) (w : Write) (n : ℕ) → expiry_in (written t w) n ≡ expiries_by (lease_write w) (expiry_in t) n
+expiry_written t (Put (key.Lease m) held) n =
+    ap (read_expiry n) (row_with t (key.Lease m) held (key.Lease (address n)))
+    ∙ expiry_at n (eq_by_cmp nat_cmp n m.0) (Some held) (expiry_held held) (row_at t (key.Lease (address n))) (put_expiry n held)
+    ∙ ap (λ b. cond b (expiry_held held) (expiry_in t n)) (same_number n m.0)
+expiry_written t (Drop (key.Lease m)) n =
+    ap (read_expiry n) (row_without t (key.Lease m) (key.Lease (address n)))
+    ∙ expiry_at n (eq_by_cmp nat_cmp n m.0) None 0 (row_at t (key.Lease (address n))) refl
+    ∙ ap (λ b. cond b 0 (expiry_in t n)) (same_number n m.0)
+expiry_written t (Put key.Site held) n = ap (read_expiry n) (row_with t key.Site held (key.Lease (address n)))
+expiry_written t (Drop key.Site) n = ap (read_expiry n) (row_without t key.Site (key.Lease (address n)))
+expiry_written t (Put (key.Subscriber a) held) n = ap (read_expiry n) (row_with t (key.Subscriber a) held (key.Lease (address n)))
+expiry_written t (Drop (key.Subscriber a)) n = ap (read_expiry n) (row_without t (key.Subscriber a) (key.Lease (address n)))
+expiry_written t (Put (key.AddOn a i) held) n = ap (read_expiry n) (row_with t (key.AddOn a i) held (key.Lease (address n)))
+expiry_written t (Drop (key.AddOn a i)) n = ap (read_expiry n) (row_without t (key.AddOn a i) (key.Lease (address n)))
+expiry_written t (Put (key.Modem a) held) n = ap (read_expiry n) (row_with t (key.Modem a) held (key.Lease (address n)))
+expiry_written t (Drop (key.Modem a)) n = ap (read_expiry n) (row_without t (key.Modem a) (key.Lease (address n)))
+expiry_written t (Put (key.Class a) held) n = ap (read_expiry n) (row_with t (key.Class a) held (key.Lease (address n)))
+expiry_written t (Drop (key.Class a)) n = ap (read_expiry n) (row_without t (key.Class a) (key.Lease (address n)))
+expiry_written t (Put (key.Pool a) held) n = ap (read_expiry n) (row_with t (key.Pool a) held (key.Lease (address n)))
+expiry_written t (Drop (key.Pool a)) n = ap (read_expiry n) (row_without t (key.Pool a) (key.Lease (address n)))
+expiry_written t (Put (key.Held a) held) n = ap (read_expiry n) (row_with t (key.Held a) held (key.Lease (address n)))
+expiry_written t (Drop (key.Held a)) n = ap (read_expiry n) (row_without t (key.Held a) (key.Lease (address n)))
+expiry_written t (Put (key.Batch a) held) n = ap (read_expiry n) (row_with t (key.Batch a) held (key.Lease (address n)))
+expiry_written t (Drop (key.Batch a)) n = ap (read_expiry n) (row_without t (key.Batch a) (key.Lease (address n)))
+
+pub expiries_written : (t : Tables) (ws : List Write) (n : ℕ) → expiries_after (expiry_in t) ws n ≡ expiry_in (write_all t ws) n
+expiries_written t [] n = refl
+expiries_written t (w ∷ ws) n = ap (λ (e : ℕ → ℕ). expiries_after e ws n) (λ i q. sym (expiry_written t w q) i) ∙ expiries_written (written t w) ws n

@@ -1,0 +1,13 @@
+-- The pools so far, and those behind the place, are all.
+use Rattle.std.proofs.Common.{Some}
+use Rattle.off_outside.specs.KeeperCalls.{Reads}
+use Rattle.off_readers.specs.Walks.{room}
+use Rattle.off_readers.proofs.GatherLemmas.{Gathered}
+use Rattle.off_runs.specs.Reading.{pool_put, pools_put}
+use Rattle.off_runs.proofs.reading.read_pools.Given as goal
+
+abbrev pub invariant-walk : goal.invariant-walk
+invariant-walk g l = Reads (Gathered pool_put pools_put l.writes (Some l.place)) (g.K.Keeper.seen l.initial.keeper) (g.K.Keeper.seen l.keeper)
+
+abbrev pub decreases-walk : goal.decreases-walk
+decreases-walk g l = room (Some l.place)

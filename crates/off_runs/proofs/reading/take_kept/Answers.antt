@@ -1,0 +1,25 @@
+use Rattle.std.proofs.Common.{◌∙◌, refl, sym, arith}
+use Rattle.off_outside.proofs.KeeperLemmas.{reads_then, reads_none}
+use Rattle.off_runs.proofs.ReadLemmas.{none_yet, one_more, at_end, past_leases}
+use Rattle.off_runs.proofs.reading.take_kept.Goals as goal
+
+pub walk-init : goal.walk-init
+walk-init g c = record { read = reads_none (λ t. none_yet _ c.args.pools.now.items t (omega arith)); len = refl; capacity = refl }
+
+pub returns-in_default-clause-told : goal.returns-in_default-clause-told
+returns-in_default-clause-told g c =
+    reads_then c.walk.invariant.read c.in_ok-key.ensures.told (λ t so_far next. at_end c.args.pools.now.items c.walk.pools.items c.walk.place t so_far (sym c.in_default.is ∙ next))
+
+pub returns-then-is_past_leases-clause-told : goal.returns-then-is_past_leases-clause-told
+returns-then-is_past_leases-clause-told g c =
+    reads_then c.walk.invariant.read c.in_ok-key.ensures.told (λ t so_far next.
+    past_leases c.args.pools.now.items c.walk.pools.items c.walk.place (c.in-Some.key, c.in-Some.row) t so_far (sym c.in-Some.is ∙ next) (c.is_past_leases.ensures c.if-is_past_leases.true))
+
+pub walk-preserved : goal.walk-preserved
+walk-preserved g c = record {
+  read =
+      reads_then c.walk.invariant.read c.in_ok-key.ensures.told (λ t so_far next.
+      one_more c.args.pools.now.items c.walk.pools.items c.take_row.new.pools.items c.walk.place (c.in-Some.key, c.in-Some.row) t so_far (sym c.in-Some.is ∙ next) c.take_row.ensures.taken);
+  len = c.take_row.ensures.len ∙ c.walk.invariant.len;
+  capacity = c.take_row.ensures.capacity ∙ c.walk.invariant.capacity;
+}

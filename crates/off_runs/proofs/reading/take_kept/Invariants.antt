@@ -1,0 +1,17 @@
+-- The leases up to the place are taken.
+use Rattle.std.proofs.Common.{◌≡◌, Some, vec_len}
+use Rattle.std.specs.Vec.{vec_capacity}
+use Rattle.off_outside.specs.KeeperCalls.{Reads}
+use Rattle.off_readers.specs.Walks.{room}
+use Rattle.off_runs.proofs.ReadLemmas.{TakenUpTo}
+use Rattle.off_runs.proofs.reading.take_kept.Given as goal
+
+abbrev pub invariant-walk : goal.invariant-walk
+invariant-walk g l = record {
+  read : Reads (TakenUpTo l.initial.pools.items l.pools.items l.place) (g.K.Keeper.seen l.initial.keeper) (g.K.Keeper.seen l.keeper);
+  len : vec_len l.pools ≡ vec_len l.initial.pools;
+  capacity : vec_capacity l.pools ≡ vec_capacity l.initial.pools;
+}
+
+abbrev pub decreases-walk : goal.decreases-walk
+decreases-walk g l = room (Some l.place)

@@ -1,0 +1,200 @@
+//! One pool, with the expiries of its addresses and its runs.
+
+ghost use Rattle.std.specs.Prelude.{◌≡◌, ◌≤◌, ◌<◌, ◌==◌, ◌+◌, ◌^◌, ◌&&◌, ℕ, true, false, length, vec_len};
+ghost use Rattle.std.specs.Prelude.{IsTrue, get_or, if◌then◌else◌};
+ghost use Rattle.off_account_rules.specs.Rows.{has_pool_size};
+ghost use Rattle.off_runs.specs.Runs.{in_pool, is_open};
+ghost use Rattle.off_runs.specs.Held.{expiry_at, HasLeases, PoolHeld};
+ghost use Rattle.off_runs.specs.Changes.{Passed, Wrote, Began, Copied, HasPart, first_of};
+
+use crate::runs::{Run, lay_out};
+use off_base::{Ip4, Moment, NoMemory};
+use off_defs::Pool;
+use std::alloc::Global;
+use std::marker::Model;
+
+// So many addresses may a pool have, and so many runs may they make.
+const MOST_ADDRESSES: usize = 4_096;
+
+const MOST_RUNS: usize = 2_048;
+
+/// A pool by its number, with the expiry of each of its addresses by its place from the first, 0
+/// where there's no lease, and the runs that were laid out of them. Contracts see all of it.
+#[derive(Drop)]
+pub(crate) struct PoolRuns {
+    number: u32,
+    pool: Pool,
+    hub: u32,
+    runs: Vec<Run>,
+    expiries: Vec<u64>,
+    soonest: u64,
+    is_stale: bool,
+}
+
+impl Model for PoolRuns {
+    ghost use Rattle.std.specs.Prelude.{◌≡◌, ◌≤◌, IsTrue, length};
+    ghost use Rattle.std.specs.Vec.{vec_capacity};
+    ghost use Rattle.off_account_rules.specs.Rows.{has_pool_size};
+    ghost use Rattle.off_runs.specs.Held.{PoolHeld};
+    ghost use Rattle.off_runs.specs.Codes.{pool_held_code};
+
+    ghost Value = { PoolHeld };
+
+    ghost coded = { pool_held_code };
+
+    ghost view = { λ p. record {
+      number = p.number;
+      pool = p.pool;
+      hub = p.hub;
+      runs = p.runs.items;
+      expiries = p.expiries.items;
+      soonest = p.soonest;
+      is_stale = p.is_stale;
+    } };
+
+    ghost invariant = { λ p. IsTrue (has_pool_size p.pool) × (length p.expiries.items ≡ 4096)
+        × (2048 ≤ vec_capacity p.runs) };
+}
+
+impl PoolRuns {
+    pub(crate) fn number(&self) -> u32
+        ensures { result ≡ self.now.number }
+    {
+        self.number
+    }
+
+    pub(crate) fn pool(&self) -> Pool
+        ensures { result ≡ self.now.pool }
+    {
+        self.pool
+    }
+
+    pub(crate) fn hub(&self) -> u32
+        ensures { result ≡ self.now.hub }
+    {
+        self.hub
+    }
+
+    /// Whether the address is one of the pool's.
+    pub(crate) fn has(&self, address: Ip4) -> bool
+        ensures { result ≡ in_pool self.now.pool address.0 }
+    {
+        self.pool.first.0 <= address.0 && address.0 <= self.pool.last.0
+    }
+
+    /// Whether the address is one of the pool's, and its lease has ended by the moment.
+    pub(crate) fn is_open(&self, address: Ip4, now: Moment) -> bool
+        ensures { result ≡ is_open (expiry_at self.now) now.0 self.now.pool address.0 }
+    {
+        self.has(address) && self.expiries[(address.0 - self.pool.first.0) as usize] <= now.0
+    }
+
+    /// The first address of its runs, or `None` where no address is free.
+    pub(crate) fn least(&self) -> Option<Ip4>
+        ensures { result ≡ first_of self.now.runs }
+    {
+        match self.runs.first() {
+            Some(run) => Some(run.first),
+            None => None,
+        }
+    }
+
+    /// Comes to a moment: lays its runs out anew, where a lease has ended since or was written.
+    pub(crate) fn pass(&mut self, now: Moment)
+        ensures { Passed now.0 self.old self.new }
+    {
+        if self.is_stale || self.soonest <= now.0 {
+            self.soonest = lay_out(now, &self.pool, &self.expiries, &mut self.runs);
+            self.is_stale = false;
+        }
+    }
+
+    /// Keeps that the lease of an address ends then (0: it has none), where the address is one of
+    /// the pool's.
+    pub(crate) fn set(&mut self, address: Ip4, expiry: u64)
+        ensures { Wrote address.0 expiry self.old self.new }
+    {
+        if self.has(address) {
+            self.expiries[(address.0 - self.pool.first.0) as usize] = expiry;
+            self.is_stale = true;
+        }
+    }
+
+    /// Room for a pool: 2,048 runs and 4,096 expiries.
+    pub(crate) fn new(alloc: Global) -> Result<PoolRuns, NoMemory> {
+        let Ok(runs) = Vec::with_capacity(alloc, MOST_RUNS) else {
+            return Err(NoMemory);
+        };
+        let Ok(expiries) = vec![in alloc; 0; MOST_ADDRESSES] else {
+            return Err(NoMemory);
+        };
+        let none = Ip4(0);
+        Ok(PoolRuns {
+            number: 0,
+            pool: Pool {
+                first: none,
+                last: none,
+                prefix: 0,
+                router: none,
+                relay: none,
+            },
+            hub: 0,
+            runs,
+            expiries,
+            soonest: 0,
+            is_stale: true,
+        })
+    }
+
+    /// Becomes another pool, none of whose addresses has a lease.
+    pub(crate) fn begin(&mut self, number: u32, pool: Pool, hub: u32)
+        requires { IsTrue (has_pool_size pool) }
+        ensures { Began number pool hub self.new }
+    {
+        clear(&mut self.expiries);
+        self.number = number;
+        self.pool = pool;
+        self.hub = hub;
+        self.is_stale = true;
+    }
+
+    /// Takes the expiries of another pool, where both have the address.
+    pub(crate) fn copy(&mut self, other: &PoolRuns)
+        ensures { Copied other.now self.old self.new }
+    {
+        let low = self.pool.first.0.max(other.pool.first.0) as u64;
+        let high = self.pool.last.0.min(other.pool.last.0) as u64;
+        let first = self.pool.first.0 as u64;
+        let from = other.pool.first.0 as u64;
+        if low <= high {
+            copy_part(&mut self.expiries, first, &other.expiries, from, low, high);
+        }
+    }
+}
+
+// No expiry is left.
+fn clear(expiries: &mut Vec<u64>)
+    ensures none { (k : ℕ) → get_or expiries.new.items k 0 ≡ 0 }
+    ensures len { length expiries.new.items ≡ length expiries.old.items }
+{
+    for expiry in expiries.iter_mut() {
+        *expiry = 0;
+    }
+}
+
+// Copies the expiries of the addresses from `low` to `high` between two lists, each of which begins
+// at an address of its own.
+fn copy_part(to: &mut Vec<u64>, first: u64, from: &Vec<u64>, from_first: u64, low: u64, high: u64)
+    requires order { low ≤ high }
+    requires ours { first ≤ low }
+    requires theirs { from_first ≤ low }
+    requires small { high < 2 ^ 32 }
+    requires within { high < first + length to.old.items }
+    requires within_theirs { high < from_first + length from.now.items }
+    ensures part { HasPart low high from_first from.now.items first to.old.items to.new.items }
+    ensures len { length to.new.items ≡ length to.old.items }
+{
+    for at in low..high + 1 {
+        to[(at - first) as usize] = from[(at - from_first) as usize];
+    }
+}
