@@ -1,4 +1,4 @@
-ghost use Rattle.std.specs.Prelude.{◌≡◌, ◌<◌, ◌≤◌, true, length, IsOk};
+ghost use Rattle.std.specs.Prelude.{◌≡◌, ◌<◌, ◌≤◌, true, length, slice_index, IsOk};
 ghost use Rattle.off_base.specs.Parts.{parts_in};
 ghost use Rattle.off_base.specs.Walk.{all_values, CursorStands, Holds, Finds};
 
@@ -62,6 +62,15 @@ impl<'a> JoinedBytes<'a> {
         ensures same { self.new ≡ self.old }
     {
         next_in(self, from, marked)
+    }
+
+    /// The byte at a place. Bytes that are asked for in their order are one walk together.
+    pub fn byte_at(&mut self, place: usize) -> u8
+        requires { place < length self.old }
+        ensures byte { result ≡ slice_index self.old place }
+        ensures same { self.new ≡ self.old }
+    {
+        self.byte(place)
     }
 }
 
