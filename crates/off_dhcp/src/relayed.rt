@@ -1,13 +1,12 @@
 ghost use Rattle.std.specs.Prelude.{◌≡◌, ◌≤◌, ◌+◌, ◌*◌, ◌++◌, length, OnOk};
 ghost use Rattle.std.specs.List.{slice_range};
-ghost use Rattle.off_base.specs.Parts.{bytes_of};
 ghost use Rattle.off_dhcp.specs.Datagram.{option_in};
 ghost use Rattle.off_dhcp.specs.Reply.{relay_options, pieces};
 
 use crate::Message;
 use crate::replies::push_option;
 use arrayvec::ArrayVec;
-use off_base::{Bytes, Joined, NoMemory};
+use off_base::{Bytes, JoinedBytes, NoMemory};
 
 // Option 82 (RFC 3046).
 const RELAY_AGENT: u8 = 82;
@@ -23,8 +22,11 @@ pub(crate) fn push_relay(out: &mut Bytes, m: &Message<'_>) -> Result<(), NoMemor
     if !value.present() {
         return Ok(());
     }
-    for k in 0..pieces_of(value.len()) {
-        push_option(out, RELAY_AGENT, piece_of(&value, k).as_slice())?;
+    let mut bytes = value.bytes();
+    let len = value.len();
+    for k in 0..pieces_of(len) {
+        let piece = piece_of(&mut bytes, len, k);
+        push_option(out, RELAY_AGENT, piece.as_slice())?;
     }
     Ok(())
 }
@@ -35,17 +37,18 @@ fn pieces_of(len: usize) -> usize
     len.div_ceil(MOST_OF_AN_OPTION).max(1)
 }
 
-// The bytes of the value that its option with this number has.
-fn piece_of(value: &Joined<'_>, k: usize) -> ArrayVec<u8, 255>
-    requires { 255 * k ≤ length (bytes_of value.now) }
-    ensures { result.items ≡ slice_range (bytes_of value.now) (255 * k) (255 * k + 255) }
+// The bytes of the value, of which there are so many, that its option with this number has.
+fn piece_of(value: &mut JoinedBytes<'_>, len: usize, k: usize) -> ArrayVec<u8, 255>
+    requires all { len ≡ length value.old }
+    requires within { 255 * k ≤ len }
+    ensures piece { result.items ≡ slice_range value.old (255 * k) (255 * k + 255) }
+    ensures same { value.new ≡ value.old }
 {
     let mut piece = ArrayVec::new();
-    let len = value.len();
     let from = MOST_OF_AN_OPTION * k;
     let to = len.min(from.saturating_add(MOST_OF_AN_OPTION));
     for i in from..to {
-        piece.push(value.byte(i));
+        piece.push(value.byte_at(i));
     }
     piece
 }

@@ -4,3 +4,5 @@ pub mod ChoiceLemmas
 pub mod SpanLemmas
 pub mod StageLemmas
 pub mod WalkLemmas
+pub mod TextLemmas
+pub mod GrantLemmas

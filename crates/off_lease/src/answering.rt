@@ -9,6 +9,7 @@ ghost use Rattle.off_lease.specs.Calls.{message_calls};
 ghost use Rattle.off_outside.specs.declared.keeper.KeepErr.TheVariants.{Memory};
 ghost use Rattle.off_outside.specs.KeeperCalls.{Looks, Spent};
 
+use crate::asking::Asked;
 use crate::choosing::{choose, lease_of};
 use crate::gathering::gather;
 use crate::ruling::{first_refusal, row_refusal};
@@ -29,12 +30,27 @@ use std::alloc::Global;
 ///
 /// A message that is refused by what it says itself makes one call of the keeper at most, and one
 /// that gives an address back two.
-#[tactic(auto, using(crate::proofs::Chain::rows))]
 pub fn answer<K: Keeper>(
     alloc: Global,
     keeper: &mut K,
     now: Moment,
     m: &Message<'_>,
+) -> Result<LeaseStep, KeepErr>
+    ensures told { Looks result (K.seen keeper.old) (K.seen keeper.new)
+        (λ step t. step ≡ lease_step t now.0 m.now) }
+    ensures spent { IfSome (message_calls m.now)
+        (λ n. Spent n (K.seen keeper.old) (K.seen keeper.new)) }
+{
+    answer_asked(alloc, keeper, now, &Asked::of(m))
+}
+
+// What becomes of a message whose options are read.
+#[tactic(auto, using(crate::proofs::Chain::rows))]
+fn answer_asked<K: Keeper>(
+    alloc: Global,
+    keeper: &mut K,
+    now: Moment,
+    m: &Asked<'_>,
 ) -> Result<LeaseStep, KeepErr>
     ensures told { Looks result (K.seen keeper.old) (K.seen keeper.new)
         (λ step t. step ≡ lease_step t now.0 m.now) }
@@ -54,7 +70,7 @@ fn answer_by_rows<K: Keeper>(
     alloc: Global,
     keeper: &mut K,
     now: Moment,
-    m: &Message<'_>,
+    m: &Asked<'_>,
     site: Option<Site>,
 ) -> Result<LeaseStep, KeepErr>
     requires { refused_by (first_rules m.now site) ≡ None }
@@ -75,7 +91,7 @@ fn answer_case<K: Keeper>(
     alloc: Global,
     keeper: &mut K,
     now: Moment,
-    m: &Message<'_>,
+    m: &Asked<'_>,
     case: &Case,
 ) -> Result<LeaseStep, KeepErr>
     requires early { refused_by (early m.now case.now) ≡ None }

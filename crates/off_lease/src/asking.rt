@@ -1,19 +1,23 @@
-//! What a client's message says: its kind, and the addresses that it names.
+//! What a client's message says: its kind, the addresses that it names, and what the client and
+//! its relay say of the client.
 
-ghost use Rattle.std.specs.Prelude.{◌≡◌, ◌==◌, length, is_some};
+ghost use Rattle.std.specs.Prelude.{◌≡◌, ◌==◌, length};
 ghost use Rattle.std.specs.Int.{w32, from_be_bytes};
 ghost use Rattle.off_base.specs.Parts.{bytes_of};
-ghost use Rattle.off_lease_rules.specs.Asking.{client, is_discover, is_request, is_decline};
+ghost use Rattle.off_lease_rules.specs.Asking.{client, is_discover, is_request};
 ghost use Rattle.off_lease_rules.specs.Asking.{asks, gives_back, named_by, named_address};
 ghost use Rattle.off_lease_rules.specs.Asking.{named_server, at_address, form_by, form_of};
 ghost use Rattle.off_lease_rules.specs.Asking.{is_formless, is_selecting, is_renewing};
 ghost use Rattle.off_lease_rules.specs.Asking.{asked_by, claimed};
 ghost use Rattle.off_base.specs.declared.addresses.Ip4.{Ip4};
 ghost use Rattle.off_lease_rules.specs.declared.forms.Named.TheVariants.{Absent, At};
+ghost use Rattle.off_lease.specs.Said.{IsKind};
 
+use crate::parts::{Said, said_in};
 use off_base::{Ip4, Joined, Mac};
 use off_dhcp::Message;
-use off_lease_rules::{Form, Named};
+use off_lease_rules::{Form, Kind, Named};
+use std::marker::Model;
 
 // The kinds of messages (RFC 2132, section 9.6).
 const DISCOVER: u8 = 1;
@@ -29,59 +33,145 @@ const REQUESTED_ADDRESS: u8 = 50;
 
 const SERVER_IDENTIFIER: u8 = 54;
 
+/// A client's message, and what its options say, each of which is read once.
+///
+/// Contracts see the message.
+#[derive(Drop)]
+pub(crate) struct Asked<'a> {
+    pub(crate) message: &'a Message<'a>,
+    pub(crate) kind: Kind,
+    pub(crate) address: Named,
+    pub(crate) server: Named,
+    pub(crate) said: Said<'a>,
+}
+
+impl<'a> Model for Asked<'a> {
+    ghost use Rattle.std.specs.Prelude.{◌≡◌};
+    ghost use Rattle.off_dhcp.specs.Datagram.{Received};
+    ghost use Rattle.off_lease_rules.specs.Asking.{named_address, named_server};
+    ghost use Rattle.off_lease.specs.Said.{IsKind, Says};
+
+    ghost Value = { Received };
+
+    ghost view = { λ a. a.message.now };
+
+    ghost invariant = { λ a. IsKind a.message.now.kind a.kind
+        × (a.address ≡ named_address a.message.now)
+        × (a.server ≡ named_server a.message.now)
+        × Says a.message.now a.said };
+}
+
+impl<'a> Asked<'a> {
+    /// What a message says.
+    pub(crate) fn of(message: &'a Message<'a>) -> Asked<'a>
+        ensures { result ≡ message.now }
+    {
+        Asked {
+            message,
+            kind: kind_of(message.kind()),
+            address: named_by(&message.option(REQUESTED_ADDRESS)),
+            server: named_by(&message.option(SERVER_IDENTIFIER)),
+            said: said_in(message),
+        }
+    }
+
+    /// The message itself.
+    pub(crate) fn message(&self) -> &'a Message<'a>
+        ensures { result.now ≡ self.now }
+    {
+        self.message
+    }
+
+    pub(crate) fn kind(&self) -> Kind
+        ensures { IsKind self.now.kind result }
+    {
+        self.kind
+    }
+
+    /// The address that the client asks for, or declines.
+    pub(crate) fn address(&self) -> Named
+        ensures { result ≡ named_address self.now }
+    {
+        self.address
+    }
+
+    /// The server that is meant.
+    pub(crate) fn server(&self) -> Named
+        ensures { result ≡ named_server self.now }
+    {
+        self.server
+    }
+
+    /// The client's own address, where it has one.
+    pub(crate) fn ciaddr(&self) -> Ip4
+        ensures { result.0 ≡ self.now.ciaddr }
+    {
+        self.message.ciaddr()
+    }
+
+    /// The relay's address, or 0 where there is no relay.
+    pub(crate) fn giaddr(&self) -> Ip4
+        ensures { result.0 ≡ self.now.giaddr }
+    {
+        self.message.giaddr()
+    }
+}
+
 /// The client's hardware address.
-pub(crate) fn client(m: &Message<'_>) -> Mac
+pub(crate) fn client(m: &Asked<'_>) -> Mac
     ensures { result ≡ client m.now }
 {
-    m.mac()
+    m.message().mac()
 }
 
-pub(crate) fn is_discover(m: &Message<'_>) -> bool
+fn kind_of(code: u8) -> Kind
+    ensures { IsKind code result }
+{
+    match code {
+        DISCOVER => Kind::Discover,
+        REQUEST => Kind::Request,
+        DECLINE => Kind::Decline,
+        RELEASE => Kind::Release,
+        other => Kind::Other(other),
+    }
+}
+
+pub(crate) fn is_discover(m: &Asked<'_>) -> bool
     ensures { result ≡ is_discover m.now }
 {
-    m.kind() == DISCOVER
+    match m.kind() {
+        Kind::Discover => true,
+        Kind::Request | Kind::Decline | Kind::Release | Kind::Other(_) => false,
+    }
 }
 
-pub(crate) fn is_request(m: &Message<'_>) -> bool
+pub(crate) fn is_request(m: &Asked<'_>) -> bool
     ensures { result ≡ is_request m.now }
 {
-    m.kind() == REQUEST
-}
-
-pub(crate) fn is_decline(m: &Message<'_>) -> bool
-    ensures { result ≡ is_decline m.now }
-{
-    m.kind() == DECLINE
+    match m.kind() {
+        Kind::Request => true,
+        Kind::Discover | Kind::Decline | Kind::Release | Kind::Other(_) => false,
+    }
 }
 
 /// Whether the client asks for an address.
-pub(crate) fn asks(m: &Message<'_>) -> bool
+pub(crate) fn asks(m: &Asked<'_>) -> bool
     ensures { result ≡ asks m.now }
 {
-    let kind = m.kind();
-    kind == DISCOVER || kind == REQUEST
+    match m.kind() {
+        Kind::Discover | Kind::Request => true,
+        Kind::Decline | Kind::Release | Kind::Other(_) => false,
+    }
 }
 
 /// Whether the client gives an address up.
-pub(crate) fn gives_back(m: &Message<'_>) -> bool
+pub(crate) fn gives_back(m: &Asked<'_>) -> bool
     ensures { result ≡ gives_back m.now }
 {
-    let kind = m.kind();
-    kind == DECLINE || kind == RELEASE
-}
-
-/// The address that the client asks for, or declines.
-pub(crate) fn named_address(m: &Message<'_>) -> Named
-    ensures { result ≡ named_address m.now }
-{
-    named_by(&m.option(REQUESTED_ADDRESS))
-}
-
-/// The server that is meant.
-pub(crate) fn named_server(m: &Message<'_>) -> Named
-    ensures { result ≡ named_server m.now }
-{
-    named_by(&m.option(SERVER_IDENTIFIER))
+    match m.kind() {
+        Kind::Decline | Kind::Release => true,
+        Kind::Discover | Kind::Request | Kind::Other(_) => false,
+    }
 }
 
 // The address of an option's value.
@@ -115,10 +205,10 @@ pub(crate) fn at_address(named: Named) -> Option<Ip4>
 }
 
 /// For which address a REQUEST asks, and how.
-pub(crate) fn form_of(m: &Message<'_>) -> Form
+pub(crate) fn form_of(m: &Asked<'_>) -> Form
     ensures { result ≡ form_of m.now }
 {
-    form_by(named_address(m), named_server(m), m.ciaddr())
+    form_by(m.address(), m.server(), m.ciaddr())
 }
 
 fn form_by(address: Named, server: Named, ciaddr: Ip4) -> Form
@@ -188,14 +278,12 @@ fn asked_by(form: Form) -> Option<Ip4>
 }
 
 /// The address for which a REQUEST asks, or that a DECLINE or a RELEASE gives back.
-pub(crate) fn claimed(m: &Message<'_>) -> Option<Ip4>
+pub(crate) fn claimed(m: &Asked<'_>) -> Option<Ip4>
     ensures { result ≡ claimed m.now }
 {
-    if is_request(m) {
-        return asked_by(form_of(m));
+    match m.kind() {
+        Kind::Request => asked_by(form_of(m)),
+        Kind::Decline => at_address(m.address()),
+        Kind::Discover | Kind::Release | Kind::Other(_) => Some(m.ciaddr()),
     }
-    if is_decline(m) {
-        return at_address(named_address(m));
-    }
-    Some(m.ciaddr())
 }

@@ -1,17 +1,16 @@
 //! The address that a message is about, and its lease.
 
-ghost use Rattle.std.specs.Prelude.{◌≡◌, true, false, Some, None, option_and_then, if◌then◌else◌};
+ghost use Rattle.std.specs.Prelude.{◌≡◌, true, false, Some, None, option_and_then, if◌then◌else◌, IfOk};
 ghost use Rattle.std.specs.Option.{option_or};
 ghost use Rattle.off_account_rules.specs.Rows.{has_address, lease_in};
-ghost use Rattle.off_lease_rules.specs.Asking.{is_discover};
+ghost use Rattle.off_lease_rules.specs.Asking.{is_discover, claimed};
 ghost use Rattle.off_lease_rules.specs.Free.{provided, is_free, least_free, choice, chosen_in};
 ghost use Rattle.off_outside.specs.KeeperCalls.{Looks, Spent};
 
-use crate::asking::{at_address, claimed, is_discover, named_address};
+use crate::asking::{Asked, at_address, claimed, is_discover};
 use crate::free::{is_free, least_free};
 use off_base::{Ip4, Moment};
 use off_defs::{Lease, Pool};
-use off_dhcp::Message;
 use off_lease_rules::Case;
 use off_outside::{KeepErr, Keeper};
 use off_readers::{has_address, read_lease};
@@ -23,11 +22,12 @@ pub(crate) fn choose<K: Keeper>(
     alloc: Global,
     keeper: &mut K,
     now: Moment,
-    m: &Message<'_>,
+    m: &Asked<'_>,
     case: &Case,
 ) -> Result<Option<Ip4>, KeepErr>
     ensures told { Looks result (K.seen keeper.old) (K.seen keeper.new)
         (λ chosen t. chosen ≡ chosen_in t now.0 m.now case.now) }
+    ensures claimed { IfOk result (λ chosen. is_discover m.now ≡ false → chosen ≡ claimed m.now) }
     ensures spent { is_discover m.now ≡ false
         → Spent 0 (K.seen keeper.old) (K.seen keeper.new) }
 {
@@ -36,7 +36,7 @@ pub(crate) fn choose<K: Keeper>(
     }
     match case.pool {
         Some(pool) => {
-            let asked = at_address(named_address(m));
+            let asked = at_address(m.address());
             choice(alloc, keeper, now, &pool, case.held, asked)
         }
         None => Ok(None),
@@ -125,7 +125,7 @@ fn if_so(holds: bool, address: Ip4) -> Option<Ip4>
 pub(crate) fn lease_of<K: Keeper>(
     alloc: Global,
     keeper: &mut K,
-    m: &Message<'_>,
+    m: &Asked<'_>,
     chosen: Option<Ip4>,
 ) -> Result<Option<Lease>, KeepErr>
     ensures told { Looks result (K.seen keeper.old) (K.seen keeper.new)

@@ -5,10 +5,9 @@ ghost use Rattle.off_lease_rules.specs.Free.{case_of};
 ghost use Rattle.off_lease.specs.Stages.{seen_case, HasGoodPool};
 ghost use Rattle.off_outside.specs.KeeperCalls.{Looks, Spent};
 
-use crate::asking::{asks, client};
+use crate::asking::{Asked, asks, client};
 use crate::pools::pool_for;
 use off_defs::Site;
-use off_dhcp::Message;
 use off_lease_rules::Case;
 use off_outside::{KeepErr, Keeper};
 use off_readers::{read_held, read_modem};
@@ -20,7 +19,7 @@ use std::alloc::Global;
 pub(crate) fn gather<K: Keeper>(
     alloc: Global,
     keeper: &mut K,
-    m: &Message<'_>,
+    m: &Asked<'_>,
     site: Option<Site>,
 ) -> Result<Case, KeepErr>
     ensures told { Looks result (K.seen keeper.old) (K.seen keeper.new)
@@ -41,7 +40,7 @@ pub(crate) fn gather<K: Keeper>(
 fn gather_all<K: Keeper>(
     alloc: Global,
     keeper: &mut K,
-    m: &Message<'_>,
+    m: &Asked<'_>,
     site: Option<Site>,
 ) -> Result<Case, KeepErr>
     ensures told { Looks result (K.seen keeper.old) (K.seen keeper.new)
@@ -65,7 +64,7 @@ fn gather_all<K: Keeper>(
 fn gather_held<K: Keeper>(
     alloc: Global,
     keeper: &mut K,
-    m: &Message<'_>,
+    m: &Asked<'_>,
     site: Option<Site>,
 ) -> Result<Case, KeepErr>
     ensures told { Looks result (K.seen keeper.old) (K.seen keeper.new)

@@ -1,6 +1,6 @@
 //! Each condition under which a message is refused, by itself.
 
-ghost use Rattle.std.specs.Prelude.{◌≡◌, ◌==◌, ◌≤◌, ◌&&◌, not, length};
+ghost use Rattle.std.specs.Prelude.{◌≡◌, ◌==◌, ◌&&◌, not, length};
 ghost use Rattle.std.specs.Str.{bytes_eq};
 ghost use Rattle.off_account_rules.specs.Rows.{passes, has_address};
 ghost use Rattle.off_account_rules.specs.Good.{is_address};
@@ -11,50 +11,49 @@ ghost use Rattle.off_lease_rules.specs.Rules.{lacks_record, claims_wrongly};
 ghost use Rattle.off_lease_rules.specs.Asking.{serial_number, at_address, claimed};
 
 use crate::asking::{
-    asks, claimed, client, form_of, gives_back, is_discover, is_formless, is_request, is_selecting,
-    named_server,
+    Asked, asks, claimed, client, form_of, gives_back, is_discover, is_formless, is_request,
+    is_selecting,
 };
 use crate::parts::{
     is_relay_cut, is_vendor_cut, relays_other, says_modem, says_other, says_other_serial,
 };
 use off_base::Ip4;
 use off_defs::{Modem, Pool, Site};
-use off_dhcp::Message;
 use off_lease_rules::{Case, Named};
 use off_readers::has_address;
 
-pub(crate) fn is_served(m: &Message<'_>) -> bool
+pub(crate) fn is_served(m: &Asked<'_>) -> bool
     ensures { result ≡ is_served m.now }
 {
     asks(m) || gives_back(m)
 }
 
-pub(crate) fn has_no_form(m: &Message<'_>) -> bool
+pub(crate) fn has_no_form(m: &Asked<'_>) -> bool
     ensures { result ≡ has_no_form m.now }
 {
     is_request(m) && is_formless(form_of(m))
 }
 
-pub(crate) fn has_cut_part(m: &Message<'_>) -> bool
+pub(crate) fn has_cut_part(m: &Asked<'_>) -> bool
     ensures { result ≡ has_cut_part m.now }
 {
     (asks(m) && is_vendor_cut(m)) || is_relay_cut(m)
 }
 
-pub(crate) fn relays_another(m: &Message<'_>) -> bool
+pub(crate) fn relays_another(m: &Asked<'_>) -> bool
     ensures { result ≡ relays_another m.now }
 {
     relays_other(m, client(m))
 }
 
-pub(crate) fn is_no_modem(m: &Message<'_>) -> bool
+pub(crate) fn is_no_modem(m: &Asked<'_>) -> bool
     ensures { result ≡ is_no_modem m.now }
 {
     (is_discover(m) && !says_modem(m)) || (is_request(m) && says_other(m))
 }
 
 /// Whether the client says another serial number than its row, where both have one.
-pub(crate) fn has_other_serial(m: &Message<'_>, modem: &Option<Modem>) -> bool
+pub(crate) fn has_other_serial(m: &Asked<'_>, modem: &Option<Modem>) -> bool
     ensures { result ≡ passes (has_other_serial m.now) modem.now }
 {
     match modem {
@@ -63,8 +62,7 @@ pub(crate) fn has_other_serial(m: &Message<'_>, modem: &Option<Modem>) -> bool
     }
 }
 
-fn differs_in_serial(m: &Message<'_>, serial: &[u8]) -> bool
-    requires { length serial.now ≤ 64 }
+fn differs_in_serial(m: &Asked<'_>, serial: &[u8]) -> bool
     ensures { result ≡ (not (length serial.now == 0)
         && passes (λ said. not (bytes_eq said serial.now)) (serial_number m.now)) }
 {
@@ -72,23 +70,23 @@ fn differs_in_serial(m: &Message<'_>, serial: &[u8]) -> bool
 }
 
 /// Whether a message that is for one server alone is for another one.
-pub(crate) fn is_for_another(m: &Message<'_>, site: &Option<Site>) -> bool
+pub(crate) fn is_for_another(m: &Asked<'_>, site: &Option<Site>) -> bool
     ensures { result ≡ (is_for_a_server m.now && passes (names_another_server m.now) site.now) }
 {
     is_for_a_server(m) && names_another_server(m, site)
 }
 
-fn is_for_a_server(m: &Message<'_>) -> bool
+fn is_for_a_server(m: &Asked<'_>) -> bool
     ensures { result ≡ is_for_a_server m.now }
 {
     (is_request(m) && is_selecting(form_of(m))) || gives_back(m)
 }
 
-fn names_another_server(m: &Message<'_>, site: &Option<Site>) -> bool
+fn names_another_server(m: &Asked<'_>, site: &Option<Site>) -> bool
     ensures { result ≡ passes (names_another_server m.now) site.now }
 {
     match site {
-        Some(site) => is_another(named_server(m), site.server),
+        Some(site) => is_another(m.server(), site.server),
         None => false,
     }
 }
@@ -103,7 +101,7 @@ fn is_another(named: Named, server: Ip4) -> bool
 }
 
 /// Whether the client claims an address of which the office has no record.
-pub(crate) fn lacks_record(m: &Message<'_>, case: &Case) -> bool
+pub(crate) fn lacks_record(m: &Asked<'_>, case: &Case) -> bool
     ensures { result ≡ lacks_record m.now case.now }
 {
     (is_request(m) && !is_selecting(form_of(m)) && case.held.is_none())
@@ -111,13 +109,13 @@ pub(crate) fn lacks_record(m: &Message<'_>, case: &Case) -> bool
 }
 
 /// Whether a REQUEST claims an address that isn't the client's own.
-pub(crate) fn claims_wrongly(m: &Message<'_>, case: &Case) -> bool
+pub(crate) fn claims_wrongly(m: &Asked<'_>, case: &Case) -> bool
     ensures { result ≡ claims_wrongly m.now case.now }
 {
     is_request(m) && !(claims_held(m, case.held) && claims_in_pool(m, case.pool))
 }
 
-fn claims_held(m: &Message<'_>, held: Option<Ip4>) -> bool
+fn claims_held(m: &Asked<'_>, held: Option<Ip4>) -> bool
     ensures { result ≡ passes (λ address. passes (is_address address) held) (claimed m.now) }
 {
     match claimed(m) {
@@ -135,7 +133,7 @@ fn holds(held: Option<Ip4>, address: Ip4) -> bool
     }
 }
 
-fn claims_in_pool(m: &Message<'_>, pool: Option<Pool>) -> bool
+fn claims_in_pool(m: &Asked<'_>, pool: Option<Pool>) -> bool
     ensures { result ≡ passes (λ address. passes (λ pool. has_address pool address) pool)
         (claimed m.now) }
 {

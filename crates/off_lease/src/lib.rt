@@ -2,8 +2,8 @@
 //! (RFC 2131).
 //!
 //! `answer` reads what it needs by a keeper (`gathering`, `pools`, `free`, `choosing`); what it
-//! finds is judged by rules in their order (`judging`, `ruling`), and settled without a keeper
-//! (`writing`, `replying`, `settling`). It commits nothing.
+//! finds is judged by rules in their order (`judging`, `ruling`), and what is granted (`granting`)
+//! is settled without a keeper (`writing`, `replying`, `settling`). It commits nothing.
 #![tactic(auto)]
 
 mod answering;
@@ -11,6 +11,7 @@ mod asking;
 mod choosing;
 mod free;
 mod gathering;
+mod granting;
 mod judging;
 mod parts;
 mod pools;

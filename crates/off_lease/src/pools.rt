@@ -4,9 +4,8 @@ ghost use Rattle.off_lease_rules.specs.Free.{is_renewal, serves, pool_for};
 ghost use Rattle.off_lease.specs.Stages.{serving};
 ghost use Rattle.off_outside.specs.KeeperCalls.{Looks};
 
-use crate::asking::{form_of, is_renewing, is_request};
+use crate::asking::{Asked, form_of, is_renewing, is_request};
 use off_defs::{Key, Pool, Row};
-use off_dhcp::Message;
 use off_outside::{KeepErr, Keeper};
 use off_readers::{has_address, is_past_pools, is_possible, next_behind};
 use std::alloc::Global;
@@ -15,7 +14,7 @@ use std::alloc::Global;
 pub(crate) fn pool_for<K: Keeper>(
     alloc: Global,
     keeper: &mut K,
-    m: &Message<'_>,
+    m: &Asked<'_>,
 ) -> Result<Option<Pool>, KeepErr>
     ensures told { Looks result (K.seen keeper.old) (K.seen keeper.new)
         (λ pool t. pool ≡ pool_for t m.now) }
@@ -38,7 +37,7 @@ pub(crate) fn pool_for<K: Keeper>(
 }
 
 // The pool of an entry, where it serves the message.
-fn serving(m: &Message<'_>, key: &Key, row: &Row) -> Option<Pool>
+fn serving(m: &Asked<'_>, key: &Key, row: &Row) -> Option<Pool>
     ensures served { result ≡ serving m.now (key.now, row.now) }
     ensures fits { IfSome result (λ pool. IsTrue (pool_fits pool)) }
 {
@@ -67,7 +66,7 @@ fn pool_of(key: &Key, row: &Row) -> Option<Pool>
 }
 
 // Whether the pool serves the client of a message.
-fn serves(m: &Message<'_>, pool: &Pool) -> bool
+fn serves(m: &Asked<'_>, pool: &Pool) -> bool
     ensures { result ≡ serves m.now pool.now }
 {
     let relay = m.giaddr();
@@ -78,7 +77,7 @@ fn serves(m: &Message<'_>, pool: &Pool) -> bool
     }
 }
 
-fn is_renewal(m: &Message<'_>) -> bool
+fn is_renewal(m: &Asked<'_>) -> bool
     ensures { result ≡ is_renewal m.now }
 {
     is_request(m) && is_renewing(form_of(m))

@@ -4,18 +4,17 @@ ghost use Rattle.std.specs.Prelude.{◌≡◌};
 ghost use Rattle.off_lease_rules.specs.Rules.{late, refused_by};
 ghost use Rattle.off_lease.specs.Stages.{first_rules, row_rules};
 
-use crate::asking::{asks, is_discover};
+use crate::asking::{Asked, asks, is_discover};
 use crate::judging::{
     claims_wrongly, has_cut_part, has_no_form, has_other_serial, is_for_another, is_no_modem,
     is_served, lacks_record, relays_another,
 };
 use off_base::Ip4;
 use off_defs::Site;
-use off_dhcp::Message;
 use off_lease_rules::{Case, DhcpWord};
 
 /// The first rule that is broken of those that need the site alone.
-pub(crate) fn first_refusal(m: &Message<'_>, site: &Option<Site>) -> Option<DhcpWord>
+pub(crate) fn first_refusal(m: &Asked<'_>, site: &Option<Site>) -> Option<DhcpWord>
     ensures { result ≡ refused_by (first_rules m.now site.now) }
 {
     first_broken(&[
@@ -29,7 +28,7 @@ pub(crate) fn first_refusal(m: &Message<'_>, site: &Option<Site>) -> Option<Dhcp
 }
 
 /// The first rule that is broken of those that need the rows of the client.
-pub(crate) fn row_refusal(m: &Message<'_>, case: &Case) -> Option<DhcpWord>
+pub(crate) fn row_refusal(m: &Asked<'_>, case: &Case) -> Option<DhcpWord>
     ensures { result ≡ refused_by (row_rules m.now case.now) }
 {
     first_broken(&[
@@ -44,7 +43,7 @@ pub(crate) fn row_refusal(m: &Message<'_>, case: &Case) -> Option<DhcpWord>
 }
 
 /// The first rule that is broken of those that need the address that the message is about.
-pub(crate) fn late_refusal(m: &Message<'_>, case: &Case, chosen: Option<Ip4>) -> Option<DhcpWord>
+pub(crate) fn late_refusal(m: &Asked<'_>, case: &Case, chosen: Option<Ip4>) -> Option<DhcpWord>
     ensures { result ≡ refused_by (late m.now case.now chosen) }
 {
     first_broken(&[

@@ -1,22 +1,23 @@
 //! What becomes of a message, once its rows are read and an address is chosen.
 
-ghost use Rattle.std.specs.Prelude.{◌≡◌, IfOk, None};
-ghost use Rattle.off_lease_rules.specs.Rules.{early, refused_by};
+ghost use Rattle.std.specs.Prelude.{◌≡◌, IfOk, IsTrue, Some, None, false};
+ghost use Rattle.off_account_rules.specs.Rows.{pool_fits};
+ghost use Rattle.off_lease_rules.specs.declared.words.DhcpWord.TheVariants as word;
+ghost use Rattle.off_lease_rules.specs.Asking.{client, claimed, is_discover};
+ghost use Rattle.off_lease_rules.specs.Rules.{early, late, refused_by};
 ghost use Rattle.off_lease_rules.specs.Steps.{settled, accepts, refuses, reply_to_refused};
-ghost use Rattle.off_lease_rules.specs.Steps.{lease_step_by};
-ghost use Rattle.off_lease_rules.specs.Steps.{for_some, offered, bound, set_aside, given_up};
-ghost use Rattle.off_lease_rules.specs.Steps.{offers, acknowledges, declines, releases};
-ghost use Rattle.off_lease_rules.specs.Asking.{client};
+ghost use Rattle.off_lease_rules.specs.Steps.{lease_step_by, offered, bound, offer_to};
+ghost use Rattle.off_lease_rules.specs.Steps.{declines, releases};
 ghost use Rattle.off_lease.specs.Stages.{knowing, HasGoodPool};
 
-use crate::asking::{client, is_decline, is_discover, is_request};
-use crate::replying::{nak_to, reply_for};
+use crate::asking::{Asked, client};
+use crate::granting::{Granted, given_back, grant};
+use crate::replying::{nak_to, offer_to};
 use crate::ruling::late_refusal;
 use crate::writing::{bound, given_up, offered, set_aside};
 use off_base::{Ip4, Moment, NoMemory};
 use off_defs::{Lease, Sent, Site, Writes};
-use off_dhcp::Message;
-use off_lease_rules::{Case, DhcpWord, LeaseStep};
+use off_lease_rules::{Case, DhcpWord, Kind, LeaseStep};
 use std::alloc::Global;
 
 const OFFER: u8 = 2;
@@ -28,13 +29,14 @@ const ACK: u8 = 5;
 pub(crate) fn settle(
     alloc: Global,
     now: Moment,
-    m: &Message<'_>,
+    m: &Asked<'_>,
     case: &Case,
     chosen: Option<Ip4>,
     lease: Option<Lease>,
 ) -> Result<LeaseStep, NoMemory>
     requires early { refused_by (early m.now case.now) ≡ None }
     requires fits { HasGoodPool case.now }
+    requires about { is_discover m.now ≡ false → chosen ≡ claimed m.now }
     ensures { IfOk result (λ step. step ≡ settled now.0 m.now case.now chosen lease) }
 {
     match late_refusal(m, case, chosen) {
@@ -46,7 +48,7 @@ pub(crate) fn settle(
 /// A message that is refused changes nothing, and has no reply but for one word.
 pub(crate) fn refuse(
     alloc: Global,
-    m: &Message<'_>,
+    m: &Asked<'_>,
     site: &Option<Site>,
     word: DhcpWord,
 ) -> Result<LeaseStep, NoMemory>
@@ -62,7 +64,7 @@ pub(crate) fn refuse(
 
 fn reply_to_refused(
     alloc: Global,
-    m: &Message<'_>,
+    m: &Asked<'_>,
     site: &Option<Site>,
     word: DhcpWord,
 ) -> Result<Option<Sent>, NoMemory>
@@ -77,126 +79,83 @@ fn reply_to_refused(
     }
 }
 
+// What becomes of a message that no rule refuses: what the rules looked for is all there.
 fn accept(
     alloc: Global,
     now: Moment,
-    m: &Message<'_>,
+    m: &Asked<'_>,
     case: &Case,
     chosen: Option<Ip4>,
     lease: Option<Lease>,
 ) -> Result<LeaseStep, NoMemory>
+    requires early { refused_by (early m.now case.now) ≡ None }
+    requires late { refused_by (late m.now case.now chosen) ≡ None }
     requires fits { HasGoodPool case.now }
+    requires about { is_discover m.now ≡ false → chosen ≡ claimed m.now }
     ensures { IfOk result (λ step. step ≡ accepts now.0 m.now case.now chosen lease) }
 {
-    if is_discover(m) {
-        return offer(alloc, now, m, case, chosen, lease);
+    match m.kind() {
+        Kind::Discover => offer(alloc, now, m, &grant(case, chosen), case.held, lease),
+        Kind::Request => acknowledge(alloc, now, m, &grant(case, chosen)),
+        Kind::Decline => decline(alloc, now, m, given_back(chosen)),
+        Kind::Release => release(alloc, m, given_back(chosen)),
+        Kind::Other(_) => unreachable!(),
     }
-    if is_request(m) {
-        return acknowledge(alloc, now, m, case, chosen);
-    }
-    if is_decline(m) {
-        return decline(alloc, now, m, chosen);
-    }
-    release(alloc, m, chosen)
 }
 
 fn offer(
     alloc: Global,
     now: Moment,
-    m: &Message<'_>,
-    case: &Case,
-    chosen: Option<Ip4>,
+    m: &Asked<'_>,
+    granted: &Granted<'_>,
+    held: Option<Ip4>,
     lease: Option<Lease>,
 ) -> Result<LeaseStep, NoMemory>
-    requires fits { HasGoodPool case.now }
-    ensures { IfOk result (λ step. step ≡ offers now.0 m.now case.now chosen lease) }
+    requires { IsTrue (pool_fits granted.now.pool) }
+    ensures { IfOk result (λ step. step ≡ lease_step_by word.Offer
+        (offered now.0 (client m.now) held granted.now.address lease)
+        (Some (offer_to 2 m.now granted.now.site.now granted.now.pool granted.now.address))) }
 {
-    let writes = offer_writes(alloc, now, m, case.held, chosen, lease)?;
-    let reply = reply_for(alloc, OFFER, m, case, chosen)?;
+    let writes = offered(alloc, now, client(m), held, granted.address, lease)?;
+    let reply = offer_to(alloc, OFFER, m, granted)?;
     Ok(LeaseStep {
         writes,
-        reply,
+        reply: Some(reply),
         word: DhcpWord::Offer,
     })
-}
-
-fn offer_writes(
-    alloc: Global,
-    now: Moment,
-    m: &Message<'_>,
-    held: Option<Ip4>,
-    chosen: Option<Ip4>,
-    lease: Option<Lease>,
-) -> Result<Writes, NoMemory>
-    ensures { IfOk result (λ writes. writes
-        ≡ for_some (λ address. offered now.0 (client m.now) held address lease) chosen) }
-{
-    match chosen {
-        Some(address) => offered(alloc, now, client(m), held, address, lease),
-        None => Ok(Writes::new(alloc)),
-    }
 }
 
 fn acknowledge(
     alloc: Global,
     now: Moment,
-    m: &Message<'_>,
-    case: &Case,
-    chosen: Option<Ip4>,
+    m: &Asked<'_>,
+    granted: &Granted<'_>,
 ) -> Result<LeaseStep, NoMemory>
-    requires fits { HasGoodPool case.now }
-    ensures { IfOk result (λ step. step ≡ acknowledges now.0 m.now case.now chosen) }
+    requires { IsTrue (pool_fits granted.now.pool) }
+    ensures { IfOk result (λ step. step ≡ lease_step_by word.Ack
+        (bound now.0 (client m.now) granted.now.address granted.now.site.now)
+        (Some (offer_to 5 m.now granted.now.site.now granted.now.pool granted.now.address))) }
 {
-    let writes = ack_writes(alloc, now, m, &case.site, chosen)?;
-    let reply = reply_for(alloc, ACK, m, case, chosen)?;
+    let writes = bound(alloc, now, client(m), granted.address, granted.site)?;
+    let reply = offer_to(alloc, ACK, m, granted)?;
     Ok(LeaseStep {
         writes,
-        reply,
+        reply: Some(reply),
         word: DhcpWord::Ack,
     })
 }
 
-fn ack_writes(
-    alloc: Global,
-    now: Moment,
-    m: &Message<'_>,
-    site: &Option<Site>,
-    chosen: Option<Ip4>,
-) -> Result<Writes, NoMemory>
-    ensures { IfOk result (λ writes. writes
-        ≡ for_some (λ address. for_some (bound now.0 (client m.now) address) site.now) chosen) }
+fn decline(alloc: Global, now: Moment, m: &Asked<'_>, address: Ip4) -> Result<LeaseStep, NoMemory>
+    ensures { IfOk result (λ step. step ≡ declines now.0 m.now (Some address)) }
 {
-    let Some(address) = chosen else {
-        return Ok(Writes::new(alloc));
-    };
-    match site {
-        Some(site) => bound(alloc, now, client(m), address, site),
-        None => Ok(Writes::new(alloc)),
-    }
-}
-
-fn decline(
-    alloc: Global,
-    now: Moment,
-    m: &Message<'_>,
-    chosen: Option<Ip4>,
-) -> Result<LeaseStep, NoMemory>
-    ensures { IfOk result (λ step. step ≡ declines now.0 m.now chosen) }
-{
-    let writes = match chosen {
-        Some(address) => set_aside(alloc, now, client(m), address)?,
-        None => Writes::new(alloc),
-    };
+    let writes = set_aside(alloc, now, client(m), address)?;
     Ok(silent(writes, DhcpWord::Declined))
 }
 
-fn release(alloc: Global, m: &Message<'_>, chosen: Option<Ip4>) -> Result<LeaseStep, NoMemory>
-    ensures { IfOk result (λ step. step ≡ releases m.now chosen) }
+fn release(alloc: Global, m: &Asked<'_>, address: Ip4) -> Result<LeaseStep, NoMemory>
+    ensures { IfOk result (λ step. step ≡ releases m.now (Some address)) }
 {
-    let writes = match chosen {
-        Some(address) => given_up(alloc, client(m), address)?,
-        None => Writes::new(alloc),
-    };
+    let writes = given_up(alloc, client(m), address)?;
     Ok(silent(writes, DhcpWord::Released))
 }
 

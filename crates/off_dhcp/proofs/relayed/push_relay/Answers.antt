@@ -1,7 +1,6 @@
 use Rattle.std.proofs.Common.{ap, sym, ◌∙◌, ◌≡◌, arith}
 use Rattle.std.specs.Prelude.{is_some}
 use Rattle.std.proofs.lemmas.List.{append-nil}
-use Rattle.off_base.specs.Parts.{bytes_of}
 use Rattle.off_dhcp.specs.Datagram.{option_in}
 use Rattle.off_dhcp.proofs.ReplyLemmas.{relay_missing, relay_step, relay_done}
 use Rattle.off_dhcp.proofs.relayed.push_relay.Goals as goal
@@ -13,9 +12,12 @@ returns-then-not-present c =
 
 pub loop-k-preserved : goal.loop-k-preserved
 loop-k-preserved c =
-    relay_step _ _ _ (bytes_of c.option-value.result) _ _ c.loop-k.k c.in_ok-push_option.ensures c.as_slice.ensures.value c.piece_of.ensures c.loop-k.invariant
+    let same = c.loop-k.invariant.0 in (
+      c.piece_of-piece.ensures.same ∙ same,
+      relay_step _ _ _ c.bytes-bytes.result _ _ c.loop-k.k c.in_ok-push_option.ensures c.as_slice.ensures.value (rw same at c.piece_of-piece.ensures.piece) c.loop-k.invariant.1,
+    )
 
 pub returns : goal.returns
 returns c =
     let last : c.loop-k.k ≡ c.pieces_of-k-end.result = omega arith in
-    relay_done _ _ (option_in 82 c.args.m.now.options) c.option-value.result _ _ _ c.loop-k.k c.option-value.ensures c.present.ensures c.if-not-present.false c.len.ensures c.pieces_of-k-end.ensures last c.loop-k.invariant
+    relay_done _ _ (option_in 82 c.args.m.now.options) c.option-value.result _ _ _ c.loop-k.k c.option-value.ensures c.present.ensures c.if-not-present.false c.len-len.ensures c.pieces_of-k-end.ensures last (rw c.bytes-bytes.ensures at c.loop-k.invariant.1)
