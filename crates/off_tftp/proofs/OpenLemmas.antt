@@ -1,5 +1,5 @@
 -- A request that is accepted.
-use Rattle.std.proofs.Common.{◌≡◌, ℕ, ◌&&◌, not, Bool, true, false, cond, is_some, List, Option, Some, None, option_map, Result, Ok, Err, IfOk, OnOk, IfSome, MatchOption, refl, sym, ap, ◌∙◌, subst}
+use Rattle.std.proofs.Common.{◌≡◌, ℕ, ◌&&◌, not, Bool, true, false, cond, is_some, List, Option, Some, None, option_map, Result, Ok, Err, IfOk, IfSome, IsTrue, MatchOption, refl, sym, ap, ◌∙◌, subst}
 use Rattle.std.specs.FinMap as map
 use Rattle.off_base.specs.Tree.{Tree, spelling}
 use Rattle.off_base.specs.declared.octets.NoMemory.{NoMemory}
@@ -8,20 +8,26 @@ use Rattle.off_base.specs.declared.addresses.Ip4.{Ip4}
 use Rattle.off_base.specs.declared.macs.Mac.{Mac}
 use Rattle.off_defs.specs.declared.tables.Site.{Site}
 use Rattle.off_defs.specs.declared.tables.Modem.{Modem}
-use Rattle.off_defs.specs.State.{Said, Transfer}
+use Rattle.off_defs.specs.State.{Transfer}
 use Rattle.off_account_rules.specs.Rows.{passes}
 use Rattle.off_kept.specs.declared.bodies.KeptBody.{KeptBody}
-use Rattle.off_kept.specs.Entries.{Entries, with_first}
-use Rattle.off_transfer_rules.specs.Transfers.{Transfers, begun, first_word}
+use Rattle.off_kept.specs.Entries.{with_first}
+use Rattle.off_transfer_rules.specs.Transfers.{Transfers, begun, has_no_room}
 use Rattle.off_transfer_rules.specs.View.{View, IsBuiltBy, is_own_name}
-use Rattle.off_transfer_rules.specs.Steps.{Way, Accepts, Denies, gives, way_for_modem, file_not_found, too_many_transfers, last_to}
-use Rattle.off_transfer_rules.specs.declared.words.TftpWord.{TftpWord}
+use Rattle.off_transfer_rules.specs.Steps.{Way, Accepts, Denies, way_for_modem, file_not_found, too_many_transfers}
+use Rattle.off_tftp.specs.declared.deciding.Decision.{Decision}
 use Rattle.off_tftp.specs.declared.gathering.Seen.{Seen}
-use Rattle.off_tftp.specs.Keeping.{entry_of, entry_for, kept_with, Serves}
+use Rattle.off_tftp.specs.Keeping.{entry_of, entry_for, kept_with, BeginsFor}
+use Rattle.off_tftp.specs.Kept.{HasPlaceFor}
+use Rattle.off_tftp.specs.Granted.{begun_by, IsFor}
+use Rattle.off_tftp.specs.Deciding.{Serves, CanBe, Starts, after_change, start_of}
+use Rattle.off_tftp.specs.declared.requests.Request.{Request}
+use Rattle.off_tftp.specs.declared.requests.Grant.{Grant}
+use Rattle.off_tftp.specs.Stages.{repeats, lacks_room_by, lacks_room}
+use Rattle.off_tftp.proofs.BodyLemmas.{nothing_begins, put_begins}
 use Rattle.off_file_rules.specs.File.{IsBuilt}
 use Rattle.off_tftp.specs.Built.{CanBuild}
 use Rattle.off_tftp.specs.Opened.{IsBegun}
-use Rattle.off_tftp.specs.Saying.{says_more}
 use Rattle.off_tftp.specs.Seen.{view_with, HasName, CanServe}
 
 -- where a name is that of a file, there is a site
@@ -59,87 +65,104 @@ body_of modem (Some p) found is =
     let same : found ≡ entry_of modem p = cc in
     ap (λ (e : KeptBody). Some e.body) (sym same)
 
-module _ (now : ℕ) (old new : Transfers) (from : Peer) (bytes : List ℕ) (said after : Said) (kept keeps : Entries) where
-  module _ (seen : Seen) (modem : Modem) (found : KeptBody) (mac : Mac) (name : List ℕ) (asked : Option ℕ) where
-    abbrev made : List ℕ → Transfer
-    made file = begun now bytes mac modem.subscriber name asked file
+-- ---- a transfer that begins, or a refusal
 
-    accepted : (p : List Tree) (file : List ℕ) (answered : TftpWord) → IsBuiltBy (view_with seen (Some p)) now from.ip file → answered ≡ first_word asked
-        → new ≡ map.insert old from (made file) → after ≡ says_more said (last_to from (made file)) → keeps ≡ with_first mac found kept
-        → seen.modem ≡ Some modem → entry_of modem p ≡ found
-        → Serves (view_with seen (Some p)) now old new from bytes (Accepts mac modem.subscriber name asked) said after kept keeps answered
-    accepted p file answered built named put says keeps_is there entry = record {
-      does = record {
-        items = last_to from (made file);
-        gave = (
-          file,
-          (
-            built,
-            ap (λ (m : Transfers). gives m (last_to from (made file)) answered) put ∙ ap (λ (w : TftpWord). gives (map.insert old from (made file)) (last_to from (made file)) w) named,
-          ),
-        );
-        says = says;
-      };
-      keeps_is =
-          keeps_is
-          ∙ (ap (λ (e : KeptBody). with_first mac e kept) (sym entry)
-          ∙ ap (λ (m : Option Modem). kept_with mac (entry_for m (Some p)) kept) (sym there));
+place_by : (full : Bool) (live : Option Transfer) → lacks_room_by full live ≡ false → full ≡ true → IsTrue (is_some live)
+place_by full None room is = absurd (let e : false ≡ true = sym room ∙ is in cc)
+place_by full (Some x) room is = refl
+
+pub place_for : (transfers : Transfers) (from : Peer) → lacks_room transfers from ≡ false → HasPlaceFor transfers from
+place_for transfers from room = place_by (has_no_room transfers) (map.get transfers from) room
+
+pub started_fits : (transfers : Transfers) (request : Request) (entry : KeptBody) (grant : Option Grant) (step : Result Decision NoMemory) → HasPlaceFor transfers request.from
+    → IfOk step (Starts request entry grant) → IfOk step (λ d. CanBe d.change transfers request.from)
+started_fits transfers request entry None (Ok d) room is = subst (λ (e : Decision). CanBe e.change transfers request.from) (sym is) tt
+started_fits transfers request entry (Some x) (Ok d) room is = subst (λ (e : Decision). CanBe e.change transfers request.from) (sym is) room
+started_fits transfers request entry grant (Err err) room is = tt
+
+pub started_begins : (old : Transfers) (request : Request) (mac : Mac) (subscriber : ℕ) (entry : KeptBody) (grant : Option Grant) (step : Result Decision NoMemory)
+    → IfSome grant (IsFor mac subscriber) → repeats request.bytes.now (map.get old request.from) ≡ false → IfOk step (Starts request entry grant)
+    → IfOk step (λ d. BeginsFor (Some mac) request.bytes.now (map.get (after_change d.change request.at.0 old request.from) request.from))
+started_begins old request mac subscriber entry None (Ok d) whose new is =
+    subst (λ (e : Decision). BeginsFor (Some mac) request.bytes.now (map.get (after_change e.change request.at.0 old request.from) request.from)) (sym is)
+    (nothing_begins (Some mac) request.bytes.now (map.get old request.from) new)
+started_begins old request mac subscriber entry (Some x) (Ok d) whose new is =
+    subst (λ (e : Decision). BeginsFor (Some mac) request.bytes.now (map.get (after_change e.change request.at.0 old request.from) request.from)) (sym is)
+    (put_begins mac request.bytes.now old request.from (begun_by request x) whose.modem_is)
+started_begins old request mac subscriber entry grant (Err err) whose new is = tt
+
+module _ (old : Transfers) (request : Request) where
+  module _ (seen : Seen) (modem : Modem) (found : KeptBody) (mac : Mac) where
+    abbrev made : List ℕ → Transfer
+    made file = begun request.at.0 request.bytes.now mac modem.subscriber request.name.now request.size file
+
+    abbrev Done : Option (List Tree) → Way → Decision → Type 0
+    Done profile w d = Serves (view_with seen profile) request.at.0 old request.from request.bytes.now w d
+
+    accepted : (p : List Tree) (file : List ℕ) → IsBuiltBy (view_with seen (Some p)) request.at.0 request.from.ip file → seen.modem ≡ Some modem → entry_of modem p ≡ found
+        → Done (Some p) (Accepts mac modem.subscriber request.name.now request.size) (start_of request.from found (made file) request.size)
+    accepted p file built there entry = record {
+      does = (file, (built, refl));
+      keeps = λ entries.
+          ap (λ (e : KeptBody). with_first mac e entries) (sym entry)
+          ∙ ap (λ (m : Option Modem). kept_with mac (entry_for m (Some p)) entries) (sym there);
     }
 
     way_is : (own no_room : Bool) → own ≡ true → no_room ≡ false
-        → Accepts mac modem.subscriber name asked
-        ≡ cond (not (own && true)) (Denies file_not_found) (cond no_room (Denies too_many_transfers) (Accepts mac modem.subscriber name asked))
+        → Accepts mac modem.subscriber request.name.now request.size
+        ≡ cond (not (own && true)) (Denies file_not_found) (cond no_room (Denies too_many_transfers) (Accepts mac modem.subscriber request.name.now request.size))
     way_is true false is room = refl
     way_is true true is room = cc
     way_is false no_room is room = cc
 
-    -- what was begun is of the file
-    begun_serves : (p : List Tree) (file : List ℕ) (live : Option Transfer) (step : Result TftpWord NoMemory) (no_room : Bool)
-        → IsBuiltBy (view_with seen (Some p)) now from.ip file → live ≡ Some (made file) → passes (is_own_name name mac from.ip) seen.site ≡ true → no_room ≡ false
-        → IfOk step (λ w. IfSome live (λ x. w ≡ first_word asked)) → OnOk step (IfSome live (λ x. new ≡ map.insert old from x))
-        → OnOk step (IfSome live (λ x. after ≡ says_more said (last_to from x))) → OnOk step (IfSome live (λ x. keeps ≡ with_first mac found kept))
-        → seen.modem ≡ Some modem → entry_of modem p ≡ found
-        → IfOk step (λ w. Serves (view_with seen (Some p)) now old new from bytes (way_for_modem (view_with seen (Some p)) from.ip no_room name asked mac (Some modem)) said after kept keeps w)
-    begun_serves p file live (Err err) no_room built is own room named put says keeps_is there entry = tt
-    begun_serves p file live (Ok w) no_room built is own room named put says keeps_is there entry =
-        subst (λ (y : Way). Serves (view_with seen (Some p)) now old new from bytes y said after kept keeps w) (way_is (passes (is_own_name name mac from.ip) seen.site) no_room own room)
-        (accepted p file w built
-        (subst (λ (o : Option Transfer). IfSome o (λ x. w ≡ first_word asked)) is named)
-        (subst (λ (o : Option Transfer). IfSome o (λ x. new ≡ map.insert old from x)) is put)
-        (subst (λ (o : Option Transfer). IfSome o (λ x. after ≡ says_more said (last_to from x))) is says)
-        (subst (λ (o : Option Transfer). IfSome o (λ x. keeps ≡ with_first mac found kept)) is keeps_is)
-        there entry)
+    -- the transfer is the one of the modem and its subscriber
+    begun_is : (grant : Grant) → IsFor mac modem.subscriber grant → begun_by request grant ≡ made grant.file
+    begun_is grant whose =
+        ap (λ (m : Mac). begun request.at.0 request.bytes.now m grant.subscriber request.name.now request.size grant.file) whose.modem_is
+        ∙ ap (λ n. begun request.at.0 request.bytes.now mac n request.name.now request.size grant.file) whose.subscriber_is
 
-    start_serves : (profile : Option (List Tree)) (file : Option (List ℕ)) (live : Option Transfer) (step : Result TftpWord NoMemory) (no_room : Bool)
-        → Some found ≡ option_map (entry_of modem) profile → IsBegun (view_with seen profile) now from.ip file → live ≡ option_map (begun now bytes mac modem.subscriber name asked) file
-        → passes (is_own_name name mac from.ip) seen.site ≡ true → no_room ≡ false
-        → IfOk step (λ w. IfSome live (λ x. w ≡ first_word asked)) → OnOk step (IfSome live (λ x. new ≡ map.insert old from x))
-        → OnOk step (IfSome live (λ x. after ≡ says_more said (last_to from x))) → OnOk step (IfSome live (λ x. keeps ≡ with_first mac found kept))
-        → seen.modem ≡ Some modem
-        → IfOk step (λ w. Serves (view_with seen profile) now old new from bytes (way_for_modem (view_with seen profile) from.ip no_room name asked mac (Some modem)) said after kept keeps w)
-    start_serves None file live step no_room entry built is own room named put says keeps_is there = cc
-    start_serves (Some p) None live step no_room entry built is own room named put says keeps_is there =
-        absurd (let e : (true && true) ≡ false = ap (λ b. b && true) (sym (site_there seen.site (is_own_name name mac from.ip) own)) ∙ built in cc)
-    start_serves (Some p) (Some file) live step no_room entry built is own room named put says keeps_is there =
+    begun_serves : (p : List Tree) (grant : Grant) (step : Result Decision NoMemory) (no_room : Bool)
+        → IsBuiltBy (view_with seen (Some p)) request.at.0 request.from.ip grant.file → IsFor mac modem.subscriber grant
+        → passes (is_own_name request.name.now mac request.from.ip) seen.site ≡ true → no_room ≡ false
+        → IfOk step (Starts request found (Some grant)) → seen.modem ≡ Some modem → entry_of modem p ≡ found
+        → IfOk step (Done (Some p) (way_for_modem (view_with seen (Some p)) request.from.ip no_room request.name.now request.size mac (Some modem)))
+    begun_serves p grant (Err err) no_room built whose own room starts there entry = tt
+    begun_serves p grant (Ok d) no_room built whose own room starts there entry =
+        let whole : d ≡ start_of request.from found (made grant.file) request.size = starts ∙ ap (λ (x : Transfer). start_of request.from found x request.size) (begun_is grant whose) in
+        subst (λ (y : Way). Done (Some p) y d) (way_is (passes (is_own_name request.name.now mac request.from.ip) seen.site) no_room own room)
+        (subst (λ (e : Decision). Done (Some p) (Accepts mac modem.subscriber request.name.now request.size) e) (sym whole) (accepted p grant.file built there entry))
+
+    start_serves : (profile : Option (List Tree)) (grant : Option Grant) (step : Result Decision NoMemory) (no_room : Bool)
+        → Some found ≡ option_map (entry_of modem) profile → IsBegun (view_with seen profile) request.at.0 request.from.ip (option_map (λ (g : Grant). g.file) grant)
+        → IfSome grant (IsFor mac modem.subscriber)
+        → passes (is_own_name request.name.now mac request.from.ip) seen.site ≡ true → no_room ≡ false → IfOk step (Starts request found grant) → seen.modem ≡ Some modem
+        → IfOk step (Done profile (way_for_modem (view_with seen profile) request.from.ip no_room request.name.now request.size mac (Some modem)))
+    start_serves None grant step no_room entry built whose own room starts there = cc
+    start_serves (Some p) None step no_room entry built whose own room starts there =
+        absurd (let e : (true && true) ≡ false = ap (λ b. b && true) (sym (site_there seen.site (is_own_name request.name.now mac request.from.ip) own)) ∙ built in cc)
+    start_serves (Some p) (Some grant) step no_room entry built whose own room starts there =
         let same : entry_of modem p ≡ found = cc in
-        begun_serves p file live step no_room built is own room named put says keeps_is there same
+        begun_serves p grant step no_room built whose own room starts there same
 
   -- the same, by what the calls answered
-  pub start_for : (seen : Seen) (modem : Modem) (found entry : KeptBody) (shared : List ℕ) (mac : Mac) (name : List ℕ) (asked : Option ℕ) (subscriber : ℕ) (profile : Option (List Tree)) (file : Option (List ℕ))
-      (live : Option Transfer) (step : Result TftpWord NoMemory) (no_room : Bool)
+  pub start_for : (seen : Seen) (modem : Modem) (found entry : KeptBody) (shared : List ℕ) (mac : Mac) (subscriber : ℕ) (profile : Option (List Tree)) (grant : Option Grant)
+      (step : Result Decision NoMemory) (no_room : Bool)
       → modem.subscriber ≡ subscriber → seen.body ≡ Some found → entry ≡ found → shared ≡ found.body → seen.body ≡ option_map (entry_of modem) profile
-      → ((view_with seen profile).site ≡ seen.site → option_map spelling profile ≡ Some shared → CanServe (view_with seen profile) now from.ip → IsBegun (view_with seen profile) now from.ip file)
-      → CanServe (view_with seen profile) now from.ip
-      → live ≡ option_map (begun now bytes mac subscriber name asked) file
-      → HasName from.ip name mac seen → no_room ≡ false
-      → IfOk step (λ w. IfSome live (λ x. w ≡ first_word asked)) → OnOk step (IfSome live (λ x. new ≡ map.insert old from x))
-      → OnOk step (IfSome live (λ x. after ≡ says_more said (last_to from x))) → OnOk step (IfSome live (λ x. keeps ≡ with_first mac entry kept))
-      → seen.modem ≡ Some modem
-      → IfOk step (λ w. Serves (view_with seen profile) now old new from bytes (way_for_modem (view_with seen profile) from.ip no_room name asked mac (Some modem)) said after kept keeps w)
-  start_for seen modem found entry shared mac name asked subscriber profile file live step no_room numbered there same shared_is made built serves is own room named put says keeps_is row =
+      → ((view_with seen profile).site ≡ seen.site → option_map spelling profile ≡ Some shared → CanServe (view_with seen profile) request.at.0 request.from.ip
+      → IsBegun (view_with seen profile) request.at.0 request.from.ip (option_map (λ (g : Grant). g.file) grant))
+      → CanServe (view_with seen profile) request.at.0 request.from.ip → IfSome grant (IsFor mac subscriber)
+      → HasName request.from.ip request.name.now mac seen → no_room ≡ false → IfOk step (Starts request entry grant) → seen.modem ≡ Some modem
+      → IfOk step (Serves (view_with seen profile) request.at.0 old request.from request.bytes.now
+      (way_for_modem (view_with seen profile) request.from.ip no_room request.name.now request.size mac (Some modem)))
+  start_for seen modem found entry shared mac subscriber profile grant step no_room numbered there same shared_is made built serves whose own room starts row =
       let whole : Some found ≡ option_map (entry_of modem) profile = sym there ∙ made in
-      start_serves seen modem found mac name asked profile file live step no_room whole
+      start_serves seen modem found mac profile grant step no_room whole
       (built refl (body_of modem profile found whole ∙ ap Some (sym shared_is)) serves)
-      (is ∙ ap (λ (n : ℕ). option_map (begun now bytes mac n name asked) file) (sym numbered))
-      (own (ap is_some there)) room named put says
-      (subst (λ (e : KeptBody). OnOk step (IfSome live (λ x. keeps ≡ with_first mac e kept))) same keeps_is) row
+      (subst (λ (n : ℕ). IfSome grant (IsFor mac n)) (sym numbered) whose)
+      (own (ap is_some there)) room
+      (subst (λ (e : KeptBody). IfOk step (Starts request e grant)) same starts) row
+
+-- the name of a file that was found is the modem's own, where there is a body
+pub name_right : (request : Request) (mac : Mac) (seen : Seen) (found : KeptBody) → HasName request.from.ip request.name.now mac seen → seen.body ≡ Some found
+    → passes (is_own_name request.name.now mac request.from.ip) seen.site ≡ true
+name_right request mac seen found own there = own (ap is_some there)

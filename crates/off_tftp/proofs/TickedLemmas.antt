@@ -1,5 +1,5 @@
 -- A Tick over transfers as they are held, from the last one on.
-use Rattle.std.proofs.Common.{◌≡◌, ℕ, zero, suc, ◌+◌, ◌-◌, ◌<◌, ◌≤◌, Bool, true, false, cond, not, ◌&&◌, List, [], ◌∷◌, ◌++◌, length, length-append, take, drop, Option, Some, None, count_by, slice_get, slice_index_or, slice_set, refl, sym, ap, ◌∙◌, subst, ◌==◌, option_and_then, arith}
+use Rattle.std.proofs.Common.{◌≡◌, ℕ, zero, suc, ◌+◌, ◌-◌, ◌<◌, ◌≤◌, Bool, true, false, cond, not, ◌&&◌, List, [], ◌∷◌, ◌++◌, length, length-append, take, take_at, drop, Option, Some, None, count_by, slice_index_or, slice_set, refl, sym, ap, ◌∙◌, subst, ◌==◌, option_and_then, arith}
 use Rattle.std.specs.List.{flat_map}
 use Rattle.std.specs.FinMap as map
 use Rattle.std.proofs.lemmas.Bool.{eqb-true}
@@ -14,26 +14,23 @@ use Rattle.off_transfer_rules.proofs.KeptLemmas.{left_of, sorted_kept, left_at a
 use Rattle.off_transfer_rules.proofs.TickLemmas.{tick_entry, items_counted, closed_counted, ticked_entries}
 use Rattle.off_tftp.specs.Kept.{Entries, AreKept, left_at, tick_left, ticked_list}
 use Rattle.off_transfer_rules.specs.Ticks.{TickStep}
-use Rattle.off_tftp.specs.Saying.{says_more, nothing_ticked, Ticks}
+use Rattle.off_tftp.specs.Saying.{says_more, nothing_ticked, Ticks, IsSaidBehind}
 use Rattle.off_tftp.proofs.EntryLemmas.{true_T, T_true, entries_kept, opened, set_opened}
 
--- ---- one more of a list
+-- ---- what is said behind what was said before
 
-pub take_more : {X : Type 0} (n : ℕ) (xs : List X) (x : X) → slice_get xs n ≡ Some x → take (suc n) xs ≡ take n xs ++ x ∷ []
-take_more zero [] x is = cc
-take_more (suc n) [] x is = cc
-take_more zero (y ∷ xs) x is =
-    let same : y ≡ x = cc in
-    ap (λ z. z ∷ []) same
-take_more (suc n) (y ∷ xs) x is = ap (λ zs. y ∷ zs) (take_more n xs x is)
+pub behind_more : (said after : Said) (items : List Sent) → after ≡ says_more said items → IsSaidBehind said after
+behind_more said after items is = record {
+  front = ap (λ (s : Said). take (length said.items) s.items) is ∙ take_at said.items items (length said.items) refl;
+  line = ap (λ (s : Said). s.line) is;
+}
 
-pub copied_more : (n : ℕ) (items : List Sent) (copy new : Said) (item same : Sent) → copy ≡ record { items = take n items; line = [] } → slice_get items n ≡ Some item → same ≡ item
-    → new ≡ record copy { items = copy.items ++ same ∷ [] } → new ≡ record { items = take (n + 1) items; line = [] }
-copied_more n items copy new item same so_far is copied pushed =
-    let next : suc n ≡ n + 1 = omega arith in
-    pushed ∙ ap (λ (c : Said). record c { items = c.items ++ same ∷ [] }) so_far
-    ∙ ap (λ (s : Sent). record { items = take n items ++ s ∷ []; line = [] }) copied
-    ∙ ap (λ (l : List Sent). record { items = l; line = [] }) (sym (take_more n items item is) ∙ ap (λ m. take m items) next)
+pub taken_back : (said after new : Said) (n : ℕ) → IsSaidBehind said after → n ≡ length said.items → new ≡ record after { items = take n after.items } → new ≡ said
+taken_back said after new n behind count is =
+    is
+    ∙ (ap (λ m. record after { items = take m after.items }) count
+    ∙ (ap (λ (l : List Sent). record after { items = l }) behind.front
+    ∙ ap (λ (l : List ℕ). record { items = said.items; line = l }) behind.line))
 
 -- ---- one entry
 
@@ -123,17 +120,17 @@ resent_few now [] = omega arith
 resent_few now (e ∷ es) =
     omega (arith, resent_few now es, one_at_most (is_resent now e.1), sum_by-cons (λ (l : Peer × Transfer). cond (is_resent now l.1) 1 0) e es)
 
-said_more : (now : ℕ) (es : Entries) (said out new : Said) (a b : ℕ) → said ≡ out → new ≡ says_more said (flat_map (tick_items now) es) → a ≡ length new.items → b ≡ length out.items
+said_more : (now : ℕ) (es : Entries) (out new : Said) (a b : ℕ) → new ≡ says_more out (flat_map (tick_items now) es) → a ≡ length new.items → b ≡ length out.items
     → a ≡ b + resent now es
-said_more now es said out new a b copied pushed after before =
-    after ∙ ap (λ (s : Said). length s.items) (pushed ∙ ap (λ (s : Said). says_more s (flat_map (tick_items now) es)) copied)
+said_more now es out new a b pushed after before =
+    after ∙ ap (λ (s : Said). length s.items) pushed
     ∙ length-append out.items (flat_map (tick_items now) es)
     ∙ ap (λ n. length out.items + n) (items_counted now es) ∙ ap (λ n. n + resent now es) (sym before)
 
-pub again_few : (now : ℕ) (es : Entries) (said out new : Said) (a b : ℕ) → said ≡ out → new ≡ says_more said (flat_map (tick_items now) es) → a ≡ length new.items → b ≡ length out.items
+pub again_few : (now : ℕ) (es : Entries) (out new : Said) (a b : ℕ) → new ≡ says_more out (flat_map (tick_items now) es) → a ≡ length new.items → b ≡ length out.items
     → length es ≤ 256 → (b ≤ a) × (a - b ≤ 256)
-again_few now es said out new a b copied pushed after before few =
-    let more = said_more now es said out new a b copied pushed after before in
+again_few now es out new a b pushed after before few =
+    let more = said_more now es out new a b pushed after before in
     (omega (arith, more), omega (arith, more, few, resent_few now es))
 
 again_is : (a b n : ℕ) → a ≡ b + n → a - b ≡ n
@@ -142,10 +139,10 @@ again_is a b n is = omega arith
 closed_is : (before after gone : ℕ) → after + gone ≡ before → before - after ≡ gone
 closed_is before after gone is = omega arith
 
-pub ticks_are : (now : ℕ) (xs : Transfers) (es fs : Entries) (said out new : Said) (a b before after : ℕ) → AreKept es → map.from_sorted es ≡ xs → fs ≡ ticked_list now es
-    → said ≡ out → new ≡ says_more said (flat_map (tick_items now) es) → a ≡ length new.items → b ≡ length out.items → before ≡ length es → after ≡ length fs
+pub ticks_are : (now : ℕ) (xs : Transfers) (es fs : Entries) (out new : Said) (a b before after : ℕ) → AreKept es → map.from_sorted es ≡ xs → fs ≡ ticked_list now es
+    → new ≡ says_more out (flat_map (tick_items now) es) → a ≡ length new.items → b ≡ length out.items → before ≡ length es → after ≡ length fs
     → Ticks now xs (map.from_sorted fs) out new (record { again = a - b; closed = before - after })
-ticks_are now xs es fs said out new a b before after sorted is made copied pushed ea eb eold enew =
+ticks_are now xs es fs out new a b before after sorted is made pushed ea eb eold enew =
     let entries : map.entries xs ≡ es = ap map.entries (sym is) ∙ entries_kept es sorted in
     let theirs : fs ≡ flat_map (tick_entry now) es = made ∙ ticked_same now es in
     record {
@@ -154,12 +151,12 @@ ticks_are now xs es fs said out new a b before after sorted is made copied pushe
         each = ticked_entries now xs (map.from_sorted fs)
             (entries_kept fs (sorted_ticked now es fs sorted made) ∙ theirs ∙ ap (λ (l : Entries). flat_map (tick_entry now) l) (sym entries));
         sends = refl;
-        again = again_is a b (resent now es) (said_more now es said out new a b copied pushed ea eb) ∙ ap (resent now) (sym entries);
+        again = again_is a b (resent now es) (said_more now es out new a b pushed ea eb) ∙ ap (resent now) (sym entries);
         closed = closed_is before after (count_by (λ (live : Peer × Transfer). is_closed now live.1) es)
             (ap (λ n. n + count_by (λ (live : Peer × Transfer). is_closed now live.1) es) (enew ∙ ap length theirs) ∙ closed_counted now es ∙ sym eold)
             ∙ ap (λ (l : Entries). count_by (λ (live : Peer × Transfer). is_closed now live.1) l) (sym entries);
       };
-      says = pushed ∙ ap (λ (s : Said). says_more s (flat_map (tick_items now) es)) copied ∙ ap (λ (l : Entries). says_more out (flat_map (tick_items now) l)) (sym entries);
+      says = pushed ∙ ap (λ (l : Entries). says_more out (flat_map (tick_items now) l)) (sym entries);
     }
 
 -- ---- where no transfer is live

@@ -17,7 +17,7 @@ use Rattle.off_transfer_rules.specs.Transfers.{Transfers}
 use Rattle.off_transfer_rules.specs.View.{View, view, owner_by}
 use Rattle.off_transfer_rules.specs.Steps.{Way, Accepts, way, is_repeated}
 use Rattle.off_transfer_rules.specs.declared.words.TftpWord.{TftpWord}
-use Rattle.off_tftp.specs.Saying.{Answers, Does}
+use Rattle.off_tftp.specs.Saying.{Answers}
 
 -- whether the entry of a modem is kept
 abbrev pub is_kept : Option Mac → Entries → Bool
@@ -65,12 +65,6 @@ kept_by v other entries = entries
 abbrev pub kept_after : Tables → ℕ → Transfers → Peer → List ℕ → Entries → Entries
 kept_after tables now transfers from bytes entries =
     kept_by (view tables from.ip) (way (view tables from.ip) now transfers from bytes) entries
-
--- what is done in one way, and what is kept then
-pub record Serves (v : View) (now : ℕ) (old new : Transfers) (from : Peer) (bytes : List ℕ)
-    (way : Way) (said after : Said) (kept keeps : Entries) (word : TftpWord) : Type 0 where
-  pub does : Does v now old new from bytes way said after word
-  pub keeps_is : keeps ≡ kept_by v way kept
 
 -- a datagram is answered over the tables, and what is kept is right by them again
 pub record AnswersKeeping (tables : Tables) (now : ℕ) (old new : Transfers) (from : Peer)

@@ -3,6 +3,8 @@ pub mod Built
 pub mod Kept
 pub mod Saying
 pub mod Keeping
+pub mod Granted
+pub mod Deciding
 pub mod Seen
 pub mod Calls
 pub mod Listed

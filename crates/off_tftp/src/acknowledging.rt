@@ -1,21 +1,20 @@
 //! A packet that has come, and a request that came again.
 
-ghost use Rattle.std.specs.Prelude.{◌≡◌, List, ℕ, false, IfOk, IfSome, OnOk, OnErr};
+ghost use Rattle.std.specs.Prelude.{◌≡◌, List, ℕ, false, IfOk, IfSome};
 ghost use Rattle.std.specs.FinMap as map;
 ghost use Rattle.off_transfer_rules.specs.View.{View};
-ghost use Rattle.off_transfer_rules.specs.Steps.{Repeats, way_of_last, error_to, no_longer_agreed};
-ghost use Rattle.off_transfer_rules.specs.declared.words.TftpWord.TheVariants.{Agreement};
+ghost use Rattle.off_transfer_rules.specs.Steps.{Repeats, way_of_last, no_longer_agreed};
 ghost use Rattle.off_transfer_rules.specs.Transfers.{is_at_last};
-ghost use Rattle.off_tftp.specs.Saying.{says_more, Does};
+ghost use Rattle.off_tftp.specs.Deciding.{Does, CanBe, KeepsNothing, refusal_of};
+ghost use Rattle.off_tftp.specs.declared.deciding.Change.TheVariants.{Ends};
 ghost use Rattle.off_tftp.specs.Seen.{view_of};
 ghost use Rattle.off_tftp.specs.Stages.{repeats, stage_of};
 
+use crate::deciding::{Change, Decision, deny, packet_to};
 use crate::gathering::Seen;
 use crate::judging::agrees;
-use crate::saying::{deny, packet_to};
 use crate::transfers::Transfers;
 use off_base::{Moment, NoMemory, Peer};
-use off_outside::Replies;
 use off_transfer_rules::TftpWord;
 use std::alloc::Global;
 
@@ -60,81 +59,73 @@ impl Transfers {
         }
     }
 
-    /// Sends the first packet again.
-    pub(crate) fn repeat(
-        &mut self,
-        alloc: Global,
-        now: Moment,
-        from: Peer,
-        out: &mut Replies,
-    ) -> Result<TftpWord, NoMemory>
-        ensures done { (v : View) (bytes : List ℕ) → IfOk result
-            (λ word. IfSome (map.get self.old from)
-            (λ x. Does v now.0 self.old self.new from bytes (Repeats x) out.old out.new word)) }
-        ensures kept { OnErr result (self.new ≡ self.old) }
-        ensures unsaid { OnErr result (out.new ≡ out.old) }
+    /// The first packet goes again.
+    pub(crate) fn repeat(&self, alloc: Global, from: Peer) -> Result<Decision, NoMemory>
+        ensures done { (v : View) (now : ℕ) (bytes : List ℕ) → IfOk result
+            (λ d. IfSome (map.get self.now from)
+            (λ x. Does v now self.now from bytes (Repeats x) d)) }
+        ensures bare { IfOk result KeepsNothing }
+        ensures able { IfOk result (λ d. CanBe d.change self.now from) }
     {
         let Some(live) = self.get(from) else {
-            return Ok(TftpWord::Again);
+            return Ok(Decision {
+                word: TftpWord::Again,
+                sent: None,
+                change: Change::Stays,
+            });
         };
         let packet = live.last_packet(alloc)?;
-        out.push(packet_to(from, packet))?;
-        self.ask_again(from, now);
-        Ok(TftpWord::Again)
+        Ok(Decision {
+            word: TftpWord::Again,
+            sent: Some(packet_to(from, packet)),
+            change: Change::AsksAgain,
+        })
     }
 
-    /// Sends the next block, where the tables still agree, or breaks the transfer off.
+    /// The next block goes where the tables still agree; else the transfer is broken off.
     pub(crate) fn go_on_or_break(
-        &mut self,
+        &self,
         alloc: Global,
         seen: &Seen,
         now: Moment,
         from: Peer,
-        out: &mut Replies,
-    ) -> Result<TftpWord, NoMemory>
-        requires { IfSome (map.get self.old from) (λ x. is_at_last x ≡ false) }
+    ) -> Result<Decision, NoMemory>
+        requires { IfSome (map.get self.now from) (λ x. is_at_last x ≡ false) }
         ensures done { (bytes : List ℕ) → IfOk result
-            (λ word. IfSome (map.get self.old from)
-            (λ x. Does (view_of seen.now) now.0 self.old self.new from bytes
-            (way_of_last (view_of seen.now) now.0 from.ip x) out.old out.new word)) }
-        ensures kept { OnErr result (self.new ≡ self.old) }
-        ensures unsaid { OnErr result (out.new ≡ out.old) }
+            (λ d. IfSome (map.get self.now from)
+            (λ x. Does (view_of seen.now) now.0 self.now from bytes
+            (way_of_last (view_of seen.now) now.0 from.ip x) d)) }
+        ensures bare { IfOk result KeepsNothing }
+        ensures able { IfOk result (λ d. CanBe d.change self.now from) }
     {
         let Some(live) = self.get(from) else {
-            return Ok(TftpWord::Unknown);
+            return Ok(Decision {
+                word: TftpWord::Unknown,
+                sent: None,
+                change: Change::Stays,
+            });
         };
         if !agrees(seen, now, from.ip, live) {
-            return self.break_off(alloc, from, out);
+            return break_off(alloc, from);
         }
         let packet = live.next_packet(alloc)?;
         let number = live.next_number();
-        out.push(packet_to(from, packet))?;
-        self.go_on(from, now);
-        Ok(TftpWord::Block(number))
+        Ok(Decision {
+            word: TftpWord::Block(number),
+            sent: Some(packet_to(from, packet)),
+            change: Change::GoesOn,
+        })
     }
+}
 
-    // Ends a transfer with a refusal.
-    fn break_off(
-        &mut self,
-        alloc: Global,
-        from: Peer,
-        out: &mut Replies,
-    ) -> Result<TftpWord, NoMemory>
-        ensures word { IfOk result (λ word. word ≡ Agreement) }
-        ensures left { OnOk result (self.new ≡ map.remove self.old from) }
-        ensures says { OnOk result (out.new ≡ says_more out.old (error_to from no_longer_agreed)) }
-        ensures kept { OnErr result (self.new ≡ self.old) }
-        ensures unsaid { OnErr result (out.new ≡ out.old) }
-    {
-        let word = deny(
-            alloc,
-            from,
-            2,
-            b"no longer agreed",
-            TftpWord::Agreement,
-            out,
-        )?;
-        self.end(from);
-        Ok(word)
-    }
+// Ends a transfer with a refusal.
+fn break_off(alloc: Global, from: Peer) -> Result<Decision, NoMemory>
+    ensures { IfOk result (λ d. d ≡ record (refusal_of from no_longer_agreed) { change = Ends }) }
+{
+    let refusal = deny(alloc, from, 2, b"no longer agreed", TftpWord::Agreement)?;
+    Ok(Decision {
+        word: refusal.word,
+        sent: refusal.sent,
+        change: Change::Ends,
+    })
 }

@@ -1,11 +1,10 @@
 //! What a modem's datagram does.
 
-ghost use Rattle.std.specs.Prelude.{◌≡◌, ◌≤◌, List, ℕ, Ok, false, is_ok, IfOk, IfSome, OnOk, OnErr};
-ghost use Rattle.std.specs.Prelude.{MatchResult};
+ghost use Rattle.std.specs.Prelude.{◌≡◌, ◌≤◌, List, ℕ, Ok, false, is_ok, IfOk, IfErr, IfSome};
+ghost use Rattle.std.specs.Prelude.{OnOk, OnErr, MatchResult};
 ghost use Rattle.std.specs.FinMap as map;
 ghost use Rattle.off_transfer_rules.specs.Steps.{way_of_request, way_of_last};
-ghost use Rattle.off_transfer_rules.specs.Steps.{way_of_acknowledgement, error_to};
-ghost use Rattle.off_transfer_rules.specs.Steps.{illegal_operation};
+ghost use Rattle.off_transfer_rules.specs.Steps.{way_of_acknowledgement, illegal_operation};
 ghost use Rattle.off_transfer_rules.specs.Transfers.{has_no_room, is_at_last};
 ghost use Rattle.off_transfer_rules.specs.View.{view};
 ghost use Rattle.off_kept.specs.Right.{AllRight};
@@ -13,15 +12,19 @@ ghost use Rattle.off_outside.specs.declared.keeper.KeepErr.TheVariants.{Memory};
 ghost use Rattle.off_outside.specs.KeeperCalls.{Looks, Spent};
 ghost use Rattle.off_tftp.specs.Calls.{datagram_calls, reading_calls, acknowledgement_calls};
 ghost use Rattle.off_tftp.specs.Calls.{FewWhereUnnamed, FewUnlessNamed};
-ghost use Rattle.off_tftp.specs.Keeping.{FewWhereKept, FewWhereBegun, Serves, AnswersKeeping};
-ghost use Rattle.off_tftp.specs.Saying.{says_more, Does};
+ghost use Rattle.off_tftp.specs.Keeping.{FewWhereKept, FewWhereBegun, AnswersKeeping};
+ghost use Rattle.off_tftp.specs.Saying.{says_more};
+ghost use Rattle.off_tftp.specs.Deciding.{Does, Serves, Decides, CanBe, KeepsNothing, refusal_of};
+ghost use Rattle.off_tftp.specs.Deciding.{after_change, kept_behind, items_of};
 
 use crate::acknowledging::Stage;
+use crate::deciding::{Change, Decision, deny};
 use crate::gathering::{look, look_for_file};
 use crate::packets::read_packet;
-use crate::saying::deny;
+use crate::requests::{Datagram, Request};
 use crate::transfers::Transfers;
 use off_base::{Moment, NoMemory, Peer};
+use off_defs::Sent;
 use off_kept::Kept;
 use off_outside::{KeepErr, Keeper, Replies};
 use off_transfer_rules::{Packet, PacketFault, TftpWord};
@@ -62,142 +65,257 @@ impl Transfers {
         ensures unkept { OnErr result (kept.new ≡ kept.old) }
         ensures unsaid { OnErr result (out.new ≡ out.old) }
     {
+        let datagram = Datagram {
+            from,
+            at: now,
+            bytes,
+        };
+        let decision = self.decide(alloc, keeper, kept, &datagram)?;
+        self.carry_out(kept, now, from, decision, out)
+    }
+
+    // What it comes to.
+    #[tactic(auto, using(crate::proofs::BodyLemmas::askings))]
+    fn decide<K: Keeper>(
+        &self,
+        alloc: Global,
+        keeper: &mut K,
+        kept: &Kept,
+        datagram: &Datagram<'_>,
+    ) -> Result<Decision, KeepErr>
+        ensures told { Looks result (K.seen keeper.old) (K.seen keeper.new)
+            (λ d t. AllRight t kept.now → Decides t datagram.now.at.0 self.now
+            datagram.now.from datagram.now.bytes.now d) }
+        ensures able { IfOk result (λ d. CanBe d.change self.now datagram.now.from) }
+        ensures spent { Spent (datagram_calls self.now datagram.now.from datagram.now.bytes.now)
+            (K.seen keeper.old) (K.seen keeper.new) }
+        ensures few { FewWhereKept datagram.now.from.ip kept.now
+            (K.seen keeper.old) (K.seen keeper.new) }
+        ensures few_unnamed { FewUnlessNamed datagram.now.at.0 datagram.now.from.ip
+            datagram.now.bytes.now (K.seen keeper.old) (K.seen keeper.new) }
+        ensures few_before { FewWhereBegun datagram.now.from datagram.now.bytes.now self.now
+            kept.now (K.seen keeper.old) (K.seen keeper.new) }
+        ensures few_begun { IfOk result (λ d. FewWhereBegun datagram.now.from
+            datagram.now.bytes.now
+            (after_change d.change datagram.now.at.0 self.now datagram.now.from) kept.now
+            (K.seen keeper.old) (K.seen keeper.new)) }
+    {
+        let Datagram { from, at, bytes } = *datagram;
         match read_packet(bytes) {
             Ok(Packet::Read { name, size }) => {
-                self.on_request(alloc, keeper, kept, now, from, bytes, name, size, out)
+                let request = Request {
+                    from,
+                    at,
+                    bytes,
+                    name,
+                    size,
+                };
+                self.on_request(alloc, keeper, kept, &request)
             }
-            Ok(Packet::Ack(number)) => {
-                self.on_acknowledgement(alloc, keeper, now, from, bytes, number, out)
-            }
-            Ok(Packet::Error) => {
-                self.end(from);
-                Ok(TftpWord::PeerError)
-            }
+            Ok(Packet::Ack(number)) => self.on_acknowledgement(alloc, keeper, at, from, number),
+            Ok(Packet::Error) => Ok(Decision {
+                word: TftpWord::PeerError,
+                sent: None,
+                change: Change::Ends,
+            }),
             Ok(Packet::Write) => {
                 let text = b"access violation";
-                settled(deny(alloc, from, 2, text, TftpWord::Write, out))
+                settled(deny(alloc, from, 2, text, TftpWord::Write))
             }
-            Ok(Packet::Other) => settled(deny_form(alloc, from, out)),
-            Err(PacketFault::Form) => settled(deny_form(alloc, from, out)),
+            Ok(Packet::Other) => settled(deny_form(alloc, from)),
+            Err(PacketFault::Form) => settled(deny_form(alloc, from)),
             Err(PacketFault::Mode) => {
-                settled(deny(alloc, from, 0, b"octet only", TftpWord::Mode, out))
+                settled(deny(alloc, from, 0, b"octet only", TftpWord::Mode))
             }
         }
     }
 
-    // What a read request does.
+    // What a read request comes to.
     #[tactic(auto, using(crate::proofs::BodyLemmas::askings))]
     fn on_request<K: Keeper>(
-        &mut self,
+        &self,
         alloc: Global,
         keeper: &mut K,
+        kept: &Kept,
+        request: &Request<'_>,
+    ) -> Result<Decision, KeepErr>
+        requires { IfSome request.now.size (λ size. 8 ≤ size) }
+        ensures told { Looks result (K.seen keeper.old) (K.seen keeper.new)
+            (λ d t. AllRight t kept.now → Serves (view t request.now.from.ip)
+            request.now.at.0 self.now request.now.from request.now.bytes.now
+            (way_of_request (view t request.now.from.ip) request.now.at.0 request.now.from.ip
+            (has_no_room self.now) request.now.bytes.now request.now.name.now
+            request.now.size (map.get self.now request.now.from)) d) }
+        ensures able { IfOk result (λ d. CanBe d.change self.now request.now.from) }
+        ensures spent { Spent
+            (reading_calls request.now.bytes.now (map.get self.now request.now.from))
+            (K.seen keeper.old) (K.seen keeper.new) }
+        ensures few { FewWhereKept request.now.from.ip kept.now
+            (K.seen keeper.old) (K.seen keeper.new) }
+        ensures few_unnamed { FewWhereUnnamed request.now.at.0 request.now.from.ip
+            request.now.name.now (K.seen keeper.old) (K.seen keeper.new) }
+        ensures few_before { FewWhereBegun request.now.from request.now.bytes.now self.now
+            kept.now (K.seen keeper.old) (K.seen keeper.new) }
+        ensures few_begun { IfOk result (λ d. FewWhereBegun request.now.from
+            request.now.bytes.now
+            (after_change d.change request.now.at.0 self.now request.now.from) kept.now
+            (K.seen keeper.old) (K.seen keeper.new)) }
+    {
+        let Request { from, at, name, .. } = *request;
+        if self.repeats(from, request.bytes) {
+            return settled(self.repeat(alloc, from));
+        }
+        let seen = look_for_file(alloc, keeper, kept, at, from.ip, name)?;
+        settled(self.open(alloc, &seen, request))
+    }
+
+    // What an acknowledgement comes to.
+    #[tactic(auto, using(crate::proofs::ReadLemmas::readings))]
+    fn on_acknowledgement<K: Keeper>(
+        &self,
+        alloc: Global,
+        keeper: &mut K,
+        now: Moment,
+        from: Peer,
+        number: u16,
+    ) -> Result<Decision, KeepErr>
+        ensures told { (bytes : List ℕ) → Looks result (K.seen keeper.old) (K.seen keeper.new)
+            (λ d t. Does (view t from.ip) now.0 self.now from bytes
+            (way_of_acknowledgement (view t from.ip) now.0 from.ip number (map.get self.now from))
+            d) }
+        ensures bare { IfOk result KeepsNothing }
+        ensures able { IfOk result (λ d. CanBe d.change self.now from) }
+        ensures spent { Spent (acknowledgement_calls number (map.get self.now from))
+            (K.seen keeper.old) (K.seen keeper.new) }
+    {
+        match self.stage_of(from, number) {
+            Stage::Unknown => {
+                settled(deny(alloc, from, 5, b"unknown transfer", TftpWord::Unknown))
+            }
+            Stage::Stale => Ok(Decision {
+                word: TftpWord::StaleAck,
+                sent: None,
+                change: Change::Stays,
+            }),
+            Stage::Last => Ok(Decision {
+                word: TftpWord::Done,
+                sent: None,
+                change: Change::Ends,
+            }),
+            Stage::Next => self.on_next(alloc, keeper, now, from),
+        }
+    }
+
+    // What an acknowledgement comes to behind whose packet there is another one.
+    #[tactic(auto, using(crate::proofs::ReadLemmas::readings))]
+    fn on_next<K: Keeper>(
+        &self,
+        alloc: Global,
+        keeper: &mut K,
+        now: Moment,
+        from: Peer,
+    ) -> Result<Decision, KeepErr>
+        requires { IfSome (map.get self.now from) (λ x. is_at_last x ≡ false) }
+        ensures told { (bytes : List ℕ) → Looks result (K.seen keeper.old) (K.seen keeper.new)
+            (λ d t. IfSome (map.get self.now from)
+            (λ x. Does (view t from.ip) now.0 self.now from bytes
+            (way_of_last (view t from.ip) now.0 from.ip x) d)) }
+        ensures bare { IfOk result KeepsNothing }
+        ensures able { IfOk result (λ d. CanBe d.change self.now from) }
+        ensures spent { Spent 3 (K.seen keeper.old) (K.seen keeper.new) }
+    {
+        let seen = look(alloc, keeper, from.ip)?;
+        settled(self.go_on_or_break(alloc, &seen, now, from))
+    }
+
+    // Says what was decided, and does it: both, or neither.
+    fn carry_out(
+        &mut self,
         kept: &mut Kept,
         now: Moment,
         from: Peer,
-        bytes: &[u8],
-        name: &[u8],
-        size: Option<u16>,
+        decision: Decision,
         out: &mut Replies,
     ) -> Result<TftpWord, KeepErr>
-        requires { IfSome size (λ size. 8 ≤ size) }
-        ensures told { Looks result (K.seen keeper.old) (K.seen keeper.new)
-            (λ word t. AllRight t kept.old
-            → Serves (view t from.ip) now.0 self.old self.new from bytes.now
-            (way_of_request (view t from.ip) now.0 from.ip (has_no_room self.old) bytes.now
-            name.now size (map.get self.old from)) out.old out.new kept.old kept.new word) }
-        ensures spent { Spent (reading_calls bytes.now (map.get self.old from))
-            (K.seen keeper.old) (K.seen keeper.new) }
-        ensures few { FewWhereKept from.ip kept.old (K.seen keeper.old) (K.seen keeper.new) }
-        ensures few_unnamed { FewWhereUnnamed now.0 from.ip name.now
-            (K.seen keeper.old) (K.seen keeper.new) }
-        ensures few_begun { FewWhereBegun from bytes.now self.new kept.old
-            (K.seen keeper.old) (K.seen keeper.new) }
+        requires { CanBe decision.change self.old from }
+        ensures word { IfOk result (λ word. word ≡ decision.word) }
+        ensures changes { OnOk result
+            (self.new ≡ after_change decision.change now.0 self.old from) }
+        ensures keeps { OnOk result (kept.new ≡ kept_behind decision.change kept.old) }
+        ensures says { OnOk result (out.new ≡ says_more out.old (items_of decision.sent)) }
+        ensures err { IfErr result (λ err. err ≡ Memory) }
         ensures kept { OnErr result (self.new ≡ self.old) }
         ensures unkept { OnErr result (kept.new ≡ kept.old) }
         ensures unsaid { OnErr result (out.new ≡ out.old) }
     {
-        if self.repeats(from, bytes) {
-            return settled(self.repeat(alloc, now, from, out));
+        let Decision { word, sent, change } = decision;
+        let said = out.len();
+        say(sent, out)?;
+        if self.make(kept, now, from, change).is_ok() {
+            return Ok(word);
         }
-        let seen = look_for_file(alloc, keeper, kept, now, from.ip, name)?;
-        settled(self.open(alloc, kept, &seen, now, from, bytes, name, size, out))
+        out.truncate(said);
+        Err(KeepErr::Memory)
     }
 
-    // What an acknowledgement does.
-    #[tactic(auto, using(crate::proofs::ReadLemmas::readings))]
-    fn on_acknowledgement<K: Keeper>(
+    // Makes a change. Only one with which a transfer begins takes memory.
+    fn make(
         &mut self,
-        alloc: Global,
-        keeper: &mut K,
+        kept: &mut Kept,
         now: Moment,
         from: Peer,
-        bytes: &[u8],
-        number: u16,
-        out: &mut Replies,
-    ) -> Result<TftpWord, KeepErr>
-        ensures told { Looks result (K.seen keeper.old) (K.seen keeper.new)
-            (λ word t. Does (view t from.ip) now.0 self.old self.new from bytes.now
-            (way_of_acknowledgement (view t from.ip) now.0 from.ip number (map.get self.old from))
-            out.old out.new word) }
-        ensures spent { Spent (acknowledgement_calls number (map.get self.old from))
-            (K.seen keeper.old) (K.seen keeper.new) }
+        change: Change,
+    ) -> Result<(), NoMemory>
+        requires { CanBe change self.old from }
+        ensures changes { OnOk result (self.new ≡ after_change change now.0 self.old from) }
+        ensures keeps { OnOk result (kept.new ≡ kept_behind change kept.old) }
         ensures kept { OnErr result (self.new ≡ self.old) }
-        ensures unsaid { OnErr result (out.new ≡ out.old) }
+        ensures unkept { OnErr result (kept.new ≡ kept.old) }
     {
-        match self.stage_of(from, number) {
-            Stage::Unknown => settled(deny(
-                alloc,
-                from,
-                5,
-                b"unknown transfer",
-                TftpWord::Unknown,
-                out,
-            )),
-            Stage::Stale => Ok(TftpWord::StaleAck),
-            Stage::Last => {
-                self.end(from);
-                Ok(TftpWord::Done)
+        match change {
+            Change::Stays => Ok(()),
+            Change::AsksAgain => {
+                self.ask_again(from, now);
+                Ok(())
             }
-            Stage::Next => self.on_next(alloc, keeper, now, from, out),
+            Change::GoesOn => {
+                self.go_on(from, now);
+                Ok(())
+            }
+            Change::Ends => {
+                self.end(from);
+                Ok(())
+            }
+            Change::Begins { live, entry } => {
+                kept.put_first(live.modem(), entry)?;
+                self.put(from, live);
+                Ok(())
+            }
         }
     }
+}
 
-    // What an acknowledgement does behind whose packet there is another one.
-    #[tactic(auto, using(crate::proofs::ReadLemmas::readings))]
-    fn on_next<K: Keeper>(
-        &mut self,
-        alloc: Global,
-        keeper: &mut K,
-        now: Moment,
-        from: Peer,
-        out: &mut Replies,
-    ) -> Result<TftpWord, KeepErr>
-        requires { IfSome (map.get self.old from) (λ x. is_at_last x ≡ false) }
-        ensures told { (bytes : List ℕ) → Looks result (K.seen keeper.old) (K.seen keeper.new)
-            (λ word t. IfSome (map.get self.old from)
-            (λ x. Does (view t from.ip) now.0 self.old self.new from bytes
-            (way_of_last (view t from.ip) now.0 from.ip x) out.old out.new word)) }
-        ensures spent { Spent 3 (K.seen keeper.old) (K.seen keeper.new) }
-        ensures kept { OnErr result (self.new ≡ self.old) }
-        ensures unsaid { OnErr result (out.new ≡ out.old) }
-    {
-        let seen = look(alloc, keeper, from.ip)?;
-        settled(self.go_on_or_break(alloc, &seen, now, from, out))
+// Says a packet, where there is one.
+fn say(sent: Option<Sent>, out: &mut Replies) -> Result<(), NoMemory>
+    ensures says { OnOk result (out.new ≡ says_more out.old (items_of sent)) }
+    ensures unsaid { OnErr result (out.new ≡ out.old) }
+{
+    match sent {
+        Some(item) => out.push(item),
+        None => Ok(()),
     }
 }
 
 // A packet that isn't served, or none.
-fn deny_form(alloc: Global, from: Peer, out: &mut Replies) -> Result<TftpWord, NoMemory>
-    ensures word { IfOk result (λ word. word ≡ illegal_operation.word) }
-    ensures says { OnOk result (out.new ≡ says_more out.old (error_to from illegal_operation)) }
-    ensures unsaid { OnErr result (out.new ≡ out.old) }
+fn deny_form(alloc: Global, from: Peer) -> Result<Decision, NoMemory>
+    ensures { IfOk result (λ d. d ≡ refusal_of from illegal_operation) }
 {
-    deny(alloc, from, 4, b"illegal operation", TftpWord::Form, out)
+    deny(alloc, from, 4, b"illegal operation", TftpWord::Form)
 }
 
-fn settled(word: Result<TftpWord, NoMemory>) -> Result<TftpWord, KeepErr>
-    ensures { MatchResult result (λ settled. word ≡ Ok settled)
-        (λ err. (err ≡ Memory) × (is_ok word ≡ false)) }
+fn settled(decision: Result<Decision, NoMemory>) -> Result<Decision, KeepErr>
+    ensures { MatchResult result (λ settled. decision ≡ Ok settled)
+        (λ err. (err ≡ Memory) × (is_ok decision ≡ false)) }
 {
-    Ok(word?)
+    Ok(decision?)
 }

@@ -11,6 +11,7 @@
 mod acknowledging;
 mod bodies;
 mod datagrams;
+mod deciding;
 mod files;
 mod gathering;
 mod judging;
@@ -18,7 +19,7 @@ mod live;
 mod opening;
 mod packets;
 mod replies;
-mod saying;
+mod requests;
 mod ticking;
 mod transfers;
 

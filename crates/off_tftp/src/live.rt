@@ -4,14 +4,16 @@ ghost use Rattle.off_file_rules.specs.Name.{name_of};
 ghost use Rattle.off_transfer_rules.specs.Steps.{is_repeated};
 ghost use Rattle.off_transfer_rules.specs.View.{is_own_name};
 ghost use Rattle.off_transfer_rules.specs.Transfers.{packet_of_number, last_packet, is_at_last};
-ghost use Rattle.off_transfer_rules.specs.Transfers.{begun, gone_on, asked_again, sent_again};
+ghost use Rattle.off_transfer_rules.specs.Transfers.{gone_on, asked_again, sent_again};
 ghost use Rattle.off_transfer_rules.specs.Transfers.{first_number, size_for};
 ghost use Rattle.off_transfer_rules.specs.Ticks.{is_due, has_resend};
+ghost use Rattle.off_tftp.specs.Granted.{begun_by};
 
 use crate::files::File;
 use crate::judging::is_own_name;
 use crate::replies::{data_packet, oack_packet};
-use off_base::{Bytes, Ip4, Mac, Moment, NoMemory, Secret};
+use crate::requests::{Grant, Named, Request};
+use off_base::{Bytes, Ip4, Mac, Moment, NoMemory};
 use off_defs::Site;
 use std::alloc::Global;
 use std::marker::Model;
@@ -26,13 +28,6 @@ const USUAL_SIZE: u16 = 512;
 const PATIENCE: u64 = 2;
 
 const MOST_RESENDS: u8 = 5;
-
-/// Under which secret, and for which address, a file's name was found right.
-#[derive(Drop)]
-pub(crate) struct Named {
-    pub(crate) secret: Secret,
-    pub(crate) ip: Ip4,
-}
 
 /// A live transfer, which owns its file. It stands in a box of its own, so that others are put in
 /// front of it and taken from there at little cost.
@@ -90,36 +85,30 @@ impl Live {
     /// A transfer as its read request makes it.
     pub(crate) fn begin(
         alloc: Global,
-        now: Moment,
-        request: &[u8],
-        modem: Mac,
-        subscriber: u32,
-        name: &[u8],
-        named: Named,
-        size: Option<u16>,
-        file: File,
+        request: &Request<'_>,
+        grant: Grant,
     ) -> Result<Live, NoMemory>
-        requires least { IfSome size (λ size. 8 ≤ size) }
-        requires few { length file ≤ 6200 }
-        requires right { name.now ≡ name_of named.secret modem named.ip }
-        ensures { IfOk result (λ live. live
-            ≡ begun now.0 request.now modem subscriber name.now size file) }
+        requires least { IfSome request.now.size (λ size. 8 ≤ size) }
+        requires few { length grant.file ≤ 6200 }
+        requires right { request.now.name.now
+            ≡ name_of grant.named.secret grant.modem grant.named.ip }
+        ensures { IfOk result (λ live. live ≡ begun_by request.now grant) }
     {
-        let mut kept = Bytes::new(alloc);
-        kept.push_all(name)?;
+        let mut name = Bytes::new(alloc);
+        name.push_all(request.name)?;
         let mut asked = Bytes::new(alloc);
-        asked.push_all(request)?;
+        asked.push_all(request.bytes)?;
         let held = Held {
-            name: kept,
-            named,
-            modem,
-            subscriber,
-            file,
-            size: size_for(size),
+            name,
+            named: grant.named,
+            modem: grant.modem,
+            subscriber: grant.subscriber,
+            file: grant.file,
+            size: size_for(request.size),
             request: asked,
-            sent: first_number(size),
+            sent: first_number(request.size),
             is_acknowledged: false,
-            last_send: now,
+            last_send: request.at,
             resends: 0,
         };
         match Box::new(alloc, held) {

@@ -10,10 +10,10 @@ ghost use Rattle.off_base.specs.declared.addresses.Peer.{Peer as PeerSeen};
 ghost use Rattle.off_defs.specs.State.{Transfer};
 ghost use Rattle.off_transfer_rules.specs.Ticks.{tick_items};
 ghost use Rattle.off_tftp.specs.Kept.{tick_left, ticked_list};
-ghost use Rattle.off_tftp.specs.Saying.{says_more, nothing_ticked, Ticks};
+ghost use Rattle.off_tftp.specs.Saying.{says_more, nothing_ticked, Ticks, IsSaidBehind};
 
+use crate::deciding::packet_to;
 use crate::live::Live;
-use crate::saying::{copy_said, packet_to};
 use crate::transfers::Transfers;
 use off_base::{Moment, NoMemory, Peer};
 use off_outside::Replies;
@@ -40,13 +40,12 @@ impl Transfers {
                 closed: 0,
             });
         }
-        let mut said = copy_said(alloc, out)?;
-        push_due(alloc, &self.live, now, &mut said)?;
-        let again = said.len() - out.len();
+        let said = out.len();
+        say_due(alloc, &self.live, now, out)?;
+        let again = out.len() - said;
         let before = self.live.len();
         tick_all(&mut self.live, now);
         let closed = before - self.live.len();
-        *out = said;
         Ok(Ticked {
             again: again as u32,
             closed: closed as u32,
@@ -54,15 +53,37 @@ impl Transfers {
     }
 }
 
+// Says all that is sent again, or nothing.
+#[tactic(auto, using(crate::proofs::TickedLemmas::taken_back))]
+fn say_due(
+    alloc: Global,
+    entries: &Vec<(Peer, Live)>,
+    now: Moment,
+    out: &mut Replies,
+) -> Result<(), NoMemory>
+    ensures says { OnOk result
+        (out.new ≡ says_more out.old (flat_map (tick_items now.0) entries.now.items)) }
+    ensures unsaid { OnErr result (out.new ≡ out.old) }
+{
+    let said = out.len();
+    if push_due(alloc, entries, now, out).is_ok() {
+        return Ok(());
+    }
+    out.truncate(said);
+    Err(NoMemory)
+}
+
 // Says what is sent again, in the order of peers.
+#[tactic(auto, using(crate::proofs::TickedLemmas::behind_more))]
 fn push_due(
     alloc: Global,
     entries: &Vec<(Peer, Live)>,
     now: Moment,
     out: &mut Replies,
 ) -> Result<(), NoMemory>
-    ensures { OnOk result
+    ensures says { OnOk result
         (out.new ≡ says_more out.old (flat_map (tick_items now.0) entries.now.items)) }
+    ensures behind { IsSaidBehind out.old out.new }
 {
     for place in 0..entries.len() {
         push_if_due(alloc, &entries[place], now, out)?;
@@ -76,8 +97,9 @@ fn push_if_due(
     now: Moment,
     out: &mut Replies,
 ) -> Result<(), NoMemory>
-    ensures { OnOk result
+    ensures says { OnOk result
         (out.new ≡ says_more out.old (tick_items now.0 (entry.now.0, entry.now.1))) }
+    ensures unsaid { OnErr result (out.new ≡ out.old) }
 {
     if !entry.1.is_due(now) {
         return Ok(());

@@ -7,5 +7,5 @@ use Rattle.off_tftp.proofs.transfers.Transfers.on_next.Goals as goal
 pub returns-clause-told : goal.returns-clause-told
 returns-clause-told g c =
     λ bytes. looks_settled c.go_on_or_break.result c.settled.result _ c.settled.ensures c.in_ok-seen.ensures.told
-    (λ t seen. next_does c.args.now.0 c.args.self.now _ c.args.from bytes c.args.out.now _ (view t c.args.from.ip) (view_of c.in_ok-seen.seen) c.args.from.ip (map.get c.args.self.now c.args.from) c.go_on_or_break.result seen
+    (λ t seen. next_does c.args.now.0 c.args.self.now c.args.from bytes (view t c.args.from.ip) (view_of c.in_ok-seen.seen) c.args.from.ip (map.get c.args.self.now c.args.from) c.go_on_or_break.result seen
     (c.go_on_or_break.ensures.done bytes))

@@ -2,28 +2,25 @@ use Rattle.std.proofs.Common.{◌∙◌, sym, refl}
 use Rattle.std.specs.FinMap as map
 use Rattle.off_transfer_rules.specs.Transfers.{has_no_room}
 use Rattle.off_transfer_rules.specs.View.{view}
-use Rattle.off_tftp.proofs.DoesLemmas.{looks_settled, looks_at_once, if_ok_as, if_ok_under, repeat_serves, open_does, can_serve}
+use Rattle.off_tftp.proofs.DoesLemmas.{looks_settled, looks_at_once, if_ok_as, if_ok_under, repeat_serves, open_does, can_serve, few_settled}
+use Rattle.off_tftp.specs.Deciding.{after_change}
+use Rattle.off_tftp.specs.declared.deciding.Decision.{Decision}
 use Rattle.off_tftp.proofs.ReadLemmas.{few_none}
-use Rattle.off_tftp.proofs.BodyLemmas.{few_begun}
 use Rattle.off_tftp.proofs.transfers.Transfers.on_request.Goals as goal
 
 pub returns-then-repeats-clause-told : goal.returns-then-repeats-clause-told
 returns-then-repeats-clause-told g c =
     looks_at_once _ c.repeat.result c.settled.result _ c.settled.ensures
     (λ t. if_ok_as c.repeat.result _ _
-    (repeat_serves c.args.now.0 c.args.self.now c.repeat.new.self c.args.from c.args.bytes.now c.args.out.now c.repeat.new.out c.args.kept.now c.args.kept.now (view t c.args.from.ip) c.args.from.ip (has_no_room c.args.self.now) c.args.name.now c.args.size
-    (map.get c.args.self.now c.args.from) c.repeat.result (sym c.repeats.ensures ∙ c.if-repeats.true) refl (c.repeat.ensures.done (view t c.args.from.ip) c.args.bytes.now))
-    (λ w served right. served))
+    (repeat_serves c.args.request.now.at.0 c.args.self.now c.args.request.now.from c.args.request.now.bytes.now (view t c.args.request.now.from.ip) c.args.request.now.from.ip (has_no_room c.args.self.now) c.args.request.now.name.now c.args.request.now.size
+    (map.get c.args.self.now c.args.request.now.from) c.repeat.result (sym c.repeats.ensures ∙ c.if-repeats.true) (c.repeat.ensures.done (view t c.args.request.now.from.ip) c.args.request.now.at.0 c.args.request.now.bytes.now) c.repeat.ensures.bare)
+    (λ d served right. served))
 
 pub returns-clause-told : goal.returns-clause-told
 returns-clause-told g c =
     looks_settled c.open.result c.settled-2.result _ c.settled-2.ensures c.in_ok-seen.ensures.told
-    (λ t shows. if_ok_under c.open.result _ (λ right. open_does c.args.now.0 c.args.self.now c.open.new.self c.args.from c.args.bytes.now c.args.out.now c.open.new.out c.args.kept.now c.open.new.kept (view t c.args.from.ip) c.in_ok-seen.seen c.args.from.ip (has_no_room c.args.self.now)
-    c.args.name.now c.args.size (map.get c.args.self.now c.args.from) c.open.result (sym c.repeats.ensures ∙ c.if-repeats.false) (shows right) (can_serve t c.args.now.0 c.args.from.ip) c.open.ensures.done))
-
-pub returns-clause-few_begun : goal.returns-clause-few_begun
-returns-clause-few_begun g c =
-    few_begun c.args.bytes.now c.args.kept.now c.args.now.0 c.in_ok-seen.seen.lease (map.get c.open.new.self c.args.from) (c.open.ensures.begins (sym c.repeats.ensures ∙ c.if-repeats.false)) c.in_ok-seen.ensures.few_seen
+    (λ t shows. if_ok_under c.open.result _ (λ right. open_does c.args.request.now.at.0 c.args.self.now c.args.request.now.from c.args.request.now.bytes.now (view t c.args.request.now.from.ip) c.in_ok-seen.seen c.args.request.now.from.ip (has_no_room c.args.self.now)
+    c.args.request.now.name.now c.args.request.now.size (map.get c.args.self.now c.args.request.now.from) c.open.result (sym c.repeats.ensures ∙ c.if-repeats.false) (shows right) (can_serve t c.args.request.now.at.0 c.args.request.now.from.ip) c.open.ensures.done))
 
 pub returns-then-repeats-clause-few_unnamed : goal.returns-then-repeats-clause-few_unnamed
 returns-then-repeats-clause-few_unnamed g c = λ t told unnamed. few_none _
@@ -33,3 +30,8 @@ returns-in_err-seen-clause-few_unnamed g c = c.look_for_file.ensures.few_unnamed
 
 pub returns-clause-few_unnamed : goal.returns-clause-few_unnamed
 returns-clause-few_unnamed g c = c.look_for_file.ensures.few_unnamed
+
+pub returns-clause-few_begun : goal.returns-clause-few_begun
+returns-clause-few_begun g c =
+    few_settled _ _ c.args.request.now.bytes.now c.args.kept.now c.args.request.now.at.0 c.in_ok-seen.seen.lease (λ (d : Decision). map.get (after_change d.change c.args.request.now.at.0 c.args.self.now c.args.request.now.from) c.args.request.now.from) c.open.result c.settled-2.result
+    c.settled-2.ensures (c.open.ensures.begins (sym c.repeats.ensures ∙ c.if-repeats.false)) c.in_ok-seen.ensures.few_seen

@@ -1,0 +1,89 @@
+use Rattle.std.proofs.Common.{◌≡◌, Ok, Err, ap, ◌∙◌, refl, sym, subst}
+use Rattle.std.specs.FinMap as map
+use Rattle.off_transfer_rules.specs.Packets.{Reads, Writes, Acknowledges, GivesUp, IsOther, packet_of, meant_by}
+use Rattle.off_transfer_rules.specs.Steps.{access_violation, illegal_operation, octet_only}
+use Rattle.off_transfer_rules.specs.declared.packets.Packet.{Packet}
+use Rattle.off_transfer_rules.specs.declared.faults.PacketFault.{PacketFault}
+use Rattle.off_transfer_rules.specs.declared.faults.PacketFault.TheVariants as fault
+use Rattle.off_outside.proofs.KeeperLemmas.{reads_none}
+use Rattle.off_tftp.specs.Calls.{asks_by_name}
+use Rattle.off_tftp.specs.Pieces.{AsksEnough}
+use Rattle.off_transfer_rules.specs.View.{view}
+use Rattle.off_tftp.proofs.ReadLemmas.{acknowledgement_few, few_none}
+use Rattle.off_tftp.proofs.DoesLemmas.{looks_as, looks_at_once, if_ok_as, decides_by, deny_decides, leave_decides, acknowledgement_decides, acknowledged_looks}
+use Rattle.off_tftp.proofs.transfers.Transfers.decide.Goals as goal
+
+pub on_request-requires : goal.on_request-requires
+on_request-requires g c = subst AsksEnough c.in-Ok-Read.field-0-is c.in-Ok-Read.ensures.least
+
+pub returns-in-Ok-Read-clause-told : goal.returns-in-Ok-Read-clause-told
+returns-in-Ok-Read-clause-told g c =
+    let is : packet_of c.args.datagram.now.bytes.now ≡ Ok (Reads c.in-Ok-Read.name.now c.in-Ok-Read.size) = c.in-Ok-Read.ensures.exact ∙ ap (λ (p : Packet). Ok (meant_by p)) c.in-Ok-Read.field-0-is in
+    looks_as _ _ c.on_request.result _ _ c.on_request.ensures.told
+    (λ d t serves right. decides_by c.args.datagram.now.at.0 c.args.self.now c.args.datagram.now.from c.args.datagram.now.bytes.now t (Ok (Reads c.in-Ok-Read.name.now c.in-Ok-Read.size)) d is (serves right))
+
+pub returns-in-Ok-Ack-clause-told : goal.returns-in-Ok-Ack-clause-told
+returns-in-Ok-Ack-clause-told g c =
+    let is : packet_of c.args.datagram.now.bytes.now ≡ Ok (Acknowledges c.in-Ok-Ack.number) = c.in-Ok-Ack.ensures.exact ∙ ap (λ (p : Packet). Ok (meant_by p)) c.in-Ok-Ack.field-0-is in
+    acknowledged_looks _ _ c.args.datagram.now.at.0 c.args.self.now c.args.datagram.now.from c.args.datagram.now.bytes.now c.in-Ok-Ack.number c.args.kept.now c.on_acknowledgement.result is c.on_acknowledgement.ensures.bare
+    (c.on_acknowledgement.ensures.told c.args.datagram.now.bytes.now)
+
+pub returns-in-Ok-Error-clause-told : goal.returns-in-Ok-Error-clause-told
+returns-in-Ok-Error-clause-told g c =
+    let is : packet_of c.args.datagram.now.bytes.now ≡ Ok GivesUp = c.in-Ok-Error.ensures.exact ∙ ap (λ (p : Packet). Ok (meant_by p)) c.in-Ok-Error.field-0-is in
+    reads_none (λ t right. leave_decides c.args.datagram.now.at.0 c.args.self.now c.args.datagram.now.from c.args.datagram.now.bytes.now t is)
+
+pub returns-in-Ok-Write-clause-told : goal.returns-in-Ok-Write-clause-told
+returns-in-Ok-Write-clause-told g c =
+    let is : packet_of c.args.datagram.now.bytes.now ≡ Ok Writes = c.in-Ok-Write.ensures.exact ∙ ap (λ (p : Packet). Ok (meant_by p)) c.in-Ok-Write.field-0-is in
+    looks_at_once _ c.deny.result c.settled.result _ c.settled.ensures
+    (λ t. if_ok_as c.deny.result _ _
+    (deny_decides c.args.datagram.now.at.0 c.args.self.now c.args.datagram.now.from c.args.datagram.now.bytes.now t (Ok Writes) access_violation c.deny.result is refl c.deny.ensures) (λ d decides right. decides))
+
+pub returns-in-Ok-Other-clause-told : goal.returns-in-Ok-Other-clause-told
+returns-in-Ok-Other-clause-told g c =
+    let is : packet_of c.args.datagram.now.bytes.now ≡ Ok IsOther = c.in-Ok-Other.ensures.exact ∙ ap (λ (p : Packet). Ok (meant_by p)) c.in-Ok-Other.field-0-is in
+    looks_at_once _ c.deny_form.result c.settled-in-Ok-Other.result _ c.settled-in-Ok-Other.ensures
+    (λ t. if_ok_as c.deny_form.result _ _
+    (deny_decides c.args.datagram.now.at.0 c.args.self.now c.args.datagram.now.from c.args.datagram.now.bytes.now t (Ok IsOther) illegal_operation c.deny_form.result is refl c.deny_form.ensures) (λ d decides right. decides))
+
+pub returns-in-Err-Form-clause-told : goal.returns-in-Err-Form-clause-told
+returns-in-Err-Form-clause-told g c =
+    let is : packet_of c.args.datagram.now.bytes.now ≡ Err fault.Form = c.in-Err-Form.ensures.exact ∙ ap (λ (f : PacketFault). Err f) c.in-Err-Form.field-0-is in
+    looks_at_once _ c.deny_form-in-Err-Form.result c.settled-in-Err-Form.result _ c.settled-in-Err-Form.ensures
+    (λ t. if_ok_as c.deny_form-in-Err-Form.result _ _
+    (deny_decides c.args.datagram.now.at.0 c.args.self.now c.args.datagram.now.from c.args.datagram.now.bytes.now t (Err fault.Form) illegal_operation c.deny_form-in-Err-Form.result is refl c.deny_form-in-Err-Form.ensures)
+    (λ d decides right. decides))
+
+pub returns-in-Err-Mode-clause-told : goal.returns-in-Err-Mode-clause-told
+returns-in-Err-Mode-clause-told g c =
+    let is : packet_of c.args.datagram.now.bytes.now ≡ Err fault.Mode = c.in-Err-Mode.ensures.exact ∙ ap (λ (f : PacketFault). Err f) c.in-Err-Mode.field-0-is in
+    looks_at_once _ c.deny-in-Err-Mode.result c.settled-in-Err-Mode.result _ c.settled-in-Err-Mode.ensures
+    (λ t. if_ok_as c.deny-in-Err-Mode.result _ _
+    (deny_decides c.args.datagram.now.at.0 c.args.self.now c.args.datagram.now.from c.args.datagram.now.bytes.now t (Err fault.Mode) octet_only c.deny-in-Err-Mode.result is refl c.deny-in-Err-Mode.ensures)
+    (λ d decides right. decides))
+
+pub returns-in-Ok-Read-clause-few_unnamed : goal.returns-in-Ok-Read-clause-few_unnamed
+returns-in-Ok-Read-clause-few_unnamed g c =
+    let is : packet_of c.args.datagram.now.bytes.now ≡ Ok (Reads c.in-Ok-Read.name.now c.in-Ok-Read.size) = c.in-Ok-Read.ensures.exact ∙ ap (λ (p : Packet). Ok (meant_by p)) c.in-Ok-Read.field-0-is in
+    λ t told unnamed. c.on_request.ensures.few_unnamed t told
+    (sym (ap (asks_by_name c.args.datagram.now.at.0 c.args.datagram.now.from.ip (view t c.args.datagram.now.from.ip)) is) ∙ unnamed)
+
+pub returns-in-Ok-Ack-clause-few_unnamed : goal.returns-in-Ok-Ack-clause-few_unnamed
+returns-in-Ok-Ack-clause-few_unnamed g c = λ t told unnamed.
+    acknowledgement_few c.in-Ok-Ack.number (map.get c.args.self.now c.args.datagram.now.from) c.on_acknowledgement.ensures.spent
+
+pub returns-in-Ok-Error-clause-few_unnamed : goal.returns-in-Ok-Error-clause-few_unnamed
+returns-in-Ok-Error-clause-few_unnamed g c = λ t told unnamed. few_none _
+
+pub returns-in-Ok-Write-clause-few_unnamed : goal.returns-in-Ok-Write-clause-few_unnamed
+returns-in-Ok-Write-clause-few_unnamed g c = λ t told unnamed. few_none _
+
+pub returns-in-Ok-Other-clause-few_unnamed : goal.returns-in-Ok-Other-clause-few_unnamed
+returns-in-Ok-Other-clause-few_unnamed g c = λ t told unnamed. few_none _
+
+pub returns-in-Err-Form-clause-few_unnamed : goal.returns-in-Err-Form-clause-few_unnamed
+returns-in-Err-Form-clause-few_unnamed g c = λ t told unnamed. few_none _
+
+pub returns-in-Err-Mode-clause-few_unnamed : goal.returns-in-Err-Mode-clause-few_unnamed
+returns-in-Err-Mode-clause-few_unnamed g c = λ t told unnamed. few_none _

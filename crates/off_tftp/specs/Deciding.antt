@@ -1,0 +1,91 @@
+-- What is decided of a datagram, and how that is what its way gives.
+use Rattle.std.specs.Prelude.{◌≡◌, ℕ, List, [], ◌∷◌, false, Option, Some, None, IfSome, MatchOption, ⊤}
+use Rattle.std.specs.FinMap as map
+use Rattle.off_base.specs.declared.addresses.Peer.{Peer}
+use Rattle.off_defs.specs.declared.results.Sent.{Sent}
+use Rattle.off_defs.specs.State.{Tables, Transfer}
+use Rattle.off_kept.specs.declared.bodies.KeptBody.{KeptBody}
+use Rattle.off_kept.specs.Entries.{Entries, with_first}
+use Rattle.off_transfer_rules.specs.Replies.{error_packet}
+use Rattle.off_transfer_rules.specs.Transfers.{Transfers, asked_again, gone_on, is_at_last, first_word, last_packet, packet_to}
+use Rattle.off_transfer_rules.specs.View.{View, view}
+use Rattle.off_transfer_rules.specs.Steps.{Denial, Way, Given, GivesBy, gives, way, file_not_found}
+use Rattle.off_tftp.specs.Kept.{HasPlaceFor, changed}
+use Rattle.off_tftp.specs.Keeping.{kept_by}
+use Rattle.off_tftp.specs.Granted.{begun_by}
+use Rattle.off_tftp.specs.declared.requests.Request.{Request}
+use Rattle.off_tftp.specs.declared.requests.Grant.{Grant}
+use Rattle.off_tftp.specs.declared.deciding.Change.{Change}
+use Rattle.off_tftp.specs.declared.deciding.Change.TheVariants as change
+use Rattle.off_tftp.specs.declared.deciding.Decision.{Decision}
+
+abbrev pub items_of : Option Sent → List Sent
+items_of None = []
+items_of (Some item) = item ∷ []
+
+-- the transfers that a change leaves
+abbrev pub after_change : Change → ℕ → Transfers → Peer → Transfers
+after_change change.Stays now transfers from = transfers
+after_change change.AsksAgain now transfers from = changed transfers from (asked_again now)
+after_change change.GoesOn now transfers from = changed transfers from (gone_on now)
+after_change change.Ends now transfers from = map.remove transfers from
+after_change (change.Begins live entry) now transfers from = map.insert transfers from live
+
+-- what it leaves of what is kept
+abbrev pub kept_behind : Change → Entries → Entries
+kept_behind (change.Begins live entry) entries = with_first live.modem entry entries
+kept_behind other entries = entries
+
+-- a change that can be made: a block follows where there is one, and a transfer is put where there
+-- is room
+abbrev pub CanBe : Change → Transfers → Peer → Type 0
+CanBe change.GoesOn transfers from = IfSome (map.get transfers from) (λ x. is_at_last x ≡ false)
+CanBe (change.Begins live entry) transfers from = HasPlaceFor transfers from
+CanBe other transfers from = ⊤
+
+-- a refusal is sent, and nothing changes
+abbrev pub refusal_of : Peer → Denial → Decision
+refusal_of from denial = record {
+  word = denial.word;
+  sent = Some (packet_to from (error_packet denial.code denial.text));
+  change = change.Stays;
+}
+
+-- a transfer that begins, with its first packet
+abbrev pub start_of : Peer → KeptBody → Transfer → Option ℕ → Decision
+start_of from entry live asked = record {
+  word = first_word asked;
+  sent = Some (packet_to from (last_packet live));
+  change = change.Begins live entry;
+}
+
+-- where nothing was found there is no such file
+abbrev pub Starts : Request → KeptBody → Option Grant → Decision → Type 0
+Starts request entry grant d =
+    MatchOption grant (d ≡ refusal_of request.from file_not_found)
+    (λ grant. d ≡ start_of request.from entry (begun_by request grant) request.size)
+
+-- no change that touches what is kept
+abbrev pub KeepsNothing : Decision → Type 0
+KeepsNothing d = (entries : Entries) → kept_behind d.change entries ≡ entries
+
+abbrev pub given_by : Decision → ℕ → Transfers → Peer → Given
+given_by d now transfers from =
+    gives (after_change d.change now transfers from) (items_of d.sent) d.word
+
+-- what is decided is what the way gives, by what is read for the peer
+abbrev pub Does : View → ℕ → Transfers → Peer → List ℕ → Way → Decision → Type 0
+Does v now transfers from bytes way d =
+    GivesBy v now transfers from bytes way (given_by d now transfers from)
+
+-- and what it keeps is what the way keeps
+pub record Serves (v : View) (now : ℕ) (transfers : Transfers) (from : Peer) (bytes : List ℕ)
+    (way : Way) (d : Decision) : Type 0 where
+  pub does : Does v now transfers from bytes way d
+  pub keeps : (entries : Entries) → kept_behind d.change entries ≡ kept_by v way entries
+
+-- a datagram over the tables
+abbrev pub Decides : Tables → ℕ → Transfers → Peer → List ℕ → Decision → Type 0
+Decides tables now transfers from bytes d =
+    Serves (view tables from.ip) now transfers from bytes
+    (way (view tables from.ip) now transfers from bytes) d

@@ -1,0 +1,38 @@
+//! What is asked, and what was found for it.
+
+use crate::files::File;
+use off_base::{Ip4, Mac, Moment, Peer, Secret};
+
+/// A datagram: from whom it is, when it came, and its bytes.
+#[derive(Clone, Copy)]
+pub(crate) struct Datagram<'a> {
+    pub(crate) from: Peer,
+    pub(crate) at: Moment,
+    pub(crate) bytes: &'a [u8],
+}
+
+/// A read request, with the name and the size of blocks for which it asks.
+#[derive(Clone, Copy)]
+pub(crate) struct Request<'a> {
+    pub(crate) from: Peer,
+    pub(crate) at: Moment,
+    pub(crate) bytes: &'a [u8],
+    pub(crate) name: &'a [u8],
+    pub(crate) size: Option<u16>,
+}
+
+/// Under which secret, and for which address, a file's name was found right.
+#[derive(Drop)]
+pub(crate) struct Named {
+    pub(crate) secret: Secret,
+    pub(crate) ip: Ip4,
+}
+
+/// What was found for a request: its modem, whose subscriber that is, and its file.
+#[derive(Drop)]
+pub(crate) struct Grant {
+    pub(crate) modem: Mac,
+    pub(crate) subscriber: u32,
+    pub(crate) named: Named,
+    pub(crate) file: File,
+}
