@@ -1,15 +1,17 @@
 -- What is known of a datagram without a fault, and how its faults are looked for in two stages.
-use Rattle.std.proofs.Common.{◌≡◌, ℕ, ◌+◌, ◌<◌, ◌≤◌, Bool, true, false, not, eqb, ltb, List, [], ◌∷◌, ◌++◌, length, Option, Some, None, Result, Ok, Err, refl, ap, ◌∙◌, arith, length-append}
-use Rattle.std.specs.Prelude.{IsOk}
+use Rattle.std.proofs.Common.{◌≡◌, ℕ, ◌+◌, ◌<◌, ◌≤◌, Bool, true, false, not, eqb, ltb, leb, ◌&&◌, get_or, List, [], ◌∷◌, ◌++◌, length, Option, Some, None, Result, Ok, Err, refl, ap, ◌∙◌, arith, length-append}
+use Rattle.std.specs.Prelude.{IsOk, is_ok}
 use Rattle.std.specs.Option.{option_map}
 use Rattle.std.specs.Result.{result_err}
-use Rattle.std.proofs.lemmas.Bool.{ltb-false, eqb-true, not-false}
+use Rattle.std.specs.List.{slice_range}
+use Rattle.std.specs.Str.{bytes_eq}
+use Rattle.std.proofs.lemmas.Bool.{ltb-false, leb-true, le-leb, eqb-true, not-false, and_parts, and_from}
 use Rattle.off_base.specs.Choices.{when, first_there}
 use Rattle.off_base.specs.Parts.{Part, Cut, IsReading, parts_in, bytes_of}
 use Rattle.off_base.specs.Parts.Cut.{cut_length, cut_value, cut_behind_pad, cut_behind_part}
 use Rattle.off_dhcp.specs.declared.faults.DhcpFault.{DhcpFault}
-use Rattle.off_dhcp.specs.declared.faults.DhcpFault.TheVariants.{Short, Long, NoType, OptionCut}
-use Rattle.off_dhcp.specs.Datagram.{message_fault, fixed_faults, option_faults, options_in, option_in, message_of, received, received_unless}
+use Rattle.off_dhcp.specs.declared.faults.DhcpFault.TheVariants.{Short, Long, NotRequest, Cookie, NoType, OptionCut}
+use Rattle.off_dhcp.specs.Datagram.{message_fault, fixed_faults, option_faults, options_in, option_in, message_of, received, received_unless, magic_cookie, has_fixed_part, has_head}
 
 -- ---- the first of several
 
@@ -82,6 +84,37 @@ is_sound bytes none =
       one = eqb-true (length (bytes_of (option_in 53 (options_in bytes)))) 1
           (not-false (eqb (length (bytes_of (option_in 53 (options_in bytes)))) 1) (not_if_none (not (eqb (length (bytes_of (option_in 53 (options_in bytes)))) 1)) NoType kind));
     }
+
+-- ---- a head
+
+pub record IsLong (bytes : List ℕ) : Type 0 where
+  pub long : 240 ≤ length bytes
+  pub short : length bytes ≤ 1500
+  pub uncut : IsOk (parts_in true (options_in bytes))
+
+pub is_long : (bytes : List ℕ) → has_head bytes ≡ true → IsLong bytes
+is_long bytes head =
+    let cookie = bytes_eq (slice_range bytes 236 240) magic_cookie in
+    let both = and_parts (has_fixed_part bytes) (is_ok (parts_in true (options_in bytes))) head in
+    let fixed = and_parts (leb 240 (length bytes) && leb (length bytes) 1500 && eqb (get_or bytes 0 0) 1) cookie both.0 in
+    let sized = and_parts (leb 240 (length bytes) && leb (length bytes) 1500) (eqb (get_or bytes 0 0) 1) fixed.0 in
+    let bounds = and_parts (leb 240 (length bytes)) (leb (length bytes) 1500) sized.0 in
+    record { long = leb-true 240 (length bytes) bounds.0; short = leb-true (length bytes) 1500 bounds.1; uncut = both.1 }
+
+pub has_its_head : (bytes : List ℕ) → message_fault bytes ≡ None → has_head bytes ≡ true
+unfolding message_fault
+has_its_head bytes none =
+    let sound = is_sound bytes none in
+    let all = all_none (fixed_faults bytes ++ option_faults (options_in bytes)) none in
+    let cookie = bytes_eq (slice_range bytes 236 240) magic_cookie in
+    let long = le-leb 240 (length bytes) sound.long in
+    let short = le-leb (length bytes) 1500 sound.short in
+    let request = not-false (eqb (get_or bytes 0 0) 1) (not_if_none (not (eqb (get_or bytes 0 0) 1)) NotRequest all.1.1.0) in
+    let magic = not-false cookie (not_if_none (not cookie) Cookie all.1.1.1.1.0) in
+    and_from (has_fixed_part bytes) (is_ok (parts_in true (options_in bytes)))
+    (and_from (leb 240 (length bytes) && leb (length bytes) 1500 && eqb (get_or bytes 0 0) 1) cookie
+    (and_from (leb 240 (length bytes) && leb (length bytes) 1500) (eqb (get_or bytes 0 0) 1) (and_from (leb 240 (length bytes)) (leb (length bytes) 1500) long short) request) magic)
+    sound.uncut
 
 -- ---- where an option is cut
 

@@ -1,6 +1,6 @@
 -- A DHCP message as bytes (RFC 2131 section 2, figure 1; options by RFC 2132 and RFC 3396), and
 -- when a datagram is none that the office reads.
-use Rattle.std.specs.Prelude.{ℕ, ◌+◌, ◌==◌, Bool, true, ◌&&◌, not, List, [], ◌∷◌, ◌++◌, length, nat_lt, take, drop, slice_index, if◌then◌else◌, Option, Some, None, is_some, Result, Ok, Err}
+use Rattle.std.specs.Prelude.{ℕ, ◌+◌, ◌==◌, Bool, true, ◌&&◌, not, List, [], ◌∷◌, ◌++◌, length, nat_lt, nat_le, take, drop, slice_index, if◌then◌else◌, Option, Some, None, is_some, Result, Ok, Err, is_ok}
 use Rattle.std.specs.Int.{w16, w32, from_be_bytes}
 use Rattle.std.specs.List.{slice_range}
 use Rattle.std.specs.Option.{option_map}
@@ -26,6 +26,19 @@ ReadsOptions options = IsReading true options (parts_in true options)
 -- the joined value of all options of one code
 abbrev pub option_in : ℕ → List ℕ → Option (List ℕ)
 option_in code options = joined code (parts_in true options)
+
+-- ---- a head: the fixed part of a request and the cookie, and options of which none passes the end
+
+abbrev pub has_fixed_part : List ℕ → Bool
+has_fixed_part bytes =
+    nat_le 240 (length bytes) && nat_le (length bytes) 1500 && (slice_index bytes 0 == 1)
+    && bytes_eq (slice_range bytes 236 240) magic_cookie
+
+abbrev pub has_head : List ℕ → Bool
+has_head bytes = has_fixed_part bytes && is_ok (parts_in true (options_in bytes))
+
+abbrev pub head_of : List ℕ → Option (List ℕ)
+head_of bytes = if has_head bytes then Some bytes else None
 
 -- ---- what the office reads of a message
 

@@ -1,6 +1,9 @@
 ghost use Rattle.std.specs.Prelude.{◌≡◌, ◌≤◌, ◌==◌, ◌&&◌, length, None, IfNone};
+ghost use Rattle.std.specs.List.{slice_range};
+ghost use Rattle.std.specs.Str.{bytes_eq};
 ghost use Rattle.off_base.specs.Choices.{first_there};
 ghost use Rattle.off_dhcp.specs.Datagram.{fixed_faults, option_faults};
+ghost use Rattle.off_dhcp.specs.Datagram.{magic_cookie, has_fixed_part};
 
 use off_base::{Joined, first_cut};
 
@@ -39,7 +42,8 @@ const ETHERNET: u8 = 1;
 
 const ETHERNET_LENGTH: u8 = 6;
 
-pub(crate) const MAGIC_COOKIE: [u8; 4] = [99, 130, 83, 99];
+/// The four bytes in front of the options (RFC 2131, section 3).
+pub const MAGIC_COOKIE: [u8; 4] = [99, 130, 83, 99];
 
 /// Option 53 (RFC 2132, section 9.6).
 pub(crate) const MESSAGE_TYPE: u8 = 53;
@@ -64,10 +68,24 @@ pub(crate) fn fixed_fault(bytes: &[u8]) -> Option<DhcpFault>
     if !is_ethernet(bytes[1], bytes[2]) {
         return Some(DhcpFault::Hardware);
     }
-    if &bytes[COOKIE..OPTIONS] != MAGIC_COOKIE.as_slice() {
+    if !has_cookie(bytes) {
         return Some(DhcpFault::Cookie);
     }
     None
+}
+
+/// Whether a datagram has the fixed part of a request, and the cookie.
+pub(crate) fn has_fixed_part(bytes: &[u8]) -> bool
+    ensures { result ≡ has_fixed_part bytes.now }
+{
+    bytes.len() >= OPTIONS && bytes.len() <= MOST_BYTES && is_request(bytes[0]) && has_cookie(bytes)
+}
+
+fn has_cookie(bytes: &[u8]) -> bool
+    requires { 240 ≤ length bytes.now }
+    ensures { result ≡ bytes_eq (slice_range bytes.now 236 240) magic_cookie }
+{
+    &bytes[COOKIE..OPTIONS] == MAGIC_COOKIE.as_slice()
 }
 
 fn is_request(operation: u8) -> bool

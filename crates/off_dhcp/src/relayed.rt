@@ -4,7 +4,7 @@ ghost use Rattle.off_dhcp.specs.Datagram.{option_in};
 ghost use Rattle.off_dhcp.specs.Reply.{relay_options, pieces};
 
 use crate::Message;
-use crate::replies::push_option;
+use crate::pieces::push_option;
 use arrayvec::ArrayVec;
 use off_base::{Bytes, JoinedBytes, NoMemory};
 
@@ -15,7 +15,7 @@ const MOST_OF_AN_OPTION: usize = 255;
 
 /// Appends option 82 of the request, where it has one: as several options if it is longer than
 /// one can be.
-pub(crate) fn push_relay(out: &mut Bytes, m: &Message<'_>) -> Result<(), NoMemory>
+pub fn push_relay(out: &mut Bytes, m: &Message<'_>) -> Result<(), NoMemory>
     ensures { OnOk result (out.new ≡ out.old ++ relay_options (option_in 82 m.now.options)) }
 {
     let value = m.option(RELAY_AGENT);

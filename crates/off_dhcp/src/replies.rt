@@ -1,12 +1,13 @@
 ghost use Rattle.std.specs.Prelude.{◌≡◌, ◌≤◌, ◌+◌, ◌-◌, ◌*◌, ◌/◌, ◌==◌, ◌++◌, ◌⊎◌};
-ghost use Rattle.std.specs.Prelude.{if◌then◌else◌, length, [], ◌∷◌, OnOk, IfOk};
-ghost use Rattle.off_dhcp.specs.Reply.{zeros, four, head, option, padded, nak_flags, confirmed};
+ghost use Rattle.std.specs.Prelude.{if◌then◌else◌, length, OnOk, IfOk};
+ghost use Rattle.off_dhcp.specs.Reply.{four, head, option, nak_flags, confirmed};
 ghost use Rattle.off_dhcp.specs.Reply.{nak_bytes, reply_bytes, mask, log_option};
 
 use crate::faults::{MAGIC_COOKIE, MESSAGE_TYPE};
+use crate::pieces::{finish, push_number, push_option, push_zeros};
 use crate::relayed::push_relay;
 use crate::{Message, Offer};
-use off_base::{Bytes, END_OPTION, Ip4, NoMemory};
+use off_base::{Bytes, Ip4, NoMemory};
 use std::alloc::Global;
 
 // Options of a reply (RFC 2132).
@@ -33,8 +34,6 @@ const NAK: u8 = 6;
 const ACK: u8 = 5;
 
 const BROADCAST: u16 = 0x8000;
-
-const LEAST_BYTES: usize = 300;
 
 /// A NAK from a server: it has no address and no name, and option 82 of the request.
 #[tactic(auto, unfolding(crate::specs::Reply::nak_bytes))]
@@ -169,37 +168,4 @@ fn push_log(out: &mut Bytes, log: Ip4) -> Result<(), NoMemory>
         return Ok(());
     }
     push_number(out, LOG_SERVER, log.0)
-}
-
-// Appends an option of four bytes.
-fn push_number(out: &mut Bytes, code: u8, number: u32) -> Result<(), NoMemory>
-    ensures { OnOk result (out.new ≡ out.old ++ option code (four number)) }
-{
-    push_option(out, code, &number.to_be_bytes())
-}
-
-/// Appends an option.
-pub(crate) fn push_option(out: &mut Bytes, code: u8, value: &[u8]) -> Result<(), NoMemory>
-    requires { length value.now ≤ 255 }
-    ensures { OnOk result (out.new ≡ out.old ++ option code value.now) }
-{
-    out.push_all(&[code, value.len() as u8])?;
-    out.push_all(value)
-}
-
-// Appends the end of the options, and zeros up to 300 bytes.
-fn finish(out: &mut Bytes) -> Result<(), NoMemory>
-    ensures { OnOk result (out.new ≡ padded (out.old ++ (255 ∷ []))) }
-{
-    out.push_all(&[END_OPTION])?;
-    let short = LEAST_BYTES.saturating_sub(out.len());
-    push_zeros(out, short)
-}
-
-fn push_zeros(out: &mut Bytes, count: usize) -> Result<(), NoMemory>
-    requires { count ≤ 300 }
-    ensures { OnOk result (out.new ≡ out.old ++ zeros count) }
-{
-    let zeros = [0; LEAST_BYTES];
-    out.push_all(&zeros[..count])
 }

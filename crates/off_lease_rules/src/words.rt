@@ -1,3 +1,6 @@
+ghost use Rattle.std.specs.Prelude.{◌≡◌, ◌≤◌, length};
+ghost use Rattle.off_lease_rules.specs.Words.{word_text};
+
 /// What became of a DHCP datagram: four kinds of messages that were served, or why it was refused.
 #[derive(Clone, Copy, Debug, PartialEq, Eq)]
 pub enum DhcpWord {
@@ -44,4 +47,40 @@ pub enum DhcpWord {
     NoRecord,
     /// The address that the client asks for isn't its own.
     NotYourAddress,
+}
+
+impl DhcpWord {
+    /// The text with which the log has it.
+    pub fn text(self) -> &'static [u8]
+        ensures text { result.now ≡ word_text self }
+        ensures short { length result.now ≤ 16 }
+    {
+        match self {
+            DhcpWord::Offer => b"offer",
+            DhcpWord::Ack => b"ack",
+            DhcpWord::Declined => b"declined",
+            DhcpWord::Released => b"released",
+            DhcpWord::Short => b"dhcp-short",
+            DhcpWord::Long => b"dhcp-long",
+            DhcpWord::NotRequest => b"dhcp-not-request",
+            DhcpWord::Hardware => b"dhcp-hardware",
+            DhcpWord::Cookie => b"dhcp-cookie",
+            DhcpWord::OptionCut => b"dhcp-option-cut",
+            DhcpWord::NoType => b"dhcp-no-type",
+            DhcpWord::Overload => b"dhcp-overload",
+            DhcpWord::NoSite => b"no-site",
+            DhcpWord::NotServed => b"not-served",
+            DhcpWord::RequestForm => b"request-form",
+            DhcpWord::PartCut => b"part-cut",
+            DhcpWord::RelayMismatch => b"relay-mismatch",
+            DhcpWord::NotAModem => b"not-a-modem",
+            DhcpWord::NoRelayPool => b"no-relay-pool",
+            DhcpWord::UnknownModem => b"unknown-modem",
+            DhcpWord::SerialMismatch => b"serial-mismatch",
+            DhcpWord::OtherServer => b"other-server",
+            DhcpWord::PoolFull => b"pool-full",
+            DhcpWord::NoRecord => b"no-record",
+            DhcpWord::NotYourAddress => b"not-your-address",
+        }
+    }
 }

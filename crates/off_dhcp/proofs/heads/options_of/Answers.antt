@@ -1,6 +1,6 @@
 use Rattle.std.proofs.Common.{◌≤◌, ◌-◌, length, drop, arith, length-drop}
 use Rattle.std.proofs.lemmas.List.{take_all}
-use Rattle.off_dhcp.proofs.reading.options_of.Goals as goal
+use Rattle.off_dhcp.proofs.heads.options_of.Goals as goal
 
 pub returns : goal.returns
 returns c =

@@ -1,0 +1,6 @@
+use Rattle.std.proofs.Common.{arith}
+use Rattle.off_dhcp.proofs.DatagramLemmas.{is_long}
+use Rattle.off_dhcp.proofs.heads.Head.xid.Goals as goal
+
+pub four_bytes-requires : goal.four_bytes-requires
+four_bytes-requires c = let sound = is_long c.self.inside.bytes.now c.self.invariant in omega (arith, sound.long)
