@@ -13,7 +13,7 @@ use Rattle.off_defs.specs.declared.results.Outcome.TheVariants.{Did}
 use Rattle.off_defs.specs.declared.orders.Write.{Write}
 use Rattle.off_defs.specs.State.{Tables, State, at_moment}
 use Rattle.off_defs.specs.Tables.{write_all}
-use Rattle.off_transfer_rules.specs.Packets.{Acknowledges, packet_of}
+use Rattle.off_packets.specs.Packets.{Acknowledges, packet_of}
 use Rattle.off_transfer_rules.proofs.PeerLemmas.{own_peer}
 use Rattle.off_book.specs.Step.{Step}
 use Rattle.off_book.specs.Run.{Turn, Run, effect_of, events_of}

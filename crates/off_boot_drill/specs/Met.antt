@@ -34,7 +34,9 @@ pub record MeetsAll (n k : ℕ) (discovers requests reads : Turn) (s1 s2 : State
   pub waits : WaitsThrough (mac (suc k)) (address (suc k)) s1 []
   pub request : Requests s1 other requests (address (suc k))
   pub waits_again : WaitsThrough (mac (suc k)) (address (suc k)) s2 []
-  pub read : AsksForFile s2 (mac (suc k)) (by_modem (suc k)) (name (suc k)) (Some block_size) reads
+  pub read :
+      AsksForFile s2 (mac (suc k)) (by_modem (suc k)) (name (suc k))
+      (record { blksize = Some block_size }) reads
   pub lasts : LeaseLasts (address (suc k)) s2 reads
 
 abbrev pub EachMeetsAll : Type 0

@@ -18,6 +18,7 @@ use Rattle.off_table_laws.specs.Laws.{owner_in}
 use Rattle.off_lease_rules.specs.Asking.{client}
 use Rattle.off_lease_laws.specs.Effects.{bound_until}
 use Rattle.off_lease_laws.proofs.GoodLemmas.{good_agree}
+use Rattle.off_packets.specs.declared.packets.Options.{Options}
 use Rattle.off_transfer_rules.specs.Transfers.{first_number, size_for, is_last_number}
 use Rattle.off_transfer_laws.specs.Agreement.{Agreement}
 use Rattle.off_book.specs.Run.{Turn, Run, effect_of}
@@ -98,7 +99,7 @@ not_served mac turn peer bytes event served =
     let both : ◌≡◌ {A = What} (Datagram Tftp peer bytes) (Datagram Dhcp served.takes.from served.takes.bytes) = sym event ∙ served.takes.came in
     cc
 
-module _ (s last : State) (turn : Turn) (soon rest : List Turn) (mac : Mac) (peer : Peer) (name : List ℕ) (asked : Option ℕ) (good : Good s.tables)
+module _ (s last : State) (turn : Turn) (soon rest : List Turn) (mac : Mac) (peer : Peer) (name : List ℕ) (asked : Options) (good : Good s.tables)
     (run : Run s (turn ∷ (soon ++ rest)) last) (reads : AsksForFile s mac peer name asked turn) (bound : IsBoundTo mac peer.ip s.tables)
     (lasts : LeaseLasts peer.ip s turn) where
   bound_behind : IsBoundTo mac peer.ip run.0.tables
@@ -146,7 +147,7 @@ abbrev pub SoWell : (Turn → Type 0) → List Turn → Type 0
 SoWell Well turns = (before later : List Turn) (turn : Turn) → turns ≡ before ++ turn ∷ later → Well turn → GoesWell turn
 
 module _ (Well : Turn → Type 0) (s : State) (turns : List Turn) (good : Good s.tables) (so : SoWell Well turns) (c : Course s turns)
-    (m n : Received) (peer : Peer) (name : List ℕ) (asked : Option ℕ) (sender : client n ≡ client m) where
+    (m n : Received) (peer : Peer) (name : List ℕ) (asked : Options) (sender : client n ≡ client m) where
   good0 : Good c.s0.tables
   good0 = run_keeps_good s c.s0 c.before c.up_to good
 

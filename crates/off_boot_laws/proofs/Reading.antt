@@ -3,7 +3,7 @@ use Rattle.std.proofs.lemmas.Bool.{lt-leb, false_from_ne_true}
 use Rattle.std.proofs.lemmas.Slice.Eq.{bytes_eq-Decides}
 use Rattle.std.specs.Str.{bytes_eq}
 use Rattle.off_boot_laws.proofs.Messages.{and_false}
-use Rattle.std.proofs.Common.{◌≢◌, ◌⊎◌, inl, inr, ◌&&◌, nat_le, ◌≡◌, ℕ, ◌<◌, Bool, true, false, cond, not, List, Option, Some, None, MatchOption, Ok, refl, sym, ap, subst, ◌∙◌}
+use Rattle.std.proofs.Common.{if◌then◌else◌, ◌≢◌, ◌⊎◌, inl, inr, ◌&&◌, nat_le, ◌≡◌, ℕ, ◌<◌, Bool, true, false, cond, not, List, Option, Some, None, MatchOption, Ok, refl, sym, ap, subst, ◌∙◌}
 use Rattle.std.specs.FinMap as map
 use Rattle.off_base.specs.declared.addresses.Ip4.{Ip4}
 use Rattle.off_base.specs.declared.addresses.Peer.{Peer}
@@ -18,7 +18,9 @@ use Rattle.off_defs.specs.declared.tables.Hold.TheVariants.{Bound}
 use Rattle.off_defs.specs.State.{Tables, State, Transfer, Effect, at_moment}
 use Rattle.off_account_rules.specs.Good.{Good}
 use Rattle.off_lease_laws.specs.Effects.{bound_until}
-use Rattle.off_transfer_rules.specs.Packets.{Reads, packet_of}
+use Rattle.off_packets.specs.Packets.{Reads, packet_of, has_option}
+use Rattle.off_packets.specs.declared.packets.Options.{Options}
+use Rattle.off_transfer_rules.specs.declared.words.TftpWord.TheVariants.{Oack, Block}
 use Rattle.off_transfer_rules.specs.View.{View, view, holder}
 use Rattle.off_transfer_rules.specs.Transfers.{Transfers, has_no_room, first_word}
 use Rattle.off_transfer_rules.specs.Steps.{Way, Denies, Repeats, Accepts, file_not_found, is_repeated, way_for_modem, way_for_holder, way_anew, way_of_request, way_of, way, Given, GivesBy, TftpStep}
@@ -51,7 +53,7 @@ makes_way : (count : ℕ) (bytes : List ℕ) (live : Option Transfer)
 makes_way count bytes None room = lt-leb 256 count room
 makes_way count bytes (Some x) other = not_again bytes x other
 
-module _ (t : Tables) (now : ℕ) (from : Peer) (bytes name : List ℕ) (asked : Option ℕ) (mac : Mac) (owner : ℕ) (good : Good t)
+module _ (t : Tables) (now : ℕ) (from : Peer) (bytes name : List ℕ) (asked : Options) (mac : Mac) (owner : ℕ) (good : Good t)
     (a : Agreement t now from.ip name mac owner) where
   abbrev v : View
   v = view t from.ip
@@ -87,9 +89,9 @@ module _ (t : Tables) (now : ℕ) (from : Peer) (bytes name : List ℕ) (asked :
       let opened = subst (λ (w : Way). GivesBy v now xs from bytes w given) (way_is xs read place) step in
       ap (λ (g : Given). g.word) opened.1.1
 
-says_first : (asked : Option ℕ) → says_accepted (tftp_line (first_word asked)) ≡ true
-says_first None = refl
-says_first (Some size) = refl
+says_first : (any : Bool) → says_accepted (tftp_line (if any then Oack else Block 1)) ≡ true
+says_first true = refl
+says_first false = refl
 
 -- ---- the turn
 
@@ -100,7 +102,7 @@ did_so s after turn from bytes step came did =
     subst (λ (o : Outcome). Does (at_moment s turn.event.at.0) (Datagram Tftp from bytes) o (effect_of turn after)) did
     (subst (λ (what : What). Does (at_moment s turn.event.at.0) what turn.outcome (effect_of turn after)) came step)
 
-agreed_at : (s : State) (mac : Mac) (peer : Peer) (name : List ℕ) (asked : Option ℕ) (turn : Turn) (now expiry : ℕ) (r : AsksForFile s mac peer name asked turn)
+agreed_at : (s : State) (mac : Mac) (peer : Peer) (name : List ℕ) (asked : Options) (turn : Turn) (now expiry : ℕ) (r : AsksForFile s mac peer name asked turn)
     → IsBoundUntil mac peer.ip expiry s → now < expiry → Agreement s.tables now peer.ip name mac r.modem.subscriber
 agreed_at s mac peer name asked turn now expiry r bound live = record {
   lease = bound_until mac expiry;
@@ -131,7 +133,7 @@ reads_are_accepted s last turn later mac peer name asked expiry good run well r 
     let word = word_is s.tables now peer r.bytes name asked mac r.modem.subscriber good agreed s.held.transfers did.given r.read r.place did.step in
     let line : turn.said.line ≡ tftp_line (first_word asked) = ap (λ (e : Effect). e.said.line) did.does ∙ ap tftp_line word in
     let accepts : IsAccepted peer name asked turn =
-    record { bytes = r.bytes; event = r.event; read = r.read; word = ap says_accepted line ∙ says_first asked } in
+    record { bytes = r.bytes; event = r.event; read = r.read; word = ap says_accepted line ∙ says_first (has_option asked) } in
     let served : FileIsServed s.tables now peer name asked turn later = served_at s turn run.0 last later peer name asked run.1.0 accepts run.1.1 in
     record {
       accepts = accepts;

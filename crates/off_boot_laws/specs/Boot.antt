@@ -12,6 +12,7 @@ use Rattle.off_account_rules.specs.Rows.{site_in, modem_in}
 use Rattle.off_account_rules.specs.Good.{Good}
 use Rattle.off_file_rules.specs.Name.{name_of}
 use Rattle.off_lease_rules.specs.Asking.{client}
+use Rattle.off_packets.specs.declared.packets.Options.{Options}
 use Rattle.off_transfer_rules.specs.Transfers.{size_for, first_number, is_last_number}
 use Rattle.off_book.specs.Run.{Turn, Run}
 use Rattle.off_laws.specs.Leases.{moment_of}
@@ -35,7 +36,7 @@ pub record KeepsName (tables : Tables) (mac : Mac) (owner : ℕ) (ip : Ip4) (nam
 
 -- From its read request on it acknowledges one packet behind another up to packet k, each before
 -- six Ticks have passed, while it has that name.
-abbrev pub AcknowledgesAll : ℕ → State → Mac → Peer → List ℕ → List ℕ → Option ℕ → ℕ → Turn
+abbrev pub AcknowledgesAll : ℕ → State → Mac → Peer → List ℕ → List ℕ → Options → ℕ → Turn
     → List Turn → Type 0
 AcknowledgesAll k s mac peer request name asked owner turn soon =
     AnswersUpTo request (first_number asked) (suc k) peer
@@ -48,7 +49,7 @@ pub record HasGot (peer : Peer) (file : List ℕ) (turn : Turn) (later : List Tu
   pub whole : got peer (block_given peer turn) later ≡ file
 
 -- Where it does so up to the last packet of its file, waiting meanwhile, it has got it.
-abbrev pub GetsFile : State → State → Mac → Peer → List ℕ → Option ℕ → Turn → List Turn
+abbrev pub GetsFile : State → State → Mac → Peer → List ℕ → Options → Turn → List Turn
     → List Turn → Type 0
 GetsFile s after mac peer name asked turn soon rest =
     (given : IsGivenFile s mac peer name asked turn (soon ++ rest))
@@ -60,7 +61,7 @@ GetsFile s after mac peer name asked turn soon rest =
 abbrev pub WhoAsksGetsItsFile : Type 0
 WhoAsksGetsItsFile =
     (s last : State) (turn : Turn) (soon rest : List Turn) (mac : Mac) (peer : Peer) (name : List ℕ)
-    (asked : Option ℕ) → Good s.tables → (run : Run s (turn ∷ (soon ++ rest)) last) → GoesWell turn
+    (asked : Options) → Good s.tables → (run : Run s (turn ∷ (soon ++ rest)) last) → GoesWell turn
     → AsksForFile s mac peer name asked turn
     → IsBoundTo mac peer.ip s.tables → LeaseLasts peer.ip s turn
     → GetsFile s run.0 mac peer name asked turn soon rest
@@ -94,7 +95,7 @@ pub record Course (s : State) (turns : List Turn) : Type 0 where
 -- has acknowledged all of it, it has got its file. Each of these three turns is to go well.
 abbrev pub BootsBy : (Turn → Type 0) → State → List Turn → Type 0
 BootsBy Well s turns =
-    (c : Course s turns) (m n : Received) (peer : Peer) (name : List ℕ) (asked : Option ℕ)
+    (c : Course s turns) (m n : Received) (peer : Peer) (name : List ℕ) (asked : Options)
     → client n ≡ client m
     → Well c.discovers → Discovers c.s0 m c.discovers
     → (offer : IsOffered c.s0 m c.discovers c.first.0)

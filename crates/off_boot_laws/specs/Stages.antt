@@ -24,7 +24,8 @@ use Rattle.off_lease_rules.specs.declared.forms.Named.TheVariants.{Absent, At}
 use Rattle.off_lease_rules.specs.Free.{pool_for}
 use Rattle.off_lease_rules.specs.Steps.{offer_to}
 use Rattle.off_lease_laws.specs.Effects.{lease_until, IsLiveBound}
-use Rattle.off_transfer_rules.specs.Packets.{Reads, packet_of}
+use Rattle.off_packets.specs.Packets.{Reads, packet_of}
+use Rattle.off_packets.specs.declared.packets.Options.{Options}
 use Rattle.off_transfer_rules.specs.Transfers.{Transfers, size_for, first_number, packet_of_number}
 use Rattle.off_book.specs.Step.{Step}
 use Rattle.off_book.specs.Run.{Turn, Run, effect_of, sent_in}
@@ -109,7 +110,7 @@ HasPlace transfers peer bytes =
     MatchOption (map.get transfers peer) (map.len transfers < 256)
     (λ x. (x.is_acknowledged ≡ true) ⊎ (x.request ≢ bytes))
 
-pub record AsksForFile (s : State) (mac : Mac) (peer : Peer) (name : List ℕ) (asked : Option ℕ)
+pub record AsksForFile (s : State) (mac : Mac) (peer : Peer) (name : List ℕ) (asked : Options)
     (turn : Turn) : Type 0 where
   pub bytes : List ℕ
   pub site : Site
@@ -122,7 +123,7 @@ pub record AsksForFile (s : State) (mac : Mac) (peer : Peer) (name : List ℕ) (
   pub place : HasPlace s.held.transfers peer bytes
 
 -- and is given it, in blocks, of which the first packet goes at once
-pub record IsGivenFile (s : State) (mac : Mac) (peer : Peer) (name : List ℕ) (asked : Option ℕ)
+pub record IsGivenFile (s : State) (mac : Mac) (peer : Peer) (name : List ℕ) (asked : Options)
     (turn : Turn) (later : List Turn) : Type 0 where
   pub accepts : IsAccepted peer name asked turn
   pub served : FileIsServed s.tables (moment_of s turn) peer name asked turn later
@@ -134,7 +135,7 @@ pub record IsGivenFile (s : State) (mac : Mac) (peer : Peer) (name : List ℕ) (
 abbrev pub ReadsAreAccepted : Type 0
 ReadsAreAccepted =
     (s last : State) (turn : Turn) (later : List Turn) (mac : Mac) (peer : Peer) (name : List ℕ)
-    (asked : Option ℕ) (expiry : ℕ) → Good s.tables → Run s (turn ∷ later) last → GoesWell turn
+    (asked : Options) (expiry : ℕ) → Good s.tables → Run s (turn ∷ later) last → GoesWell turn
     → AsksForFile s mac peer name asked turn
     → IsBoundUntil mac peer.ip expiry s → moment_of s turn < expiry
     → IsGivenFile s mac peer name asked turn later

@@ -27,13 +27,15 @@ use Rattle.off_lease_rules.specs.Steps.{offer_to, reply_to_refused, offers, ackn
 use Rattle.off_lease_rules.specs.declared.cases.Case.{Case}
 use Rattle.off_lease_rules.specs.declared.words.DhcpWord.{DhcpWord}
 use Rattle.off_lease_rules.specs.declared.words.DhcpWord.TheVariants as dhcp
-use Rattle.off_transfer_rules.specs.Packets.{Meant, Reads, Writes, Acknowledges, GivesUp, IsOther, packet_of}
+use Rattle.off_packets.specs.Packets.{Meant, Reads, Writes, Acknowledges, GivesUp, IsOther, packet_of, has_option}
+use Rattle.off_packets.specs.declared.packets.Options.{Options}
+use Rattle.off_transfer_rules.specs.declared.words.TftpWord.TheVariants.{Oack, Block}
 use Rattle.off_transfer_rules.specs.View.{View, view, holder, agrees}
 use Rattle.off_transfer_rules.specs.Transfers.{Transfers, has_no_room, first_word, is_at_last, packet_to}
 use Rattle.off_transfer_rules.specs.Steps.{Way, Denies, Repeats, Accepts, Ignores, Finishes, BreaksOff, GoesOn, Leaves, file_not_found, too_many_transfers, is_repeated, has_file, way_for_modem, way_for_holder, way_anew, way_of_last, way_of, way, Given, error_to, GivesBy, TftpStep}
 use Rattle.off_transfer_rules.specs.Words.{tftp_line}
-use Rattle.off_transfer_rules.specs.declared.faults.PacketFault.{PacketFault}
-use Rattle.off_transfer_rules.specs.declared.faults.PacketFault.TheVariants as fault
+use Rattle.off_packets.specs.declared.faults.PacketFault.{PacketFault}
+use Rattle.off_packets.specs.declared.faults.PacketFault.TheVariants as fault
 use Rattle.off_transfer_laws.specs.Laws.{IsAnswerTo}
 use Rattle.off_transfer_laws.proofs.StepLaws.{answers_go_back}
 use Rattle.off_book.specs.Http.{heard_of, by_meaning, is_full, TakesPiece}
@@ -95,27 +97,27 @@ FullWhere full live (Denies denial) = says_full (tftp_line denial.word) ≡ true
 FullWhere full live other = Unit {0}
 
 module _ (v : View) (now : ℕ) (ip : Ip4) (full : Bool) (live : Option Transfer) where
-  full_judged : (served no_room : Bool) (mac : Mac) (owner : ℕ) (name : List ℕ) (asked : Option ℕ) → (no_room ≡ true → (full ≡ true) × (live ≡ None))
+  full_judged : (served no_room : Bool) (mac : Mac) (owner : ℕ) (name : List ℕ) (asked : Options) → (no_room ≡ true → (full ≡ true) × (live ≡ None))
       → FullWhere full live (if not served then Denies file_not_found else if no_room then Denies too_many_transfers else Accepts mac owner name asked)
   full_judged false no_room mac owner name asked room = λ says. cc
   full_judged true true mac owner name asked room = λ says. ((room refl).0, (room refl).1, refl)
   full_judged true false mac owner name asked room = tt
 
-  full_for_modem : (no_room : Bool) → (no_room ≡ true → (full ≡ true) × (live ≡ None)) → (name : List ℕ) (asked : Option ℕ) (mac : Mac) (modem : Option Modem)
+  full_for_modem : (no_room : Bool) → (no_room ≡ true → (full ≡ true) × (live ≡ None)) → (name : List ℕ) (asked : Options) (mac : Mac) (modem : Option Modem)
       → FullWhere full live (way_for_modem v ip no_room name asked mac modem)
   full_for_modem no_room room name asked mac None = λ says. cc
   full_for_modem no_room room name asked mac (Some modem) = full_judged (has_file v ip name mac) no_room mac modem.subscriber name asked room
 
-  full_for_holder : (no_room : Bool) → (no_room ≡ true → (full ≡ true) × (live ≡ None)) → (name : List ℕ) (asked : Option ℕ) (held : Option Mac)
+  full_for_holder : (no_room : Bool) → (no_room ≡ true → (full ≡ true) × (live ≡ None)) → (name : List ℕ) (asked : Options) (held : Option Mac)
       → FullWhere full live (way_for_holder v ip no_room name asked held)
   full_for_holder no_room room name asked None = λ says. cc
   full_for_holder no_room room name asked (Some mac) = full_for_modem no_room room name asked mac v.modem
 
-  full_anew : (no_room : Bool) → (no_room ≡ true → (full ≡ true) × (live ≡ None)) → (name : List ℕ) (asked : Option ℕ)
+  full_anew : (no_room : Bool) → (no_room ≡ true → (full ≡ true) × (live ≡ None)) → (name : List ℕ) (asked : Options)
       → FullWhere full live (way_anew v now ip no_room name asked)
   full_anew no_room room name asked = full_for_holder no_room room name asked (holder now v)
 
-  full_again : (x : Transfer) (name : List ℕ) (asked : Option ℕ) (again : Bool) → FullWhere full live (if again then Repeats x else way_anew v now ip false name asked)
+  full_again : (x : Transfer) (name : List ℕ) (asked : Options) (again : Bool) → FullWhere full live (if again then Repeats x else way_anew v now ip false name asked)
   full_again x name asked true = tt
   full_again x name asked false = full_anew false (λ e. cc) name asked
 
@@ -150,9 +152,9 @@ pub record IsFull (xs : Transfers) (from : Peer) (given : Given) : Type 0 where
   pub without : map.get xs from ≡ None
   pub items : given.items ≡ error_to from too_many_transfers
 
-first_not_full : (asked : Option ℕ) → says_full (tftp_line (first_word asked)) ≡ false
-first_not_full None = refl
-first_not_full (Some size) = refl
+first_not_full : (any : Bool) → says_full (tftp_line (if any then Oack else Block 1)) ≡ false
+first_not_full true = refl
+first_not_full false = refl
 
 module _ (v : View) (now : ℕ) (xs : Transfers) (from : Peer) (bytes : List ℕ) (given : Given) (says : says_full (tftp_line given.word) ≡ true) where
   not_full : says_full (tftp_line given.word) ≡ false → IsFull xs from given
@@ -163,7 +165,7 @@ module _ (v : View) (now : ℕ) (xs : Transfers) (from : Peer) (bytes : List ℕ
       let why = where_full (sym (ap (λ (g : Given). says_full (tftp_line g.word)) p) ∙ says) in
       record { no_room = why.0; without = why.1; items = ap (λ (g : Given). g.items) p ∙ ap (error_to from) why.2 }
   full_given (Repeats x) where_full p = not_full (ap (λ (g : Given). says_full (tftp_line g.word)) p)
-  full_given (Accepts mac owner name asked) where_full p = not_full (ap (λ (g : Given). says_full (tftp_line g.word)) p.1.1 ∙ first_not_full asked)
+  full_given (Accepts mac owner name asked) where_full p = not_full (ap (λ (g : Given). says_full (tftp_line g.word)) p.1.1 ∙ first_not_full (has_option asked))
   full_given Ignores where_full p = not_full (ap (λ (g : Given). says_full (tftp_line g.word)) p)
   full_given Finishes where_full p = not_full (ap (λ (g : Given). says_full (tftp_line g.word)) p)
   full_given BreaksOff where_full p = not_full (ap (λ (g : Given). says_full (tftp_line g.word)) p)

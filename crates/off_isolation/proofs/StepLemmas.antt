@@ -7,14 +7,15 @@ use Rattle.off_base.specs.declared.macs.Mac.{Mac}
 use Rattle.off_defs.specs.declared.results.Sent.{Sent}
 use Rattle.off_defs.specs.declared.tables.Modem.{Modem}
 use Rattle.off_defs.specs.State.{Tables, Transfer}
-use Rattle.off_transfer_rules.specs.Packets.{Meant, Reads, Writes, Acknowledges, GivesUp, IsOther, packet_of}
+use Rattle.off_packets.specs.Packets.{Meant, Reads, Writes, Acknowledges, GivesUp, IsOther, packet_of}
+use Rattle.off_packets.specs.declared.packets.Options.{Options}
 use Rattle.off_transfer_rules.specs.View.{View, view, holder}
 use Rattle.off_transfer_rules.specs.Transfers.{Transfers, has_no_room, first_word, begun, gone_on, asked_again, packet_to}
 use Rattle.off_transfer_rules.specs.Steps.{Way, Denies, Repeats, Accepts, Ignores, Finishes, BreaksOff, GoesOn, Leaves, file_not_found, too_many_transfers, has_file, way_for_modem, way_for_holder, way_of, way, Given, gives, last_to, GivesBy, TftpStep}
 use Rattle.off_transfer_rules.specs.Ticks.{tick_of, TickStep}
 use Rattle.off_transfer_rules.specs.Words.{tftp_line}
-use Rattle.off_transfer_rules.specs.declared.faults.PacketFault.{PacketFault}
-use Rattle.off_transfer_rules.specs.declared.faults.PacketFault.TheVariants as fault
+use Rattle.off_packets.specs.declared.faults.PacketFault.{PacketFault}
+use Rattle.off_packets.specs.declared.faults.PacketFault.TheVariants as fault
 use Rattle.off_transfer_rules.specs.declared.ticks.Ticked.{Ticked}
 use Rattle.off_transfer_rules.specs.declared.words.TftpWord.{TftpWord}
 use Rattle.off_transfer_rules.specs.declared.words.TftpWord.TheVariants as word
@@ -45,12 +46,12 @@ module _ (v : View) (now : ℕ) (ip : Ip4) (few : Bool) where
   named full room true w = judged full room w
   named full room false w = inl refl
 
-  for_modem : (full : Bool) → (few ≡ true → full ≡ true) → (name : List ℕ) (asked : Option ℕ) (mac : Mac) (modem : Option Modem)
+  for_modem : (full : Bool) → (few ≡ true → full ≡ true) → (name : List ℕ) (asked : Options) (mac : Mac) (modem : Option Modem)
       → SameOrFull (way_for_modem v ip full name asked mac modem) (way_for_modem v ip few name asked mac modem)
   for_modem full room name asked mac None = inl refl
   for_modem full room name asked mac (Some modem) = named full room (has_file v ip name mac) (Accepts mac modem.subscriber name asked)
 
-  for_holder : (full : Bool) → (few ≡ true → full ≡ true) → (name : List ℕ) (asked : Option ℕ) (held : Option Mac)
+  for_holder : (full : Bool) → (few ≡ true → full ≡ true) → (name : List ℕ) (asked : Options) (held : Option Mac)
       → SameOrFull (way_for_holder v ip full name asked held) (way_for_holder v ip few name asked held)
   for_holder full room name asked None = inl refl
   for_holder full room name asked (Some mac) = for_modem full room name asked mac v.modem

@@ -24,12 +24,13 @@ use Rattle.off_outside.specs.KeeperCalls.{Looks, Reads, NotDone, Spent}
 use Rattle.off_outside.specs.declared.keeper.KeepErr.{KeepErr}
 use Rattle.off_outside.specs.declared.keeper.KeepErr.TheVariants.{Memory}
 use Rattle.off_outside.proofs.KeeperLemmas.{reads_then, reads_as, reads_none, reads_forgotten, failed_then, spent_none, spent_one, spent_then, spent_within}
-use Rattle.off_transfer_rules.specs.Packets.{Meant, Reads as Asks, Writes, Acknowledges, GivesUp, IsOther, packet_of}
+use Rattle.off_packets.specs.Packets.{Meant, Reads as Asks, Writes, Acknowledges, GivesUp, IsOther, packet_of}
+use Rattle.off_packets.specs.declared.packets.Options.{Options}
 use Rattle.off_transfer_rules.specs.Transfers.{Transfers, has_no_room, is_at_last}
 use Rattle.off_transfer_rules.specs.View.{View, view, owner_by, bound_to, holder, agrees}
 use Rattle.off_transfer_rules.specs.Steps.{Way, Denies, Repeats, Accepts, Ignores, Finishes, GoesOn, BreaksOff, way, way_of, way_anew, way_for_modem, way_for_holder, way_of_request, way_of_acknowledgement, has_file, is_repeated, file_not_found, too_many_transfers}
-use Rattle.off_transfer_rules.specs.declared.faults.PacketFault.{PacketFault}
-use Rattle.off_transfer_rules.specs.declared.faults.PacketFault.TheVariants as fault
+use Rattle.off_packets.specs.declared.faults.PacketFault.{PacketFault}
+use Rattle.off_packets.specs.declared.faults.PacketFault.TheVariants as fault
 use Rattle.off_transfer_rules.proofs.PeerLemmas.{peer_total, own_peer}
 use Rattle.off_tftp.specs.Seen.{held_by}
 use Rattle.off_tftp.specs.Keeping.{BeginsFor, is_kept, entry_of, entry_for, kept_with, kept_by, kept_after}
@@ -138,19 +139,19 @@ module _ (t : Tables) (v : View) (entries : Entries) where
   abbrev Stay : Way → Type 0
   Stay w = AllRight t (kept_by v w entries)
 
-  asked_right : (no_file no_room : Bool) (mac : Mac) (subscriber : ℕ) (name : List ℕ) (asked : Option ℕ) → AllRight t entries
+  asked_right : (no_file no_room : Bool) (mac : Mac) (subscriber : ℕ) (name : List ℕ) (asked : Options) → AllRight t entries
       → AllRight t (kept_with mac (entry_for v.modem v.profile) entries)
       → Stay (cond no_file (Denies file_not_found) (cond no_room (Denies too_many_transfers) (Accepts mac subscriber name asked)))
   asked_right true no_room mac subscriber name asked same put = same
   asked_right false true mac subscriber name asked same put = same
   asked_right false false mac subscriber name asked same put = put
 
-  modem_right : (ip : Ip4) (no_room : Bool) (name : List ℕ) (asked : Option ℕ) (mac : Mac) (modem : Option Modem) → AllRight t entries
+  modem_right : (ip : Ip4) (no_room : Bool) (name : List ℕ) (asked : Options) (mac : Mac) (modem : Option Modem) → AllRight t entries
       → AllRight t (kept_with mac (entry_for v.modem v.profile) entries) → Stay (way_for_modem v ip no_room name asked mac modem)
   modem_right ip no_room name asked mac None same put = same
   modem_right ip no_room name asked mac (Some modem) same put = asked_right (not (has_file v ip name mac)) no_room mac modem.subscriber name asked same put
 
-  holder_right : (ip : Ip4) (no_room : Bool) (name : List ℕ) (asked : Option ℕ) (h : Option Mac) → AllRight t entries
+  holder_right : (ip : Ip4) (no_room : Bool) (name : List ℕ) (asked : Options) (h : Option Mac) → AllRight t entries
       → ((mac : Mac) → h ≡ Some mac → AllRight t (kept_with mac (entry_for v.modem v.profile) entries)) → Stay (way_for_holder v ip no_room name asked h)
   holder_right ip no_room name asked None same put = same
   holder_right ip no_room name asked (Some mac) same put = modem_right ip no_room name asked mac v.modem same (put mac refl)
@@ -159,7 +160,7 @@ module _ (t : Tables) (v : View) (entries : Entries) where
   request_by x true w same put = same
   request_by x false w same put = put
 
-  request_right : (now : ℕ) (ip : Ip4) (full : Bool) (bytes name : List ℕ) (asked : Option ℕ) (live : Option Transfer) → AllRight t entries
+  request_right : (now : ℕ) (ip : Ip4) (full : Bool) (bytes name : List ℕ) (asked : Options) (live : Option Transfer) → AllRight t entries
       → ((mac : Mac) → holder now v ≡ Some mac → AllRight t (kept_with mac (entry_for v.modem v.profile) entries)) → Stay (way_of_request v now ip full bytes name asked live)
   request_right now ip full bytes name asked None same put = holder_right ip full name asked (holder now v) same put
   request_right now ip full bytes name asked (Some x) same put =
@@ -179,7 +180,7 @@ acknowledgement_keeps u v entries now ip number None = refl
 acknowledgement_keeps u v entries now ip number (Some x) = last_keeps u entries x (number == x.sent) (is_at_last x) (agrees v now ip x.name x.modem x.subscriber)
 
 -- and so does a request that came before
-pub repeat_keeps : (v : View) (entries : Entries) (now : ℕ) (ip : Ip4) (full : Bool) (bytes name : List ℕ) (asked : Option ℕ) (live : Option Transfer) → repeats bytes live ≡ true
+pub repeat_keeps : (v : View) (entries : Entries) (now : ℕ) (ip : Ip4) (full : Bool) (bytes name : List ℕ) (asked : Options) (live : Option Transfer) → repeats bytes live ≡ true
     → entries ≡ kept_by v (way_of_request v now ip full bytes name asked live) entries
 repeat_keeps v entries now ip full bytes name asked None is = cc
 repeat_keeps v entries now ip full bytes name asked (Some x) is = ap (λ b. kept_by v (cond b (Repeats x) (way_anew v now ip false name asked)) entries) (sym is)

@@ -19,11 +19,12 @@ use Rattle.off_outside.specs.KeeperCalls.{Looks, Reads, NotDone, Spent}
 use Rattle.off_outside.specs.declared.keeper.KeepErr.{KeepErr}
 use Rattle.off_outside.specs.declared.keeper.KeepErr.TheVariants.{Memory}
 use Rattle.off_outside.proofs.KeeperLemmas.{reads_as, reads_none, reads_forgotten}
-use Rattle.off_transfer_rules.specs.Packets.{Meant, Acknowledges, GivesUp, packet_of}
+use Rattle.off_packets.specs.Packets.{Meant, Acknowledges, GivesUp, packet_of}
+use Rattle.off_packets.specs.declared.packets.Options.{Options}
 use Rattle.off_transfer_rules.specs.Transfers.{Transfers, has_no_room, is_at_last}
 use Rattle.off_transfer_rules.specs.View.{View, view, owner_by, holder, is_own_name, agrees}
 use Rattle.off_transfer_rules.specs.Steps.{Way, Given, gives, GivesBy, Repeats, Finishes, GoesOn, BreaksOff, Ignores, Accepts, TftpStep, way, way_of, way_anew, way_for_modem, way_for_holder, no_lease, no_longer_agreed, file_not_found, too_many_transfers, way_of_request, way_of_last, way_of_acknowledgement, is_repeated, ended, Denial, Denies}
-use Rattle.off_transfer_rules.specs.declared.faults.PacketFault.{PacketFault}
+use Rattle.off_packets.specs.declared.faults.PacketFault.{PacketFault}
 use Rattle.off_transfer_rules.specs.declared.words.TftpWord.{TftpWord}
 use Rattle.off_transfer_rules.specs.declared.words.TftpWord.TheVariants as word
 use Rattle.off_tftp.specs.declared.acknowledging.Stage.TheVariants as stage
@@ -145,13 +146,13 @@ module _ (now : ℕ) (old : Transfers) (from : Peer) (bytes : List ℕ) where
 
   -- ---- requests
 
-  repeat_is : (v : View) (ip : Ip4) (full : Bool) (name : List ℕ) (asked : Option ℕ) (live : Option Transfer) (d : Decision) → repeats bytes live ≡ true
+  repeat_is : (v : View) (ip : Ip4) (full : Bool) (name : List ℕ) (asked : Options) (live : Option Transfer) (d : Decision) → repeats bytes live ≡ true
       → IfSome live (λ x. DoesSo v (Repeats x) d) → DoesSo v (way_of_request v now ip full bytes name asked live) d
   repeat_is v ip full name asked None d is does = cc
   repeat_is v ip full name asked (Some x) d is does =
       does_as v (Repeats x) (way_of_request v now ip full bytes name asked (Some x)) d (sym (ap (λ b. cond b (Repeats x) (way_anew v now ip false name asked)) is)) does
 
-  pub repeat_serves : (v : View) (ip : Ip4) (full : Bool) (name : List ℕ) (asked : Option ℕ) (live : Option Transfer) (step : Result Decision NoMemory) → repeats bytes live ≡ true
+  pub repeat_serves : (v : View) (ip : Ip4) (full : Bool) (name : List ℕ) (asked : Options) (live : Option Transfer) (step : Result Decision NoMemory) → repeats bytes live ≡ true
       → IfOk step (λ d. IfSome live (λ x. Does v now old from bytes (Repeats x) d)) → IfOk step KeepsNothing
       → IfOk step (λ d. Serves v now old from bytes (way_of_request v now ip full bytes name asked live) d)
   repeat_serves v ip full name asked live (Ok d) is done bare = record {
@@ -160,13 +161,13 @@ module _ (now : ℕ) (old : Transfers) (from : Peer) (bytes : List ℕ) where
   }
   repeat_serves v ip full name asked live (Err err) is done bare = tt
 
-  anew_is : (v : View) (ip : Ip4) (full : Bool) (name : List ℕ) (asked : Option ℕ) (live : Option Transfer) → repeats bytes live ≡ false
+  anew_is : (v : View) (ip : Ip4) (full : Bool) (name : List ℕ) (asked : Options) (live : Option Transfer) → repeats bytes live ≡ false
       → way_anew v now ip (lacks_room_by full live) name asked ≡ way_of_request v now ip full bytes name asked live
   anew_is v ip full name asked None is = refl
   anew_is v ip full name asked (Some x) is = sym (ap (λ b. cond b (Repeats x) (way_anew v now ip false name asked)) is)
 
   -- a refusal goes by no profile
-  unnamed_modem : (v : View) (ip : Ip4) (no_room : Bool) (name : List ℕ) (asked : Option ℕ) (mac : Mac) (m : Option Modem) (d : Decision) → passes (is_own_name name mac ip) v.site ≡ false
+  unnamed_modem : (v : View) (ip : Ip4) (no_room : Bool) (name : List ℕ) (asked : Options) (mac : Mac) (m : Option Modem) (d : Decision) → passes (is_own_name name mac ip) v.site ≡ false
       → DoesSo (without_profile v) (way_for_modem (without_profile v) ip no_room name asked mac m) d → DoesSo v (way_for_modem v ip no_room name asked mac m) d
   unnamed_modem v ip no_room name asked mac None d wrong does = does
   unnamed_modem v ip no_room name asked mac (Some modem) d wrong does =
@@ -175,28 +176,28 @@ module _ (now : ℕ) (old : Transfers) (from : Peer) (bytes : List ℕ) where
       does_as v (Denies file_not_found) (way_for_modem v ip no_room name asked mac (Some modem)) d (sym (refused (is_some v.profile)))
       (does_as (without_profile v) (way_for_modem (without_profile v) ip no_room name asked mac (Some modem)) (Denies file_not_found) d (refused false) does)
 
-  unnamed_holder : (v : View) (ip : Ip4) (no_room : Bool) (name : List ℕ) (asked : Option ℕ) (h : Option Mac) (d : Decision) → passes (λ mac. passes (is_own_name name mac ip) v.site) h ≡ false
+  unnamed_holder : (v : View) (ip : Ip4) (no_room : Bool) (name : List ℕ) (asked : Options) (h : Option Mac) (d : Decision) → passes (λ mac. passes (is_own_name name mac ip) v.site) h ≡ false
       → DoesSo (without_profile v) (way_for_holder (without_profile v) ip no_room name asked h) d → DoesSo v (way_for_holder v ip no_room name asked h) d
   unnamed_holder v ip no_room name asked None d wrong does = does
   unnamed_holder v ip no_room name asked (Some mac) d wrong does = unnamed_modem v ip no_room name asked mac v.modem d wrong does
 
   -- a request with a wrong name leaves what is kept
-  refused_modem : (kept : Entries) (u v : View) (ip : Ip4) (no_room : Bool) (name : List ℕ) (asked : Option ℕ) (mac : Mac) (m : Option Modem) → passes (is_own_name name mac ip) v.site ≡ false
+  refused_modem : (kept : Entries) (u v : View) (ip : Ip4) (no_room : Bool) (name : List ℕ) (asked : Options) (mac : Mac) (m : Option Modem) → passes (is_own_name name mac ip) v.site ≡ false
       → kept_by u (way_for_modem v ip no_room name asked mac m) kept ≡ kept
   refused_modem kept u v ip no_room name asked mac None wrong = refl
   refused_modem kept u v ip no_room name asked mac (Some modem) wrong =
       ap (λ b. kept_by u (cond (not (b && is_some v.profile)) (Denies file_not_found) (cond no_room (Denies too_many_transfers) (Accepts mac modem.subscriber name asked))) kept) wrong
 
-  refused_holder : (kept : Entries) (u v : View) (ip : Ip4) (no_room : Bool) (name : List ℕ) (asked : Option ℕ) (h : Option Mac) → passes (λ mac. passes (is_own_name name mac ip) v.site) h ≡ false
+  refused_holder : (kept : Entries) (u v : View) (ip : Ip4) (no_room : Bool) (name : List ℕ) (asked : Options) (h : Option Mac) → passes (λ mac. passes (is_own_name name mac ip) v.site) h ≡ false
       → kept_by u (way_for_holder v ip no_room name asked h) kept ≡ kept
   refused_holder kept u v ip no_room name asked None wrong = refl
   refused_holder kept u v ip no_room name asked (Some mac) wrong = refused_modem kept u v ip no_room name asked mac v.modem wrong
 
   -- what is seen for a file, the whole or all but the profile
-  abbrev AnewDone : View → Ip4 → Bool → List ℕ → Option ℕ → Result Decision NoMemory → Type 0
+  abbrev AnewDone : View → Ip4 → Bool → List ℕ → Options → Result Decision NoMemory → Type 0
   AnewDone u ip no_room name asked step = CanServe u now ip → IfOk step (λ d. ServesSo u (way_anew u now ip no_room name asked) d)
 
-  seen_does : (v : View) (ip : Ip4) (no_room : Bool) (name : List ℕ) (asked : Option ℕ) (step : Result Decision NoMemory) (right : Bool) → names_file now ip name v ≡ right
+  seen_does : (v : View) (ip : Ip4) (no_room : Bool) (name : List ℕ) (asked : Options) (step : Result Decision NoMemory) (right : Bool) → names_file now ip name v ≡ right
       → CanServe v now ip → AnewDone (cond right v (without_profile v)) ip no_room name asked step → IfOk step (λ d. ServesSo v (way_anew v now ip no_room name asked) d)
   seen_does v ip no_room name asked step true is serves done = done serves
   seen_does v ip no_room name asked step false is serves done =
@@ -213,13 +214,13 @@ module _ (now : ℕ) (old : Transfers) (from : Peer) (bytes : List ℕ) where
   shown : (seen : Seen) (u : View) → view_of seen ≡ without_profile u → view_with seen u.profile ≡ u
   shown seen u is = ap (λ (w : View). record w { profile = u.profile }) is
 
-  shown_done : (seen : Seen) (u : View) (ip : Ip4) (no_room : Bool) (name : List ℕ) (asked : Option ℕ) (step : Result Decision NoMemory) → Shows seen u
+  shown_done : (seen : Seen) (u : View) (ip : Ip4) (no_room : Bool) (name : List ℕ) (asked : Options) (step : Result Decision NoMemory) → Shows seen u
       → ((profile : Option (List Tree)) → seen.body ≡ entry_for seen.modem profile → AnewDone (view_with seen profile) ip no_room name asked step) → AnewDone u ip no_room name asked step
   shown_done seen u ip no_room name asked step shows done =
       subst (λ (w : View). AnewDone w ip no_room name asked step) (shown seen u shows.rest)
       (done u.profile (shows.entry ∙ ap (λ (w : View). entry_for w.modem u.profile) (sym shows.rest)))
 
-  pub open_does : (v : View) (seen : Seen) (ip : Ip4) (full : Bool) (name : List ℕ) (asked : Option ℕ) (live : Option Transfer) (step : Result Decision NoMemory) → repeats bytes live ≡ false
+  pub open_does : (v : View) (seen : Seen) (ip : Ip4) (full : Bool) (name : List ℕ) (asked : Options) (live : Option Transfer) (step : Result Decision NoMemory) → repeats bytes live ≡ false
       → Shows seen (seen_for now ip name v) → CanServe v now ip
       → ((profile : Option (List Tree)) → seen.body ≡ entry_for seen.modem profile → CanServe (view_with seen profile) now ip
       → IfOk step (Serves (view_with seen profile) now old from bytes (way_anew (view_with seen profile) now ip (lacks_room_by full live) name asked)))

@@ -1,4 +1,3 @@
-pub mod PacketLemmas
 pub mod KeptLemmas
 pub mod EntryLemmas
 pub mod TickedLemmas

@@ -94,13 +94,13 @@ started_begins old request mac subscriber entry grant (Err err) whose new is = t
 module _ (old : Transfers) (request : Request) where
   module _ (seen : Seen) (modem : Modem) (found : KeptBody) (mac : Mac) where
     abbrev made : List ℕ → Transfer
-    made file = begun request.at.0 request.bytes.now mac modem.subscriber request.name.now request.size file
+    made file = begun request.at.0 request.bytes.now mac modem.subscriber request.name.now request.options file
 
     abbrev Done : Option (List Tree) → Way → Decision → Type 0
     Done profile w d = Serves (view_with seen profile) request.at.0 old request.from request.bytes.now w d
 
     accepted : (p : List Tree) (file : List ℕ) → IsBuiltBy (view_with seen (Some p)) request.at.0 request.from.ip file → seen.modem ≡ Some modem → entry_of modem p ≡ found
-        → Done (Some p) (Accepts mac modem.subscriber request.name.now request.size) (start_of request.from found (made file) request.size)
+        → Done (Some p) (Accepts mac modem.subscriber request.name.now request.options) (start_of request.from found (made file) request.options)
     accepted p file built there entry = record {
       does = (file, (built, refl));
       keeps = λ entries.
@@ -109,8 +109,8 @@ module _ (old : Transfers) (request : Request) where
     }
 
     way_is : (own no_room : Bool) → own ≡ true → no_room ≡ false
-        → Accepts mac modem.subscriber request.name.now request.size
-        ≡ cond (not (own && true)) (Denies file_not_found) (cond no_room (Denies too_many_transfers) (Accepts mac modem.subscriber request.name.now request.size))
+        → Accepts mac modem.subscriber request.name.now request.options
+        ≡ cond (not (own && true)) (Denies file_not_found) (cond no_room (Denies too_many_transfers) (Accepts mac modem.subscriber request.name.now request.options))
     way_is true false is room = refl
     way_is true true is room = cc
     way_is false no_room is room = cc
@@ -118,25 +118,25 @@ module _ (old : Transfers) (request : Request) where
     -- the transfer is the one of the modem and its subscriber
     begun_is : (grant : Grant) → IsFor mac modem.subscriber grant → begun_by request grant ≡ made grant.file
     begun_is grant whose =
-        ap (λ (m : Mac). begun request.at.0 request.bytes.now m grant.subscriber request.name.now request.size grant.file) whose.modem_is
-        ∙ ap (λ n. begun request.at.0 request.bytes.now mac n request.name.now request.size grant.file) whose.subscriber_is
+        ap (λ (m : Mac). begun request.at.0 request.bytes.now m grant.subscriber request.name.now request.options grant.file) whose.modem_is
+        ∙ ap (λ n. begun request.at.0 request.bytes.now mac n request.name.now request.options grant.file) whose.subscriber_is
 
     begun_serves : (p : List Tree) (grant : Grant) (step : Result Decision NoMemory) (no_room : Bool)
         → IsBuiltBy (view_with seen (Some p)) request.at.0 request.from.ip grant.file → IsFor mac modem.subscriber grant
         → passes (is_own_name request.name.now mac request.from.ip) seen.site ≡ true → no_room ≡ false
         → IfOk step (Starts request found (Some grant)) → seen.modem ≡ Some modem → entry_of modem p ≡ found
-        → IfOk step (Done (Some p) (way_for_modem (view_with seen (Some p)) request.from.ip no_room request.name.now request.size mac (Some modem)))
+        → IfOk step (Done (Some p) (way_for_modem (view_with seen (Some p)) request.from.ip no_room request.name.now request.options mac (Some modem)))
     begun_serves p grant (Err err) no_room built whose own room starts there entry = tt
     begun_serves p grant (Ok d) no_room built whose own room starts there entry =
-        let whole : d ≡ start_of request.from found (made grant.file) request.size = starts ∙ ap (λ (x : Transfer). start_of request.from found x request.size) (begun_is grant whose) in
+        let whole : d ≡ start_of request.from found (made grant.file) request.options = starts ∙ ap (λ (x : Transfer). start_of request.from found x request.options) (begun_is grant whose) in
         subst (λ (y : Way). Done (Some p) y d) (way_is (passes (is_own_name request.name.now mac request.from.ip) seen.site) no_room own room)
-        (subst (λ (e : Decision). Done (Some p) (Accepts mac modem.subscriber request.name.now request.size) e) (sym whole) (accepted p grant.file built there entry))
+        (subst (λ (e : Decision). Done (Some p) (Accepts mac modem.subscriber request.name.now request.options) e) (sym whole) (accepted p grant.file built there entry))
 
     start_serves : (profile : Option (List Tree)) (grant : Option Grant) (step : Result Decision NoMemory) (no_room : Bool)
         → Some found ≡ option_map (entry_of modem) profile → IsBegun (view_with seen profile) request.at.0 request.from.ip (option_map (λ (g : Grant). g.file) grant)
         → IfSome grant (IsFor mac modem.subscriber)
         → passes (is_own_name request.name.now mac request.from.ip) seen.site ≡ true → no_room ≡ false → IfOk step (Starts request found grant) → seen.modem ≡ Some modem
-        → IfOk step (Done profile (way_for_modem (view_with seen profile) request.from.ip no_room request.name.now request.size mac (Some modem)))
+        → IfOk step (Done profile (way_for_modem (view_with seen profile) request.from.ip no_room request.name.now request.options mac (Some modem)))
     start_serves None grant step no_room entry built whose own room starts there = cc
     start_serves (Some p) None step no_room entry built whose own room starts there =
         absurd (let e : (true && true) ≡ false = ap (λ b. b && true) (sym (site_there seen.site (is_own_name request.name.now mac request.from.ip) own)) ∙ built in cc)
@@ -153,7 +153,7 @@ module _ (old : Transfers) (request : Request) where
       → CanServe (view_with seen profile) request.at.0 request.from.ip → IfSome grant (IsFor mac subscriber)
       → HasName request.from.ip request.name.now mac seen → no_room ≡ false → IfOk step (Starts request entry grant) → seen.modem ≡ Some modem
       → IfOk step (Serves (view_with seen profile) request.at.0 old request.from request.bytes.now
-      (way_for_modem (view_with seen profile) request.from.ip no_room request.name.now request.size mac (Some modem)))
+      (way_for_modem (view_with seen profile) request.from.ip no_room request.name.now request.options mac (Some modem)))
   start_for seen modem found entry shared mac subscriber profile grant step no_room numbered there same shared_is made built serves whose own room starts row =
       let whole : Some found ≡ option_map (entry_of modem) profile = sym there ∙ made in
       start_serves seen modem found mac profile grant step no_room whole

@@ -10,10 +10,10 @@ use Rattle.off_outside.specs.KeeperSeen.{KeeperSeen}
 use Rattle.off_outside.specs.KeeperCalls.{Spent}
 use Rattle.off_transfer_rules.specs.View.{View, view}
 use Rattle.off_tftp.specs.Seen.{names_file}
-use Rattle.off_transfer_rules.specs.Packets.{Meant, Reads, Writes, Acknowledges, GivesUp, IsOther, packet_of}
+use Rattle.off_packets.specs.Packets.{Meant, Reads, Writes, Acknowledges, GivesUp, IsOther, packet_of}
 use Rattle.off_transfer_rules.specs.Steps.{is_repeated}
 use Rattle.off_transfer_rules.specs.Transfers.{Transfers, is_at_last}
-use Rattle.off_transfer_rules.specs.declared.faults.PacketFault.{PacketFault}
+use Rattle.off_packets.specs.declared.faults.PacketFault.{PacketFault}
 
 abbrev pub reading_calls : List ℕ → Option Transfer → ℕ
 reading_calls bytes None = 13

@@ -6,10 +6,12 @@ use Rattle.off_defs.specs.declared.results.Sent.{Sent}
 use Rattle.off_defs.specs.State.{Tables, Transfer}
 use Rattle.off_kept.specs.declared.bodies.KeptBody.{KeptBody}
 use Rattle.off_kept.specs.Entries.{Entries, with_first}
-use Rattle.off_transfer_rules.specs.Replies.{error_packet}
+use Rattle.off_packets.specs.declared.packets.Options.{Options}
+use Rattle.off_packets.specs.Replies.{error_packet}
 use Rattle.off_transfer_rules.specs.Transfers.{Transfers, asked_again, gone_on, is_at_last, first_word, last_packet, packet_to}
 use Rattle.off_transfer_rules.specs.View.{View, view}
-use Rattle.off_transfer_rules.specs.Steps.{Denial, Way, Given, GivesBy, gives, way, file_not_found}
+use Rattle.off_transfer_rules.specs.Steps.{Denial, Way, Given, GivesBy, gives, way}
+use Rattle.off_transfer_rules.specs.Steps.{illegal_operation, access_violation, octet_only, no_lease, no_longer_agreed, file_not_found, too_many_transfers, unknown_transfer}
 use Rattle.off_tftp.specs.Kept.{HasPlaceFor, changed}
 use Rattle.off_tftp.specs.Keeping.{kept_by}
 use Rattle.off_tftp.specs.Granted.{begun_by}
@@ -18,6 +20,8 @@ use Rattle.off_tftp.specs.declared.requests.Grant.{Grant}
 use Rattle.off_tftp.specs.declared.deciding.Change.{Change}
 use Rattle.off_tftp.specs.declared.deciding.Change.TheVariants as change
 use Rattle.off_tftp.specs.declared.deciding.Decision.{Decision}
+use Rattle.off_tftp.specs.declared.deciding.Refusal.{Refusal}
+use Rattle.off_tftp.specs.declared.deciding.Refusal.TheVariants as why
 
 abbrev pub items_of : Option Sent → List Sent
 items_of None = []
@@ -43,6 +47,17 @@ CanBe change.GoesOn transfers from = IfSome (map.get transfers from) (λ x. is_a
 CanBe (change.Begins live entry) transfers from = HasPlaceFor transfers from
 CanBe other transfers from = ⊤
 
+-- what is said for each reason of a refusal
+abbrev pub denial_of : Refusal → Denial
+denial_of why.Form = illegal_operation
+denial_of why.Write = access_violation
+denial_of why.Mode = octet_only
+denial_of why.NoLease = no_lease
+denial_of why.Agreement = no_longer_agreed
+denial_of why.Name = file_not_found
+denial_of why.Full = too_many_transfers
+denial_of why.Unknown = unknown_transfer
+
 -- a refusal is sent, and nothing changes
 abbrev pub refusal_of : Peer → Denial → Decision
 refusal_of from denial = record {
@@ -52,7 +67,7 @@ refusal_of from denial = record {
 }
 
 -- a transfer that begins, with its first packet
-abbrev pub start_of : Peer → KeptBody → Transfer → Option ℕ → Decision
+abbrev pub start_of : Peer → KeptBody → Transfer → Options → Decision
 start_of from entry live asked = record {
   word = first_word asked;
   sent = Some (packet_to from (last_packet live));
@@ -63,7 +78,7 @@ start_of from entry live asked = record {
 abbrev pub Starts : Request → KeptBody → Option Grant → Decision → Type 0
 Starts request entry grant d =
     MatchOption grant (d ≡ refusal_of request.from file_not_found)
-    (λ grant. d ≡ start_of request.from entry (begun_by request grant) request.size)
+    (λ grant. d ≡ start_of request.from entry (begun_by request grant) request.options)
 
 -- no change that touches what is kept
 abbrev pub KeepsNothing : Decision → Type 0

@@ -9,8 +9,8 @@ use Rattle.off_tftp.specs.declared.requests.Grant.{Grant}
 -- the transfer with which it begins
 abbrev pub begun_by : Request → Grant → Transfer
 begun_by request grant =
-    begun request.at.0 request.bytes.now grant.modem grant.subscriber request.name.now request.size
-    grant.file
+    begun request.at.0 request.bytes.now grant.modem grant.subscriber request.name.now
+    request.options grant.file
 
 -- it was found for this modem of this subscriber
 pub record IsFor (modem : Mac) (subscriber : ℕ) (grant : Grant) : Type 0 where

@@ -1,4 +1,3 @@
-pub mod Pieces
 pub mod Built
 pub mod Kept
 pub mod Saying

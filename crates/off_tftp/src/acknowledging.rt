@@ -10,7 +10,7 @@ ghost use Rattle.off_tftp.specs.declared.deciding.Change.TheVariants.{Ends};
 ghost use Rattle.off_tftp.specs.Seen.{view_of};
 ghost use Rattle.off_tftp.specs.Stages.{repeats, stage_of};
 
-use crate::deciding::{Change, Decision, deny, packet_to};
+use crate::deciding::{Change, Decision, Refusal, packet_to, refuse};
 use crate::gathering::Seen;
 use crate::judging::agrees;
 use crate::transfers::Transfers;
@@ -122,7 +122,7 @@ impl Transfers {
 fn break_off(alloc: Global, from: Peer) -> Result<Decision, NoMemory>
     ensures { IfOk result (λ d. d ≡ record (refusal_of from no_longer_agreed) { change = Ends }) }
 {
-    let refusal = deny(alloc, from, 2, b"no longer agreed", TftpWord::Agreement)?;
+    let refusal = refuse(alloc, from, Refusal::Agreement)?;
     Ok(Decision {
         word: refusal.word,
         sent: refusal.sent,

@@ -4,7 +4,7 @@ ghost use Rattle.std.specs.Prelude.{◌≡◌, ◌≤◌, List, ℕ, Ok, false, 
 ghost use Rattle.std.specs.Prelude.{OnOk, OnErr, MatchResult};
 ghost use Rattle.std.specs.FinMap as map;
 ghost use Rattle.off_transfer_rules.specs.Steps.{way_of_request, way_of_last};
-ghost use Rattle.off_transfer_rules.specs.Steps.{way_of_acknowledgement, illegal_operation};
+ghost use Rattle.off_transfer_rules.specs.Steps.{way_of_acknowledgement};
 ghost use Rattle.off_transfer_rules.specs.Transfers.{has_no_room, is_at_last};
 ghost use Rattle.off_transfer_rules.specs.View.{view};
 ghost use Rattle.off_kept.specs.Right.{AllRight};
@@ -14,20 +14,20 @@ ghost use Rattle.off_tftp.specs.Calls.{datagram_calls, reading_calls, acknowledg
 ghost use Rattle.off_tftp.specs.Calls.{FewWhereUnnamed, FewUnlessNamed};
 ghost use Rattle.off_tftp.specs.Keeping.{FewWhereKept, FewWhereBegun, AnswersKeeping};
 ghost use Rattle.off_tftp.specs.Saying.{says_more};
-ghost use Rattle.off_tftp.specs.Deciding.{Does, Serves, Decides, CanBe, KeepsNothing, refusal_of};
+ghost use Rattle.off_tftp.specs.Deciding.{Does, Serves, Decides, CanBe, KeepsNothing};
 ghost use Rattle.off_tftp.specs.Deciding.{after_change, kept_behind, items_of};
 
 use crate::acknowledging::Stage;
-use crate::deciding::{Change, Decision, deny};
+use crate::deciding::{Change, Decision, Refusal, refuse};
 use crate::gathering::{look, look_for_file};
-use crate::packets::read_packet;
 use crate::requests::{Datagram, Request};
 use crate::transfers::Transfers;
 use off_base::{Moment, NoMemory, Peer};
 use off_defs::Sent;
 use off_kept::Kept;
 use off_outside::{KeepErr, Keeper, Replies};
-use off_transfer_rules::{Packet, PacketFault, TftpWord};
+use off_packets::{Packet, PacketFault, read_packet};
+use off_transfer_rules::TftpWord;
 use std::alloc::Global;
 
 impl Transfers {
@@ -102,13 +102,13 @@ impl Transfers {
     {
         let Datagram { from, at, bytes } = *datagram;
         match read_packet(bytes) {
-            Ok(Packet::Read { name, size }) => {
+            Ok(Packet::Read { name, options }) => {
                 let request = Request {
                     from,
                     at,
                     bytes,
                     name,
-                    size,
+                    options,
                 };
                 self.on_request(alloc, keeper, kept, &request)
             }
@@ -118,15 +118,10 @@ impl Transfers {
                 sent: None,
                 change: Change::Ends,
             }),
-            Ok(Packet::Write) => {
-                let text = b"access violation";
-                settled(deny(alloc, from, 2, text, TftpWord::Write))
-            }
-            Ok(Packet::Other) => settled(deny_form(alloc, from)),
-            Err(PacketFault::Form) => settled(deny_form(alloc, from)),
-            Err(PacketFault::Mode) => {
-                settled(deny(alloc, from, 0, b"octet only", TftpWord::Mode))
-            }
+            Ok(Packet::Write) => settled(refuse(alloc, from, Refusal::Write)),
+            Ok(Packet::Other) => settled(refuse(alloc, from, Refusal::Form)),
+            Err(PacketFault::Form) => settled(refuse(alloc, from, Refusal::Form)),
+            Err(PacketFault::Mode) => settled(refuse(alloc, from, Refusal::Mode)),
         }
     }
 
@@ -139,13 +134,13 @@ impl Transfers {
         kept: &Kept,
         request: &Request<'_>,
     ) -> Result<Decision, KeepErr>
-        requires { IfSome request.now.size (λ size. 8 ≤ size) }
+        requires { IfSome request.now.options.blksize (λ size. 8 ≤ size) }
         ensures told { Looks result (K.seen keeper.old) (K.seen keeper.new)
             (λ d t. AllRight t kept.now → Serves (view t request.now.from.ip)
             request.now.at.0 self.now request.now.from request.now.bytes.now
             (way_of_request (view t request.now.from.ip) request.now.at.0 request.now.from.ip
             (has_no_room self.now) request.now.bytes.now request.now.name.now
-            request.now.size (map.get self.now request.now.from)) d) }
+            request.now.options (map.get self.now request.now.from)) d) }
         ensures able { IfOk result (λ d. CanBe d.change self.now request.now.from) }
         ensures spent { Spent
             (reading_calls request.now.bytes.now (map.get self.now request.now.from))
@@ -189,9 +184,7 @@ impl Transfers {
             (K.seen keeper.old) (K.seen keeper.new) }
     {
         match self.stage_of(from, number) {
-            Stage::Unknown => {
-                settled(deny(alloc, from, 5, b"unknown transfer", TftpWord::Unknown))
-            }
+            Stage::Unknown => settled(refuse(alloc, from, Refusal::Unknown)),
             Stage::Stale => Ok(Decision {
                 word: TftpWord::StaleAck,
                 sent: None,
@@ -304,13 +297,6 @@ fn say(sent: Option<Sent>, out: &mut Replies) -> Result<(), NoMemory>
         Some(item) => out.push(item),
         None => Ok(()),
     }
-}
-
-// A packet that isn't served, or none.
-fn deny_form(alloc: Global, from: Peer) -> Result<Decision, NoMemory>
-    ensures { IfOk result (λ d. d ≡ refusal_of from illegal_operation) }
-{
-    deny(alloc, from, 4, b"illegal operation", TftpWord::Form)
 }
 
 fn settled(decision: Result<Decision, NoMemory>) -> Result<Decision, KeepErr>

@@ -3,9 +3,9 @@
 //!
 //! `Transfers` has what is live, each with its own file (`transfers`, `live`, `files`), whose body
 //! may be shared with other files of the modem and with what is kept (`bodies`). A datagram is read
-//! (`packets`), by the peer's transfer it's told what is to be read of the tables (`acknowledging`,
-//! `gathering`), and what was read judges it (`judging`, `opening`). All that may fail comes before
-//! the first change that can't be taken back.
+//! (`off_packets`); by the peer's transfer it's told what is to be read of the tables
+//! (`acknowledging`, `gathering`), and what was read judges it (`judging`, `opening`). What it comes
+//! to is a value (`deciding`) before anything is said or done (`datagrams`).
 #![tactic(auto)]
 
 mod acknowledging;
@@ -17,13 +17,11 @@ mod gathering;
 mod judging;
 mod live;
 mod opening;
-mod packets;
-mod replies;
 mod requests;
 mod ticking;
 mod transfers;
 
 pub use off_kept::{Kept, KeptBody};
-pub use off_transfer_rules::{Packet, PacketFault, TftpWord, Ticked};
-pub use packets::read_packet;
+pub use off_packets::{Options, Packet, PacketFault, read_packet};
+pub use off_transfer_rules::{TftpWord, Ticked};
 pub use transfers::Transfers;

@@ -1,5 +1,4 @@
 ghost use Rattle.std.specs.Prelude.{◌≡◌, ◌≤◌, suc, true, false, length, IfOk, IfSome};
-ghost use Rattle.off_transfer_rules.specs.Replies.{data_packet, oack_packet};
 ghost use Rattle.off_file_rules.specs.Name.{name_of};
 ghost use Rattle.off_transfer_rules.specs.Steps.{is_repeated};
 ghost use Rattle.off_transfer_rules.specs.View.{is_own_name};
@@ -11,10 +10,10 @@ ghost use Rattle.off_tftp.specs.Granted.{begun_by};
 
 use crate::files::File;
 use crate::judging::is_own_name;
-use crate::replies::{data_packet, oack_packet};
 use crate::requests::{Grant, Named, Request};
 use off_base::{Bytes, Ip4, Mac, Moment, NoMemory};
 use off_defs::Site;
+use off_packets::{Options, data_packet, oack_packet};
 use std::alloc::Global;
 use std::marker::Model;
 
@@ -88,7 +87,7 @@ impl Live {
         request: &Request<'_>,
         grant: Grant,
     ) -> Result<Live, NoMemory>
-        requires least { IfSome request.now.size (λ size. 8 ≤ size) }
+        requires least { IfSome request.now.options.blksize (λ size. 8 ≤ size) }
         requires few { length grant.file ≤ 6200 }
         requires right { request.now.name.now
             ≡ name_of grant.named.secret grant.modem grant.named.ip }
@@ -104,9 +103,9 @@ impl Live {
             modem: grant.modem,
             subscriber: grant.subscriber,
             file: grant.file,
-            size: size_for(request.size),
+            size: size_for(request.options),
             request: asked,
-            sent: first_number(request.size),
+            sent: first_number(request.options),
             is_acknowledged: false,
             last_send: request.at,
             resends: 0,
@@ -195,10 +194,10 @@ impl Live {
             (λ packet. packet ≡ packet_of_number self.now.file self.now.size number) }
     {
         if number == 0 {
-            oack_packet(alloc, self.held.size)
-        } else {
-            data_packet(alloc, &self.held.file, self.held.size, number)
+            return oack_packet(alloc, self.held.size);
         }
+        let block = self.held.file.block(self.held.size, number);
+        data_packet(alloc, number, self.held.size, block.first, block.rest)
     }
 
     /// The next block was sent.
@@ -244,24 +243,21 @@ impl Live {
 }
 
 // The size of blocks for the one that is asked for.
-fn size_for(asked: Option<u16>) -> u16
-    requires { IfSome asked (λ size. 8 ≤ size) }
-    ensures size { result ≡ size_for asked }
+fn size_for(options: Options) -> u16
+    requires { IfSome options.blksize (λ size. 8 ≤ size) }
+    ensures size { result ≡ size_for options }
     ensures least { 8 ≤ result }
     ensures most { result ≤ 1428 }
 {
-    match asked {
+    match options.blksize {
         Some(size) => size.min(MOST_SIZE),
         None => USUAL_SIZE,
     }
 }
 
-// The number of the first packet: 0 for the one that tells the size.
-fn first_number(asked: Option<u16>) -> u16
-    ensures { result ≡ first_number asked }
+// The number of the first packet: 0 for the one that tells what was taken.
+fn first_number(options: Options) -> u16
+    ensures { result ≡ first_number options }
 {
-    match asked {
-        Some(_) => 0,
-        None => 1,
-    }
+    if options.has_any() { 0 } else { 1 }
 }

@@ -17,7 +17,7 @@ ghost use Rattle.off_tftp.specs.Deciding.{Serves, CanBe, Starts, after_change};
 ghost use Rattle.off_tftp.specs.Seen.{view_with, held_by, IsNamed, HasName, CanServe};
 ghost use Rattle.off_tftp.specs.Stages.{lacks_room, repeats};
 
-use crate::deciding::{Change, Decision, deny, packet_to};
+use crate::deciding::{Change, Decision, Refusal, packet_to, refuse};
 use crate::files::File;
 use crate::gathering::Seen;
 use crate::judging::holder;
@@ -28,6 +28,7 @@ use off_base::{Mac, NoMemory, Peer};
 use off_defs::Site;
 use off_files::Body;
 use off_kept::KeptBody;
+use off_packets::Options;
 use off_transfer_rules::TftpWord;
 use std::alloc::Global;
 
@@ -40,7 +41,7 @@ impl Transfers {
         seen: &Seen,
         request: &Request<'_>,
     ) -> Result<Decision, NoMemory>
-        requires least { IfSome request.now.size (λ size. 8 ≤ size) }
+        requires least { IfSome request.now.options.blksize (λ size. 8 ≤ size) }
         requires named { IsNamed request.now.at.0 request.now.from.ip request.now.name.now
             seen.now }
         ensures done { (profile : Option (List Tree))
@@ -49,7 +50,7 @@ impl Transfers {
             → IfOk result (Serves (view_with seen.now profile) request.now.at.0 self.now
             request.now.from request.now.bytes.now
             (way_anew (view_with seen.now profile) request.now.at.0 request.now.from.ip
-            (lacks_room self.now request.now.from) request.now.name.now request.now.size)) }
+            (lacks_room self.now request.now.from) request.now.name.now request.now.options)) }
         ensures able { IfOk result (λ d. CanBe d.change self.now request.now.from) }
         ensures begins { repeats request.now.bytes.now (map.get self.now request.now.from) ≡ false
             → IfOk result (λ d. BeginsFor (held_by request.now.at.0 seen.now.lease)
@@ -58,11 +59,10 @@ impl Transfers {
             request.now.from)) }
     {
         let Some(mac) = holder(request.at, seen.lease) else {
-            return deny(alloc, request.from, 2, b"no lease", TftpWord::NoLease);
+            return refuse(alloc, request.from, Refusal::NoLease);
         };
         let Some(modem) = &seen.modem else {
-            let text = b"no longer agreed";
-            return deny(alloc, request.from, 2, text, TftpWord::Agreement);
+            return refuse(alloc, request.from, Refusal::Agreement);
         };
         self.open_for(alloc, seen, request, mac, modem.subscriber)
     }
@@ -77,7 +77,7 @@ impl Transfers {
         mac: Mac,
         subscriber: u32,
     ) -> Result<Decision, NoMemory>
-        requires least { IfSome request.now.size (λ size. 8 ≤ size) }
+        requires least { IfSome request.now.options.blksize (λ size. 8 ≤ size) }
         requires named { HasName request.now.from.ip request.now.name.now mac seen.now }
         ensures done { (modem : ModemSeen) (profile : Option (List Tree))
             → modem.subscriber ≡ subscriber → seen.now.modem ≡ Some modem
@@ -86,7 +86,7 @@ impl Transfers {
             → IfOk result (Serves (view_with seen.now profile) request.now.at.0 self.now
             request.now.from request.now.bytes.now
             (way_for_modem (view_with seen.now profile) request.now.from.ip
-            (lacks_room self.now request.now.from) request.now.name.now request.now.size mac
+            (lacks_room self.now request.now.from) request.now.name.now request.now.options mac
             (Some modem))) }
         ensures able { IfOk result (λ d. CanBe d.change self.now request.now.from) }
         ensures begins { repeats request.now.bytes.now (map.get self.now request.now.from) ≡ false
@@ -95,16 +95,10 @@ impl Transfers {
             request.now.from)) }
     {
         let Some(found) = &seen.body else {
-            return deny(alloc, request.from, 1, b"file not found", TftpWord::Name);
+            return refuse(alloc, request.from, Refusal::Name);
         };
         if self.lacks_room(request.from) {
-            return deny(
-                alloc,
-                request.from,
-                0,
-                b"too many transfers",
-                TftpWord::Full,
-            );
+            return refuse(alloc, request.from, Refusal::Full);
         }
         let entry = shared(found)?;
         let grant = grant_for(&seen.site, found.body.share()?, request, mac, subscriber);
@@ -126,19 +120,19 @@ fn start(
     entry: KeptBody,
     grant: Option<Grant>,
 ) -> Result<Decision, NoMemory>
-    requires least { IfSome request.now.size (λ size. 8 ≤ size) }
+    requires least { IfSome request.now.options.blksize (λ size. 8 ≤ size) }
     requires few { IfSome grant (λ grant. length grant.file ≤ 6200) }
     requires right { IfSome grant (λ grant. request.now.name.now
         ≡ name_of grant.named.secret grant.modem grant.named.ip) }
     ensures { IfOk result (Starts request.now entry grant) }
 {
     let Some(grant) = grant else {
-        return deny(alloc, request.from, 1, b"file not found", TftpWord::Name);
+        return refuse(alloc, request.from, Refusal::Name);
     };
     let live = Live::begin(alloc, request, grant)?;
     let packet = live.last_packet(alloc)?;
     Ok(Decision {
-        word: first_word(request.size),
+        word: first_word(request.options),
         sent: Some(packet_to(request.from, packet)),
         change: Change::Begins { live, entry },
     })
@@ -190,11 +184,12 @@ fn grant_for(
     })
 }
 
-fn first_word(size: Option<u16>) -> TftpWord
-    ensures { result ≡ first_word size }
+fn first_word(options: Options) -> TftpWord
+    ensures { result ≡ first_word options }
 {
-    match size {
-        Some(_) => TftpWord::Oack,
-        None => TftpWord::Block(1),
+    if options.has_any() {
+        TftpWord::Oack
+    } else {
+        TftpWord::Block(1)
     }
 }

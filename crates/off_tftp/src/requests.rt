@@ -2,6 +2,7 @@
 
 use crate::files::File;
 use off_base::{Ip4, Mac, Moment, Peer, Secret};
+use off_packets::Options;
 
 /// A datagram: from whom it is, when it came, and its bytes.
 #[derive(Clone, Copy)]
@@ -11,14 +12,14 @@ pub(crate) struct Datagram<'a> {
     pub(crate) bytes: &'a [u8],
 }
 
-/// A read request, with the name and the size of blocks for which it asks.
+/// A read request, with the name and the options for which it asks.
 #[derive(Clone, Copy)]
 pub(crate) struct Request<'a> {
     pub(crate) from: Peer,
     pub(crate) at: Moment,
     pub(crate) bytes: &'a [u8],
     pub(crate) name: &'a [u8],
-    pub(crate) size: Option<u16>,
+    pub(crate) options: Options,
 }
 
 /// Under which secret, and for which address, a file's name was found right.

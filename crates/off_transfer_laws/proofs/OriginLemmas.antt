@@ -6,7 +6,7 @@ use Rattle.std.specs.FinMap as map
 use Rattle.off_base.specs.declared.addresses.Peer.{Peer}
 use Rattle.off_defs.specs.State.{Tables, Transfer, peer_cmp}
 use Rattle.off_account_rules.specs.Rows.{lease_in}
-use Rattle.off_transfer_rules.specs.Packets.{Acknowledges, packet_of}
+use Rattle.off_packets.specs.Packets.{Acknowledges, packet_of}
 use Rattle.off_transfer_rules.specs.View.{View, view, agrees}
 use Rattle.off_transfer_rules.specs.Transfers.{Transfers, has_no_room, is_at_last, begun, gone_on, asked_again}
 use Rattle.off_transfer_rules.specs.Steps.{Way, Denies, Repeats, Accepts, Ignores, Finishes, BreaksOff, GoesOn, Leaves, way_of_last, way_of, way, Given, GivesBy, TftpStep}

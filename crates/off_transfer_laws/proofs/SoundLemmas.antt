@@ -1,5 +1,5 @@
 -- Each transfer is sound: so it begins, goes on, and is sent again.
-use Rattle.std.proofs.Common.{◌≡◌, ℕ, zero, suc, ◌+◌, ◌-◌, ◌*◌, ◌≤◌, ◌<◌, min, Bool, true, false, cond, List, length, take, drop, length-take, length-drop, suc-mul, mul-le-mul_left, Option, Some, None, MatchOption, refl, sym, ap, subst, ◌∙◌, arith, lit≤}
+use Rattle.std.proofs.Common.{if◌then◌else◌, ◌≡◌, ℕ, zero, suc, ◌+◌, ◌-◌, ◌*◌, ◌≤◌, ◌<◌, min, Bool, true, false, cond, List, length, take, drop, length-take, length-drop, suc-mul, mul-le-mul_left, Option, Some, None, MatchOption, unwrap_or, refl, sym, ap, subst, ◌∙◌, arith, lit≤}
 use Rattle.std.proofs.lemmas.Bool.{ltb-false}
 use Rattle.std.specs.Ordering.{eq_by_cmp}
 use Rattle.std.specs.FinMap as map
@@ -9,44 +9,45 @@ use Rattle.off_base.specs.declared.macs.Mac.{Mac}
 use Rattle.off_defs.specs.State.{Tables, Transfer, peer_cmp}
 use Rattle.off_account_rules.specs.Rows.{lease_in}
 use Rattle.off_file_laws.proofs.LawLemmas.{files_are_short}
+use Rattle.off_packets.specs.Packets.{has_option}
+use Rattle.off_packets.specs.declared.packets.Options.{Options}
 use Rattle.off_transfer_rules.specs.View.{view, IsBuiltBy}
-use Rattle.off_transfer_rules.specs.Transfers.{Transfers, has_no_room, size_for, first_number, begun, is_last_number, is_at_last, gone_on, asked_again, sent_again}
+use Rattle.off_transfer_rules.specs.Transfers.{Transfers, has_no_room, size_for, begun, is_last_number, is_at_last, gone_on, asked_again, sent_again}
 use Rattle.off_transfer_rules.specs.Steps.{Way, Denies, Repeats, Accepts, Ignores, Finishes, BreaksOff, GoesOn, Leaves, way, Given, GivesBy, TftpStep}
 use Rattle.off_transfer_rules.proofs.PeerLemmas.{inserted, removed}
 use Rattle.off_transfer_laws.specs.Laws.{Ticks, waits, goes_again, closes}
 use Rattle.off_transfer_laws.specs.Sound.{BeginsWithin, IsSound, AllSound, StepKeepsSound, TickKeepsSound, NumbersFit}
-use Rattle.off_transfer_laws.proofs.TextLemmas.{Fits}
+use Rattle.off_transfer_laws.proofs.TextLemmas.{Fits, IsSize}
 use Rattle.off_transfer_laws.proofs.ViewLemmas.{held_of, live_in, owner_held, file_of_built}
 use Rattle.off_transfer_laws.proofs.WayLemmas.{Accepting, Standing, standing_way}
 use Rattle.off_transfer_laws.proofs.TickLaws.{tick_changes}
 
 -- ---- one transfer
 
-size_least : (asked : Option ℕ) → Fits asked → 8 ≤ size_for asked
-size_least None fits = lit≤ tt
-size_least (Some size) fits = omega (arith, fits.0)
+size_by : (size : Option ℕ) → IsSize size → 8 ≤ min (unwrap_or size 512) 1428
+size_by None fits = lit≤ tt
+size_by (Some size) fits = omega (arith, fits.0)
 
-size_most : (asked : Option ℕ) → size_for asked ≤ 1428
-size_most None = lit≤ tt
-size_most (Some size) = omega arith
+size_most : (asked : Options) → size_for asked ≤ 1428
+size_most asked = omega arith
 
-first_within : (file : List ℕ) (asked : Option ℕ) → BeginsWithin file (size_for asked) (first_number asked)
-first_within file None = omega arith
-first_within file (Some size) = tt
+first_by : (file : List ℕ) (size : ℕ) (any : Bool) → BeginsWithin file size (if any then 0 else 1)
+first_by file size true = tt
+first_by file size false = omega arith
 
-first_least : (asked : Option ℕ) → first_number asked ≤ 1
-first_least None = lit≤ tt
-first_least (Some size) = lit≤ tt
+least_by : (any : Bool) → (if any then 0 else 1) ≤ 1
+least_by true = lit≤ tt
+least_by false = lit≤ tt
 
-pub begun_sound : (now : ℕ) (request : List ℕ) (mac : Mac) (owner : ℕ) (name : List ℕ) (asked : Option ℕ) (file : List ℕ) → length file ≤ 6200 → Fits asked
+pub begun_sound : (now : ℕ) (request : List ℕ) (mac : Mac) (owner : ℕ) (name : List ℕ) (asked : Options) (file : List ℕ) → length file ≤ 6200 → Fits asked
     → IsSound (begun now request mac owner name asked file)
 begun_sound now request mac owner name asked file short fits = record {
   short = short;
-  least_size = size_least asked fits;
+  least_size = size_by asked.blksize fits;
   most_size = size_most asked;
-  within = first_within file asked;
+  within = first_by file (size_for asked) (has_option asked);
   few_resends = lit≤ tt;
-  first_only = λ none. first_least asked;
+  first_only = λ none. least_by (has_option asked);
 }
 
 pub asked_again_sound : (now : ℕ) (x : Transfer) → IsSound x → IsSound (asked_again now x)

@@ -1,5 +1,5 @@
 -- The laws of datagrams.
-use Rattle.std.proofs.Common.{◌≡◌, ◌≢◌, ℕ, suc, ◌+◌, ◌-◌, ◌≤◌, Bool, true, false, cond, nat_le, List, [], is_some, Option, Some, None, refl, sym, ap, subst, ◌∙◌, inl, inr, arith}
+use Rattle.std.proofs.Common.{if◌then◌else◌, ◌≡◌, ◌≢◌, ℕ, suc, ◌+◌, ◌-◌, ◌≤◌, Bool, true, false, cond, nat_le, List, [], is_some, Option, Some, None, refl, sym, ap, subst, ◌∙◌, inl, inr, arith}
 use Rattle.std.proofs.lemmas.Bool.{leb-false, and_parts, eq-eqb}
 use Rattle.std.specs.FinMap as map
 use Rattle.off_base.specs.declared.addresses.Ip4.{Ip4}
@@ -7,6 +7,8 @@ use Rattle.off_base.specs.declared.addresses.Peer.{Peer}
 use Rattle.off_base.specs.declared.macs.Mac.{Mac}
 use Rattle.off_defs.specs.State.{Tables, Transfer}
 use Rattle.off_account_rules.specs.Rows.{passes, lease_in}
+use Rattle.off_packets.specs.Packets.{has_option}
+use Rattle.off_packets.specs.declared.packets.Options.{Options}
 use Rattle.off_transfer_rules.specs.View.{View, view, is_of_subscriber, is_own_name, IsBuiltBy}
 use Rattle.off_transfer_rules.specs.Transfers.{Transfers, has_no_room, first_word, begun, gone_on, asked_again}
 use Rattle.off_transfer_rules.specs.Steps.{Way, Denies, Repeats, Accepts, Ignores, Finishes, BreaksOff, GoesOn, Leaves, way, Given, gives, error_to, last_to, GivesBy, TftpStep, no_longer_agreed}
@@ -135,9 +137,9 @@ pub answers_go_back : AnswersGoBack
 unfolding TftpStep
 answers_go_back t now xs from bytes given step = answer_by (view t from.ip) now xs from bytes (way (view t from.ip) now xs from bytes) given step
 
-first_acts : (asked : Option ℕ) → is_refusal (first_word asked) ≡ false
-first_acts None = refl
-first_acts (Some asked) = refl
+first_acts : (any : Bool) → is_refusal (if any then word.Oack else word.Block 1) ≡ false
+first_acts true = refl
+first_acts false = refl
 
 acts_not : (given : Given) (P : Type 0) → is_refusal given.word ≡ false → is_refusal given.word ≡ true → P
 acts_not given P acts refuses = cc
@@ -146,7 +148,7 @@ refusal_by : (v : View) (now : ℕ) (xs : Transfers) (from : Peer) (bytes : List
     → is_refusal given.word ≡ true → given.transfers ≡ xs
 refusal_by v now xs from bytes (Denies denial) given e h = ap (λ (g : Given). g.transfers) e
 refusal_by v now xs from bytes (Repeats x) given e h = acts_not given _ (ap (λ (g : Given). is_refusal g.word) e) h
-refusal_by v now xs from bytes (Accepts mac owner name asked) given e h = acts_not given _ (ap (λ (g : Given). is_refusal g.word) e.1.1 ∙ first_acts asked) h
+refusal_by v now xs from bytes (Accepts mac owner name asked) given e h = acts_not given _ (ap (λ (g : Given). is_refusal g.word) e.1.1 ∙ first_acts (has_option asked)) h
 refusal_by v now xs from bytes Ignores given e h = ap (λ (g : Given). g.transfers) e
 refusal_by v now xs from bytes Finishes given e h = acts_not given _ (ap (λ (g : Given). is_refusal g.word) e) h
 refusal_by v now xs from bytes BreaksOff given e h = acts_not given _ (ap (λ (g : Given). is_refusal g.word) e) h

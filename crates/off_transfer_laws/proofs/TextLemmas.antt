@@ -3,10 +3,11 @@ use Rattle.std.proofs.Common.{◌≡◌, ℕ, suc, ◌-◌, ◌≤◌, Bool, tru
 use Rattle.std.proofs.lemmas.Bool.{or_parts, or_from, eqb-true, leb-true, le-ltb, and_parts}
 use Rattle.std.specs.List.{flat_map, slice_split, onto_first, AllByRecursion, find}
 use Rattle.std.specs.Str.{str_eq_ignore_ascii_case}
+use Rattle.off_packets.specs.declared.packets.Options.{Options}
 use Rattle.off_base.specs.Number.{number_of, is_number_text, number_read}
-use Rattle.off_transfer_rules.specs.Packets.{Meant, Reads, Writes, GivesUp, IsOther, is_zero, all_but_last, ended_texts, option_pairs, is_block_size, size_read, size_asked, request_of, two_byte_number, acknowledgement_of, short_packet_of, packet_of}
-use Rattle.off_transfer_rules.specs.declared.faults.PacketFault.{PacketFault}
-use Rattle.off_transfer_rules.specs.declared.faults.PacketFault.TheVariants as fault
+use Rattle.off_packets.specs.Packets.{Meant, Reads, Writes, GivesUp, IsOther, is_zero, all_but_last, ended_texts, option_pairs, is_block_size, size_read, options_asked, request_of, two_byte_number, acknowledgement_of, short_packet_of, packet_of}
+use Rattle.off_packets.specs.declared.faults.PacketFault.{PacketFault}
+use Rattle.off_packets.specs.declared.faults.PacketFault.TheVariants as fault
 use Rattle.off_transfer_laws.specs.Texts.{has_zero, with_zero, IsEnded, TextsAreThese, RequestsAreRead, SizesFit}
 
 split_free : (xs : List ℕ) → has_zero xs ≡ false → slice_split is_zero xs ≡ xs ∷ []
@@ -100,34 +101,37 @@ requests_are_read bytes texts is few =
 
 -- ---- sizes
 
-abbrev pub Fits : Option ℕ → Type 0
-Fits None = Unit {0}
-Fits (Some size) = (8 ≤ size) × (size ≤ 65464)
+abbrev pub IsSize : Option ℕ → Type 0
+IsSize None = Unit {0}
+IsSize (Some size) = (8 ≤ size) × (size ≤ 65464)
+
+abbrev pub Fits : Options → Type 0
+Fits asked = IsSize asked.blksize
 
 abbrev pub Fitting : Result Meant PacketFault → Type 0
 Fitting (Ok (Reads name asked)) = Fits asked
 Fitting other = Unit {0}
 
-least_by : (n : ℕ) (b : Bool) → nat_le 8 n ≡ b → n ≤ 65464 → Fits (if b then Some n else None)
+least_by : (n : ℕ) (b : Bool) → nat_le 8 n ≡ b → n ≤ 65464 → IsSize (if b then Some n else None)
 least_by n true e most = (leb-true 8 n e, most)
 least_by n false e most = tt
 
 number_by : (n : ℕ) (text : Bool) (b : Bool) → (text && nat_le n 65464) ≡ b
-    → Fits (option_and_then (λ (size : ℕ). if nat_le 8 size then Some size else None) (if b then Some n else None))
+    → IsSize (option_and_then (λ (size : ℕ). if nat_le 8 size then Some size else None) (if b then Some n else None))
 number_by n text true e = least_by n (nat_le 8 n) refl (leb-true n 65464 (and_parts text (nat_le n 65464) e).1)
 number_by n text false e = tt
 
 number_fits : (value : List ℕ) (b : Bool)
-    → Fits (option_and_then (λ (size : ℕ). if nat_le 8 size then Some size else None) (if b then number_read 65464 value else None))
+    → IsSize (option_and_then (λ (size : ℕ). if nat_le 8 size then Some size else None) (if b then number_read 65464 value else None))
 unfolding number_read
 number_fits value true = number_by (number_of value) (is_number_text value) (is_number_text value && nat_le (number_of value) 65464) refl
 number_fits value false = tt
 
-asked_fits : (o : Option (List ℕ × List ℕ)) → Fits (option_and_then (λ (named : List ℕ × List ℕ). size_read named.1) o)
+asked_fits : (o : Option (List ℕ × List ℕ)) → IsSize (option_and_then (λ (named : List ℕ × List ℕ). size_read named.1) o)
 asked_fits None = tt
 asked_fits (Some named) = number_fits named.1 (nat_le (length named.1) 5)
 
-octet_fits : (name : List ℕ) (texts : List (List ℕ)) (b : Bool) → Fitting (if b then Ok (Reads name (size_asked texts)) else Err fault.Mode)
+octet_fits : (name : List ℕ) (texts : List (List ℕ)) (b : Bool) → Fitting (if b then Ok (Reads name (options_asked texts)) else Err fault.Mode)
 octet_fits name texts true = asked_fits (find is_block_size (option_pairs texts))
 octet_fits name texts false = tt
 
@@ -164,4 +168,4 @@ unfolding packet_of
 packet_fits bytes = long_fits bytes (nat_lt 1500 (length bytes))
 
 pub sizes_fit : SizesFit
-sizes_fit bytes name size e = subst Fitting e (packet_fits bytes)
+sizes_fit bytes name asked size e is = subst IsSize is (subst Fitting e (packet_fits bytes))

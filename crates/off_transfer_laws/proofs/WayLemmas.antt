@@ -6,13 +6,14 @@ use Rattle.off_base.specs.declared.addresses.Peer.{Peer}
 use Rattle.off_base.specs.declared.macs.Mac.{Mac}
 use Rattle.off_defs.specs.declared.tables.Modem.{Modem}
 use Rattle.off_defs.specs.State.{Transfer}
-use Rattle.off_transfer_rules.specs.Packets.{Meant, Reads, Writes, Acknowledges, GivesUp, IsOther, packet_of}
+use Rattle.off_packets.specs.Packets.{Meant, Reads, Writes, Acknowledges, GivesUp, IsOther, packet_of}
+use Rattle.off_packets.specs.declared.packets.Options.{Options}
 use Rattle.off_transfer_rules.specs.View.{View, holder, agrees}
 use Rattle.off_transfer_rules.specs.Transfers.{Transfers, has_no_room, is_at_last}
 use Rattle.off_transfer_rules.specs.Steps.{Way, Denies, Repeats, Accepts, Ignores, Finishes, BreaksOff, GoesOn, file_not_found, too_many_transfers, is_repeated, has_file, way_for_modem, way_for_holder, way_anew, way_of_last, way_of, way}
-use Rattle.off_transfer_rules.specs.declared.faults.PacketFault.{PacketFault}
+use Rattle.off_packets.specs.declared.faults.PacketFault.{PacketFault}
 use Rattle.off_transfer_laws.proofs.TextLemmas.{Fits, Fitting, packet_fits}
-use Rattle.off_transfer_rules.specs.declared.faults.PacketFault.TheVariants as fault
+use Rattle.off_packets.specs.declared.faults.PacketFault.TheVariants as fault
 
 pub record Accepting (v : View) (now : ℕ) (ip : Ip4) (mac : Mac) (owner : ℕ) (name : List ℕ) : Type 0 where
   pub modem : Modem
@@ -29,29 +30,29 @@ Standing v now ip full live (GoesOn x) = (live ≡ Some x) × (agrees v now ip x
 Standing v now ip full live other = Unit {0}
 
 module _ (v : View) (now : ℕ) (ip : Ip4) (full : Bool) (live : Option Transfer) where
-  judged : (name : List ℕ) (asked : Option ℕ) → Fits asked → (mac : Mac) → holder now v ≡ Some mac → (modem : Modem) → v.modem ≡ Some modem
+  judged : (name : List ℕ) (asked : Options) → Fits asked → (mac : Mac) → holder now v ≡ Some mac → (modem : Modem) → v.modem ≡ Some modem
       → (served no_room : Bool) → has_file v ip name mac ≡ served → (no_room ≡ false → full ≡ true → is_some live ≡ true)
       → Standing v now ip full live (if not served then Denies file_not_found else if no_room then Denies too_many_transfers else Accepts mac modem.subscriber name asked)
   judged name asked fits mac held modem is false no_room served room = tt
   judged name asked fits mac held modem is true true served room = tt
   judged name asked fits mac held modem is true false served room = (record { modem = modem; held = held; modem_is = is; owned = refl; served = served }, room refl, fits)
 
-  for_modem : (name : List ℕ) (asked : Option ℕ) → Fits asked → (no_room : Bool) → (no_room ≡ false → full ≡ true → is_some live ≡ true)
+  for_modem : (name : List ℕ) (asked : Options) → Fits asked → (no_room : Bool) → (no_room ≡ false → full ≡ true → is_some live ≡ true)
       → (mac : Mac) → holder now v ≡ Some mac → (modem : Option Modem) → v.modem ≡ modem
       → Standing v now ip full live (way_for_modem v ip no_room name asked mac modem)
   for_modem name asked fits no_room room mac held None is = tt
   for_modem name asked fits no_room room mac held (Some modem) is = judged name asked fits mac held modem is (has_file v ip name mac) no_room refl room
 
-  for_holder : (name : List ℕ) (asked : Option ℕ) → Fits asked → (no_room : Bool) → (no_room ≡ false → full ≡ true → is_some live ≡ true)
+  for_holder : (name : List ℕ) (asked : Options) → Fits asked → (no_room : Bool) → (no_room ≡ false → full ≡ true → is_some live ≡ true)
       → (held : Option Mac) → holder now v ≡ held → Standing v now ip full live (way_for_holder v ip no_room name asked held)
   for_holder name asked fits no_room room None held = tt
   for_holder name asked fits no_room room (Some mac) held = for_modem name asked fits no_room room mac held v.modem refl
 
-  pub standing_anew : (name : List ℕ) (asked : Option ℕ) → Fits asked → (no_room : Bool) → (no_room ≡ false → full ≡ true → is_some live ≡ true)
+  pub standing_anew : (name : List ℕ) (asked : Options) → Fits asked → (no_room : Bool) → (no_room ≡ false → full ≡ true → is_some live ≡ true)
       → Standing v now ip full live (way_anew v now ip no_room name asked)
   standing_anew name asked fits no_room room = for_holder name asked fits no_room room (holder now v) refl
 
-  repeated : (x : Transfer) (name : List ℕ) (asked : Option ℕ) → Fits asked → live ≡ Some x → (b : Bool)
+  repeated : (x : Transfer) (name : List ℕ) (asked : Options) → Fits asked → live ≡ Some x → (b : Bool)
       → Standing v now ip full live (if b then Repeats x else way_anew v now ip false name asked)
   repeated x name asked fits is true = is
   repeated x name asked fits is false = standing_anew name asked fits false (λ e f. ap is_some is)

@@ -8,6 +8,7 @@ use Rattle.off_defs.specs.declared.results.Sent.{Sent}
 use Rattle.off_defs.specs.State.{Tables, Transfer}
 use Rattle.off_account_rules.specs.Good.{Good}
 use Rattle.off_file_rules.specs.File.{IsFile}
+use Rattle.off_packets.specs.declared.packets.Options.{Options}
 use Rattle.off_transfer_rules.specs.View.{view, agrees, IsBuiltBy}
 use Rattle.off_transfer_rules.specs.Transfers.{Transfers, most_transfers, sent_again, packet_to}
 use Rattle.off_transfer_rules.specs.Steps.{Accepts, has_file, way, Given, TftpStep}
@@ -96,7 +97,7 @@ AgreementStands =
 abbrev pub AcceptedAgree : Type 0
 AcceptedAgree =
     (tables : Tables) (now : ℕ) (transfers : Transfers) (from : Peer) (bytes : List ℕ)
-    (mac : Mac) (owner : ℕ) (name : List ℕ) (asked : Option ℕ)
+    (mac : Mac) (owner : ℕ) (name : List ℕ) (asked : Options)
     → way (view tables from.ip) now transfers from bytes ≡ Accepts mac owner name asked
     → Agreement tables now from.ip name mac owner
 

@@ -5,7 +5,7 @@ use Rattle.std.specs.FinMap as map
 use Rattle.off_base.specs.declared.addresses.Peer.{Peer}
 use Rattle.off_defs.specs.State.{Tables, Transfer}
 use Rattle.off_file_rules.specs.File.{IsFile}
-use Rattle.off_transfer_rules.specs.Packets.{Acknowledges, packet_of}
+use Rattle.off_packets.specs.Packets.{Acknowledges, packet_of}
 use Rattle.off_transfer_rules.specs.Transfers.{Transfers, is_at_last, gone_on}
 use Rattle.off_transfer_rules.specs.Steps.{Given, gives, with_transfer, last_to, TftpStep}
 use Rattle.off_transfer_rules.specs.declared.words.TftpWord.TheVariants as word

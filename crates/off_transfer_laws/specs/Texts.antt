@@ -1,7 +1,8 @@
 -- The texts of a request, as they are laid out (RFC 1350 section 5).
 use Rattle.std.specs.Prelude.{◌≡◌, ◌↔◌, ℕ, ◌≤◌, Bool, false, List, [], ◌∷◌, ◌++◌, length, Some, Ok}
 use Rattle.std.specs.List.{flat_map, list_any, AllByRecursion}
-use Rattle.off_transfer_rules.specs.Packets.{is_zero, ended_texts, Reads, request_of, packet_of}
+use Rattle.off_packets.specs.declared.packets.Options.{Options}
+use Rattle.off_packets.specs.Packets.{is_zero, ended_texts, Reads, request_of, packet_of}
 
 abbrev pub has_zero : List ℕ → Bool
 has_zero text = list_any is_zero text
@@ -30,5 +31,5 @@ RequestsAreRead =
 -- a size that is read lies in the range of the option
 abbrev pub SizesFit : Type 0
 SizesFit =
-    (bytes name : List ℕ) (size : ℕ) → packet_of bytes ≡ Ok (Reads name (Some size))
-    → (8 ≤ size) × (size ≤ 65464)
+    (bytes name : List ℕ) (asked : Options) (size : ℕ) → packet_of bytes ≡ Ok (Reads name asked)
+    → asked.blksize ≡ Some size → (8 ≤ size) × (size ≤ 65464)

@@ -4,7 +4,6 @@ use Rattle.std.proofs.Common.{◌≡◌, ℕ, ◌+◌, List, [], ◌∷◌, ◌+
 use Rattle.std.specs.Fmt.{digits}
 use Rattle.md5.specs.Md5.{block_words, rounds, compress, hash_after, digest_bytes, md5}
 use Rattle.hex.proofs.OnLiterals.{hex_on_literals}
-use Rattle.off_base.specs.Number.{number_read}
 use Rattle.off_base.specs.declared.addresses.Ip4.{Ip4}
 use Rattle.off_base.specs.declared.macs.Mac.{Mac}
 use Rattle.off_defs.specs.declared.tables.Site.{Site}
@@ -14,17 +13,16 @@ use Rattle.off_defs.specs.declared.tables.Hold.TheVariants.{Bound}
 use Rattle.off_defs.specs.State.{Transfer}
 use Rattle.off_mic.specs.Hmac.{hmac}
 use Rattle.off_file_rules.specs.Name.{name_of}
-use Rattle.off_transfer_rules.specs.Packets.{Reads, Writes, Acknowledges, GivesUp, IsOther, packet_of}
-use Rattle.off_transfer_rules.specs.Replies.{oack_packet, error_packet}
+use Rattle.off_packets.specs.Packets.{Reads, Writes, Acknowledges, GivesUp}
+use Rattle.off_packets.specs.declared.packets.Options.{Options}
 use Rattle.off_transfer_rules.specs.View.{View}
 use Rattle.off_transfer_rules.specs.Transfers.{size_for, begun, gone_on, sent_again}
 use Rattle.off_transfer_rules.specs.Steps.{Denies, Repeats, Accepts, Ignores, Finishes, BreaksOff, GoesOn, no_lease, file_not_found, too_many_transfers, unknown_transfer, way_of}
 use Rattle.off_transfer_rules.specs.Ticks.{tick_of, is_resent}
 use Rattle.off_transfer_rules.specs.Words.{tftp_line, tick_line}
-use Rattle.off_transfer_rules.specs.declared.faults.PacketFault.TheVariants as fault
 use Rattle.off_transfer_rules.specs.declared.words.TftpWord.TheVariants as word
 
--- ---- packets: a request of 52 bytes
+-- ---- a request, and how large its blocks are
 
 abbrev file_name : List ℕ
 file_name = codes "02aabbccddee-82d91cd0f5ff2dc7.cm"
@@ -35,70 +33,14 @@ plain = 0 ∷ 1 ∷ (file_name ++ 0 ∷ (codes "octet" ++ 0 ∷ []))
 abbrev asking : List ℕ → List ℕ
 asking size = plain ++ codes "blksize" ++ 0 ∷ (size ++ 0 ∷ [])
 
-request : packet_of (asking (codes "44")) ≡ Ok (Reads file_name (Some 44))
-unfolding packet_of number_read
-request = refl
+abbrev no_options : Options
+no_options = record { blksize = None }
 
--- cut within its option it has none, and cut within its mode it is no request
-without_option : packet_of plain ≡ Ok (Reads file_name None)
-unfolding packet_of number_read
-without_option = refl
+abbrev in_blocks : ℕ → Options
+in_blocks size = record { blksize = Some size }
 
-cut_value : packet_of (plain ++ codes "blksize" ++ 0 ∷ codes "44") ≡ Ok (Reads file_name None)
-unfolding packet_of number_read
-cut_value = refl
-
-cut_mode : packet_of (0 ∷ 1 ∷ (file_name ++ 0 ∷ codes "octet")) ≡ Err fault.Form
-unfolding packet_of
-cut_mode = refl
-
-other_mode : packet_of (0 ∷ 1 ∷ (file_name ++ 0 ∷ (codes "netascii" ++ 0 ∷ []))) ≡ Err fault.Mode
-unfolding packet_of
-other_mode = refl
-
--- sizes below 8 are as if none were asked for, and also hide a later option of the same name; large
--- ones are cut to what a datagram holds
-too_small : packet_of (asking (codes "7") ++ codes "BLKSIZE" ++ 0 ∷ (codes "44" ++ 0 ∷ [])) ≡ Ok (Reads file_name None)
-unfolding packet_of number_read
-too_small = refl
-
-largest : packet_of (asking (codes "65464")) ≡ Ok (Reads file_name (Some 65464))
-unfolding packet_of number_read
-largest = refl
-
-largest_served : size_for (Some 65464) ≡ 1428
+largest_served : size_for (in_blocks 65464) ≡ 1428
 largest_served = refl
-
-acknowledged : packet_of (0 ∷ 4 ∷ 1 ∷ 2 ∷ []) ≡ Ok (Acknowledges 258)
-unfolding packet_of
-acknowledged = refl
-
-half_acknowledged : packet_of (0 ∷ 4 ∷ 1 ∷ []) ≡ Err fault.Form
-unfolding packet_of
-half_acknowledged = refl
-
-written : packet_of (0 ∷ 2 ∷ []) ≡ Ok Writes
-unfolding packet_of
-written = refl
-
-given_up : packet_of (0 ∷ 5 ∷ []) ≡ Ok GivesUp
-unfolding packet_of
-given_up = refl
-
-other : packet_of (1 ∷ 1 ∷ []) ≡ Ok IsOther
-unfolding packet_of
-other = refl
-
-one_byte : packet_of (0 ∷ []) ≡ Err fault.Form
-unfolding packet_of
-one_byte = refl
-
-oack : oack_packet 44 ≡ 0 ∷ 6 ∷ 98 ∷ 108 ∷ 107 ∷ 115 ∷ 105 ∷ 122 ∷ 101 ∷ 0 ∷ 52 ∷ 52 ∷ 0 ∷ []
-unfolding digits
-oack = refl
-
-error : error_packet 2 (codes "no longer agreed") ≡ 0 ∷ 5 ∷ 0 ∷ 2 ∷ (codes "no longer agreed" ++ 0 ∷ [])
-error = refl
 
 -- ---- ways: modem 02aabbccddee of subscriber 7 is bound to 10.64.0.10 for a day
 
@@ -121,33 +63,33 @@ abbrev seen : Modem → View
 seen modem = record { site = Some site; lease = Some lease; modem = Some modem; profile = Some [] }
 
 abbrev at_start : Transfer
-at_start = begun 1700000000 (asking (codes "44")) mac 7 file_name (Some 44) (1 ∷ 2 ∷ 3 ∷ [])
+at_start = begun 1700000000 (asking (codes "44")) mac 7 file_name (in_blocks 44) (1 ∷ 2 ∷ 3 ∷ [])
 
-accepted : way_of (seen (modem_of 7)) 1700000000 address false (asking (codes "44")) None (Ok (Reads file_name (Some 44))) ≡ Accepts mac 7 file_name (Some 44)
+accepted : way_of (seen (modem_of 7)) 1700000000 address false (asking (codes "44")) None (Ok (Reads file_name (in_blocks 44))) ≡ Accepts mac 7 file_name (in_blocks 44)
 unfolding block_words rounds compress hash_after digest_bytes md5 hmac name_of hex_on_literals
 accepted = refl
 
-wrong_name : way_of (seen (modem_of 7)) 1700000000 address false plain None (Ok (Reads (codes "modem.cm") None)) ≡ Denies file_not_found
+wrong_name : way_of (seen (modem_of 7)) 1700000000 address false plain None (Ok (Reads (codes "modem.cm") no_options)) ≡ Denies file_not_found
 unfolding block_words rounds compress hash_after digest_bytes md5 hmac name_of hex_on_literals
 wrong_name = refl
 
-ended_lease : way_of (seen (modem_of 7)) 1700086400 address false plain None (Ok (Reads file_name None)) ≡ Denies no_lease
+ended_lease : way_of (seen (modem_of 7)) 1700086400 address false plain None (Ok (Reads file_name no_options)) ≡ Denies no_lease
 ended_lease = refl
 
 -- with 256 transfers another peer's request is refused, and one of a peer that has a transfer isn't
-no_room : way_of (seen (modem_of 7)) 1700000000 address true plain None (Ok (Reads file_name None)) ≡ Denies too_many_transfers
+no_room : way_of (seen (modem_of 7)) 1700000000 address true plain None (Ok (Reads file_name no_options)) ≡ Denies too_many_transfers
 unfolding block_words rounds compress hash_after digest_bytes md5 hmac name_of hex_on_literals
 no_room = refl
 
-replaced : way_of (seen (modem_of 7)) 1700000000 address true plain (Some at_start) (Ok (Reads file_name None)) ≡ Accepts mac 7 file_name None
+replaced : way_of (seen (modem_of 7)) 1700000000 address true plain (Some at_start) (Ok (Reads file_name no_options)) ≡ Accepts mac 7 file_name no_options
 unfolding block_words rounds compress hash_after digest_bytes md5 hmac name_of hex_on_literals
 replaced = refl
 
 -- the same request again before the first acknowledgement, also when the lease has ended; and after it
-again : way_of (seen (modem_of 7)) 1700086400 address false (asking (codes "44")) (Some at_start) (Ok (Reads file_name (Some 44))) ≡ Repeats at_start
+again : way_of (seen (modem_of 7)) 1700086400 address false (asking (codes "44")) (Some at_start) (Ok (Reads file_name (in_blocks 44))) ≡ Repeats at_start
 again = refl
 
-anew : way_of (seen (modem_of 7)) 1700000000 address false (asking (codes "44")) (Some (gone_on 1700000000 at_start)) (Ok (Reads file_name (Some 44))) ≡ Accepts mac 7 file_name (Some 44)
+anew : way_of (seen (modem_of 7)) 1700000000 address false (asking (codes "44")) (Some (gone_on 1700000000 at_start)) (Ok (Reads file_name (in_blocks 44))) ≡ Accepts mac 7 file_name (in_blocks 44)
 unfolding block_words rounds compress hash_after digest_bytes md5 hmac name_of hex_on_literals
 anew = refl
 

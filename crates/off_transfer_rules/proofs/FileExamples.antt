@@ -30,7 +30,7 @@ file = refl
 
 -- in blocks of 44 bytes: two whole ones, and an empty one
 abbrev begins : Transfer
-begins = begun 1700000000 [] (record { 0 = 2 ∷ 0xaa ∷ 0xbb ∷ 0xcc ∷ 0xdd ∷ 0xee ∷ [] }) 7 [] (Some 44) (first ++ second)
+begins = begun 1700000000 [] (record { 0 = 2 ∷ 0xaa ∷ 0xbb ∷ 0xcc ∷ 0xdd ∷ 0xee ∷ [] }) 7 [] (record { blksize = Some 44 }) (first ++ second)
 
 abbrev later : Transfer → Transfer
 later x = gone_on 1700000000 x

@@ -1,5 +1,3 @@
-pub mod Packets
-pub mod Replies
 pub mod View
 pub mod Transfers
 pub mod Steps

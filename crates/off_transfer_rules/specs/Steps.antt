@@ -10,12 +10,13 @@ use Rattle.off_defs.specs.declared.results.Sent.{Sent}
 use Rattle.off_defs.specs.declared.tables.Modem.{Modem}
 use Rattle.off_defs.specs.State.{Tables, Transfer}
 use Rattle.off_account_rules.specs.Rows.{passes}
-use Rattle.off_transfer_rules.specs.Packets.{Meant, Reads, Writes, Acknowledges, GivesUp, IsOther, packet_of}
-use Rattle.off_transfer_rules.specs.Replies.{error_packet}
+use Rattle.off_packets.specs.declared.packets.Options.{Options}
+use Rattle.off_packets.specs.Packets.{Meant, Reads, Writes, Acknowledges, GivesUp, IsOther, packet_of}
+use Rattle.off_packets.specs.Replies.{error_packet}
 use Rattle.off_transfer_rules.specs.View.{View, view, holder, is_own_name, agrees, IsBuiltBy}
 use Rattle.off_transfer_rules.specs.Transfers.{Transfers, has_no_room, first_word, begun, last_packet, is_at_last, gone_on, asked_again, packet_to}
-use Rattle.off_transfer_rules.specs.declared.faults.PacketFault.{PacketFault}
-use Rattle.off_transfer_rules.specs.declared.faults.PacketFault.TheVariants as fault
+use Rattle.off_packets.specs.declared.faults.PacketFault.{PacketFault}
+use Rattle.off_packets.specs.declared.faults.PacketFault.TheVariants as fault
 use Rattle.off_transfer_rules.specs.declared.words.TftpWord.{TftpWord}
 use Rattle.off_transfer_rules.specs.declared.words.TftpWord.TheVariants as word
 
@@ -55,7 +56,7 @@ unknown_transfer = record { code = 5; text = codes "unknown transfer"; word = wo
 pub data Way : Type 0 where
   Denies : Denial → Way
   Repeats : Transfer → Way
-  Accepts : Mac → ℕ → List ℕ → Option ℕ → Way
+  Accepts : Mac → ℕ → List ℕ → Options → Way
   Ignores : Way
   Finishes : Way
   BreaksOff : Way
@@ -73,22 +74,22 @@ is_repeated bytes x = not x.is_acknowledged && bytes_eq x.request bytes
 abbrev pub has_file : View → Ip4 → List ℕ → Mac → Bool
 has_file v ip name mac = passes (is_own_name name mac ip) v.site && is_some v.profile
 
-abbrev pub way_for_modem : View → Ip4 → Bool → List ℕ → Option ℕ → Mac → Option Modem → Way
+abbrev pub way_for_modem : View → Ip4 → Bool → List ℕ → Options → Mac → Option Modem → Way
 way_for_modem v ip no_room name asked mac None = Denies no_longer_agreed
 way_for_modem v ip no_room name asked mac (Some modem) =
     if not (has_file v ip name mac) then Denies file_not_found
     else if no_room then Denies too_many_transfers
     else Accepts mac modem.subscriber name asked
 
-abbrev pub way_for_holder : View → Ip4 → Bool → List ℕ → Option ℕ → Option Mac → Way
+abbrev pub way_for_holder : View → Ip4 → Bool → List ℕ → Options → Option Mac → Way
 way_for_holder v ip no_room name asked None = Denies no_lease
 way_for_holder v ip no_room name asked (Some mac) =
     way_for_modem v ip no_room name asked mac v.modem
 
-abbrev pub way_anew : View → ℕ → Ip4 → Bool → List ℕ → Option ℕ → Way
+abbrev pub way_anew : View → ℕ → Ip4 → Bool → List ℕ → Options → Way
 way_anew v now ip no_room name asked = way_for_holder v ip no_room name asked (holder now v)
 
-abbrev pub way_of_request : View → ℕ → Ip4 → Bool → List ℕ → List ℕ → Option ℕ → Option Transfer
+abbrev pub way_of_request : View → ℕ → Ip4 → Bool → List ℕ → List ℕ → Options → Option Transfer
     → Way
 way_of_request v now ip full bytes name asked None = way_anew v now ip full name asked
 way_of_request v now ip full bytes name asked (Some x) =
@@ -148,7 +149,7 @@ abbrev pub ended : Transfers → Peer → Transfers
 ended transfers from = map.remove transfers from
 
 -- A request that is accepted has its file built at once, and replaces the peer's older transfer.
-abbrev pub Opens : View → ℕ → Transfers → Peer → Transfer → Option ℕ → Given → Type 0
+abbrev pub Opens : View → ℕ → Transfers → Peer → Transfer → Options → Given → Type 0
 Opens v now transfers from x asked gave =
     IsBuiltBy v now from.ip x.file
     × (gave ≡ gives (with_transfer transfers from x) (last_to from x) (first_word asked))

@@ -1,6 +1,6 @@
 -- A transfer: how it begins, goes on, and is sent again (RFC 1350 sections 2 and 6; RFC 2347
 -- section 3).
-use Rattle.std.specs.Prelude.{ℕ, zero, suc, Bool, true, false, List, length, min, nat_le, nat_lt, Option, Some, None}
+use Rattle.std.specs.Prelude.{ℕ, zero, suc, Bool, true, false, List, length, min, nat_le, nat_lt, unwrap_or, if◌then◌else◌}
 use Rattle.std.specs.FinMap as map
 use Rattle.off_base.specs.declared.addresses.Peer.{Peer}
 use Rattle.off_base.specs.declared.macs.Mac.{Mac}
@@ -9,7 +9,9 @@ use Rattle.off_defs.specs.declared.results.Sent.{Sent}
 use Rattle.off_defs.specs.declared.results.Sent.TheVariants as sent
 use Rattle.off_defs.specs.State.{Transfer, peer_cmp}
 use Rattle.off_file_rules.specs.Block.{block}
-use Rattle.off_transfer_rules.specs.Replies.{data_packet, oack_packet}
+use Rattle.off_packets.specs.Packets.{has_option}
+use Rattle.off_packets.specs.declared.packets.Options.{Options}
+use Rattle.off_packets.specs.Replies.{data_packet, oack_packet}
 use Rattle.off_transfer_rules.specs.declared.words.TftpWord.{TftpWord}
 use Rattle.off_transfer_rules.specs.declared.words.TftpWord.TheVariants as word
 
@@ -24,23 +26,20 @@ most_transfers = 256
 abbrev pub has_no_room : Transfers → Bool
 has_no_room transfers = nat_le most_transfers (map.len transfers)
 
--- Blocks have the size that is asked for (RFC 2348), but no more than a datagram carries whole, or
--- 512 bytes (RFC 1350 section 2) where none is
-abbrev pub size_for : Option ℕ → ℕ
-size_for (Some asked) = min asked 1428
-size_for None = 512
+-- Blocks have the size that is asked for (RFC 2348), or 512 bytes (RFC 1350 section 2) where none
+-- is, but no more than a datagram carries whole
+abbrev pub size_for : Options → ℕ
+size_for asked = min (unwrap_or asked.blksize 512) 1428
 
 -- the first packet that is sent: the OACK, which has number 0, where there is an option to be told
-abbrev pub first_number : Option ℕ → ℕ
-first_number (Some asked) = 0
-first_number None = 1
+abbrev pub first_number : Options → ℕ
+first_number asked = if has_option asked then 0 else 1
 
-abbrev pub first_word : Option ℕ → TftpWord
-first_word (Some asked) = word.Oack
-first_word None = word.Block 1
+abbrev pub first_word : Options → TftpWord
+first_word asked = if has_option asked then word.Oack else word.Block 1
 
 -- a transfer as its read request makes it
-abbrev pub begun : ℕ → List ℕ → Mac → ℕ → List ℕ → Option ℕ → List ℕ → Transfer
+abbrev pub begun : ℕ → List ℕ → Mac → ℕ → List ℕ → Options → List ℕ → Transfer
 begun now request mac subscriber name asked file = record {
   name = name;
   modem = mac;

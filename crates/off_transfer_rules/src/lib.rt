@@ -2,12 +2,8 @@
 //! definitions alone (`specs/`).
 #![tactic(auto)]
 
-mod faults;
-mod packets;
 mod ticks;
 mod words;
 
-pub use faults::PacketFault;
-pub use packets::Packet;
 pub use ticks::Ticked;
 pub use words::TftpWord;

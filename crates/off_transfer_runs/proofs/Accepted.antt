@@ -4,18 +4,19 @@ use Rattle.std.specs.FinMap as map
 use Rattle.off_base.specs.declared.addresses.Peer.{Peer}
 use Rattle.off_base.specs.declared.macs.Mac.{Mac}
 use Rattle.off_defs.specs.State.{Tables}
-use Rattle.off_transfer_rules.specs.Packets.{Meant, Reads, packet_of}
+use Rattle.off_packets.specs.Packets.{Meant, Reads, packet_of}
+use Rattle.off_packets.specs.declared.packets.Options.{Options}
 use Rattle.off_transfer_rules.specs.View.{View, view, IsBuiltBy}
 use Rattle.off_transfer_rules.specs.Transfers.{Transfers, has_no_room, first_word, begun}
 use Rattle.off_transfer_rules.specs.Steps.{Way, Denies, Repeats, Accepts, Ignores, Finishes, BreaksOff, GoesOn, Leaves, way, Given, gives, with_transfer, last_to, GivesBy, TftpStep}
 use Rattle.off_transfer_rules.specs.Words.{tftp_line}
-use Rattle.off_transfer_rules.specs.declared.faults.PacketFault.{PacketFault}
+use Rattle.off_packets.specs.declared.faults.PacketFault.{PacketFault}
 use Rattle.off_transfer_laws.proofs.TextLemmas.{Fits}
 use Rattle.off_transfer_laws.proofs.WayLemmas.{Accepting, Standing, standing_way}
 use Rattle.off_transfer_runs.specs.Turns.{Fate, Remains, Moves, Breaks, says_accepted, fate_of}
 use Rattle.off_transfer_runs.proofs.Fates.{Means, means_way}
 
-pub record Begins (v : View) (now : ℕ) (xs : Transfers) (from : Peer) (bytes : List ℕ) (given : Given) (name : List ℕ) (asked : Option ℕ) : Type 0 where
+pub record Begins (v : View) (now : ℕ) (xs : Transfers) (from : Peer) (bytes : List ℕ) (given : Given) (name : List ℕ) (asked : Options) : Type 0 where
   pub mac : Mac
   pub owner : ℕ
   pub file : List ℕ
@@ -24,7 +25,7 @@ pub record Begins (v : View) (now : ℕ) (xs : Transfers) (from : Peer) (bytes :
   pub built : IsBuiltBy v now from.ip file
   pub gave : given ≡ gives (with_transfer xs from (begun now bytes mac owner name asked file)) (last_to from (begun now bytes mac owner name asked file)) (first_word asked)
 
-module _ (v : View) (now : ℕ) (xs : Transfers) (from : Peer) (bytes : List ℕ) (given : Given) (name : List ℕ) (asked : Option ℕ) where
+module _ (v : View) (now : ℕ) (xs : Transfers) (from : Peer) (bytes : List ℕ) (given : Given) (name : List ℕ) (asked : Options) where
   breaks : (read : Result Meant PacketFault) (line : List ℕ) → read ≡ Ok (Reads name asked) → says_accepted line ≡ true → fate_of read line ≡ Breaks
   breaks read line is says = ap (λ (r : Result Meant PacketFault). fate_of r line) is ∙ ap (λ b. cond b Breaks Remains) says
 
@@ -65,7 +66,7 @@ module _ (v : View) (now : ℕ) (xs : Transfers) (from : Peer) (bytes : List ℕ
   begins_by read (GoesOn x) is says m s e = moves_on _ x.sent (breaks read (tftp_line given.word) is says) (word_is read _ e ∙ m.moves)
   begins_by read Leaves is says m s e = not_accepted _ e says refl
 
-pub begins : (t : Tables) (now : ℕ) (xs : Transfers) (from : Peer) (bytes : List ℕ) (given : Given) (name : List ℕ) (asked : Option ℕ)
+pub begins : (t : Tables) (now : ℕ) (xs : Transfers) (from : Peer) (bytes : List ℕ) (given : Given) (name : List ℕ) (asked : Options)
     → packet_of bytes ≡ Ok (Reads name asked) → says_accepted (tftp_line given.word) ≡ true → TftpStep t now xs from bytes given
     → Begins (view t from.ip) now xs from bytes given name asked
 unfolding TftpStep

@@ -12,12 +12,13 @@ use Rattle.off_defs.specs.declared.events.What.TheVariants.{Datagram, Piece, Clo
 use Rattle.off_defs.specs.declared.results.Outcome.{Outcome}
 use Rattle.off_defs.specs.declared.results.Outcome.TheVariants.{Did, Memory, Keeper}
 use Rattle.off_defs.specs.State.{Tables, State, Transfer, Effect, only_line}
-use Rattle.off_transfer_rules.specs.Packets.{Meant, Reads, Acknowledges, packet_of}
+use Rattle.off_packets.specs.Packets.{Meant, Reads, Acknowledges, packet_of}
+use Rattle.off_packets.specs.declared.packets.Options.{Options}
 use Rattle.off_transfer_rules.specs.View.{View, view, agrees}
 use Rattle.off_transfer_rules.specs.Transfers.{Transfers, has_no_room, is_at_last, gone_on, asked_again, sent_again}
 use Rattle.off_transfer_rules.specs.Steps.{Way, Repeats, Finishes, Ignores, BreaksOff, GoesOn, is_repeated, way_anew, way_of_last, way_of, way, Given, gives, with_transfer, last_to, ended, GivesBy, TftpStep}
 use Rattle.off_transfer_rules.specs.Words.{tftp_line}
-use Rattle.off_transfer_rules.specs.declared.faults.PacketFault.{PacketFault}
+use Rattle.off_packets.specs.declared.faults.PacketFault.{PacketFault}
 use Rattle.off_transfer_rules.specs.declared.words.TftpWord.TheVariants as word
 use Rattle.off_transfer_rules.proofs.PeerLemmas.{same_peer, own_peer, inserted_here}
 use Rattle.off_transfer_laws.specs.Agreement.{Agreement}
@@ -81,7 +82,7 @@ module _ (v : View) (now : ℕ) (from : Peer) (xs : Transfers) (bytes : List ℕ
   again_is : x.is_acknowledged ≡ false → x.request ≡ bytes → is_repeated bytes x ≡ true
   again_is fresh same = and_from (not x.is_acknowledged) (bytes_eq x.request bytes) (ap not fresh) ((bytes_eq-Decides x.request bytes).1 same)
 
-  repeating : (name : List ℕ) (asked : Option ℕ) → map.get xs from ≡ Some x → packet_of bytes ≡ Ok (Reads name asked) → x.is_acknowledged ≡ false → x.request ≡ bytes
+  repeating : (name : List ℕ) (asked : Options) → map.get xs from ≡ Some x → packet_of bytes ≡ Ok (Reads name asked) → x.is_acknowledged ≡ false → x.request ≡ bytes
       → way v now xs from bytes ≡ Repeats x
   unfolding way
   repeating name asked live read fresh same =
@@ -100,7 +101,7 @@ unfolding TftpStep
 ignored_step t now xs from bytes given x number live read other step =
     subst (λ (w : Way). GivesBy (view t from.ip) now xs from bytes w given) (ignoring (view t from.ip) now from xs bytes x number live read other) step
 
-repeated_step : (t : Tables) (now : ℕ) (xs : Transfers) (from : Peer) (bytes : List ℕ) (given : Given) (x : Transfer) (name : List ℕ) (asked : Option ℕ)
+repeated_step : (t : Tables) (now : ℕ) (xs : Transfers) (from : Peer) (bytes : List ℕ) (given : Given) (x : Transfer) (name : List ℕ) (asked : Options)
     → map.get xs from ≡ Some x → packet_of bytes ≡ Ok (Reads name asked) → x.is_acknowledged ≡ false → x.request ≡ bytes → TftpStep t now xs from bytes given
     → given ≡ gives (with_transfer xs from (asked_again now x)) (last_to from x) word.Again
 unfolding TftpStep
@@ -160,7 +161,7 @@ no_fate peer Tick line e = refl
 no_fate peer End line e = refl
 
 module _ (peer : Peer) (file : List ℕ) (size : ℕ) (request : List ℕ) (first : ℕ) (name : List ℕ) (modem : Mac) (owner : ℕ)
-    (asked : Option ℕ) (read : packet_of request ≡ Ok (Reads name asked)) where
+    (asked : Options) (read : packet_of request ≡ Ok (Reads name asked)) where
   abbrev Agree : Tables → ℕ → Type 0
   Agree tables now = Agreement tables now peer.ip name modem owner
 

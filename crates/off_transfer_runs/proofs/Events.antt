@@ -10,11 +10,11 @@ use Rattle.off_defs.specs.declared.results.Outcome.{Outcome}
 use Rattle.off_defs.specs.declared.results.Outcome.TheVariants.{Did, Memory, Keeper}
 use Rattle.off_defs.specs.State.{State, Effect, at_moment}
 use Rattle.off_http.specs.Request.{Meaning, Waits, Refused, Asked}
-use Rattle.off_transfer_rules.specs.Packets.{Meant, Reads, Writes, Acknowledges, GivesUp, IsOther, packet_of}
+use Rattle.off_packets.specs.Packets.{Meant, Reads, Writes, Acknowledges, GivesUp, IsOther, packet_of}
 use Rattle.off_transfer_rules.specs.Transfers.{Transfers}
 use Rattle.off_transfer_rules.specs.Steps.{TftpStep}
 use Rattle.off_transfer_rules.specs.Words.{tftp_line}
-use Rattle.off_transfer_rules.specs.declared.faults.PacketFault.{PacketFault}
+use Rattle.off_packets.specs.declared.faults.PacketFault.{PacketFault}
 use Rattle.off_transfer_rules.proofs.PeerLemmas.{same_peer, own_peer}
 use Rattle.off_transfer_laws.proofs.StepLaws.{others_stay, answers_go_back}
 use Rattle.off_book.specs.Http.{is_full, TakesPiece, by_meaning}

@@ -7,7 +7,7 @@ use Rattle.off_defs.specs.declared.events.What.{What}
 use Rattle.off_defs.specs.declared.events.What.TheVariants.{Datagram, Tick}
 use Rattle.off_defs.specs.declared.results.Outcome.TheVariants.{Did}
 use Rattle.off_defs.specs.declared.results.Sent.{Sent}
-use Rattle.off_transfer_rules.specs.Packets.{packet_of}
+use Rattle.off_packets.specs.Packets.{packet_of}
 use Rattle.off_transfer_rules.specs.Transfers.{packet_to}
 use Rattle.off_book.specs.Run.{Turn}
 use Rattle.off_transfer_runs.specs.Turns.{Remains, Breaks, fate, is_data, block_given}

@@ -8,13 +8,14 @@ use Rattle.off_base.specs.declared.addresses.Peer.{Peer}
 use Rattle.off_base.specs.declared.macs.Mac.{Mac}
 use Rattle.off_defs.specs.declared.tables.Modem.{Modem}
 use Rattle.off_defs.specs.State.{Transfer}
-use Rattle.off_transfer_rules.specs.Packets.{Meant, Reads, Writes, Acknowledges, GivesUp, IsOther, packet_of}
+use Rattle.off_packets.specs.Packets.{Meant, Reads, Writes, Acknowledges, GivesUp, IsOther, packet_of, has_option}
+use Rattle.off_packets.specs.declared.packets.Options.{Options}
 use Rattle.off_transfer_rules.specs.View.{View, holder, agrees}
 use Rattle.off_transfer_rules.specs.Transfers.{Transfers, has_no_room, first_word, is_at_last}
 use Rattle.off_transfer_rules.specs.Steps.{Way, Denies, Repeats, Accepts, Ignores, Finishes, BreaksOff, GoesOn, Leaves, file_not_found, too_many_transfers, is_repeated, has_file, way_for_modem, way_for_holder, way_anew, way_of_last, way_of, way}
 use Rattle.off_transfer_rules.specs.Words.{tftp_line}
-use Rattle.off_transfer_rules.specs.declared.faults.PacketFault.{PacketFault}
-use Rattle.off_transfer_rules.specs.declared.faults.PacketFault.TheVariants as fault
+use Rattle.off_packets.specs.declared.faults.PacketFault.{PacketFault}
+use Rattle.off_packets.specs.declared.faults.PacketFault.TheVariants as fault
 use Rattle.off_transfer_rules.specs.declared.words.TftpWord.TheVariants as word
 use Rattle.off_transfer_runs.specs.Turns.{Fate, Remains, Moves, Ends, Breaks, fate_of}
 
@@ -40,31 +41,31 @@ Means live read BreaksOff = fate_of read (tftp_line word.Agreement) ≡ Breaks
 Means live read (GoesOn x) = IsNext live x (fate_of read (tftp_line (word.Block (suc x.sent))))
 Means live read Leaves = fate_of read (tftp_line word.PeerError) ≡ Breaks
 
-accepted_breaks : (name : List ℕ) (asked : Option ℕ) → fate_of (Ok (Reads name asked)) (tftp_line (first_word asked)) ≡ Breaks
-accepted_breaks name None = refl
-accepted_breaks name (Some size) = refl
+accepted_breaks : (name : List ℕ) (asked : Options) (any : Bool) → fate_of (Ok (Reads name asked)) (tftp_line (if any then word.Oack else word.Block 1)) ≡ Breaks
+accepted_breaks name asked true = refl
+accepted_breaks name asked false = refl
 
 module _ (v : View) (now : ℕ) (ip : Ip4) (bytes : List ℕ) (live : Option Transfer) where
-  judged : (name : List ℕ) (asked : Option ℕ) (mac : Mac) (modem : Modem) (served no_room : Bool)
+  judged : (name : List ℕ) (asked : Options) (mac : Mac) (modem : Modem) (served no_room : Bool)
       → Means live (Ok (Reads name asked))
       (if not served then Denies file_not_found else if no_room then Denies too_many_transfers else Accepts mac modem.subscriber name asked)
   judged name asked mac modem false no_room = refl
   judged name asked mac modem true true = refl
-  judged name asked mac modem true false = (refl, accepted_breaks name asked)
+  judged name asked mac modem true false = (refl, accepted_breaks name asked (has_option asked))
 
-  for_modem : (name : List ℕ) (asked : Option ℕ) (no_room : Bool) (mac : Mac) (modem : Option Modem)
+  for_modem : (name : List ℕ) (asked : Options) (no_room : Bool) (mac : Mac) (modem : Option Modem)
       → Means live (Ok (Reads name asked)) (way_for_modem v ip no_room name asked mac modem)
   for_modem name asked no_room mac None = refl
   for_modem name asked no_room mac (Some modem) = judged name asked mac modem (has_file v ip name mac) no_room
 
-  for_holder : (name : List ℕ) (asked : Option ℕ) (no_room : Bool) (held : Option Mac) → Means live (Ok (Reads name asked)) (way_for_holder v ip no_room name asked held)
+  for_holder : (name : List ℕ) (asked : Options) (no_room : Bool) (held : Option Mac) → Means live (Ok (Reads name asked)) (way_for_holder v ip no_room name asked held)
   for_holder name asked no_room None = refl
   for_holder name asked no_room (Some mac) = for_modem name asked no_room mac v.modem
 
-  anew : (name : List ℕ) (asked : Option ℕ) (no_room : Bool) → Means live (Ok (Reads name asked)) (way_anew v now ip no_room name asked)
+  anew : (name : List ℕ) (asked : Options) (no_room : Bool) → Means live (Ok (Reads name asked)) (way_anew v now ip no_room name asked)
   anew name asked no_room = for_holder name asked no_room (holder now v)
 
-  repeated : (x : Transfer) (name : List ℕ) (asked : Option ℕ) → live ≡ Some x → (b : Bool)
+  repeated : (x : Transfer) (name : List ℕ) (asked : Options) → live ≡ Some x → (b : Bool)
       → Means live (Ok (Reads name asked)) (if b then Repeats x else way_anew v now ip false name asked)
   repeated x name asked is true = (is, refl)
   repeated x name asked is false = anew name asked false

@@ -1,5 +1,5 @@
 -- Over a run the file of each accepted read request is served.
-use Rattle.std.proofs.Common.{◌≡◌, ℕ, zero, ◌*◌, max, true, true≢false, List, [], ◌∷◌, drop, Option, Some, None, Ok, refl, sym, ap, subst, ◌∙◌, arith}
+use Rattle.std.proofs.Common.{◌≡◌, ℕ, zero, ◌*◌, max, Bool, true, false, if◌then◌else◌, true≢false, List, [], ◌∷◌, drop, Option, Some, None, Ok, refl, sym, ap, subst, ◌∙◌, arith}
 use Rattle.std.specs.Prelude.{find}
 use Rattle.std.specs.FinMap as map
 use Rattle.off_base.specs.declared.addresses.Peer.{Peer}
@@ -13,7 +13,8 @@ use Rattle.off_account_rules.specs.Rows.{lease_in}
 use Rattle.off_file_rules.specs.Block.{block}
 use Rattle.off_file_rules.specs.File.{IsFile}
 use Rattle.off_file_laws.proofs.LawLemmas.{file_is_one, files_boot}
-use Rattle.off_transfer_rules.specs.Packets.{Reads, packet_of}
+use Rattle.off_packets.specs.Packets.{Reads, packet_of, has_option}
+use Rattle.off_packets.specs.declared.packets.Options.{Options}
 use Rattle.off_transfer_rules.specs.View.{view}
 use Rattle.off_transfer_rules.specs.Transfers.{size_for, first_number, packet_of_number, last_packet, begun}
 use Rattle.off_transfer_rules.specs.Steps.{Given}
@@ -38,18 +39,28 @@ use Rattle.off_transfer_runs.proofs.Accepted.{Begins, begins}
 
 -- ---- the first packet
 
-counts_first : (asked : Option ℕ) → from_of (first_number asked) ≡ 1
-counts_first None = refl
-counts_first (Some size) = refl
+counts_from : (any : Bool) → from_of (if any then 0 else 1) ≡ 1
+counts_from true = refl
+counts_from false = refl
 
-all_ahead : (file : List ℕ) (asked : Option ℕ) → ahead file (size_for asked) (first_number asked) ≡ file
-all_ahead file None = let none : zero * 512 ≡ 0 = omega arith in ap (λ n. drop n file) none
-all_ahead file (Some size) = refl
+counts_first : (asked : Options) → from_of (first_number asked) ≡ 1
+counts_first asked = counts_from (has_option asked)
 
-first_block : (file : List ℕ) (asked : Option ℕ)
+ahead_from : (file : List ℕ) (size : ℕ) (any : Bool) → ahead file size (if any then 0 else 1) ≡ file
+ahead_from file size true = refl
+ahead_from file size false = let none : zero * size ≡ 0 = omega arith in ap (λ n. drop n file) none
+
+all_ahead : (file : List ℕ) (asked : Options) → ahead file (size_for asked) (first_number asked) ≡ file
+all_ahead file asked = ahead_from file (size_for asked) (has_option asked)
+
+block_from : (file : List ℕ) (size : ℕ) (any : Bool)
+    → block file size (if any then 0 else 1) ≡ block_in (find is_data (packet_of_number file size (if any then 0 else 1) ∷ []))
+block_from file size true = refl
+block_from file size false = refl
+
+first_block : (file : List ℕ) (asked : Options)
     → block file (size_for asked) (first_number asked) ≡ block_in (find is_data (packet_of_number file (size_for asked) (first_number asked) ∷ []))
-first_block file None = refl
-first_block file (Some size) = refl
+first_block file asked = block_from file (size_for asked) (has_option asked)
 
 -- ---- an accepted read request
 
@@ -60,7 +71,7 @@ acted_on s Did peer bytes effect p says = p
 acted_on s Memory peer bytes effect p says = absurd (true≢false (sym says ∙ ap (λ (e : Effect). says_accepted e.said.line) p))
 acted_on s Keeper peer bytes effect p says = absurd (true≢false (sym says ∙ ap (λ (e : Effect). says_accepted e.said.line) p))
 
-module _ (s : State) (turn : Turn) (after last : State) (later : List Turn) (peer : Peer) (bytes name : List ℕ) (asked : Option ℕ) where
+module _ (s : State) (turn : Turn) (after last : State) (later : List Turn) (peer : Peer) (bytes name : List ℕ) (asked : Options) where
   module _ (did : TftpDid s peer bytes (effect_of turn after)) (b : Begins (view s.tables peer.ip) s.held.now s.held.transfers peer bytes did.given name asked) where
     unfoldable pub first : Transfer
     first = begun s.held.now bytes b.mac b.owner name asked b.file
@@ -134,7 +145,7 @@ module _ (s : State) (turn : Turn) (after last : State) (later : List Turn) (pee
       → FileIsServed s.tables s.held.now peer name asked turn later
   served_did did read says run = served_so did (beginning did read says) run
 
-pub served_at : (s : State) (turn : Turn) (after last : State) (later : List Turn) (peer : Peer) (name : List ℕ) (asked : Option ℕ)
+pub served_at : (s : State) (turn : Turn) (after last : State) (later : List Turn) (peer : Peer) (name : List ℕ) (asked : Options)
     → Step s turn.event turn.outcome (effect_of turn after) → IsAccepted peer name asked turn → Run after later last
     → FileIsServed s.tables (max s.held.now turn.event.at.0) peer name asked turn later
 unfolding Step

@@ -3,10 +3,10 @@ use Rattle.std.proofs.Common.{◌≡◌, ℕ, suc, ◌^◌, ◌<◌, ◌≤◌, 
 use Rattle.std.specs.FinMap as map
 use Rattle.off_base.specs.declared.addresses.Peer.{Peer}
 use Rattle.off_defs.specs.State.{Tables, Transfer}
-use Rattle.off_transfer_rules.specs.Packets.{packet_of}
+use Rattle.off_packets.specs.Packets.{packet_of}
 use Rattle.off_transfer_rules.specs.View.{View, view}
 use Rattle.off_transfer_rules.specs.Transfers.{Transfers, last_packet, packet_of_number, is_last_number, is_at_last, gone_on, asked_again}
-use Rattle.off_transfer_rules.specs.Replies.{error_packet}
+use Rattle.off_packets.specs.Replies.{error_packet}
 use Rattle.off_transfer_rules.specs.Steps.{Way, Denies, Repeats, Accepts, Ignores, Finishes, BreaksOff, GoesOn, Leaves, way, Given, GivesBy, TftpStep}
 use Rattle.off_transfer_rules.specs.Words.{tftp_line}
 use Rattle.off_transfer_rules.proofs.PeerLemmas.{inserted_here}

@@ -12,7 +12,8 @@ use Rattle.off_defs.specs.State.{Tables, State, at_moment}
 use Rattle.off_defs.specs.Tables.{write_all}
 use Rattle.off_file_rules.specs.File.{IsFile}
 use Rattle.off_file_laws.proofs.LawLemmas.{file_is_one}
-use Rattle.off_transfer_rules.specs.Packets.{Reads, packet_of}
+use Rattle.off_packets.specs.Packets.{Reads, packet_of}
+use Rattle.off_packets.specs.declared.packets.Options.{Options}
 use Rattle.off_transfer_rules.specs.View.{view}
 use Rattle.off_transfer_rules.specs.Transfers.{size_for, first_number, is_last_number}
 use Rattle.off_transfer_laws.specs.Agreement.{Agreement}
@@ -66,7 +67,7 @@ each_file_ends file size some =
 
 -- ---- turn by turn
 
-module _ (peer : Peer) (file : List ℕ) (size : ℕ) (request : List ℕ) (from : ℕ) (name : List ℕ) (modem : Mac) (owner : ℕ) (asked : Option ℕ)
+module _ (peer : Peer) (file : List ℕ) (size : ℕ) (request : List ℕ) (from : ℕ) (name : List ℕ) (modem : Mac) (owner : ℕ) (asked : Options)
     (read : packet_of request ≡ Ok (Reads name asked)) (n : ℕ) (last_is : is_last_number file size n ≡ true) where
   abbrev Agreed : Tables → ℕ → Type 0
   Agreed tables now = Agreement tables now peer.ip name modem owner
@@ -120,7 +121,7 @@ same_owner t now ip name mac owner other a b =
     let row : a.modem ≡ b.modem = cc in
     sym a.owned ∙ ap (λ (m : _). m.subscriber) row ∙ b.owned
 
-module _ (s : State) (turn : Turn) (after last : State) (later : List Turn) (peer : Peer) (bytes name : List ℕ) (asked : Option ℕ) where
+module _ (s : State) (turn : Turn) (after last : State) (later : List Turn) (peer : Peer) (bytes name : List ℕ) (asked : Options) where
   lives_first : (did : TftpDid s peer bytes (effect_of turn after)) (b : Begins (view s.tables peer.ip) s.held.now s.held.transfers peer bytes did.given name asked)
       → (file : List ℕ) (modem : Mac) (owner : ℕ) → file ≡ b.file → modem ≡ b.mac → owner ≡ b.owner
       → Lives file (size_for asked) bytes (first_number asked) name modem owner (first_number asked) 5 (map.get after.held.transfers peer)
@@ -157,7 +158,7 @@ module _ (s : State) (turn : Turn) (after last : State) (later : List Turn) (pee
       → Lives file (size_for asked) bytes (first_number asked) name modem owner (first_number asked) 5 (map.get after.held.transfers peer)
   lives_did did read says file modem owner agreed own = lives_as did (beginning s turn after last later peer bytes name asked did read says) file modem owner agreed own
 
-lives_at : (s : State) (turn : Turn) (after last : State) (later : List Turn) (peer : Peer) (name : List ℕ) (asked : Option ℕ)
+lives_at : (s : State) (turn : Turn) (after last : State) (later : List Turn) (peer : Peer) (name : List ℕ) (asked : Options)
     → Step s turn.event turn.outcome (effect_of turn after) → (accepts : IsAccepted peer name asked turn)
     → (served : FileIsServed s.tables (max s.held.now turn.event.at.0) peer name asked turn later)
     → Lives served.file (size_for asked) accepts.bytes (first_number asked) name served.modem served.subscriber (first_number asked) 5 (map.get after.held.transfers peer)

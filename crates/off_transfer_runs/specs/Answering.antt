@@ -8,7 +8,8 @@ use Rattle.off_defs.specs.declared.results.Outcome.{Outcome}
 use Rattle.off_defs.specs.declared.results.Outcome.TheVariants.{Did, Memory, Keeper}
 use Rattle.off_defs.specs.State.{Tables, State}
 use Rattle.off_defs.specs.Tables.{write_all}
-use Rattle.off_transfer_rules.specs.Packets.{Acknowledges, packet_of}
+use Rattle.off_packets.specs.Packets.{Acknowledges, packet_of}
+use Rattle.off_packets.specs.declared.packets.Options.{Options}
 use Rattle.off_transfer_rules.specs.Transfers.{size_for, first_number, is_last_number}
 use Rattle.off_transfer_laws.specs.Agreement.{Agreement}
 use Rattle.off_book.specs.Run.{Turn, Run}
@@ -83,7 +84,7 @@ AnswersUpTo request first n peer Agree tables now k ticks (turn ∷ turns) =
 abbrev pub WhoAnswersGetsAll : Type 0
 WhoAnswersGetsAll =
     (s last : State) (turn : Turn) (soon rest : List Turn)
-    (peer : Peer) (name : List ℕ) (asked : Option ℕ) (n : ℕ)
+    (peer : Peer) (name : List ℕ) (asked : Options) (n : ℕ)
     → Run s (turn ∷ (soon ++ rest)) last → (accepts : IsAccepted peer name asked turn)
     → (served : FileIsServed s.tables (max s.held.now turn.event.at.0) peer name asked turn
     (soon ++ rest))

@@ -9,7 +9,8 @@ use Rattle.off_defs.specs.declared.events.What.TheVariants as came
 use Rattle.off_defs.specs.State.{Tables, State}
 use Rattle.off_file_rules.specs.File.{with_stamps, IsFile}
 use Rattle.off_file_laws.specs.Laws.{Boots}
-use Rattle.off_transfer_rules.specs.Packets.{Reads, packet_of}
+use Rattle.off_packets.specs.Packets.{Reads, packet_of}
+use Rattle.off_packets.specs.declared.packets.Options.{Options}
 use Rattle.off_transfer_rules.specs.Transfers.{size_for, first_number, first_word, packet_of_number, is_last_number}
 use Rattle.off_transfer_rules.specs.Words.{tftp_line}
 use Rattle.off_transfer_laws.specs.Agreement.{Agreement}
@@ -53,7 +54,7 @@ BlocksGo peer file size k (turn ∷ turns) =
 
 -- ---- a read request that was accepted
 
-pub record IsAccepted (peer : Peer) (name : List ℕ) (asked : Option ℕ) (turn : Turn) : Type 0 where
+pub record IsAccepted (peer : Peer) (name : List ℕ) (asked : Options) (turn : Turn) : Type 0 where
   pub bytes : List ℕ
   pub event : turn.event.what ≡ came.Datagram service.Tftp peer bytes
   pub read : packet_of bytes ≡ Ok (Reads name asked)
@@ -64,7 +65,7 @@ pub record IsAccepted (peer : Peer) (name : List ℕ) (asked : Option ℕ) (turn
 -- secret of the moment. What the peer acknowledges counts up from 1, and what it got begins the
 -- file, and is the file where all is done.
 pub record FileIsServed (tables : Tables) (now : ℕ) (peer : Peer) (name : List ℕ)
-    (asked : Option ℕ) (turn : Turn) (later : List Turn) : Type 0 where
+    (asked : Options) (turn : Turn) (later : List Turn) : Type 0 where
   pub modem : Mac
   pub subscriber : ℕ
   pub file : List ℕ
@@ -85,7 +86,7 @@ pub record FileIsServed (tables : Tables) (now : ℕ) (peer : Peer) (name : List
 
 abbrev pub FilesAreServedThrough : State → List Turn → Type 0
 FilesAreServedThrough s turns =
-    (before later : List Turn) (turn : Turn) (peer : Peer) (name : List ℕ) (asked : Option ℕ)
+    (before later : List Turn) (turn : Turn) (peer : Peer) (name : List ℕ) (asked : Options)
     → turns ≡ before ++ turn ∷ later → IsAccepted peer name asked turn
     → FileIsServed (tables_after s.tables before)
     (max (moment_after s.held.now before) turn.event.at.0) peer name asked turn later

@@ -11,9 +11,9 @@ use Rattle.off_defs.specs.declared.events.What.TheVariants as came
 use Rattle.off_defs.specs.declared.results.Sent.{Sent}
 use Rattle.off_defs.specs.declared.results.Sent.TheVariants as sent
 use Rattle.off_defs.specs.State.{peer_cmp}
-use Rattle.off_transfer_rules.specs.Packets.{Meant, Reads, Writes, Acknowledges, GivesUp, IsOther, packet_of}
+use Rattle.off_packets.specs.Packets.{Meant, Reads, Writes, Acknowledges, GivesUp, IsOther, packet_of}
 use Rattle.off_transfer_rules.specs.Words.{tftp_line}
-use Rattle.off_transfer_rules.specs.declared.faults.PacketFault.{PacketFault}
+use Rattle.off_packets.specs.declared.faults.PacketFault.{PacketFault}
 use Rattle.off_transfer_rules.specs.declared.words.TftpWord.{TftpWord}
 use Rattle.off_transfer_rules.specs.declared.words.TftpWord.TheVariants as word
 use Rattle.off_book.specs.Run.{Turn}

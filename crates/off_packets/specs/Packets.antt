@@ -1,19 +1,20 @@
 -- TFTP packets as clients send them (RFC 1350 section 5; options by RFC 2347 section 2, of which
 -- the block size is taken, RFC 2348).
-use Rattle.std.specs.Prelude.{ℕ, ◌-◌, ◌==◌, Bool, List, [], ◌∷◌, length, take, codes, nat_le, nat_lt, find, Option, Some, None, option_and_then, Result, Ok, Err, if◌then◌else◌}
+use Rattle.std.specs.Prelude.{ℕ, ◌-◌, ◌==◌, Bool, List, [], ◌∷◌, length, take, codes, nat_le, nat_lt, find, Option, Some, None, is_some, option_and_then, Result, Ok, Err, if◌then◌else◌}
 use Rattle.std.specs.List.{slice_split}
 use Rattle.std.specs.Int.{w16, from_be_bytes}
 use Rattle.std.specs.Str.{str_eq_ignore_ascii_case}
 use Rattle.off_base.specs.Number.{number_read}
-use Rattle.off_transfer_rules.specs.declared.packets.Packet.{Packet}
-use Rattle.off_transfer_rules.specs.declared.packets.Packet.TheVariants as packet
-use Rattle.off_transfer_rules.specs.declared.faults.PacketFault.{PacketFault}
-use Rattle.off_transfer_rules.specs.declared.faults.PacketFault.TheVariants as fault
+use Rattle.off_packets.specs.declared.packets.Options.{Options}
+use Rattle.off_packets.specs.declared.packets.Packet.{Packet}
+use Rattle.off_packets.specs.declared.packets.Packet.TheVariants as packet
+use Rattle.off_packets.specs.declared.faults.PacketFault.{PacketFault}
+use Rattle.off_packets.specs.declared.faults.PacketFault.TheVariants as fault
 
--- What a packet says: a file is asked for by its name, perhaps in blocks of a size; a file is
--- offered; a packet of this number has come; the client gives up; or something else
+-- What a packet says: a file is asked for by its name, with options; a file is offered; a packet of
+-- this number has come; the client gives up; or something else
 pub data Meant : Type 0 where
-  Reads : List ℕ → Option ℕ → Meant
+  Reads : List ℕ → Options → Meant
   Writes : Meant
   Acknowledges : ℕ → Meant
   GivesUp : Meant
@@ -21,7 +22,7 @@ pub data Meant : Type 0 where
 
 -- what one says that lends its name
 abbrev pub meant_by : Packet → Meant
-meant_by (packet.Read name size) = Reads name.now size
+meant_by (packet.Read name options) = Reads name.now options
 meant_by packet.Write = Writes
 meant_by (packet.Ack number) = Acknowledges number
 meant_by packet.Error = GivesUp
@@ -63,10 +64,18 @@ abbrev pub size_asked : List (List ℕ) → Option ℕ
 size_asked texts =
     option_and_then (λ named. size_read named.1) (find is_block_size (option_pairs texts))
 
+-- each option is read by itself
+abbrev pub options_asked : List (List ℕ) → Options
+options_asked texts = record { blksize = size_asked texts }
+
+-- an option was read that is to be told (RFC 2347 section 2)
+abbrev pub has_option : Options → Bool
+has_option asked = is_some asked.blksize
+
 -- a name and a mode, of which only `octet` is served (RFC 1350 section 1), and options
 abbrev pub request_of : List (List ℕ) → Result Meant PacketFault
 request_of (name ∷ mode ∷ texts) =
-    if str_eq_ignore_ascii_case mode (codes "octet") then Ok (Reads name (size_asked texts))
+    if str_eq_ignore_ascii_case mode (codes "octet") then Ok (Reads name (options_asked texts))
     else Err fault.Mode
 request_of texts = Err fault.Form
 

@@ -4,10 +4,10 @@ use Rattle.std.specs.List.{slice_split, onto_first, position, position_or_len, b
 use Rattle.std.proofs.lemmas.Bool.{ltb-true, ltb-false, le-ltb, lt-ltb}
 use Rattle.std.proofs.lemmas.List.{take_all}
 use Rattle.std.proofs.lemmas.List.Splits.{slice_split_first, length-slice_split}
-use Rattle.off_transfer_rules.specs.Packets.{Meant, packet_limit, packet_of, short_packet_of, packet_by, is_zero, all_but_last, ended_texts}
-use Rattle.off_transfer_rules.specs.declared.faults.PacketFault.{PacketFault}
-use Rattle.off_transfer_rules.specs.declared.faults.PacketFault.TheVariants as fault
-use Rattle.off_tftp.specs.Pieces.{IsNumbered}
+use Rattle.off_packets.specs.Packets.{Meant, packet_limit, packet_of, short_packet_of, packet_by, is_zero, all_but_last, ended_texts}
+use Rattle.off_packets.specs.declared.faults.PacketFault.{PacketFault}
+use Rattle.off_packets.specs.declared.faults.PacketFault.TheVariants as fault
+use Rattle.off_packets.specs.Pieces.{IsNumbered}
 
 more_behind : (n : ℕ) (x : List ℕ) (xs : List (List ℕ)) → length xs ≡ n + 1 → all_but_last (x ∷ xs) ≡ x ∷ all_but_last xs
 more_behind n x [] e = absurd (omega (arith, e))

@@ -1,10 +1,8 @@
 //! Packets that the office sends (RFC 1350, section 5; RFC 2347, section 2).
 
-ghost use Rattle.std.specs.Prelude.{◌≡◌, ◌≤◌, IfOk};
-ghost use Rattle.off_file_rules.specs.Block.{block};
-ghost use Rattle.off_transfer_rules.specs.Replies.{data_packet, oack_packet, error_packet};
+ghost use Rattle.std.specs.Prelude.{◌≡◌, ◌++◌, IfOk};
+ghost use Rattle.off_packets.specs.Replies.{data_packet, oack_packet, error_packet};
 
-use crate::files::File;
 use itoa::Buffer;
 use off_base::{Bytes, NoMemory};
 use std::alloc::Global;
@@ -12,27 +10,26 @@ use std::alloc::Global;
 // The bytes in front of a block: the kind of the packet and the block's number.
 const HEADER: usize = 4;
 
-/// A block of a file, which it counts from 1.
-pub(crate) fn data_packet(
+/// A block of a file in its two pieces. Room is taken for as many bytes as a block may have.
+pub fn data_packet(
     alloc: Global,
-    file: &File,
-    size: u16,
     number: u16,
+    size: u16,
+    first: &[u8],
+    rest: &[u8],
 ) -> Result<Bytes, NoMemory>
-    requires { 1 ≤ number }
-    ensures { IfOk result (λ packet. packet ≡ data_packet number (block file.now size number)) }
+    ensures { IfOk result (λ packet. packet ≡ data_packet number (first.now ++ rest.now)) }
 {
-    let block = file.block(size, number);
     let mut packet = Bytes::with_capacity(alloc, HEADER + usize::from(size))?;
     packet.push_all(&[0, 3])?;
     packet.push_all(&number.to_be_bytes())?;
-    packet.push_all(block.first)?;
-    packet.push_all(block.rest)?;
+    packet.push_all(first)?;
+    packet.push_all(rest)?;
     Ok(packet)
 }
 
 /// The size of blocks that was taken.
-pub(crate) fn oack_packet(alloc: Global, size: u16) -> Result<Bytes, NoMemory>
+pub fn oack_packet(alloc: Global, size: u16) -> Result<Bytes, NoMemory>
     ensures { IfOk result (λ packet. packet ≡ oack_packet size) }
 {
     let mut packet = Bytes::new(alloc);
@@ -45,7 +42,7 @@ pub(crate) fn oack_packet(alloc: Global, size: u16) -> Result<Bytes, NoMemory>
 }
 
 /// A refusal: a code, and a text for people.
-pub(crate) fn error_packet(alloc: Global, code: u16, text: &[u8]) -> Result<Bytes, NoMemory>
+pub fn error_packet(alloc: Global, code: u16, text: &[u8]) -> Result<Bytes, NoMemory>
     ensures { IfOk result (λ packet. packet ≡ error_packet code text.now) }
 {
     let mut packet = Bytes::new(alloc);

@@ -1,6 +1,6 @@
-use Rattle.off_transfer_rules.specs.Packets.{meant_by}
-use Rattle.off_tftp.proofs.PacketLemmas.{too_long, too_short, read_whole}
-use Rattle.off_tftp.proofs.packets.read_packet.Goals as goal
+use Rattle.off_packets.specs.Packets.{meant_by}
+use Rattle.off_packets.proofs.PacketLemmas.{too_long, too_short, read_whole}
+use Rattle.off_packets.proofs.reader.read_packet.Goals as goal
 
 pub returns-then-bytes-gt-MOST-clause-exact : goal.returns-then-bytes-gt-MOST-clause-exact
 returns-then-bytes-gt-MOST-clause-exact c = too_long c.args.bytes.now c.if-bytes-gt-MOST.true

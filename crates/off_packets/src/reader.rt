@@ -3,13 +3,14 @@
 ghost use Rattle.std.specs.Prelude.{◌≡◌, ◌<◌, ◌≤◌, [], ◌∷◌, length, Ok, Err, MatchResult};
 ghost use Rattle.std.specs.Prelude.{MatchOption, IfSome, IfOk};
 ghost use Rattle.std.specs.List.{position};
-ghost use Rattle.off_transfer_rules.specs.Packets.{packet_of, request_of, acknowledgement_of};
-ghost use Rattle.off_transfer_rules.specs.Packets.{packet_by, meant_by, ended_texts, is_zero};
-ghost use Rattle.off_transfer_rules.specs.Packets.{size_asked, size_read};
-ghost use Rattle.off_tftp.specs.Pieces.{IsNumbered, AsksEnough};
+ghost use Rattle.off_packets.specs.Packets.{packet_of, request_of, acknowledgement_of};
+ghost use Rattle.off_packets.specs.Packets.{packet_by, meant_by, ended_texts, is_zero};
+ghost use Rattle.off_packets.specs.Packets.{size_asked, size_read, options_asked};
+ghost use Rattle.off_packets.specs.Pieces.{IsNumbered, AsksEnough};
 
+use crate::faults::PacketFault;
+use crate::packets::{Options, Packet};
 use off_base::read_number;
-use off_transfer_rules::{Packet, PacketFault};
 
 // A packet has at most so many bytes.
 const MOST: usize = 1_500;
@@ -67,7 +68,7 @@ fn read_request(bytes: &[u8]) -> Result<Packet<'_>, PacketFault>
     }
     Ok(Packet::Read {
         name,
-        size: size_asked(options),
+        options: options_asked(options),
     })
 }
 
@@ -112,6 +113,16 @@ fn place_of_zero(bytes: &[u8]) -> Option<usize>
     ensures within { IfSome result (λ place. place < length bytes.now) }
 {
     bytes.iter().position(|byte| *byte == 0)
+}
+
+// What the options ask for.
+fn options_asked(options: &[u8]) -> Options
+    ensures exact { result ≡ options_asked (ended_texts options.now) }
+    ensures least { IfSome result.blksize (λ size. 8 ≤ size) }
+{
+    Options {
+        blksize: size_asked(options),
+    }
 }
 
 // The size of blocks that the options ask for: that of the first option of this name.

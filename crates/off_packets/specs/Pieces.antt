@@ -1,8 +1,8 @@
 -- What is cut off in front of a packet's bytes.
 use Rattle.std.specs.Prelude.{◌≡◌, ℕ, ◌≤◌, ⊤, List, ◌∷◌, IfSome}
-use Rattle.off_transfer_rules.specs.Packets.{two_byte_number}
-use Rattle.off_transfer_rules.specs.declared.packets.Packet.{Packet}
-use Rattle.off_transfer_rules.specs.declared.packets.Packet.TheVariants as packet
+use Rattle.off_packets.specs.Packets.{two_byte_number}
+use Rattle.off_packets.specs.declared.packets.Packet.{Packet}
+use Rattle.off_packets.specs.declared.packets.Packet.TheVariants as packet
 
 -- a number in two bytes stands in front of the rest
 pub record IsNumbered (bytes : List ℕ) (number : ℕ) (rest : List ℕ) : Type 0 where
@@ -13,7 +13,7 @@ pub record IsNumbered (bytes : List ℕ) (number : ℕ) (rest : List ℕ) : Type
 
 -- no block is asked for that is shorter than any may be
 abbrev pub AsksEnough : Packet → Type 0
-AsksEnough (packet.Read name size) = IfSome size (λ size. 8 ≤ size)
+AsksEnough (packet.Read name options) = IfSome options.blksize (λ size. 8 ≤ size)
 AsksEnough packet.Write = ⊤
 AsksEnough (packet.Ack number) = ⊤
 AsksEnough packet.Error = ⊤
