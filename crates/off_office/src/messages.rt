@@ -1,4 +1,4 @@
-ghost use Rattle.std.specs.Prelude.{◌≡◌, ◌≤◌, length, OnOk, OnErr, Ok, MatchResult};
+ghost use Rattle.std.specs.Prelude.{◌≡◌, OnOk, OnErr, Ok, MatchResult};
 ghost use Rattle.off_defs.specs.State.{says_nothing};
 ghost use Rattle.off_dhcp.specs.Datagram.{message_of};
 ghost use Rattle.off_lease_rules.specs.Words.{unread};
@@ -9,6 +9,7 @@ ghost use Rattle.off_office.specs.Asking.{SpentWithin, message_asks, commit_call
 ghost use Rattle.off_office.specs.Leasing.{ServesMessage, DidStep, FailsMessage};
 
 use crate::office::Office;
+use arrayvec::ArrayVec;
 use off_base::{NoMemory, Peer};
 use off_dhcp::{DhcpFault, Message};
 use off_lease::{DhcpWord, LeaseStep, answer};
@@ -50,7 +51,7 @@ impl Office {
         match Message::read(bytes) {
             Ok(m) => self.serve_message(keeper, &m, out),
             Err(fault) => {
-                out.set_line(line_of(word_of(fault)));
+                out.set_line(line_of(word_of(fault)).as_slice());
                 Ok(())
             }
         }
@@ -112,7 +113,7 @@ fn say_step(reply: Option<Sent>, word: DhcpWord, out: &mut Replies) -> Result<()
     if let Some(reply) = reply {
         out.push(reply)?;
     }
-    out.set_line(line_of(word));
+    out.set_line(line_of(word).as_slice());
     Ok(())
 }
 
@@ -150,35 +151,11 @@ fn word_of(fault: DhcpFault) -> DhcpWord
 }
 
 // The line of the log: the service and the word.
-fn line_of(word: DhcpWord) -> &'static [u8]
-    ensures line { result.now ≡ dhcp_line word }
-    ensures short { length result.now ≤ 80 }
+fn line_of(word: DhcpWord) -> ArrayVec<u8, 80>
+    ensures { result.items ≡ dhcp_line word }
 {
-    match word {
-        DhcpWord::Offer => b"dhcp offer",
-        DhcpWord::Ack => b"dhcp ack",
-        DhcpWord::Declined => b"dhcp declined",
-        DhcpWord::Released => b"dhcp released",
-        DhcpWord::Short => b"dhcp dhcp-short",
-        DhcpWord::Long => b"dhcp dhcp-long",
-        DhcpWord::NotRequest => b"dhcp dhcp-not-request",
-        DhcpWord::Hardware => b"dhcp dhcp-hardware",
-        DhcpWord::Cookie => b"dhcp dhcp-cookie",
-        DhcpWord::OptionCut => b"dhcp dhcp-option-cut",
-        DhcpWord::NoType => b"dhcp dhcp-no-type",
-        DhcpWord::Overload => b"dhcp dhcp-overload",
-        DhcpWord::NoSite => b"dhcp no-site",
-        DhcpWord::NotServed => b"dhcp not-served",
-        DhcpWord::RequestForm => b"dhcp request-form",
-        DhcpWord::PartCut => b"dhcp part-cut",
-        DhcpWord::RelayMismatch => b"dhcp relay-mismatch",
-        DhcpWord::NotAModem => b"dhcp not-a-modem",
-        DhcpWord::NoRelayPool => b"dhcp no-relay-pool",
-        DhcpWord::UnknownModem => b"dhcp unknown-modem",
-        DhcpWord::SerialMismatch => b"dhcp serial-mismatch",
-        DhcpWord::OtherServer => b"dhcp other-server",
-        DhcpWord::PoolFull => b"dhcp pool-full",
-        DhcpWord::NoRecord => b"dhcp no-record",
-        DhcpWord::NotYourAddress => b"dhcp not-your-address",
-    }
+    let mut line = ArrayVec::new();
+    let _service = line.try_extend_from_slice(b"dhcp ");
+    let _word = line.try_extend_from_slice(word.text());
+    line
 }

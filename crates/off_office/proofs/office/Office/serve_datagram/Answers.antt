@@ -26,7 +26,7 @@ pub returns-in-Err-clause-told : goal.returns-in-Err-clause-told
 returns-in-Err-clause-told g c =
     fault_serves (message_of c.args.bytes.now) c.in-Err.fault _ _ _ (sym c.read.ensures.message ∙ c.in-Err.is)
     (c.set_line.ensures
-    ∙ (ap (λ (line : List ℕ). record { items = c.args.out.now.items; line = line }) (c.line_of.ensures.line ∙ ap dhcp_line c.word_of.ensures)
+    ∙ (ap (λ (line : List ℕ). record { items = c.args.out.now.items; line = line }) (c.as_slice.ensures.value ∙ c.line_of.ensures ∙ ap dhcp_line c.word_of.ensures)
     ∙ ap (λ (s : Said). record { items = s.items; line = dhcp_line (unread c.in-Err.fault) }) c.requires))
 
 pub returns-in-Err-clause-spent : goal.returns-in-Err-clause-spent
