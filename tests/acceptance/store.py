@@ -183,12 +183,12 @@ class Stream(threading.Thread):
             self.number += 1
 
 
-def kills():
+def kills(kind="", rows=rows_of):
     """In a stream of changes the office is killed again and again."""
     done, more, slowest = 0, 0, 0.0
     with folder() as (_, store):
         for turn in range(KILLS):
-            with Serving(store) as office:
+            with Serving(kind + store) as office:
                 slowest = max(slowest, time.perf_counter() - office.began)
                 stream = Stream(office, done)
                 stream.start()
@@ -196,7 +196,7 @@ def kills():
                 office.kill()
                 stream.join(timeout=PATIENCE)
                 done += len(stream.done)
-            with Serving(store) as office:
+            with Serving(kind + store) as office:
                 found = [number for number in (done, done + 1) if office.ask("GET", f"/subscribers/{number}")[0] == 200]
                 check(found in ([], [done]), f"behind kill {turn} one change more than was acknowledged, or none: {found}")
                 for number in range(max(0, done - 20), done):
@@ -204,9 +204,9 @@ def kills():
                 more += len(found)
                 done += len(found)
                 office.kill()
-        check(ended(store) == (0, ""), "behind the kills the tables are good")
+        check(ended(kind + store) == (0, ""), "behind the kills the tables are good")
         expected = {b"\2" + struct.pack(">I", number): b"\1\2" + bytes([len(f"Ann {number}")]) + f"Ann {number}".encode() for number in range(done)}
-        check(rows_of(store) == expected, f"the file has the {done} changes and no other")
+        check(rows(store) == expected, f"the file has the {done} changes and no other")
     print(f"{KILLS} kills in a stream of changes: {done} are there, {more} of which weren't acknowledged yet; the slowest start took {slowest:.2f} s")
 
 
@@ -291,19 +291,19 @@ def journal():
         check(ended(store) == (0, ""), "and then the file is opened")
 
 
-def imports():
+def imports(kind="", rows=rows_of):
     people = table("subscribers", [[str(number), "yes", "2", f"N {number}"] for number in range(1, 1001)])
     with folder() as (_, store):
-        check(ended(store, "import", "subscribers", "9", data=people) == (0, "rows 1000\n"), "an import makes a file and puts its rows")
-        before = rows_of(store)
+        check(ended(kind + store, "import", "subscribers", "9", data=people) == (0, "rows 1000\n"), "an import makes a file and puts its rows")
+        before = rows(store)
         check(len(before) == 1001, f"its rows and its batch are there: {len(before)}")
         check(before.get(b"\x09" + bytes(7) + b"\x09", b"")[-4:] == struct.pack(">I", 1000), "the batch keeps the number of rows")
-        check(ended(store, "import", "subscribers", "9", data=people) == (0, "rows 1000\n"), "the same again is answered by the number that was kept")
-        check(rows_of(store) == before, "and changes nothing")
-        check(ended(store, "import", "subscribers", "9", data=people + b"2000,no,1,\n") == (9, "refused batch-differs 9\n"), "another one of the number")
-        check(ended(store, "import", "modems", "10", data=table("modems", [["02:00:00:00:00:01", "1", "1", ""]])) == (9, "refused no-class row 1\n"), "no class")
-        check(rows_of(store) == before, "what is refused changes nothing")
-        with Serving(store) as office:
+        check(ended(kind + store, "import", "subscribers", "9", data=people) == (0, "rows 1000\n"), "the same again is answered by the number that was kept")
+        check(rows(store) == before, "and changes nothing")
+        check(ended(kind + store, "import", "subscribers", "9", data=people + b"2000,no,1,\n") == (9, "refused batch-differs 9\n"), "another one of the number")
+        check(ended(kind + store, "import", "modems", "10", data=table("modems", [["02:00:00:00:00:01", "1", "1", ""]])) == (9, "refused no-class row 1\n"), "no class")
+        check(rows(store) == before, "what is refused changes nothing")
+        with Serving(kind + store) as office:
             office.shows("/subscribers/1000", {"active": True, "cpes": 2, "name": "N 1000"}, "an import is served")
 
 
@@ -352,20 +352,21 @@ def guide():
     check([(row[0], row[1], row[3]) for row in found[-1]] == [("0000000000000009", "subscribers", "00000001")], f"the imports: {found[-1]}")
 
 
-def full_disk():
-    """In a memory disk of 2 MB: a change that finds no room is answered 500 and leaves the tables; once there is room, changes are done again."""
+def full_disk(kind="", size="2m"):
+    """In a small memory disk: a change that finds no room is answered 500 and leaves the tables; once there is room, changes are done again."""
     with folder() as (name, _):
-        subprocess.run(["mount", "-t", "tmpfs", "-o", "size=2m", "tmpfs", name], check=True)
+        subprocess.run(["mount", "-t", "tmpfs", "-o", f"size={size}", "tmpfs", name], check=True)
         try:
-            fills(name)
+            taken = fills(name, kind)
+            print(f"a disk of {size} took {taken} changes")
         finally:
             subprocess.run(["umount", "-l", name], check=True)
     return 1 if failures else 0
 
 
-def fills(name):
+def fills(name, kind):
     done, body = [], {"active": True, "cpes": 2, "name": "x" * 60}
-    with Serving(os.path.join(name, "office.db")) as office:
+    with Serving(kind + os.path.join(name, "office.db")) as office:
         for number in range(20_000):
             found = office.ask("PUT", f"/subscribers/{number}", body)
             if found is None or found[0] != 200:
@@ -383,20 +384,20 @@ def fills(name):
     with tempfile.TemporaryDirectory() as other:
         for each in os.listdir(name):
             shutil.copy(os.path.join(name, each), other)
-        with Serving(os.path.join(other, "office.db")) as office:
+        with Serving(kind + os.path.join(other, "office.db")) as office:
             for number in done[:1] + done[len(done) // 2:][:1] + done[-1:]:
                 found = office.ask("GET", f"/subscribers/{number}")
                 check(found is not None and found[0] == 200, f"behind a full disk subscriber {number} is there")
-    print(f"a disk of 2 MB took {len(done)} changes")
+    return len(done)
 
 
-def booting():
+def booting(kind="", rows=rows_of):
     """Modems boot, the office is killed and starts again, and they renew: in a network of its own."""
     modems.address_of_lo(b"lo", "127.0.0.1", "255.0.0.0")
     modems.address_of_lo(b"lo:1", modems.SERVER, "255.255.255.255")
     modems.address_of_lo(b"lo:2", modems.RELAY, "255.255.0.0")
     with folder() as (_, store), tempfile.TemporaryFile() as log:
-        program = start(modems.PORTS, 10**9, log, {"OFFICED_UDP": modems.SERVER}, store=store)
+        program = start(modems.PORTS, 10**9, log, {"OFFICED_UDP": modems.SERVER}, store=kind + store)
         try:
             check(modems.is_ready(), "the program answers within some seconds")
             modems.furnish()
@@ -405,7 +406,7 @@ def booting():
             for end in (signal.SIGKILL, signal.SIGTERM):
                 program.send_signal(end)
                 program.wait(timeout=PATIENCE)
-                program = start(modems.PORTS, 10**9, log, {"OFFICED_UDP": modems.SERVER}, store=store)
+                program = start(modems.PORTS, 10**9, log, {"OFFICED_UDP": modems.SERVER}, store=kind + store)
                 check(modems.is_ready(), "it starts again")
                 modems.read_back(talk)
                 for number in range(modems.MODEMS):
@@ -416,17 +417,17 @@ def booting():
             modems.read_back(talk)
         finally:
             stop(program)
-        kinds = [ident[0] for ident in rows_of(store)]
+        kinds = [ident[0] for ident in rows(store)]
         leased = len(talk.model.leases)
         check((kinds.count(4), kinds.count(7)) == (modems.MODEMS + 1, leased), f"the file has {leased} leases: {kinds.count(7)}")
     return 1 if failures else 0
 
 
-def in_its_own(what, *flags):
+def in_its_own(what, *flags, script=__file__):
     if not shutil.which("unshare") or subprocess.run(["unshare", *flags, "true"], stderr=subprocess.DEVNULL).returncode != 0:
         print(f"skipped {what}, since `unshare {' '.join(flags)}` isn't allowed here")
         return
-    done = subprocess.run(["unshare", *flags, sys.executable, os.path.abspath(__file__), what], timeout=20 * PATIENCE)
+    done = subprocess.run(["unshare", *flags, sys.executable, os.path.abspath(script), what], timeout=20 * PATIENCE)
     check(done.returncode == 0, what)
 
 

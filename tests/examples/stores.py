@@ -1,5 +1,5 @@
 #!/usr/bin/env python3
-"""Writes crates/store_script/stdin and stdout: whole runs over tables in cells, in memory and in a table of a database.
+"""Writes crates/store_script/stdin and stdout: whole runs over tables in cells, in memory and in a table of a database, and in a journal.
 
 Their sections are those of office_script, which are to give the same text; all but the few with rows that no cell can hold (`stray`), or with so
 many rows that a list of cells is too slow (`repeat`). Where calls of the keeper fail, they are played over cells in memory alone. Then come cells
@@ -10,7 +10,7 @@ import pathlib
 import sys
 
 CRATES = pathlib.Path(__file__).resolve().parent.parent.parent / "crates"
-MARK = "cells alone\n"
+IN_CELLS, ALONE = "in cells\n", "cells alone\n"
 
 # What each kind of cell lacks. A key's bytes are its kind and its numbers; a row's are its fields.
 SITE = "0a000002" "06736563726574" "00000e10" "00015180" "00000000"
@@ -57,7 +57,8 @@ def main():
     head, scripts = sections("office_script", "stdin")
     _, texts = sections("office_script", "stdout")
     common = "\n".join(line for line in head.splitlines() if line.startswith("common ")) + "\n"
-    both, alone, told_of_both, told_of_alone = common, "\n" + common, "", ""
+    both, cells, alone = common, "\n" + common, "\n" + common
+    told_of_both, told_of_cells, told_of_alone = "", "", ""
     for script, text in zip(scripts, texts, strict=True):
         assert script.splitlines()[0] == text.splitlines()[0], (script.splitlines()[0], text.splitlines()[0])
         if is_of("repeat ", script) or is_of("stray ", script):
@@ -68,14 +69,14 @@ def main():
         else:
             both += f"\nsection {script}\n"
             told_of_both += f"\nsection {text}\n"
-    both += "\nsection a cell that is no row is refused at the opening, and the tables stay\n# By hand, from crates/off_rows/specs.\n"
-    told_of_both += "\nsection a cell that is no row is refused at the opening, and the tables stay\n"
+    cells += "\nsection a cell that is no row is refused at the opening, and the tables stay\n# By hand, from crates/off_rows/specs.\n"
+    told_of_cells += "\nsection a cell that is no row is refused at the opening, and the tables stay\n"
     for title, ident, val in BAD:
-        both += f"cell {ident} {val}\n0 datagram time from 10.64.0.10:5000\nrun {title}\n"
-        told_of_both += f"run {title}\nstatus 3\n| keeper refused\n"
-    both += f"office\ncell 0200000009 010203416e6e\nshow tables\nrun a cell that is a row is one\n"
-    told_of_both += "run a cell that is a row is one\nstatus 0\n" + ROWS
-    files = {"stdin": both + "\n" + MARK + alone, "stdout": told_of_both + told_of_alone}
+        cells += f"cell {ident} {val}\n0 datagram time from 10.64.0.10:5000\nrun {title}\n"
+        told_of_cells += f"run {title}\nstatus 3\n| keeper refused\n"
+    cells += f"office\ncell 0200000009 010203416e6e\nshow tables\nrun a cell that is a row is one\n"
+    told_of_cells += "run a cell that is a row is one\nstatus 0\n" + ROWS
+    files = {"stdin": both + "\n" + IN_CELLS + cells + "\n" + ALONE + alone, "stdout": told_of_both + told_of_cells + told_of_alone}
     where = CRATES / "store_script"
     if sys.argv[1:] == ["check"]:
         return int(any((where / name).read_text() != text for name, text in files.items()))

@@ -18,7 +18,7 @@ use off_host::{
 use off_keepmem::MemKeeper;
 use off_outside::{Calls, Events, Keeper, Link, MemLink, Sink, Source};
 use off_serve::{Wanted, place, run};
-use off_store::{StoreErr, open_store};
+use off_store::{StoreErr, open_journal, open_store};
 use std::env;
 use std::io::ErrorKind;
 use std::process::ExitCode;
@@ -27,6 +27,9 @@ use std::process::ExitCode;
 const DRILLED_ITEMS: usize = 24_000;
 
 const DRILLED_OCTETS: usize = 3_200_000;
+
+// What stands before the path of a journal.
+const JOURNAL: &str = "journal:";
 
 fn main(rt: HostRuntime) -> ExitCode {
     if !open_standard_streams() {
@@ -78,10 +81,23 @@ fn run_wanted(
         let mut keeper = MemKeeper::new(rt.alloc(), Calls::new(rt.alloc()));
         return run_over(rt, words, &wanted.ports, &mut keeper, input, output);
     }
+    if let Some(path) = wanted.store.strip_prefix(JOURNAL) {
+        return match open_journal(rt, path) {
+            Ok(mut keeper) => run_over(rt, words, &wanted.ports, &mut keeper, input, output),
+            Err(error) => no_store(rt, error),
+        };
+    }
     match open_store(rt, wanted.store) {
         Ok(mut keeper) => run_over(rt, words, &wanted.ports, &mut keeper, input, output),
-        Err(StoreErr::Memory) => no_memory(rt),
-        Err(StoreErr::Refused) => Ended::NoStore,
+        Err(error) => no_store(rt, error),
+    }
+}
+
+// Why there is no store.
+fn no_store(rt: &HostRuntime, error: StoreErr) -> Ended {
+    match error {
+        StoreErr::Memory => no_memory(rt),
+        StoreErr::Refused => Ended::NoStore,
     }
 }
 

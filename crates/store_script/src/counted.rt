@@ -1,6 +1,8 @@
 use off_base::Bytes;
 use off_defs::{Key, Row, Writes};
+use off_journal::JournalKeeper;
 use off_keepsql::{CellWrite, CellWrites, Cells, MemCells, SqlCells, SqlKeeper};
+use off_memdisk::MemDisk;
 use off_outside::{Calls, KeepErr, Keeper};
 use off_rows::KeyBytes;
 use office_stage::Kept;
@@ -20,6 +22,12 @@ pub type InCells = Counted<SqlKeeper<MemCells>>;
 
 /// Over a table of a database in memory.
 pub type InDatabase = Counted<SqlKeeper<SqlCells<MemStore>>>;
+
+/// In a journal over a disk in memory.
+pub type InJournal = Counted<JournalKeeper<MemDisk>>;
+
+// More than the commits of any run take.
+const JOURNAL_ROOM: usize = 1 << 18;
 
 impl<K: Keeper> Keeper for Counted<K> {
     ghost seen = { λ s. K.seen s.keeper };
@@ -91,6 +99,26 @@ impl Kept for InDatabase {
 
     fn with_cell(self, alloc: Global, ident: KeyBytes, val: Bytes) -> Result<InDatabase, Unread> {
         with_cell(alloc, self.keeper, ident, val)
+    }
+
+    fn calls(&self) -> u64 {
+        self.calls
+    }
+}
+
+impl Kept for InJournal {
+    // The listed calls are those of its disk.
+    fn made(alloc: Global, fails: Calls) -> Result<InJournal, Unread> {
+        let disk = MemDisk::new(alloc, JOURNAL_ROOM, fails)?;
+        match JournalKeeper::begin(alloc, disk) {
+            Ok(keeper) => Ok(Counted { keeper, calls: 0 }),
+            Err(_unopened) => Err(Unread::Memory),
+        }
+    }
+
+    // It has rows, and no cells.
+    fn with_cell(self, _alloc: Global, _ident: KeyBytes, _val: Bytes) -> Result<InJournal, Unread> {
+        Err(Unread::Words)
     }
 
     fn calls(&self) -> u64 {

@@ -1,15 +1,17 @@
-//! Runs examples that are data over tables in cells: over cells in memory, and over a table of a
-//! database in memory. Both have to print what the same script prints over tables in memory.
+//! Runs examples that are data over tables in files: over cells in memory, over a table of a
+//! database in memory, and over a journal on a disk in memory. Each has to print what the same
+//! script prints over tables in memory.
 //!
-//! The script's first part is played over both, and what comes of it is printed once; where the
-//! database prints something else, that is printed behind it. The part behind the line `cells
-//! alone` is played over cells in memory, where calls can be made to fail.
+//! The script's first part is played over all three, and what comes of it is printed once; where
+//! the database or the journal prints something else, that is printed behind it. The part behind
+//! the line `in cells` is played over both kinds of cells, and the part behind the line `cells
+//! alone` over cells in memory, where calls can be made to fail.
 //! `tests/examples/README.md` says how a script is written.
 #![tactic(auto)]
 
 mod counted;
 
-use crate::counted::{InCells, InDatabase};
+use crate::counted::{InCells, InDatabase, InJournal};
 use off_outside::Keeper;
 use office_stage::{Kept, Stage};
 use script_words::{Page, Unread};
@@ -34,37 +36,75 @@ fn played<K: Kept + Drop>(alloc: Global, script: &[u8]) -> Result<Page, Unread> 
     Ok(page)
 }
 
-// What comes of both parts.
-fn told(alloc: Global, both: &[u8], alone: &[u8]) -> Result<Page, Unread> {
-    let mut page = played::<InCells>(alloc, both)?;
-    let other = played::<InDatabase>(alloc, both)?;
-    if other.as_slice() != page.as_slice() {
-        page.text("over the database\n")?;
+// Prints what comes of lines over another keeper, where it isn't the page that they are to print.
+fn compare<K: Kept + Drop>(
+    alloc: Global,
+    page: &mut Page,
+    script: &[u8],
+    expected: &Page,
+    title: &str,
+) -> Result<(), Unread> {
+    let other = played::<K>(alloc, script)?;
+    if other.as_slice() != expected.as_slice() {
+        page.text(title)?;
         page.raw(other.as_slice())?;
     }
-    let rest = played::<InCells>(alloc, alone)?;
+    Ok(())
+}
+
+// What comes of lines over both kinds of cells.
+fn show_cells(alloc: Global, page: &mut Page, script: &[u8]) -> Result<Page, Unread> {
+    let expected = played::<InCells>(alloc, script)?;
+    page.raw(expected.as_slice())?;
+    compare::<InDatabase>(alloc, page, script, &expected, "over the database\n")?;
+    Ok(expected)
+}
+
+// What comes of all parts.
+fn told(alloc: Global, parts: &Parts<'_>) -> Result<Page, Unread> {
+    let mut page = Page::new(alloc);
+    let expected = show_cells(alloc, &mut page, parts.all)?;
+    compare::<InJournal>(alloc, &mut page, parts.all, &expected, "over the journal\n")?;
+    let _cells = show_cells(alloc, &mut page, parts.cells)?;
+    let rest = played::<InCells>(alloc, parts.alone)?;
     page.raw(rest.as_slice())?;
     Ok(page)
 }
 
-const MARK: &[u8] = b"cells alone\n";
+// The parts of a script.
+#[derive(Clone, Copy)]
+struct Parts<'a> {
+    all: &'a [u8],
+    cells: &'a [u8],
+    alone: &'a [u8],
+}
 
-// Where the mark begins, if it is there.
-fn mark_in(script: &[u8]) -> Option<usize> {
+const CELLS: &[u8] = b"in cells\n";
+
+const ALONE: &[u8] = b"cells alone\n";
+
+// Where a mark begins, if it is there.
+fn mark_in(script: &[u8], mark: &[u8]) -> Option<usize> {
     for at in 0..script.len() {
-        if script[at..].starts_with(MARK) {
+        if script[at..].starts_with(mark) {
             return Some(at);
         }
     }
     None
 }
 
-// What stands before the mark and behind it, if it is there.
-fn parts_of(script: &[u8]) -> Option<(&[u8], &[u8])> {
-    let at = mark_in(script)?;
-    let both = script.get(..at)?;
-    let alone = script.get(at.checked_add(MARK.len())?..)?;
-    Some((both, alone))
+// What stands before a mark and behind it, if it is there.
+fn split_at_mark<'a>(script: &'a [u8], mark: &[u8]) -> Option<(&'a [u8], &'a [u8])> {
+    let at = mark_in(script, mark)?;
+    let before = script.get(..at)?;
+    let behind = script.get(at.checked_add(mark.len())?..)?;
+    Some((before, behind))
+}
+
+fn parts_of(script: &[u8]) -> Option<Parts<'_>> {
+    let (all, rest) = split_at_mark(script, CELLS)?;
+    let (cells, alone) = split_at_mark(rest, ALONE)?;
+    Some(Parts { all, cells, alone })
 }
 
 fn main(rt: HostRuntime) -> ExitCode {
@@ -72,10 +112,10 @@ fn main(rt: HostRuntime) -> ExitCode {
     if rt.reader().read_to_end(&mut script).is_err() {
         return ExitCode::from(2);
     }
-    let Some((both, alone)) = parts_of(script.as_slice()) else {
+    let Some(parts) = parts_of(script.as_slice()) else {
         return ExitCode::from(3);
     };
-    let Ok(page) = told(rt.alloc(), both, alone) else {
+    let Ok(page) = told(rt.alloc(), &parts) else {
         return ExitCode::from(1);
     };
     let printed = io::writer(&rt).write_all(page.as_slice());
