@@ -21,7 +21,7 @@ import time
 from imports import table
 import store
 from store import CHANGES, Serving, Stream, ended, folder
-from time_service import PROGRAM, ROOT, check, failures
+from harness import PROGRAM, ROOT, check, failures
 
 sys.dont_write_bytecode = True
 KIND, READER = "journal:", os.path.join(ROOT, "bin", "office-sql")
