@@ -1,6 +1,6 @@
 use Rattle.off_accounts.proofs.ImportLemmas.{sound_rows, import_answers}
 use Rattle.off_accounts.proofs.GoodLemmas.{decided_good}
-use Rattle.off_accounts.proofs.deciding.decide.Goals as goal
+use Rattle.off_accounts.proofs.commands.decide.Goals as goal
 
 pub import-verdict-requires-clause-sound : goal.import-verdict-requires-clause-sound
 import-verdict-requires-clause-sound g c = sound_rows c.args.c.now c.in-Import.kind c.in-Import.batch c.in-Import.digest c.in-Import.rows c.in-Import.is c.requires.sound
