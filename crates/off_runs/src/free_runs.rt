@@ -1,6 +1,7 @@
 //! All pools with their runs, at a moment.
 
-ghost use Rattle.std.specs.Prelude.{◌≡◌, ◌≤◌, ◌+◌, ◌==◌, ℕ, Option, Some, MatchOption, OnOk, OnErr, vec_len, []};
+ghost use Rattle.std.specs.Prelude.{◌≡◌, ◌≤◌, ◌+◌, ◌==◌, ℕ, Option, Some, MatchOption, OnOk};
+ghost use Rattle.std.specs.Prelude.{OnErr, IfOk, vec_len, []};
 ghost use Rattle.std.specs.Vec.{vec_capacity};
 ghost use Rattle.std.specs.List.{find, list_any};
 ghost use Rattle.std.specs.Option.{option_map};
@@ -74,8 +75,9 @@ impl FreeRuns {
     /// It commits nothing. After an error there is nothing; `Failed` comes only where the keeper
     /// counted a fault.
     pub fn of<K: Keeper>(alloc: Global, keeper: &mut K) -> Result<FreeRuns, KeepErr>
-        ensures { Looks result (K.seen keeper.old) (K.seen keeper.new)
+        ensures told { Looks result (K.seen keeper.old) (K.seen keeper.new)
             (λ runs t. StandsFor runs (ground t) 0) }
+        ensures at { IfOk result (λ runs. runs.at ≡ 0) }
     {
         let pools = read_pools(alloc, keeper)?;
         let mut runs = FreeRuns::new(alloc);
@@ -87,9 +89,10 @@ impl FreeRuns {
 
     // Takes the leases of tables whose pools are here.
     fn take_leases_of<K: Keeper>(&mut self, alloc: Global, keeper: &mut K) -> Result<(), KeepErr>
-        ensures { Looks result (K.seen keeper.old) (K.seen keeper.new)
+        ensures told { Looks result (K.seen keeper.old) (K.seen keeper.new)
             (λ _ t. (now : ℕ) → StandsFor self.old (bare_ground t) now
             → StandsFor self.new (ground t) now) }
+        ensures at { self.new.at ≡ self.old.at }
     {
         take_kept(alloc, keeper, &mut self.pools)?;
         let moment = self.moment;

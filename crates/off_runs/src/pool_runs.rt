@@ -1,6 +1,7 @@
 //! One pool, with the expiries of its addresses and its runs.
 
-ghost use Rattle.std.specs.Prelude.{◌≡◌, ◌≤◌, ◌<◌, ◌==◌, ◌+◌, ◌^◌, ◌&&◌, ℕ, true, false, length, vec_len};
+ghost use Rattle.std.specs.Prelude.{◌≡◌, ◌≤◌, ◌<◌, ◌==◌, ◌+◌, ◌^◌, ◌&&◌, ℕ, true, false, length};
+ghost use Rattle.std.specs.Prelude.{vec_len};
 ghost use Rattle.std.specs.Prelude.{IsTrue, get_or, if◌then◌else◌};
 ghost use Rattle.off_account_rules.specs.Rows.{has_pool_size};
 ghost use Rattle.off_runs.specs.Runs.{in_pool, is_open};

@@ -1,5 +1,7 @@
 //! What is kept of free addresses, over a pool of the greatest size.
 
+ghost use Rattle.std.specs.Prelude.{◌≡◌, IfOk};
+
 use off_base::{Ip4, Mac, Moment, NoMemory};
 use off_defs::{Hold, Key, Lease, Pool, Row, Write, Writes};
 use off_keepmem::MemKeeper;
@@ -62,14 +64,18 @@ fn halved(alloc: Global) -> Result<Writes, NoMemory> {
     Ok(writes)
 }
 
-fn begun(alloc: Global) -> Result<FreeRuns, KeepErr> {
+fn begun(alloc: Global) -> Result<FreeRuns, KeepErr>
+    ensures { IfOk result (λ runs. runs.at ≡ 0) }
+{
     let mut keeper = MemKeeper::new(alloc, Calls::new(alloc));
     let writes = full_pool(alloc)?;
     keeper.commit(alloc, &writes)?;
     FreeRuns::of(alloc, &mut keeper)
 }
 
-fn write(runs: &mut FreeRuns, writes: &Writes) -> Result<(), NoMemory> {
+fn write(runs: &mut FreeRuns, writes: &Writes) -> Result<(), NoMemory>
+    ensures { runs.new.at ≡ runs.old.at }
+{
     runs.ready(writes)?;
     runs.apply(writes);
     Ok(())
