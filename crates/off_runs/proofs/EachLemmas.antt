@@ -2,7 +2,8 @@
 use Rattle.std.proofs.Common.{◌≡◌, ℕ, zero, suc, ◌+◌, ◌<◌, ◌≤◌, ◌≢◌, true, false, nat_lt, List, [], ◌∷◌, length, map, get_or, set, refl, sym, subst, ◌∙◌, arith, length-set, get_or-set_same, get_or-set_other}
 use Rattle.std.proofs.lemmas.Bool.Decides.{nat_tests}
 use Rattle.std.specs.List.{All}
-use Rattle.off_runs.specs.Changes.{EachBecomes}
+use Rattle.off_runs.specs.Held.{PoolHeld}
+use Rattle.off_runs.specs.Changes.{EachBecomes, IsSame}
 
 module _ {A : Type 0} (R : A → A → Type 0) where
   -- those below a place have changed
@@ -52,3 +53,16 @@ module _ {A : Type 0} (R : A → A → Type 0) where
       let first : f y ≡ f x = h x y (b.each 0 x (omega arith)) in
       let rest = becomes_map f h xs ys (record { lengths = omega (arith, b.lengths); each = λ k d lt. b.each (suc k) d (omega (arith, lt)) }) in
       cc
+
+-- where each is as before, all are
+all_same : {A : Type 0} (old new : List A) → length new ≡ length old → ((k : ℕ) (x : A) → k < length old → get_or new k x ≡ get_or old k x) → new ≡ old
+all_same [] [] len each = refl
+all_same [] (y ∷ ys) len each = absurd (omega (arith, len))
+all_same (x ∷ xs) [] len each = absurd (omega (arith, len))
+all_same (x ∷ xs) (y ∷ ys) len each =
+    let first : y ≡ x = each 0 x (omega arith) in
+    let rest : ys ≡ xs = all_same xs ys (omega (arith, len)) (λ k d lt. each (suc k) d (omega (arith, lt))) in
+    cc
+
+pub none_changed : (old new : List PoolHeld) → EachBecomes IsSame old new → new ≡ old
+none_changed old new b = all_same old new b.lengths b.each

@@ -5,7 +5,7 @@ use Rattle.off_defs.specs.declared.orders.Write.{Write}
 use Rattle.off_defs.specs.declared.tables.Pool.{Pool}
 use Rattle.off_runs.specs.Runs.{in_pool}
 use Rattle.off_runs.specs.Held.{PoolHeld, head, expiry_at, HasLeases, HasHub}
-use Rattle.off_runs.specs.Changes.{EachBecomes, Wrote, Settles}
+use Rattle.off_runs.specs.Changes.{EachBecomes, Wrote}
 use Rattle.off_runs.specs.Leases.{pool_write, lease_write, pools_by, pools_after, expiries_by, expiries_after, puts_pool, pool_puts, LeasesTaken}
 use Rattle.off_runs.proofs.EachLemmas.{becomes_all, becomes_map}
 use Rattle.off_runs.proofs.StandLemmas.{same_head, same_hub}
@@ -49,7 +49,6 @@ none_taken w ps is = record {
   heads_are = refl;
   hubs = λ hub all. all;
   leases = λ expiry all. subst (λ o. All (HasLeases (expiries_by o expiry)) ps) (sym is) all;
-  settles = λ now all. all;
 }
 
 written_at : (b : Bool) (x was is : ℕ) → was ≡ is → cond b x was ≡ cond b x is
@@ -68,11 +67,10 @@ one_taken w a ends old new is each = record {
   leases = λ expiry all.
       subst (λ o. All (HasLeases (expiries_by o expiry)) new) (sym is)
       (becomes_all (Wrote a ends) (HasLeases expiry) (HasLeases (λ b. cond (b == a) ends (expiry b))) (wrote_leases expiry a ends) old new each all);
-  settles = λ now all. becomes_all (Wrote a ends) (Settles now) (Settles now) (λ x y r. r.settles now) old new each all;
 }
 
 pub nothing_taken : (ps : List PoolHeld) → LeasesTaken [] ps ps
-nothing_taken ps = record { heads_are = refl; hubs = λ hub all. all; leases = λ expiry all. all; settles = λ now all. all }
+nothing_taken ps = record { heads_are = refl; hubs = λ hub all. all; leases = λ expiry all. all }
 
 pub taken_more : (ws : List Write) (i : ℕ) (w : Write) (first old new : List PoolHeld) → slice_get ws i ≡ Some w → LeasesTaken (take i ws) first old → LeasesTaken (w ∷ []) old new
     → LeasesTaken (take (i + 1) ws) first new
@@ -81,7 +79,6 @@ taken_more ws i w first old new is before one = record {
   hubs = λ hub all. one.hubs hub (before.hubs hub all);
   leases = λ expiry all.
       subst (λ (e : ℕ → ℕ). All (HasLeases e) new) (sym (expiries_more expiry ws i w is)) (one.leases (expiries_after expiry (take i ws)) (before.leases expiry all));
-  settles = λ now all. one.settles now (before.settles now all);
 }
 
 pub puts_more : (ws : List Write) (i : ℕ) (w : Write) → slice_get ws i ≡ Some w → pool_puts (take (i + 1) ws) ≡ pool_puts (take i ws) + puts_pool w

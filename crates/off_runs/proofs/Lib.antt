@@ -10,3 +10,4 @@ pub mod ApplyLemmas
 pub mod WriteLemmas
 pub mod SeenLemmas
 pub mod ReadLemmas
+pub mod LeastLemmas

@@ -1,5 +1,5 @@
 -- What walks over the tables find: the pools, and the leases of their addresses.
-use Rattle.std.proofs.Common.{◌≡◌, ℕ, ◌<◌, ◌==◌, Bool, true, false, cond, T, List, [], ◌∷◌, ◌++◌, Option, Some, None, refl, sym, ap, subst, ◌∙◌, append_assoc, arith}
+use Rattle.std.proofs.Common.{◌≡◌, ℕ, ◌<◌, ◌==◌, true, false, cond, T, List, [], ◌∷◌, ◌++◌, Option, Some, None, refl, sym, ap, subst, ◌∙◌, append_assoc, arith}
 use Rattle.std.proofs.lemmas.List.{append-nil}
 use Rattle.std.proofs.lemmas.List.Elements.{All-nil, All-weaker}
 use Rattle.std.specs.List.{All, filter_map, cons_option}
@@ -25,12 +25,9 @@ use Rattle.off_outside.proofs.KeeperLemmas.{reads_none}
 use Rattle.off_readers.proofs.GatherLemmas.{Gathered}
 use Rattle.off_readers.proofs.WalkLemmas.{OnlyAt, left_of, left_next, left_none, kind_begins, kind_ends}
 use Rattle.off_runs.specs.Runs.{address}
-use Rattle.off_runs.specs.Held.{PoolHeld, RunsHeld, head, heads, HasLeases, HasHub, Exact, StandsFor}
-use Rattle.off_runs.specs.Changes.{EachBecomes, Passed, Settles}
+use Rattle.off_runs.specs.Held.{PoolHeld, HasLeases, HasHub, KeepsPools}
 use Rattle.off_runs.specs.Leases.{expiry_in, expiry_held, hub_in, ground, fitting, pools_after, expiries_by, expiries_after, lease_write, LeasesTaken, Moves}
 use Rattle.off_runs.specs.Reading.{pool_put, lease_put, pools_put, leases_put, no_ground, bare_ground}
-use Rattle.off_runs.proofs.EachLemmas.{becomes_all, becomes_map}
-use Rattle.off_runs.proofs.StandLemmas.{stands_by, same_head, same_hub, passed_leases, passed_exact, settles_by}
 use Rattle.off_runs.proofs.LeaseLemmas.{nothing_taken}
 use Rattle.off_runs.proofs.WriteLemmas.{same_number, read_pool, put_pool, read_expiry, put_expiry}
 use Rattle.off_runs.proofs.SeenLemmas.{pools_sorted, pool_seen}
@@ -162,12 +159,8 @@ pools_move t = record {
   expiries = λ a. ap (λ (e : ℕ → ℕ). e a) (no_leases (λ b. 0) (map.entries t));
 }
 
-pub new_stands : (h : RunsHeld) → h.at ≡ 0 → h.pools ≡ [] → StandsFor h no_ground 0
-new_stands h at none =
-    stands_by h no_ground 0 at (ap (λ (ps : List PoolHeld). heads ps) none)
-    (subst (λ (ps : List PoolHeld). All (HasLeases (λ a. 0)) ps) (sym none) (All-nil (HasLeases (λ a. 0))))
-    (subst (λ (ps : List PoolHeld). All (HasHub (λ n. 0)) ps) (sym none) (All-nil (HasHub (λ n. 0))))
-    (subst (λ (ps : List PoolHeld). All (Exact 0) ps) (sym none) (All-nil (Exact 0)))
+pub none_kept : (pools : List PoolHeld) → pools ≡ [] → KeepsPools pools no_ground
+none_kept pools none = subst (λ (ps : List PoolHeld). KeepsPools ps no_ground) (sym none) (record { heads_are = refl; leases = All-nil (HasLeases (λ a. 0)); hubs = All-nil (HasHub (λ n. 0)) })
 
 -- ---- the walk over leases
 
@@ -207,7 +200,6 @@ taken_then ws vs first old new before more = record {
   heads_are = more.heads_are ∙ before.heads_are;
   hubs = λ hub all. more.hubs hub (before.hubs hub all);
   leases = λ expiry all. subst (λ (e : ℕ → ℕ). All (HasLeases e) new) (sym (after_append expiry ws vs)) (more.leases (expiries_after expiry ws) (before.leases expiry all));
-  settles = λ now all. more.settles now (before.settles now all);
 }
 
 joined : (given : Option Write) (xs ys : List Write) → xs ++ cons_option given ys ≡ (xs ++ cons_option given []) ++ ys
@@ -237,14 +229,9 @@ past_leases first now place entry t so_far next past = ended first now place t s
 
 -- ---- both
 
-pub kept_stands : (t : Tables) (old new : RunsHeld) (now : ℕ) (leased : List PoolHeld) → StandsFor old (bare_ground t) now → LeasesTaken (leases_put t) old.pools leased
-    → EachBecomes (Passed old.at) leased new.pools → new.at ≡ old.at → StandsFor new (ground t) now
-kept_stands t old new now leased s taken passed at =
-    let reached = subst (λ i. EachBecomes (Passed i) leased new.pools) s.moment passed in
-    stands_by new (ground t) now (at ∙ s.moment) (becomes_map (Passed now) head (λ x y p. same_head x y p.same) leased new.pools reached ∙ taken.heads_are ∙ s.pools)
-    (All-weaker (HasLeases (expiries_after (λ a. 0) (leases_put t))) (HasLeases (expiry_in t)) (λ p has a inside. has a inside ∙ leases_read t a) new.pools
-    (becomes_all (Passed now) (HasLeases (expiries_after (λ a. 0) (leases_put t))) (HasLeases (expiries_after (λ a. 0) (leases_put t)))
-    (passed_leases (expiries_after (λ a. 0) (leases_put t)) now) leased new.pools reached (taken.leases (λ a. 0) s.leases)))
-    (becomes_all (Passed now) (HasHub (hub_in t)) (HasHub (hub_in t)) (λ x y p. same_hub (hub_in t) x y p.same) leased new.pools reached (taken.hubs (hub_in t) s.hubs))
-    (becomes_all (Passed now) (Settles now) (Exact now) (λ x y p e. passed_exact now now (omega arith) x y p e) leased new.pools reached
-    (taken.settles now (All-weaker (Exact now) (Settles now) (settles_by now) old.pools s.kept)))
+pub leased_keeps : (t : Tables) (pools leased : List PoolHeld) → KeepsPools pools (bare_ground t) → LeasesTaken (leases_put t) pools leased → KeepsPools leased (ground t)
+leased_keeps t pools leased s taken = record {
+  heads_are = taken.heads_are ∙ s.heads_are;
+  leases = All-weaker (HasLeases (expiries_after (λ a. 0) (leases_put t))) (HasLeases (expiry_in t)) (λ p has a inside. has a inside ∙ leases_read t a) leased (taken.leases (λ a. 0) s.leases);
+  hubs = taken.hubs (hub_in t) s.hubs;
+}

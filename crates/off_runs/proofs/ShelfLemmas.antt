@@ -12,7 +12,7 @@ use Rattle.std.specs.declared.cmp.Ordering.TheVariants.{Less, Equal, Greater}
 use Rattle.off_defs.specs.declared.tables.Pool.{Pool}
 use Rattle.off_runs.specs.Runs.{in_pool}
 use Rattle.off_runs.specs.Held.{Ground, PoolHeld, heads, expiry_at, HasLeases, HasHub}
-use Rattle.off_runs.specs.Changes.{Settles, Began, CopiedAll, HasGathered, surrounded, surrounds}
+use Rattle.off_runs.specs.Changes.{Began, CopiedAll, HasGathered, surrounded, surrounds}
 use Rattle.off_runs.specs.Shelf.{left_of, gone_of, placed, with_pool, Shelved}
 use Rattle.off_runs.proofs.ListedLemmas.{left_all, gone_all, placed_all, none_lost, placed_more, heads_left, heads_placed}
 
@@ -48,9 +48,9 @@ all_or_none true e h = refl
 all_or_none false zero h = refl
 all_or_none false (suc k) h = let f : false ≡ true = h (omega arith) in cc
 
-module _ (g : Ground) (by : ℕ → Option Pool) (now : ℕ) (ps aside : List PoolHeld) (s : Shelved g by now ps aside) where
+module _ (g : Ground) (by : ℕ → Option Pool) (ps aside : List PoolHeld) (s : Shelved g by ps aside) where
   -- a pool goes
-  pub shelved_left : (n : ℕ) → Shelved g (with_pool by n None) now (left_of n ps) (aside ++ gone_of n ps)
+  pub shelved_left : (n : ℕ) → Shelved g (with_pool by n None) (left_of n ps) (aside ++ gone_of n ps)
   shelved_left n =
       let is : heads (left_of n ps) ≡ list.where_key nat_cmp (λ x. not (eq_by_cmp nat_cmp n x)) (heads ps) = heads_left n ps s.sorted in record {
         sorted = subst (λ (es : List (ℕ × Pool)). T (list.is_sorted nat_cmp es)) (sym is) (list.is_sorted-where_key nat_cmp (λ x. not (eq_by_cmp nat_cmp n x)) (heads ps) s.sorted);
@@ -67,12 +67,11 @@ module _ (g : Ground) (by : ℕ → Option Pool) (now : ℕ) (ps aside : List Po
             ap (λ b. surrounded (left_of n ps) a || b) (list_any-append (surrounds a) aside (gone_of n ps))
             ∙ still_around (surrounded (left_of n ps) a) (surrounded (gone_of n ps) a) (surrounded ps a) (surrounded aside a) (none_lost n a ps) (s.around a h);
         hubs = All-from_recursion (HasHub g.hub) (left_of n ps) (left_all (HasHub g.hub) n ps (recursion_from_All (HasHub g.hub) ps s.hubs));
-        settles = All-from_recursion (Settles now) (left_of n ps) (left_all (Settles now) n ps (recursion_from_All (Settles now) ps s.settles));
       }
 
   -- a pool comes
-  pub shelved_placed : (f : PoolHeld) → by f.number ≡ None → HasLeases g.expiry f → HasHub g.hub f → Settles now f → Shelved g (with_pool by f.number (Some f.pool)) now (placed f ps) aside
-  shelved_placed f none leases hub settles =
+  pub shelved_placed : (f : PoolHeld) → by f.number ≡ None → HasLeases g.expiry f → HasHub g.hub f → Shelved g (with_pool by f.number (Some f.pool)) (placed f ps) aside
+  shelved_placed f none leases hub =
       let is : heads (placed f ps) ≡ list.put nat_cmp f.number f.pool (heads ps) = heads_placed f ps (s.found f.number ∙ none) in record {
         sorted = subst (λ (es : List (ℕ × Pool)). T (list.is_sorted nat_cmp es)) (sym is) (list.is_sorted-put nat_cmp nat_cmp_total f.number f.pool (heads ps) s.sorted);
         found = λ q.
@@ -83,7 +82,6 @@ module _ (g : Ground) (by : ℕ → Option Pool) (now : ℕ) (ps aside : List Po
         before = s.before;
         around = λ a h. ap (λ b. b || surrounded aside a) (placed_more f a ps) ∙ more_around (in_pool f.pool a) (surrounded ps a) (surrounded aside a) (s.around a h);
         hubs = All-from_recursion (HasHub g.hub) (placed f ps) (placed_all (HasHub g.hub) f ps hub (recursion_from_All (HasHub g.hub) ps s.hubs));
-        settles = All-from_recursion (Settles now) (placed f ps) (placed_all (Settles now) f ps settles (recursion_from_All (Settles now) ps s.settles));
       }
 
   -- one that took the expiries of all pools has all leases of its addresses
@@ -93,9 +91,9 @@ module _ (g : Ground) (by : ℕ → Option Pool) (now : ℕ) (ps aside : List Po
       let all : HasGathered g.expiry (([] ++ ps) ++ aside) third = two.leases g.expiry ([] ++ ps) s.before (one.leases g.expiry [] s.leases start) in
       all a inside ∙ all_or_none (surrounded (([] ++ ps) ++ aside) a) (g.expiry a) (λ h. list_any-append (surrounds a) ps aside ∙ s.around a h)
 
-pub same_by : (g : Ground) (by other : ℕ → Option Pool) (now : ℕ) (ps aside : List PoolHeld) → ((q : ℕ) → by q ≡ other q) → Shelved g by now ps aside → Shelved g other now ps aside
-same_by g by other now ps aside same s =
-    record { sorted = s.sorted; found = λ n. s.found n ∙ same n; leases = s.leases; before = s.before; around = s.around; hubs = s.hubs; settles = s.settles }
+pub same_by : (g : Ground) (by other : ℕ → Option Pool) (ps aside : List PoolHeld) → ((q : ℕ) → by q ≡ other q) → Shelved g by ps aside → Shelved g other ps aside
+same_by g by other ps aside same s =
+    record { sorted = s.sorted; found = λ n. s.found n ∙ same n; leases = s.leases; before = s.before; around = s.around; hubs = s.hubs }
 
 own_number : (n : ℕ) (by : ℕ → Option Pool) → with_pool by n None n ≡ None
 own_number n by = go (eq_by_cmp nat_cmp n n) (ap is_eq (tied_itself nat_cmp_total n))
@@ -105,22 +103,21 @@ own_number n by = go (eq_by_cmp nat_cmp n n) (ap is_eq (tied_itself nat_cmp_tota
     go false e = cc
 
 -- a pool takes the place of another
-pub shelved_taken : (g : Ground) (by : ℕ → Option Pool) (now n : ℕ) (pool : Pool) (hub : ℕ) (ps aside : List PoolHeld) (first second third : PoolHeld)
-    → Shelved g by now ps aside → hub ≡ g.hub n → Began n pool hub first
+pub shelved_taken : (g : Ground) (by : ℕ → Option Pool) (n : ℕ) (pool : Pool) (hub : ℕ) (ps aside : List PoolHeld) (first second third : PoolHeld)
+    → Shelved g by ps aside → hub ≡ g.hub n → Began n pool hub first
     → CopiedAll (left_of n ps) (left_of n ps) first second → CopiedAll (aside ++ gone_of n ps) (aside ++ gone_of n ps) second third
-    → Shelved g (with_pool by n (Some pool)) now (placed third (left_of n ps)) (aside ++ gone_of n ps)
-shelved_taken g by now n pool hub ps aside first second third s is_hub b one two =
-    let left = shelved_left g by now ps aside s n in
+    → Shelved g (with_pool by n (Some pool)) (placed third (left_of n ps)) (aside ++ gone_of n ps)
+shelved_taken g by n pool hub ps aside first second third s is_hub b one two =
+    let left = shelved_left g by ps aside s n in
     let number : third.number ≡ n = two.same.number ∙ one.same.number ∙ b.number_is in
     let same : third.pool ≡ pool = two.same.pool ∙ one.same.pool ∙ b.pool_is in
     let hubs : HasHub g.hub third = two.same.hub ∙ one.same.hub ∙ b.hub_is ∙ is_hub ∙ ap g.hub (sym number) in
-    let stale = two.stale ∙ one.stale ∙ b.stale in
-    same_by g (with_pool (with_pool by n None) third.number (Some third.pool)) (with_pool by n (Some pool)) now (placed third (left_of n ps)) (aside ++ gone_of n ps)
+    same_by g (with_pool (with_pool by n None) third.number (Some third.pool)) (with_pool by n (Some pool)) (placed third (left_of n ps)) (aside ++ gone_of n ps)
     (λ q.
     ap (λ k. cond (eq_by_cmp nat_cmp q k) (Some third.pool) (with_pool by n None q)) number
     ∙ ap (λ (p : Pool). cond (eq_by_cmp nat_cmp q n) (Some p) (with_pool by n None q)) same
     ∙ one_by (eq_by_cmp nat_cmp q n) (Some pool) (by q))
-    (shelved_placed g (with_pool by n None) now (left_of n ps) (aside ++ gone_of n ps) left third
+    (shelved_placed g (with_pool by n None) (left_of n ps) (aside ++ gone_of n ps) left third
     (ap (with_pool by n None) number ∙ own_number n by)
-    (has_gathered g (with_pool by n None) now (left_of n ps) (aside ++ gone_of n ps) left first second third b.none one two)
-    hubs (λ fresh. cc))
+    (has_gathered g (with_pool by n None) (left_of n ps) (aside ++ gone_of n ps) left first second third b.none one two)
+    hubs)

@@ -1,33 +1,25 @@
 -- What becomes of a pool that is kept.
-use Rattle.std.specs.Prelude.{◌≡◌, ℕ, ◌≤◌, ◌<◌, ◌==◌, Bool, true, false, ◌&&◌, nat_le, List, [], ◌∷◌, ◌++◌, length, get_or, Option, Some, None, if◌then◌else◌}
+use Rattle.std.specs.Prelude.{◌≡◌, ℕ, ◌≤◌, ◌<◌, ◌==◌, Bool, true, ◌&&◌, nat_le, List, [], ◌∷◌, ◌++◌, length, get_or, Option, Some, None, if◌then◌else◌}
 use Rattle.std.specs.List.{All, list_any}
 use Rattle.off_base.specs.declared.addresses.Ip4.{Ip4}
 use Rattle.off_defs.specs.declared.tables.Pool.{Pool}
 use Rattle.off_runs.specs.declared.runs.Run.{Run}
 use Rattle.off_runs.specs.Runs.{in_pool, listed}
-use Rattle.off_runs.specs.Held.{PoolHeld, expiry_at, Exact, HasLeases}
-
--- its runs are exact at a moment, or are to be laid out anew
-abbrev pub Settles : ℕ → PoolHeld → Type 0
-Settles now p = p.is_stale ≡ false → Exact now p
+use Rattle.off_runs.specs.Held.{PoolHeld, expiry_at, HasLeases}
 
 pub record SamePool (old new : PoolHeld) : Type 0 where
   pub number : new.number ≡ old.number
   pub pool : new.pool ≡ old.pool
   pub hub : new.hub ≡ old.hub
 
--- it came to a later moment
-pub record Passed (now : ℕ) (old new : PoolHeld) : Type 0 where
-  pub same : SamePool old new
-  pub expiries : new.expiries ≡ old.expiries
-  pub exact : (from : ℕ) → from ≤ now → Settles from old → Exact now new
+abbrev pub IsSame : PoolHeld → PoolHeld → Type 0
+IsSame old new = new ≡ old
 
 -- the lease of an address changed
 pub record Wrote (address expiry : ℕ) (old new : PoolHeld) : Type 0 where
   pub same : SamePool old new
   pub leases : (a : ℕ) → in_pool old.pool a ≡ true →
       expiry_at new a ≡ (if a == address then expiry else expiry_at old a)
-  pub settles : (now : ℕ) → Settles now old → Settles now new
 
 -- each pool of a list became one of another
 pub record EachBecomes {A : Type 0} (R : A → A → Type 0) (old new : List A) : Type 0 where
@@ -52,24 +44,21 @@ abbrev pub first_of : List Run → Option Ip4
 first_of [] = None
 first_of (run ∷ runs) = Some run.first
 
--- It has the pool of the number, and it's to be laid out; no address of it has a lease
+-- It has the pool of the number, and no address of it has a lease
 pub record Began (number : ℕ) (pool : Pool) (hub : ℕ) (p : PoolHeld) : Type 0 where
   pub number_is : p.number ≡ number
   pub pool_is : p.pool ≡ pool
   pub hub_is : p.hub ≡ hub
-  pub stale : p.is_stale ≡ true
   pub none : (a : ℕ) → expiry_at p a ≡ 0
 
 -- it has the expiries of another pool where that has the address; or of each of a part of a list
 pub record Copied (other old new : PoolHeld) : Type 0 where
   pub same : SamePool old new
-  pub stale : new.is_stale ≡ old.is_stale
   pub leases : (a : ℕ) → in_pool old.pool a ≡ true →
       expiry_at new a ≡ (if in_pool other.pool a then expiry_at other a else expiry_at old a)
 
 pub record CopiedAll (all part : List PoolHeld) (old new : PoolHeld) : Type 0 where
   pub same : SamePool old new
-  pub stale : new.is_stale ≡ old.is_stale
   pub leases : (expiry : ℕ → ℕ) (seen : List PoolHeld) → All (HasLeases expiry) all →
       HasGathered expiry seen old → HasGathered expiry (seen ++ part) new
 

@@ -1,15 +1,9 @@
 -- Codes of what is kept, by which a proof tells two such values apart. Nothing here says what the
 -- office does.
-use Rattle.std.specs.Prelude.{ℕ, Bool, List, refl}
-use Rattle.std.specs.Coded.{Coded, code_by, coded×, coded_ℕ, coded_bool, coded_list}
+use Rattle.std.specs.Prelude.{ℕ, List, refl}
+use Rattle.std.specs.Coded.{Coded, code_by, coded×, coded_ℕ, coded_list}
 use Rattle.off_defs.specs.declared.tables.Pool.{Pool}
-use Rattle.off_runs.specs.declared.runs.Run.{Run}
 use Rattle.off_runs.specs.Held.{PoolHeld, RunsHeld}
-
-abbrev run_code : Coded Run
-run_code =
-    code_by (ℕ × ℕ) (coded× coded_ℕ coded_ℕ) (λ run. (run.first.0, run.last.0))
-    (λ p. record { first = record { 0 = p.0 }; last = record { 0 = p.1 } }) (λ _. refl)
 
 abbrev pool_code : Coded Pool
 pool_code =
@@ -27,20 +21,10 @@ pool_code =
 
 abbrev pub pool_held_code : Coded PoolHeld
 pool_held_code =
-    code_by (((ℕ × Pool) × (ℕ × List Run)) × (List ℕ × (ℕ × Bool)))
-    (coded× (coded× (coded× coded_ℕ pool_code) (coded× coded_ℕ (coded_list run_code)))
-    (coded× (coded_list coded_ℕ) (coded× coded_ℕ coded_bool)))
-    (λ p. (((p.number, p.pool), (p.hub, p.runs)), (p.expiries, (p.soonest, p.is_stale))))
-    (λ p. record {
-      number = p.0.0.0;
-      pool = p.0.0.1;
-      hub = p.0.1.0;
-      runs = p.0.1.1;
-      expiries = p.1.0;
-      soonest = p.1.1.0;
-      is_stale = p.1.1.1;
-    })
-    (λ _. refl)
+    code_by ((ℕ × Pool) × (ℕ × List ℕ))
+    (coded× (coded× coded_ℕ pool_code) (coded× coded_ℕ (coded_list coded_ℕ)))
+    (λ p. ((p.number, p.pool), (p.hub, p.expiries)))
+    (λ p. record { number = p.0.0; pool = p.0.1; hub = p.1.0; expiries = p.1.1 }) (λ _. refl)
 
 abbrev pub runs_code : Coded RunsHeld
 runs_code =

@@ -17,7 +17,6 @@ use Rattle.off_account_rules.specs.Good.{Good}
 use Rattle.off_account_rules.specs.Rows.{pool_fits, pools, pool_in, lease_in}
 use Rattle.off_runs.specs.Runs.{address, in_pool}
 use Rattle.off_runs.specs.Held.{Ground, PoolHeld, heads, HasLeases, HasHub}
-use Rattle.off_runs.specs.Changes.{Settles}
 use Rattle.off_runs.specs.Shelf.{with_pool}
 
 -- what stands in the tables: an address without a lease has expiry 0
@@ -87,7 +86,6 @@ pub record LeasesTaken (writes : List Write) (old new : List PoolHeld) : Type 0 
   pub hubs : (hub : ℕ → ℕ) → All (HasHub hub) old → All (HasHub hub) new
   pub leases : (expiry : ℕ → ℕ) → All (HasLeases expiry) old →
       All (HasLeases (expiries_after expiry writes)) new
-  pub settles : (now : ℕ) → All (Settles now) old → All (Settles now) new
 
 -- What writes make of the ground that pools stand on: its pools are sorted by number, before and
 -- after, and those after are what the writes made of those before, as its expiries are; before, an

@@ -6,7 +6,7 @@ use Rattle.std.specs.Ordering.{nat_cmp, is_eq, eq_by_cmp}
 use Rattle.std.specs.FinMap.Entries as list
 use Rattle.off_defs.specs.declared.tables.Pool.{Pool}
 use Rattle.off_runs.specs.Held.{Ground, PoolHeld, heads, HasLeases, HasHub}
-use Rattle.off_runs.specs.Changes.{Settles, surrounded}
+use Rattle.off_runs.specs.Changes.{surrounded}
 
 -- in a list by number: what is left without the pool of a number, that pool, whether it stands in
 -- front, and the list with one more
@@ -33,12 +33,10 @@ with_pool by n pool q = cond (eq_by_cmp nat_cmp q n) pool (by q)
 
 -- The pools that are there are those by number, and with those aside they have all leases of the
 -- ground, which is what stood before the first write.
-pub record Shelved (g : Ground) (by : ℕ → Option Pool) (now : ℕ) (pools aside : List PoolHeld) :
-    Type 0 where
+pub record Shelved (g : Ground) (by : ℕ → Option Pool) (pools aside : List PoolHeld) : Type 0 where
   pub sorted : T (list.is_sorted nat_cmp (heads pools))
   pub found : (n : ℕ) → list.find nat_cmp n (heads pools) ≡ by n
   pub leases : All (HasLeases g.expiry) pools
   pub before : All (HasLeases g.expiry) aside
   pub around : (a : ℕ) → 0 < g.expiry a → (surrounded pools a || surrounded aside a) ≡ true
   pub hubs : All (HasHub g.hub) pools
-  pub settles : All (Settles now) pools

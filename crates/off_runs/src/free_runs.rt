@@ -1,7 +1,7 @@
 //! All pools with their runs, at a moment.
 
 ghost use Rattle.std.specs.Prelude.{◌≡◌, ◌≤◌, ◌+◌, ◌==◌, ℕ, Option, Some, MatchOption, OnOk};
-ghost use Rattle.std.specs.Prelude.{OnErr, IfOk, vec_len, []};
+ghost use Rattle.std.specs.Prelude.{OnErr, IfOk, IfSome, IsTrue, vec_len, slice_get, []};
 ghost use Rattle.std.specs.Vec.{vec_capacity};
 ghost use Rattle.std.specs.List.{find, list_any};
 ghost use Rattle.std.specs.Option.{option_map};
@@ -11,7 +11,9 @@ ghost use Rattle.off_runs.specs.Leases.{Moves, ground, pool_puts};
 ghost use Rattle.off_defs.specs.State.{Tables};
 ghost use Rattle.off_defs.specs.Tables.{write_all};
 ghost use Rattle.off_account_rules.specs.Good.{Good};
-ghost use Rattle.off_runs.specs.Held.{Ground, StandsFor, NoneOpen, IsLeastOpen};
+ghost use Rattle.off_account_rules.specs.Rows.{pool_fits};
+ghost use Rattle.off_runs.specs.Held.{Ground, KeepsPools, StandsFor, NoneOpen, IsLeastOpen};
+ghost use Rattle.off_runs.specs.Held.{IsLeastOf};
 ghost use Rattle.off_runs.specs.Reading.{bare_ground};
 ghost use Rattle.off_outside.specs.KeeperCalls.{Looks};
 
@@ -21,7 +23,7 @@ use crate::pools::{pass_all, place_behind, place_numbered, place_with};
 use crate::reading::{read_pools, take_kept};
 use crate::shelf::{push_aside, put_back};
 use off_base::{Ip4, Moment, NoMemory};
-use off_defs::Writes;
+use off_defs::{Pool, Writes};
 use off_outside::{KeepErr, Keeper};
 use std::alloc::Global;
 use std::marker::Model;
@@ -90,8 +92,8 @@ impl FreeRuns {
     // Takes the leases of tables whose pools are here.
     fn take_leases_of<K: Keeper>(&mut self, alloc: Global, keeper: &mut K) -> Result<(), KeepErr>
         ensures told { Looks result (K.seen keeper.old) (K.seen keeper.new)
-            (λ _ t. (now : ℕ) → StandsFor self.old (bare_ground t) now
-            → StandsFor self.new (ground t) now) }
+            (λ _ t. KeepsPools self.old.pools (bare_ground t)
+            → KeepsPools self.new.pools (ground t)) }
         ensures at { self.new.at ≡ self.old.at }
     {
         take_kept(alloc, keeper, &mut self.pools)?;
@@ -124,13 +126,9 @@ impl FreeRuns {
         add_room(alloc, &mut self.pools, &mut self.retired, &mut self.spare)
     }
 
-    /// Comes to a moment: the leases that have ended since are free.
+    /// Comes to a moment: the leases that have ended by then are free.
     pub fn pass(&mut self, now: Moment)
-        requires { self.old.at ≤ now.0 }
-        ensures stands { (g : Ground) (from : ℕ) → StandsFor self.old g from
-            → StandsFor self.new g now.0 }
-        ensures at { self.new.at ≡ now.0 }
-        ensures spare { self.new.spare ≡ self.old.spare }
+        ensures { self.new ≡ record self.old { at = now.0 } }
     {
         pass_all(&mut self.pools, now);
         self.moment = now;
@@ -140,10 +138,10 @@ impl FreeRuns {
     /// pool that is put.
     pub fn apply(&mut self, writes: &Writes)
         requires { pool_puts writes.now ≤ self.old.spare }
-        ensures stands { (g : Ground) (h : Ground) (by : ℕ → Option Pool) (now : ℕ)
-            → Moves writes.now by g h → StandsFor self.old g now → StandsFor self.new h now }
-        ensures tables { (t : Tables) (now : ℕ) → Good t → StandsFor self.old (ground t) now
-            → StandsFor self.new (ground (write_all t writes.now)) now }
+        ensures keeps { (g : Ground) (h : Ground) (by : ℕ → Option Pool) → Moves writes.now by g h
+            → KeepsPools self.old.pools g → KeepsPools self.new.pools h }
+        ensures tables { (t : Tables) → Good t → KeepsPools self.old.pools (ground t)
+            → KeepsPools self.new.pools (ground (write_all t writes.now)) }
         ensures at { self.new.at ≡ self.old.at }
     {
         take_pools(&mut self.pools, &mut self.retired, &mut self.spare, writes);
@@ -155,7 +153,7 @@ impl FreeRuns {
 
     /// The number of the pool behind a relay, or `None` where there is none.
     pub fn by_relay(&self, relay: Ip4) -> Option<u32>
-        ensures { (g : Ground) (now : ℕ) → StandsFor self.now g now
+        ensures { (g : Ground) → KeepsPools self.now.pools g
             → result ≡ option_map (λ e. e.0) (find (λ e. e.1.relay.0 == relay.0) g.pools) }
     {
         let place = place_behind(&self.pools, relay);
@@ -165,9 +163,22 @@ impl FreeRuns {
         }
     }
 
+    /// The pool behind a relay, or `None` where there is none.
+    pub fn pool_behind(&self, relay: Ip4) -> Option<Pool>
+        ensures is { (g : Ground) → KeepsPools self.now.pools g
+            → result ≡ option_map (λ e. e.1) (find (λ e. e.1.relay.0 == relay.0) g.pools) }
+        ensures fits { IfSome result (λ pool. IsTrue (pool_fits pool)) }
+    {
+        let place = place_behind(&self.pools, relay);
+        match self.pools.get(place) {
+            Some(pool) => Some(pool.pool()),
+            None => None,
+        }
+    }
+
     /// The number of the pool that has the address, or `None` where none has it.
     pub fn pool_of(&self, address: Ip4) -> Option<u32>
-        ensures { (g : Ground) (now : ℕ) → StandsFor self.now g now
+        ensures { (g : Ground) → KeepsPools self.now.pools g
             → result ≡ option_map (λ e. e.0) (find (λ e. in_pool e.1 address.0) g.pools) }
     {
         let place = place_with(&self.pools, address);
@@ -177,9 +188,22 @@ impl FreeRuns {
         }
     }
 
+    /// The pool that has the address, or `None` where none has it.
+    pub fn pool_around(&self, address: Ip4) -> Option<Pool>
+        ensures is { (g : Ground) → KeepsPools self.now.pools g
+            → result ≡ option_map (λ e. e.1) (find (λ e. in_pool e.1 address.0) g.pools) }
+        ensures fits { IfSome result (λ pool. IsTrue (pool_fits pool)) }
+    {
+        let place = place_with(&self.pools, address);
+        match self.pools.get(place) {
+            Some(pool) => Some(pool.pool()),
+            None => None,
+        }
+    }
+
     /// The hub of a pool, or `None` where there's no such pool.
     pub fn hub_of(&self, number: u32) -> Option<u32>
-        ensures { (g : Ground) (now : ℕ) → StandsFor self.now g now
+        ensures { (g : Ground) → KeepsPools self.now.pools g
             → result ≡ option_map (λ e. g.hub e.0) (find (λ e. e.0 == number) g.pools) }
     {
         let place = place_numbered(&self.pools, number);
@@ -191,8 +215,8 @@ impl FreeRuns {
 
     /// Whether the address is one of a pool's, and free.
     pub fn is_free(&self, address: Ip4) -> bool
-        ensures { (g : Ground) (now : ℕ) → StandsFor self.now g now
-            → result ≡ list_any (λ e. is_open g.expiry now e.1 address.0) g.pools }
+        ensures { (g : Ground) → KeepsPools self.now.pools g
+            → result ≡ list_any (λ e. is_open g.expiry self.now.at e.1 address.0) g.pools }
     {
         let place = place_with(&self.pools, address);
         match self.pools.get(place) {
@@ -203,13 +227,31 @@ impl FreeRuns {
 
     /// The least free address of a pool, or `None` where it has none, or there's no such pool.
     pub fn least(&self, number: u32) -> Option<Ip4>
-        ensures { (g : Ground) (now : ℕ) (pool : Pool) → StandsFor self.now g now
+        ensures { (g : Ground) (pool : Pool) → KeepsPools self.now.pools g
             → option_map (λ e. e.1) (find (λ e. e.0 == number) g.pools) ≡ Some pool
-            → MatchOption result (NoneOpen g now pool) (IsLeastOpen g now pool) }
+            → MatchOption result (NoneOpen g.expiry self.now.at pool)
+            (IsLeastOpen g.expiry self.now.at pool) }
     {
-        let place = place_numbered(&self.pools, number);
+        self.least_at(place_numbered(&self.pools, number))
+    }
+
+    /// The least free address of the pool behind a relay, or `None` where it has none, or there's no
+    /// such pool.
+    pub fn least_behind(&self, relay: Ip4) -> Option<Ip4>
+        ensures { (g : Ground) (pool : Pool) → KeepsPools self.now.pools g
+            → option_map (λ e. e.1) (find (λ e. e.1.relay.0 == relay.0) g.pools) ≡ Some pool
+            → MatchOption result (NoneOpen g.expiry self.now.at pool)
+            (IsLeastOpen g.expiry self.now.at pool) }
+    {
+        self.least_at(place_behind(&self.pools, relay))
+    }
+
+    // The least free address of the pool at a place, or `None` where none stands there.
+    fn least_at(&self, place: usize) -> Option<Ip4>
+        ensures { IsLeastOf (slice_get self.now.pools place) self.now.at result }
+    {
         match self.pools.get(place) {
-            Some(pool) => pool.least(),
+            Some(pool) => pool.least(self.moment),
             None => None,
         }
     }

@@ -6,7 +6,7 @@ ghost use Rattle.std.specs.Option.{option_map};
 ghost use Rattle.std.specs.Vec.{vec_capacity};
 ghost use Rattle.std.specs.Prelude.{Option};
 ghost use Rattle.off_defs.specs.declared.tables.Pool.{Pool};
-ghost use Rattle.off_account_rules.specs.Rows.{has_pool_size};
+ghost use Rattle.off_account_rules.specs.Rows.{pool_fits};
 ghost use Rattle.off_runs.specs.Held.{Ground};
 ghost use Rattle.off_runs.specs.Leases.{pool_write, lease_write, fitting, expiry_held, HasNoHubs};
 ghost use Rattle.off_runs.specs.Leases.{pools_after, pools_by, pool_puts, puts_pool, LeasesTaken};
@@ -31,9 +31,9 @@ pub(crate) fn take_pools(
     requires room_aside { vec_len pools.old + vec_len aside.old + vec_len spare.old
         ≤ vec_capacity aside.old }
     requires spare { pool_puts writes.now ≤ vec_len spare.old }
-    ensures shelved { (g : Ground) (by : ℕ → Option Pool) (now : ℕ) → HasNoHubs g
-        → Shelved g by now pools.old.items aside.old.items
-        → Shelved g (pools_after by writes.now) now pools.new.items aside.new.items }
+    ensures shelved { (g : Ground) (by : ℕ → Option Pool) → HasNoHubs g
+        → Shelved g by pools.old.items aside.old.items
+        → Shelved g (pools_after by writes.now) pools.new.items aside.new.items }
     ensures kept { vec_capacity spare.old ≤ vec_capacity spare.new }
     ensures room { vec_capacity pools.old ≤ vec_capacity pools.new }
     ensures room_aside { vec_capacity aside.old ≤ vec_capacity aside.new }
@@ -57,9 +57,9 @@ fn take_write(
     requires room_aside { vec_len pools.old + vec_len aside.old + vec_len spare.old
         ≤ vec_capacity aside.old }
     requires spare { puts_pool write.now ≤ vec_len spare.old }
-    ensures shelved { (g : Ground) (by : ℕ → Option Pool) (now : ℕ) → HasNoHubs g
-        → Shelved g by now pools.old.items aside.old.items
-        → Shelved g (pools_by (pool_write write.now) by) now pools.new.items aside.new.items }
+    ensures shelved { (g : Ground) (by : ℕ → Option Pool) → HasNoHubs g
+        → Shelved g by pools.old.items aside.old.items
+        → Shelved g (pools_by (pool_write write.now) by) pools.new.items aside.new.items }
     ensures kept { vec_capacity spare.old ≤ vec_capacity spare.new }
     ensures room { vec_capacity pools.old ≤ vec_capacity pools.new }
     ensures room_aside { vec_capacity aside.old ≤ vec_capacity aside.new }
@@ -76,7 +76,7 @@ fn take_write(
 // The pool that a write makes of a number, or `None` where it's of no pool.
 fn pool_write(write: &Write) -> Option<(u32, Option<Pool>)>
     ensures is { result ≡ pool_write write.now }
-    ensures size { IfSome result (λ w. IfSome w.1 (λ pool. IsTrue (has_pool_size pool))) }
+    ensures size { IfSome result (λ w. IfSome w.1 (λ pool. IsTrue (pool_fits pool))) }
     ensures puts { IfSome result (λ w. IfSome w.1 (λ _. puts_pool write.now ≡ 1)) }
 {
     match write {
@@ -89,7 +89,7 @@ fn pool_write(write: &Write) -> Option<(u32, Option<Pool>)>
 // The pool of a row, or `None` where it's none that may stand.
 fn fitting(row: &Row) -> Option<Pool>
     ensures fits { result ≡ fitting row.now }
-    ensures size { IfSome result (λ pool. IsTrue (has_pool_size pool)) }
+    ensures size { IfSome result (λ pool. IsTrue (pool_fits pool)) }
 {
     match row {
         Row::Pool(pool) => {

@@ -1,14 +1,13 @@
 //! One pool, with the expiries of its addresses and its runs.
 
 ghost use Rattle.std.specs.Prelude.{◌≡◌, ◌≤◌, ◌<◌, ◌==◌, ◌+◌, ◌^◌, ◌&&◌, ℕ, true, false, length};
-ghost use Rattle.std.specs.Prelude.{vec_len};
-ghost use Rattle.std.specs.Prelude.{IsTrue, get_or, if◌then◌else◌};
-ghost use Rattle.off_account_rules.specs.Rows.{has_pool_size};
+ghost use Rattle.std.specs.Prelude.{IsTrue, MatchOption, get_or, if◌then◌else◌};
+ghost use Rattle.off_account_rules.specs.Rows.{pool_fits};
 ghost use Rattle.off_runs.specs.Runs.{in_pool, is_open};
-ghost use Rattle.off_runs.specs.Held.{expiry_at, HasLeases, PoolHeld};
-ghost use Rattle.off_runs.specs.Changes.{Passed, Wrote, Began, Copied, HasPart, first_of};
+ghost use Rattle.off_runs.specs.Held.{expiry_at, HasLeases, PoolHeld, NoneOpen, IsLeastOpen};
+ghost use Rattle.off_runs.specs.Changes.{Wrote, Began, Copied, HasPart};
 
-use crate::runs::{Run, lay_out};
+use crate::runs::{Run, first_address, first_open, lay_out};
 use off_base::{Ip4, Moment, NoMemory};
 use off_defs::Pool;
 use std::alloc::Global;
@@ -20,23 +19,26 @@ const MOST_ADDRESSES: usize = 4_096;
 const MOST_RUNS: usize = 2_048;
 
 /// A pool by its number, with the expiry of each of its addresses by its place from the first, 0
-/// where there's no lease, and the runs that were laid out of them. Contracts see all of it.
+/// where there's no lease. Contracts see these.
+///
+/// Beside them stand the runs that were laid out of them at a moment, and the soonest expiry that
+/// was ahead then: until that comes, and as long as no lease is written, they are the runs of the
+/// free addresses.
 #[derive(Drop)]
 pub(crate) struct PoolRuns {
     number: u32,
     pool: Pool,
     hub: u32,
-    runs: Vec<Run>,
     expiries: Vec<u64>,
+    laid_at: Moment,
+    runs: Vec<Run>,
     soonest: u64,
     is_stale: bool,
 }
 
 impl Model for PoolRuns {
-    ghost use Rattle.std.specs.Prelude.{◌≡◌, ◌≤◌, IsTrue, length};
     ghost use Rattle.std.specs.Vec.{vec_capacity};
-    ghost use Rattle.off_account_rules.specs.Rows.{has_pool_size};
-    ghost use Rattle.off_runs.specs.Held.{PoolHeld};
+    ghost use Rattle.off_runs.specs.Held.{PoolHeld, KeepsRuns};
     ghost use Rattle.off_runs.specs.Codes.{pool_held_code};
 
     ghost Value = { PoolHeld };
@@ -47,14 +49,11 @@ impl Model for PoolRuns {
       number = p.number;
       pool = p.pool;
       hub = p.hub;
-      runs = p.runs.items;
       expiries = p.expiries.items;
-      soonest = p.soonest;
-      is_stale = p.is_stale;
     } };
 
-    ghost invariant = { λ p. IsTrue (has_pool_size p.pool) × (length p.expiries.items ≡ 4096)
-        × (2048 ≤ vec_capacity p.runs) };
+    ghost invariant = { λ p. KeepsRuns p.pool p.expiries.items p.laid_at.0 p.runs.items p.soonest
+        p.is_stale (vec_capacity p.runs) };
 }
 
 impl PoolRuns {
@@ -65,7 +64,8 @@ impl PoolRuns {
     }
 
     pub(crate) fn pool(&self) -> Pool
-        ensures { result ≡ self.now.pool }
+        ensures is { result ≡ self.now.pool }
+        ensures fits { IsTrue (pool_fits result) }
     {
         self.pool
     }
@@ -90,22 +90,26 @@ impl PoolRuns {
         self.has(address) && self.expiries[(address.0 - self.pool.first.0) as usize] <= now.0
     }
 
-    /// The first address of its runs, or `None` where no address is free.
-    pub(crate) fn least(&self) -> Option<Ip4>
-        ensures { result ≡ first_of self.now.runs }
+    /// The least of its addresses that is free at a moment, or `None` where none is. It's at hand
+    /// where the runs are those of the moment, and else it's sought.
+    pub(crate) fn least(&self, now: Moment) -> Option<Ip4>
+        ensures { let expiry = expiry_at self.now in let pool = self.now.pool in
+            MatchOption result (NoneOpen expiry now.0 pool) (IsLeastOpen expiry now.0 pool) }
     {
-        match self.runs.first() {
-            Some(run) => Some(run.first),
-            None => None,
+        if !self.is_stale && self.laid_at.0 <= now.0 && now.0 < self.soonest {
+            first_address(&self.runs)
+        } else {
+            first_open(now, &self.pool, &self.expiries)
         }
     }
 
     /// Comes to a moment: lays its runs out anew, where a lease has ended since or was written.
     pub(crate) fn pass(&mut self, now: Moment)
-        ensures { Passed now.0 self.old self.new }
+        ensures { self.new ≡ self.old }
     {
-        if self.is_stale || self.soonest <= now.0 {
+        if self.is_stale || self.soonest <= now.0 || now.0 < self.laid_at.0 {
             self.soonest = lay_out(now, &self.pool, &self.expiries, &mut self.runs);
+            self.laid_at = now;
             self.is_stale = false;
         }
     }
@@ -129,19 +133,20 @@ impl PoolRuns {
         let Ok(expiries) = vec![in alloc; 0; MOST_ADDRESSES] else {
             return Err(NoMemory);
         };
-        let none = Ip4(0);
+        let one = Ip4(1);
         Ok(PoolRuns {
             number: 0,
             pool: Pool {
-                first: none,
-                last: none,
-                prefix: 0,
-                router: none,
-                relay: none,
+                first: one,
+                last: one,
+                prefix: 24,
+                router: one,
+                relay: one,
             },
             hub: 0,
-            runs,
             expiries,
+            laid_at: Moment(0),
+            runs,
             soonest: 0,
             is_stale: true,
         })
@@ -149,7 +154,7 @@ impl PoolRuns {
 
     /// Becomes another pool, none of whose addresses has a lease.
     pub(crate) fn begin(&mut self, number: u32, pool: Pool, hub: u32)
-        requires { IsTrue (has_pool_size pool) }
+        requires { IsTrue (pool_fits pool) }
         ensures { Began number pool hub self.new }
     {
         clear(&mut self.expiries);
@@ -169,6 +174,7 @@ impl PoolRuns {
         let from = other.pool.first.0 as u64;
         if low <= high {
             copy_part(&mut self.expiries, first, &other.expiries, from, low, high);
+            self.is_stale = true;
         }
     }
 }

@@ -5,14 +5,14 @@ ghost use Rattle.std.specs.Prelude.{vec_len, slice_get};
 ghost use Rattle.std.specs.List.{find};
 ghost use Rattle.std.specs.Vec.{vec_capacity};
 ghost use Rattle.off_runs.specs.Runs.{in_pool};
-ghost use Rattle.off_runs.specs.Changes.{EachBecomes, Passed, Wrote, CopiedAll};
+ghost use Rattle.off_runs.specs.Changes.{EachBecomes, IsSame, Wrote, CopiedAll};
 
 use crate::pool_runs::PoolRuns;
 use off_base::{Ip4, Moment};
 
 /// All pools come to a moment.
 pub(crate) fn pass_all(pools: &mut Vec<PoolRuns>, now: Moment)
-    ensures each { EachBecomes (Passed now.0) pools.old.items pools.new.items }
+    ensures each { EachBecomes IsSame pools.old.items pools.new.items }
     ensures len { vec_len pools.new ≡ vec_len pools.old }
     ensures capacity { vec_capacity pools.new ≡ vec_capacity pools.old }
 {

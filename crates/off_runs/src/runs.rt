@@ -1,10 +1,12 @@
 //! Runs of free addresses, laid out from the expiries of all addresses of a pool.
 
 ghost use Rattle.std.specs.Prelude.{◌≡◌, ◌≤◌, ◌<◌, ◌^◌, ◌*◌, ◌+◌, length, vec_len, true, IsTrue};
-ghost use Rattle.std.specs.Prelude.{ℕ};
+ghost use Rattle.std.specs.Prelude.{ℕ, MatchOption};
 ghost use Rattle.std.specs.Vec.{vec_capacity};
 ghost use Rattle.off_account_rules.specs.Rows.{has_pool_size};
 ghost use Rattle.off_runs.specs.Runs.{AreRuns, in_pool, is_open, listed, with_run};
+ghost use Rattle.off_runs.specs.Held.{NoneOpen, IsLeastOpen};
+ghost use Rattle.off_runs.specs.Changes.{first_of};
 
 use off_base::{Ip4, Moment};
 use off_defs::Pool;
@@ -65,4 +67,32 @@ fn end_run(runs: &mut Vec<Run>, start: u64, end: u64)
         };
         let _is_done = runs.push(run).is_ok();
     }
+}
+
+/// The first address of runs, or `None` where there are none.
+pub(crate) fn first_address(runs: &Vec<Run>) -> Option<Ip4>
+    ensures { result ≡ first_of runs.now.items }
+{
+    match runs.first() {
+        Some(run) => Some(run.first),
+        None => None,
+    }
+}
+
+/// The first of a pool's addresses whose lease has ended by the moment, or `None` where none has.
+pub(crate) fn first_open(now: Moment, pool: &Pool, expiries: &[u64]) -> Option<Ip4>
+    requires size { IsTrue (has_pool_size pool.now) }
+    requires len { length expiries.now ≡ 4096 }
+    ensures { let expiry = listed pool.now.first.0 expiries.now in
+        MatchOption result (NoneOpen expiry now.0 pool.now)
+        (IsLeastOpen expiry now.0 pool.now) }
+{
+    let first = pool.first.0 as u64;
+    let end = pool.last.0 as u64 + 1;
+    for at in first..end {
+        if expiries[(at - first) as usize] <= now.0 {
+            return Some(Ip4(at as u32));
+        }
+    }
+    None
 }

@@ -7,7 +7,7 @@ ghost use Rattle.std.specs.Ordering.{nat_cmp, is_gt, is_eq};
 ghost use Rattle.std.specs.List.{insert, prefix_len};
 ghost use Rattle.std.specs.Vec.{vec_capacity};
 ghost use Rattle.off_defs.specs.declared.tables.Pool.{Pool};
-ghost use Rattle.off_account_rules.specs.Rows.{has_pool_size};
+ghost use Rattle.off_account_rules.specs.Rows.{pool_fits};
 ghost use Rattle.off_runs.specs.Held.{Ground};
 ghost use Rattle.off_runs.specs.Shelf.{Shelved, left_of, gone_of, is_first, placed, with_pool};
 
@@ -26,15 +26,15 @@ pub(crate) fn take_pool(
     pool: Option<Pool>,
     hub: u32,
 )
-    requires size { IfSome pool (λ pool. IsTrue (has_pool_size pool)) }
+    requires size { IfSome pool (λ pool. IsTrue (pool_fits pool)) }
     requires room { vec_len pools.old + vec_len aside.old + vec_len spare.old
         ≤ vec_capacity pools.old }
     requires room_aside { vec_len pools.old + vec_len aside.old + vec_len spare.old
         ≤ vec_capacity aside.old }
     requires spare { IfSome pool (λ _. 1 ≤ vec_len spare.old) }
-    ensures shelved { (g : Ground) (by : ℕ → Option Pool) (now : ℕ) → hub ≡ g.hub number
-        → Shelved g by now pools.old.items aside.old.items
-        → Shelved g (with_pool by number pool) now pools.new.items aside.new.items }
+    ensures shelved { (g : Ground) (by : ℕ → Option Pool) → hub ≡ g.hub number
+        → Shelved g by pools.old.items aside.old.items
+        → Shelved g (with_pool by number pool) pools.new.items aside.new.items }
     ensures room { vec_capacity pools.old ≤ vec_capacity pools.new }
     ensures room_aside { vec_capacity aside.old ≤ vec_capacity aside.new }
     ensures all { vec_len pools.new + vec_len aside.new + vec_len spare.new

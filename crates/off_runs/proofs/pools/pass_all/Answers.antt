@@ -1,9 +1,8 @@
 use Rattle.std.proofs.Common.{arith}
-use Rattle.off_runs.specs.Changes.{Passed}
+use Rattle.off_runs.specs.Changes.{IsSame}
 use Rattle.off_runs.proofs.EachLemmas.{one_more}
 use Rattle.off_runs.proofs.pools.pass_all.Goals as goal
 
 pub loop-pool-preserved : goal.loop-pool-preserved
 loop-pool-preserved c =
-    one_more (Passed c.args.now.0) c.args.pools.now.items c.loop-pool.pool-items c.loop-pool.pool-index c.pool-item.result c.pass.new.self c.loop-pool.invariant (omega arith)
-    c.pass.ensures
+    one_more IsSame c.args.pools.now.items c.loop-pool.pool-items c.loop-pool.pool-index c.pool-item.result c.pass.new.self c.loop-pool.invariant (omega arith) c.pass.ensures

@@ -7,12 +7,12 @@ use Rattle.off_runs.proofs.StandLemmas.{hub_found}
 use Rattle.off_runs.proofs.free_runs.FreeRuns.hub_of.Goals as goal
 
 pub returns-in-Some : goal.returns-in-Some
-returns-in-Some c = λ g now s.
+returns-in-Some c = λ g s.
     ap Some c.hub.ensures
-    ∙ sym (hub_found c.args.self.now g now s (λ (e : ℕ × Pool). e.0 == c.args.number) (Some c.in-Some.pool.now)
+    ∙ sym (hub_found c.args.self.now.pools g s (λ (e : ℕ × Pool). e.0 == c.args.number) (Some c.in-Some.pool.now)
     (subst (λ (h : RunsHeld). Some c.in-Some.pool.now ≡ find (λ (p : PoolHeld). p.number == c.args.number) h.pools) c.self.view_is (some_there c.self.inside.pools.items c.deref.result.now c.place_numbered-place.result c.in-Some.pool.now _ c.deref.ensures.value c.in-Some.ensures.lookup.3.0 c.in-Some.ensures.lookup.1 c.place_numbered-place.ensures)))
 
 pub returns-in-None : goal.returns-in-None
-returns-in-None c = λ g now s.
-    sym (hub_found c.args.self.now g now s (λ (e : ℕ × Pool). e.0 == c.args.number) None
+returns-in-None c = λ g s.
+    sym (hub_found c.args.self.now.pools g s (λ (e : ℕ × Pool). e.0 == c.args.number) None
     (subst (λ (h : RunsHeld). None ≡ find (λ (p : PoolHeld). p.number == c.args.number) h.pools) c.self.view_is (none_there c.self.inside.pools.items c.deref.result.now c.place_numbered-place.result _ c.deref.ensures.value c.in-None.ensures.lookup.3 c.place_numbered-place.ensures)))

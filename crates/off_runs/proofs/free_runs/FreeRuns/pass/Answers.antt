@@ -1,10 +1,10 @@
-use Rattle.std.proofs.Common.{vec_len, refl, subst}
-use Rattle.off_runs.specs.Held.{RunsHeld}
-use Rattle.off_runs.specs.Changes.{EachBecomes, Passed}
-use Rattle.off_runs.proofs.StandLemmas.{passed_stands}
+use Rattle.std.proofs.Common.{List, ap, ◌∙◌, vec_len}
+use Rattle.off_runs.specs.Held.{PoolHeld, RunsHeld}
+use Rattle.off_runs.proofs.EachLemmas.{none_changed}
 use Rattle.off_runs.proofs.free_runs.FreeRuns.pass.Goals as goal
 
-pub returns-clause-stands : goal.returns-clause-stands
-returns-clause-stands c = λ g from s.
-    passed_stands c.args.self.now (record { at = c.args.now.0; pools = c.pass_all.new.pools.items; spare = vec_len c.self.inside.spare }) c.args.now.0
-    (subst (λ (h : RunsHeld). EachBecomes (Passed c.args.now.0) h.pools c.pass_all.new.pools.items) c.self.view_is c.pass_all.ensures.each) refl c.requires g from s
+pub returns : goal.returns
+returns c =
+    let same = none_changed c.self.inside.pools.items c.pass_all.new.pools.items c.pass_all.ensures.each in
+    ap (λ (ps : List PoolHeld). record { at = c.args.now.0; pools = ps; spare = vec_len c.self.inside.spare }) same
+    ∙ ap (λ (h : RunsHeld). record h { at = c.args.now.0 }) c.self.view_is
