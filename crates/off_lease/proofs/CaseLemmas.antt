@@ -1,5 +1,5 @@
 -- What is decided by a part of the rules or of the rows is what is decided by all.
-use Rattle.std.proofs.Common.{◌≡◌, ℕ, Bool, true, false, cond, ◌||◌, List, [], ◌∷◌, ◌++◌, Option, Some, None, is_some, not, option_and_then, IfSome, refl, sym, ap, ◌∙◌, subst, arith}
+use Rattle.std.proofs.Common.{◌≡◌, ℕ, ◌+◌, Bool, true, false, cond, ◌||◌, List, [], ◌∷◌, ◌++◌, Option, Some, None, is_some, not, option_and_then, refl, sym, ap, ◌∙◌, subst, arith}
 use Rattle.off_base.specs.declared.addresses.Ip4.{Ip4}
 use Rattle.off_defs.specs.declared.tables.Lease.{Lease}
 use Rattle.off_defs.specs.declared.tables.Site.{Site}
@@ -8,16 +8,16 @@ use Rattle.off_dhcp.specs.Datagram.{Received}
 use Rattle.off_account_rules.specs.Rows.{lease_in, site_in, held_in}
 use Rattle.off_outside.specs.KeeperSeen.{KeeperSeen}
 use Rattle.off_outside.specs.KeeperCalls.{Spent}
-use Rattle.off_outside.proofs.KeeperLemmas.{spent_within}
+use Rattle.off_outside.proofs.KeeperLemmas.{spent_then, spent_within}
 use Rattle.off_lease_rules.specs.Asking.{client, asks, is_discover, is_request, is_decline}
-use Rattle.off_lease_rules.specs.Free.{case_of, chosen_in}
+use Rattle.off_lease_rules.specs.Free.{case_of, chosen_in, pool_for}
 use Rattle.off_lease_rules.specs.Rules.{early, late, rules_for, refused_by, is_served, has_no_form, has_cut_part, relays_another, is_no_modem}
 use Rattle.off_lease_rules.specs.Steps.{settled, settled_in, lease_step, accepts, offers, acknowledges, declines, releases, refuses, unless_refused, reply_to_refused}
 use Rattle.off_lease_rules.specs.declared.cases.Case.{Case}
 use Rattle.off_lease_rules.specs.declared.results.LeaseStep.{LeaseStep}
 use Rattle.off_lease_rules.specs.declared.words.DhcpWord.{DhcpWord}
 use Rattle.off_lease_rules.specs.declared.words.DhcpWord.TheVariants as word
-use Rattle.off_lease.specs.Calls.{message_calls}
+use Rattle.off_lease.specs.Calls.{message_calls, row_calls}
 use Rattle.off_lease.specs.Stages.{own_rules, first_rules, row_rules, knowing, seen_case}
 
 refused_none : (xs ys : List (DhcpWord × Bool)) → refused_by xs ≡ None → refused_by (xs ++ ys) ≡ refused_by ys
@@ -142,6 +142,12 @@ seen_enough t now m =
       | false ↦ λ e. unseen t now m e
     ] refl
 
+-- the case of a message that asks has its pool
+pub asked_pool : (t : Tables) (m : Received) (c : Case) → c ≡ seen_case t m → is_discover m ≡ true → c.pool ≡ pool_for t m
+unfolding case_of
+asked_pool t m c seen d =
+    ap (λ (v : Case). v.pool) seen ∙ ap (λ b. (cond (b || is_request m) (case_of t m) (record { site = site_in t; pool = None; modem = None; held = held_in t (client m) })).pool) d
+
 -- ---- what is answered at each stage is what a message does
 
 abbrev in_full : Tables → ℕ → Received → Case → LeaseStep
@@ -175,21 +181,31 @@ case_answered t now m c chosen lease chose leased =
 
 -- ---- calls
 
-pub one_is_enough : (m : Received) {a b : KeeperSeen} → Spent 1 a b → IfSome (message_calls m) (λ n. Spent n a b)
+pub one_is_enough : (m : Received) {a b : KeeperSeen} → Spent 1 a b → Spent (message_calls m) a b
 one_is_enough m {a} {b} spent =
-    elim (is_some (refused_by (own_rules m))) as (λ x. IfSome (cond x (Some 1) (cond (asks m) None (Some 2))) (λ n. Spent n a b)) [
-      | true ↦ spent
-      | false ↦ elim (asks m) as (λ x. IfSome (cond x None (Some 2)) (λ n. Spent n a b)) [ true ↦ tt | false ↦ spent_within spent (omega arith) ]
-    ]
+    elim (is_some (refused_by (own_rules m))) as (λ x. Spent (cond x 1 (1 + row_calls m)) a b) [ true ↦ spent | false ↦ spent_within spent (omega arith) ]
 
 own_passed : (m : Received) (site : Option Site) → refused_by (first_rules m site) ≡ None → refused_by (own_rules m) ≡ None
 own_passed m None none = cc
 own_passed m (Some site) none = none
 
-pub two_are_enough : (m : Received) (site : Option Site) {a b : KeeperSeen} → refused_by (first_rules m site) ≡ None → (asks m ≡ false → Spent 2 a b) → IfSome (message_calls m) (λ n. Spent n a b)
-two_are_enough m site {a} {b} passed spent =
-    subst (λ (r : Option DhcpWord). IfSome (cond (is_some r) (Some 1) (cond (asks m) None (Some 2))) (λ n. Spent n a b)) (sym (own_passed m site passed))
-    (elim (asks m) as (λ x. asks m ≡ x → IfSome (cond x None (Some 2)) (λ n. Spent n a b)) [ true ↦ λ e. tt | false ↦ λ e. spent e ] refl)
+pub rows_are_enough : (m : Received) (site : Option Site) {a b : KeeperSeen} → refused_by (first_rules m site) ≡ None → Spent (1 + row_calls m) a b → Spent (message_calls m) a b
+rows_are_enough m site {a} {b} passed spent = subst (λ (r : Option DhcpWord). Spent (cond (is_some r) 1 (1 + row_calls m)) a b) (sym (own_passed m site passed)) spent
+
+-- what is gathered for a message, and what is read for an offer
+pub gathered_enough : (m : Received) {a b : KeeperSeen} → Spent (cond (asks m) 2 1) a b → Spent (row_calls m) a b
+gathered_enough m {a} {b} spent =
+    elim (is_discover m) as (λ x. is_discover m ≡ x → Spent (cond x 3 (cond (asks m) 2 1)) a b) [
+      | true ↦ λ e. spent_within (subst (λ y. Spent (cond (y || is_request m) 2 1) a b) e spent) (omega arith)
+      | false ↦ λ e. spent
+    ] refl
+
+pub both_enough : (m : Received) {a b c : KeeperSeen} → Spent (cond (asks m) 2 1) a b → Spent (cond (is_discover m) 1 0) b c → Spent (row_calls m) a c
+both_enough m {a} {b} {c} first second =
+    elim (is_discover m) as (λ x. is_discover m ≡ x → Spent (cond x 3 (cond (asks m) 2 1)) a c) [
+      | true ↦ λ e. spent_then (subst (λ y. Spent (cond (y || is_request m) 2 1) a b) e first) (subst (λ y. Spent (cond y 1 0) b c) e second)
+      | false ↦ λ e. spent_within (spent_then first (subst (λ y. Spent (cond y 1 0) b c) e second)) (omega arith)
+    ] refl
 
 -- once the early rules are passed, the late ones say what becomes of a message
 pub ruleset late_ways = (late_refuses, late_accepts)

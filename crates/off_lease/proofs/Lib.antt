@@ -3,6 +3,6 @@ pub mod Chain
 pub mod ChoiceLemmas
 pub mod SpanLemmas
 pub mod StageLemmas
-pub mod WalkLemmas
 pub mod TextLemmas
 pub mod GrantLemmas
+pub mod PoolLemmas

@@ -6,7 +6,7 @@ use Rattle.off_outside.specs.KeeperSeen.{KeeperSeen}
 use Rattle.off_outside.specs.KeeperCalls.{Looks, Reads, NotDone}
 use Rattle.off_outside.specs.declared.keeper.KeepErr.{KeepErr}
 use Rattle.off_outside.specs.declared.keeper.KeepErr.TheVariants.{Memory}
-use Rattle.off_outside.proofs.KeeperLemmas.{reads_then, reads_as, reads_none, reads_forgotten, failed_then}
+use Rattle.off_outside.proofs.KeeperLemmas.{reads_then, reads_as, reads_forgotten, failed_then}
 use Rattle.off_lease_rules.specs.declared.results.LeaseStep.{LeaseStep}
 
 pub looks_settled : {P : Tables → Type 0} {a b : KeeperSeen} (step : Result LeaseStep NoMemory) (kept : Result LeaseStep KeepErr) (Q : LeaseStep → Tables → Type 0) (made : LeaseStep)

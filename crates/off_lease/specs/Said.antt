@@ -1,5 +1,5 @@
 -- What is kept of a message's options once they are read.
-use Rattle.std.specs.Prelude.{◌≡◌, ℕ, ◌==◌, Bool, true, false, not, Result, IfOk}
+use Rattle.std.specs.Prelude.{◌≡◌, ℕ, ◌==◌, Bool, true, false, not, IfOk}
 use Rattle.off_base.specs.Parts.{bytes_of}
 use Rattle.off_dhcp.specs.Datagram.{Received, option_in}
 use Rattle.off_docsis.specs.Cable.{device_of, relay_of, ShowsDevice, ShowsRelay, begins_as_modem}

@@ -1,14 +1,16 @@
 -- A message is judged as its rows are read: first by itself and the site, then by the other rows.
-use Rattle.std.specs.Prelude.{Bool, not, ◌&&◌, List, [], ◌∷◌, Option, None, is_none, option_map, if◌then◌else◌, IfSome, IsTrue}
-use Rattle.off_defs.specs.declared.keys.Key.{Key}
-use Rattle.off_defs.specs.declared.tables.Row.{Row}
+use Rattle.std.specs.Prelude.{◌≡◌, Bool, not, ◌==◌, ◌&&◌, List, [], ◌∷◌, Option, Some, None, is_none, option_map, if◌then◌else◌, IfSome, IsTrue}
+use Rattle.std.specs.List.{find}
+use Rattle.off_base.specs.declared.addresses.Ip4.{Ip4}
 use Rattle.off_defs.specs.declared.tables.Site.{Site}
 use Rattle.off_defs.specs.declared.tables.Pool.{Pool}
 use Rattle.off_defs.specs.State.{Tables}
 use Rattle.off_dhcp.specs.Datagram.{Received}
-use Rattle.off_account_rules.specs.Rows.{passes, pool_fits, pool_of, site_in, held_in}
+use Rattle.off_account_rules.specs.Rows.{passes, pool_fits, pools, site_in, held_in}
+use Rattle.off_runs.specs.Held.{PoolHeld, KeepsPools}
+use Rattle.off_runs.specs.Leases.{ground}
 use Rattle.off_lease_rules.specs.Asking.{client, asks}
-use Rattle.off_lease_rules.specs.Free.{case_of, serves, provided}
+use Rattle.off_lease_rules.specs.Free.{case_of}
 use Rattle.off_lease_rules.specs.Rules.{is_served, has_no_form, has_cut_part, relays_another, is_no_modem, has_other_serial, is_for_a_server, names_another_server}
 use Rattle.off_lease_rules.specs.declared.cases.Case.{Case}
 use Rattle.off_lease_rules.specs.declared.words.DhcpWord.{DhcpWord}
@@ -46,10 +48,11 @@ seen_case t m =
     if asks m then case_of t m
     else record { site = site_in t; pool = None; modem = None; held = held_in t (client m) }
 
--- the pool of an entry, where it serves the message
-abbrev pub serving : Received → Key × Row → Option Pool
-serving m entry = provided (serves m) (option_map (λ pool. pool.1) (pool_of entry))
+-- what is kept is kept for the tables, and the pool is the one behind the relay
+pub record IsBehind (kept : List PoolHeld) (relay : Ip4) (pool : Pool) (t : Tables) : Type 0 where
+  pub keeps : KeepsPools kept (ground t)
+  pub found : option_map (λ e. e.1) (find (λ e. e.1.relay.0 == relay.0) (pools t)) ≡ Some pool
 
--- a pool that was read has its values in their ranges
+-- the pool has its values in their ranges
 abbrev pub HasGoodPool : Case → Type 0
 HasGoodPool c = IfSome c.pool (λ pool. IsTrue (pool_fits pool))

@@ -1,11 +1,13 @@
-ghost use Rattle.std.specs.Prelude.{◌≡◌, IfSome, MatchResult, Ok, None, false};
+ghost use Rattle.std.specs.Prelude.{◌≡◌, MatchResult, Ok, None, true, if◌then◌else◌};
 ghost use Rattle.off_account_rules.specs.Rows.{site_in};
 ghost use Rattle.off_lease_rules.specs.Rules.{early, refused_by};
-ghost use Rattle.off_lease_rules.specs.Asking.{asks};
+ghost use Rattle.off_runs.specs.Held.{StandsFor};
+ghost use Rattle.off_runs.specs.Leases.{ground};
+ghost use Rattle.off_lease_rules.specs.Asking.{is_discover};
 ghost use Rattle.off_lease_rules.specs.Steps.{lease_step, settled_in};
-ghost use Rattle.off_lease_rules.specs.Free.{chosen_in};
+ghost use Rattle.off_lease_rules.specs.Free.{chosen_in, pool_for};
 ghost use Rattle.off_lease.specs.Stages.{first_rules, HasGoodPool};
-ghost use Rattle.off_lease.specs.Calls.{message_calls};
+ghost use Rattle.off_lease.specs.Calls.{message_calls, row_calls};
 ghost use Rattle.off_outside.specs.declared.keeper.KeepErr.TheVariants.{Memory};
 ghost use Rattle.off_outside.specs.KeeperCalls.{Looks, Spent};
 
@@ -20,28 +22,30 @@ use off_dhcp::Message;
 use off_lease_rules::{Case, LeaseStep};
 use off_outside::{KeepErr, Keeper};
 use off_readers::read_site;
+use off_runs::FreeRuns;
 use std::alloc::Global;
 
 /// What a client's message does at a moment: what is to be written, what is to be sent for it, and
 /// the word with which the log has it. It writes nothing.
 ///
-/// The tables needn't be good: an impossible row is taken as one that isn't there. `Failed` comes
-/// only where the keeper counted a fault.
+/// Pools and free addresses are those that are kept for the tables at the moment. The tables needn't
+/// be good: an impossible row is taken as one that isn't there. `Failed` comes only where the keeper
+/// counted a fault.
 ///
-/// A message that is refused by what it says itself makes one call of the keeper at most, and one
-/// that gives an address back two.
+/// A message that is refused by what it says itself makes one call of the keeper at most, one that
+/// gives an address back two, a REQUEST three, and a DISCOVER four, whatever the tables.
 pub fn answer<K: Keeper>(
     alloc: Global,
     keeper: &mut K,
+    runs: &FreeRuns,
     now: Moment,
     m: &Message<'_>,
 ) -> Result<LeaseStep, KeepErr>
     ensures told { Looks result (K.seen keeper.old) (K.seen keeper.new)
-        (λ step t. step ≡ lease_step t now.0 m.now) }
-    ensures spent { IfSome (message_calls m.now)
-        (λ n. Spent n (K.seen keeper.old) (K.seen keeper.new)) }
+        (λ step t. StandsFor runs.now (ground t) now.0 → step ≡ lease_step t now.0 m.now) }
+    ensures spent { Spent (message_calls m.now) (K.seen keeper.old) (K.seen keeper.new) }
 {
-    answer_asked(alloc, keeper, now, &Asked::of(m))
+    answer_asked(alloc, keeper, runs, now, &Asked::of(m))
 }
 
 // What becomes of a message whose options are read.
@@ -49,18 +53,18 @@ pub fn answer<K: Keeper>(
 fn answer_asked<K: Keeper>(
     alloc: Global,
     keeper: &mut K,
+    runs: &FreeRuns,
     now: Moment,
     m: &Asked<'_>,
 ) -> Result<LeaseStep, KeepErr>
     ensures told { Looks result (K.seen keeper.old) (K.seen keeper.new)
-        (λ step t. step ≡ lease_step t now.0 m.now) }
-    ensures spent { IfSome (message_calls m.now)
-        (λ n. Spent n (K.seen keeper.old) (K.seen keeper.new)) }
+        (λ step t. StandsFor runs.now (ground t) now.0 → step ≡ lease_step t now.0 m.now) }
+    ensures spent { Spent (message_calls m.now) (K.seen keeper.old) (K.seen keeper.new) }
 {
     let site = read_site(alloc, keeper)?;
     match first_refusal(m, &site) {
         Some(word) => kept(refuse(alloc, m, &site, word)),
-        None => answer_by_rows(alloc, keeper, now, m, site),
+        None => answer_by_rows(alloc, keeper, runs, now, m, site),
     }
 }
 
@@ -69,19 +73,21 @@ fn answer_asked<K: Keeper>(
 fn answer_by_rows<K: Keeper>(
     alloc: Global,
     keeper: &mut K,
+    runs: &FreeRuns,
     now: Moment,
     m: &Asked<'_>,
     site: Option<Site>,
 ) -> Result<LeaseStep, KeepErr>
     requires { refused_by (first_rules m.now site) ≡ None }
     ensures told { Looks result (K.seen keeper.old) (K.seen keeper.new)
-        (λ step t. site ≡ site_in t → step ≡ lease_step t now.0 m.now) }
-    ensures spent { asks m.now ≡ false → Spent 1 (K.seen keeper.old) (K.seen keeper.new) }
+        (λ step t. StandsFor runs.now (ground t) now.0 → site ≡ site_in t
+        → step ≡ lease_step t now.0 m.now) }
+    ensures spent { Spent (row_calls m.now) (K.seen keeper.old) (K.seen keeper.new) }
 {
-    let case = gather(alloc, keeper, m, site)?;
+    let case = gather(alloc, keeper, runs, m, site)?;
     match row_refusal(m, &case) {
         Some(word) => kept(refuse(alloc, m, &case.site, word)),
-        None => answer_case(alloc, keeper, now, m, &case),
+        None => answer_case(alloc, keeper, runs, now, m, &case),
     }
 }
 
@@ -90,6 +96,7 @@ fn answer_by_rows<K: Keeper>(
 fn answer_case<K: Keeper>(
     alloc: Global,
     keeper: &mut K,
+    runs: &FreeRuns,
     now: Moment,
     m: &Asked<'_>,
     case: &Case,
@@ -97,10 +104,13 @@ fn answer_case<K: Keeper>(
     requires early { refused_by (early m.now case.now) ≡ None }
     requires fits { HasGoodPool case.now }
     ensures told { Looks result (K.seen keeper.old) (K.seen keeper.new)
-        (λ step t. step ≡ settled_in t now.0 m.now case.now (chosen_in t now.0 m.now case.now)) }
-    ensures spent { asks m.now ≡ false → Spent 0 (K.seen keeper.old) (K.seen keeper.new) }
+        (λ step t. StandsFor runs.now (ground t) now.0
+        → (is_discover m.now ≡ true → case.now.pool ≡ pool_for t m.now)
+        → step ≡ settled_in t now.0 m.now case.now (chosen_in t now.0 m.now case.now)) }
+    ensures spent { Spent (if is_discover m.now then 1 else 0)
+        (K.seen keeper.old) (K.seen keeper.new) }
 {
-    let chosen = choose(alloc, keeper, now, m, case)?;
+    let chosen = choose(runs, m, case);
     let lease = lease_of(alloc, keeper, m, chosen)?;
     kept(settle(alloc, now, m, case, chosen, lease))
 }

@@ -1,4 +1,4 @@
-use Rattle.std.proofs.Common.{◌≡◌, ◌<◌, ◌≤◌, ◌+◌, List, ℕ, length, take, drop, get_or, sym, ap, ◌∙◌, arith}
+use Rattle.std.proofs.Common.{◌≡◌, ◌<◌, ◌+◌, List, ℕ, length, get_or, sym, ap, ◌∙◌, arith}
 use Rattle.off_base.specs.Parts.{bytes_of}
 use Rattle.off_lease.proofs.TextLemmas.{one_more, one_differs, all_same}
 use Rattle.off_lease.proofs.parts.has_text.Goals as goal

@@ -1,36 +1,24 @@
-use Rattle.std.proofs.Common.{◌∙◌, sym, arith}
-use Rattle.off_defs.specs.declared.keys.Key.TheVariants as key
-use Rattle.off_outside.proofs.KeeperLemmas.{reads_then, reads_none}
-use Rattle.off_lease.proofs.WalkLemmas.{left_begins, left_none, left_past, left_found, left_on}
+use Rattle.std.proofs.Common.{◌==◌, ℕ, option_map, sym, ap, ◌∙◌}
+use Rattle.std.specs.List.{find}
+use Rattle.off_defs.specs.declared.tables.Pool.{Pool}
+use Rattle.off_account_rules.specs.Rows.{pools}
+use Rattle.off_runs.specs.Runs.{in_pool}
+use Rattle.off_runs.specs.Leases.{ground}
+use Rattle.off_lease.proofs.PoolLemmas.{relay_pool, renewed_pool, no_pool, not_zero, zero_too}
 use Rattle.off_lease.proofs.pools.pool_for.Goals as goal
 
-pub walk-init : goal.walk-init
-walk-init g c = reads_none (λ t. left_begins c.args.m.now (key.Class 4294967295) t (omega arith))
+pub returns-then-relay-ne0-clause-is : goal.returns-then-relay-ne0-clause-is
+returns-then-relay-ne0-clause-is c = λ t keeps.
+    c.pool_behind.ensures.is (ground t) keeps
+    ∙ ap (λ (n : ℕ). option_map (λ (e : ℕ × Pool). e.1) (find (λ (e : ℕ × Pool). e.1.relay.0 == n) (pools t))) c.giaddr-relay.ensures
+    ∙ sym (relay_pool c.args.m.now t (not_zero c.giaddr-relay.result.0 c.args.m.now.giaddr c.giaddr-relay.ensures c.if-relay-ne0.true))
 
-pub returns-in_default-clause-told : goal.returns-in_default-clause-told
-returns-in_default-clause-told g c = reads_then c.walk.invariant c.in_ok-key.ensures.told (λ t left next. left_none c.args.m.now c.walk.place t left (sym c.in_default.is ∙ next))
+pub returns-then-is_renewal-clause-is : goal.returns-then-is_renewal-clause-is
+returns-then-is_renewal-clause-is c = λ t keeps.
+    c.pool_around.ensures.is (ground t) keeps
+    ∙ ap (λ (n : ℕ). option_map (λ (e : ℕ × Pool). e.1) (find (λ (e : ℕ × Pool). in_pool e.1 n) (pools t))) c.ciaddr.ensures
+    ∙ sym (renewed_pool c.args.m.now t (zero_too c.giaddr-relay.result.0 c.args.m.now.giaddr c.giaddr-relay.ensures c.if-relay-ne0.false) (sym c.if-is_renewal.ensures))
 
-pub returns-then-is_past_pools-clause-told : goal.returns-then-is_past_pools-clause-told
-returns-then-is_past_pools-clause-told g c =
-    reads_then c.walk.invariant c.in_ok-key.ensures.told (λ t left next.
-    left_past c.args.m.now c.walk.place (c.in-Some.key, c.in-Some.row) t (sym c.is_past_pools.ensures ∙ c.if-is_past_pools.true) left (sym c.in-Some.is ∙ next))
-
-pub returns-then-is_some-clause-told : goal.returns-then-is_some-clause-told
-returns-then-is_some-clause-told g c =
-    reads_then c.walk.invariant c.in_ok-key.ensures.told (λ t left next.
-    left_found c.args.m.now c.walk.place (c.in-Some.key, c.in-Some.row) c.serving-pool.result t c.serving-pool.ensures.served (sym c.is_some.ensures ∙ c.if-is_some.true) left (sym c.in-Some.is ∙ next))
-
-pub walk-preserved-else-is_some : goal.walk-preserved-else-is_some
-walk-preserved-else-is_some g c =
-    reads_then c.walk.invariant c.in_ok-key.ensures.told (λ t left next.
-    left_on c.args.m.now c.walk.place (c.in-Some.key, c.in-Some.row) c.serving-pool.result t c.serving-pool.ensures.served (sym c.is_some.ensures ∙ c.if-is_some.false) left (sym c.in-Some.is ∙ next))
-
-pub walk-preserved-else-is_some-2 : goal.walk-preserved-else-is_some-2
-walk-preserved-else-is_some-2 g c =
-    reads_then c.walk.invariant c.in_ok-key.ensures.told (λ t left next.
-    left_on c.args.m.now c.walk.place (c.in-Some.key, c.in-Some.row) c.serving-pool.result t c.serving-pool.ensures.served (sym c.is_some.ensures ∙ c.if-is_some.false) left (sym c.in-Some.is ∙ next))
-
-pub walk-preserved : goal.walk-preserved
-walk-preserved g c =
-    reads_then c.walk.invariant c.in_ok-key.ensures.told (λ t left next.
-    left_on c.args.m.now c.walk.place (c.in-Some.key, c.in-Some.row) c.serving-pool.result t c.serving-pool.ensures.served (sym c.is_some.ensures ∙ c.if-is_some.false) left (sym c.in-Some.is ∙ next))
+pub returns-clause-is : goal.returns-clause-is
+returns-clause-is c = λ t keeps.
+    sym (no_pool c.args.m.now t (zero_too c.giaddr-relay.result.0 c.args.m.now.giaddr c.giaddr-relay.ensures c.if-relay-ne0.false) (sym c.if-is_renewal.ensures))

@@ -1,4 +1,4 @@
-use Rattle.std.proofs.Common.{Some, ◌∙◌, sym, ap}
+use Rattle.std.proofs.Common.{◌∙◌, sym, ap}
 use Rattle.off_base.specs.declared.addresses.Ip4.{Ip4}
 use Rattle.std.specs.Prelude.{Option}
 use Rattle.off_lease_rules.specs.Steps.{declines, releases}
