@@ -24,9 +24,9 @@ use Rattle.off_accounts.specs.declared.results.AccountErr.{AccountErr}
 use Rattle.off_accounts.specs.declared.results.AccountErr.TheVariants.{Refused, Failed, Memory}
 use Rattle.off_office.specs.Desk.{Desk}
 use Rattle.off_office.specs.Conditions.{Mirrors}
-use Rattle.off_office.proofs.CommandLemmas.{mirrors_behind}
+use Rattle.off_office.proofs.MirrorLemmas.{follows_mirrors}
 use Rattle.off_office.proofs.StepLemmas.{kept_unwritten}
-use Rattle.off_office.specs.Answering.{said_to, fault_said, reply_said, desk_behind, IsPlanned, NotPlanned, AnsweredBy, NotAnswered, AnswerBegins, IsAnswered, CarriedOut, NotCarriedOut, Refuses, answer_to}
+use Rattle.off_office.specs.Answering.{said_to, fault_said, reply_said, IsPlanned, NotPlanned, AnsweredBy, NotAnswered, AnswerBegins, IsAnswered, CarriedOut, NotCarriedOut, Refuses, answer_to}
 
 -- what was planned was answered and done
 carried_done : (command : Command) (planned : Planned) (conn : ℕ) (said : Said) (before after : Desk) (a b c : KeeperSeen) → Rests a
@@ -43,18 +43,16 @@ carried_done command planned conn said before after a b c rests reads did = reco
           told = g.told;
           fits = record {
             holds = λ mirrors. let is = read.1.holds mirrors in (
-              (
-                did.answer ∙ ap (λ (s : Stepped). said_to conn (answer_step s)) (sym is.0),
-                ap (λ (s : Stepped). (answer_step s).writes) (sym is.0),
-                g.fits,
-              ),
-              mirrors_behind before after planned t g.value did.counts g.fits is.1,
+              did.answer ∙ ap (λ (s : Stepped). said_to conn (answer_step s)) (sym is.0),
+              ap (λ (s : Stepped). (answer_step s).writes) (sym is.0),
+              g.fits,
             );
+            stays = λ fits. follows_mirrors before after planned.counts planned.writes t g.value did.follows (read.1.holds fits.mirrors).1 g.fits fits;
           };
         };
   };
-  held = ap (λ (d : Desk). d.held) did.counts;
-  kept = ap (λ (d : Desk). d.kept) did.counts;
+  held = did.follows.held;
+  kept = did.follows.kept;
   settled = settled_then rests reads did.done;
   tells = status_tells conn [] (codes "200") said.line (omega arith) (ap (λ (s : Said). s.line) did.answer);
 }
@@ -93,13 +91,11 @@ answered_refused command now desk row rule conn said a b rests reads is = record
   writes = [];
   tables = reads_told reads (λ t says. record {
     holds = λ mirrors. let f = says mirrors in (
-      (
-        is ∙ ap (λ (s : Stepped). said_to conn (answer_step s)) (sym f),
-        ap (λ (s : Stepped). (answer_step s).writes) (sym f),
-        refl,
-      ),
-      mirrors,
+      is ∙ ap (λ (s : Stepped). said_to conn (answer_step s)) (sym f),
+      ap (λ (s : Stepped). (answer_step s).writes) (sym f),
+      refl,
     );
+    stays = λ fits. fits.mirrors;
   });
   held = refl;
   kept = kept_unwritten desk desk refl;

@@ -4,7 +4,7 @@ use Rattle.std.specs.Prelude.{IsTrue}
 use Rattle.off_defs.specs.declared.orders.Command.{Command}
 use Rattle.off_defs.specs.declared.orders.Command.TheVariants.{SetSite, PutSubscriber, PutAddOn, PutModem, PutClass, PutPool, Remove, Show, Import}
 use Rattle.off_defs.specs.declared.orders.Write.{Write}
-use Rattle.off_defs.specs.State.{Tables}
+use Rattle.off_defs.specs.State.{Tables, Held}
 use Rattle.off_defs.specs.Tables.{write_all}
 use Rattle.off_defs.specs.Told.{Told}
 use Rattle.off_defs.proofs.ToldLemmas.{told_weaker}
@@ -29,9 +29,10 @@ use Rattle.off_kept.specs.Entries.{without_written}
 use Rattle.off_kept.proofs.RightLemmas.{kept_stays_right}
 use Rattle.off_office.specs.Desk.{Desk}
 use Rattle.off_office.specs.Acting.{desk_at}
-use Rattle.off_office.specs.Conditions.{Mirrors, StaysFit}
+use Rattle.off_office.specs.Conditions.{Mirrors, StaysFit, Follows}
+use Rattle.off_office.proofs.MirrorLemmas.{came_mirrors, came_fits, follows_mirrors}
 use Rattle.off_office.specs.Asking.{SpentWithin, commit_calls, most_commits}
-use Rattle.off_office.specs.Answering.{IsPlanned, NotPlanned, CommandBegins, Commanded, NotCommanded, CountsRows, desk_behind}
+use Rattle.off_office.specs.Answering.{IsPlanned, NotPlanned, CommandBegins, Commanded, NotCommanded, CountsRows}
 
 -- what is decided is the step
 accepted_step : (t : Tables) (now : ℕ) (command : Command) (a : Accepted) → decided t now command ≡ Ok a → clerk_step t now command ≡ step_done t a.writes a.reply
@@ -52,14 +53,8 @@ pub is_planned : (planned : Planned) (desk : Desk) (command : Command) (a b : Ke
 is_planned planned desk command a b reads = reads_as reads (λ t says. record {
   holds = λ mirrors.
       let is = says mirrors.counts in
-      (accepted_step t desk.held.now command (accepted planned.writes planned.reply) is.accepted, record { counts = is.counted; kept = kept_stays_right t planned.writes desk.kept mirrors.kept });
+      (accepted_step t desk.held.now command (accepted planned.writes planned.reply) is.accepted, is.counted);
 })
-
--- the office that has done what was planned mirrors the tables that were written
-pub mirrors_behind : (before after : Desk) (planned : Planned) (t u : Tables) → after ≡ desk_behind before planned → u ≡ write_all t planned.writes
-    → Mirrors (desk_behind before planned) (write_all t planned.writes) → Mirrors after u
-mirrors_behind before after planned t u is written mirrors =
-    subst (λ (d : Desk). Mirrors d u) (sym is) (subst (Mirrors (desk_behind before planned)) (sym written) mirrors)
 
 -- what a commit answers
 pub settled_by : (r : Result (Unit {0}) KeepErr) (writes : List Write) (a b : KeeperSeen) → (length writes ≡ 0 → ⊥) → Commits r a b writes
@@ -67,14 +62,9 @@ pub settled_by : (r : Result (Unit {0}) KeepErr) (writes : List Write) (a b : Ke
 settled_by (Ok u) writes a b some done = settled_commit writes some done
 settled_by (Err err) writes a b some not = not
 
--- an office that has come to a moment mirrors what it did
-came_mirrors : (before mid : Desk) (at : ℕ) (t : Tables) → mid ≡ desk_at before at → Mirrors before t → Mirrors mid t
-came_mirrors before mid at t came mirrors =
-    subst (λ (d : Desk). Mirrors d t) (sym came) (record { counts = mirrors.counts; kept = mirrors.kept })
-
 -- what was planned was done
 commanded : (command : Command) (planned : Planned) (at now : ℕ) (before mid after : Desk) (a b c : KeeperSeen) → mid ≡ desk_at before at → mid.held.now ≡ now → Rests a
-    → Reads (IsPlanned mid command planned) a b → Settled planned.writes b c → after ≡ desk_behind mid planned
+    → Reads (IsPlanned mid command planned) a b → Settled planned.writes b c → Follows mid after planned.counts planned.writes
     → Commanded command planned.reply now before after a c
 commanded command planned at now before mid after a b c came is_now rests reads done is = subst (λ m. Commanded command planned.reply m before after a c) is_now (record {
   writes = planned.writes;
@@ -86,21 +76,22 @@ commanded command planned at now before mid after a b c came is_now rests reads 
           value = g.value;
           told = g.told;
           fits = record {
-            holds = λ mirrors.
-                let p = read.1.holds (came_mirrors before mid at t came mirrors) in
-                ((p.0, g.fits), mirrors_behind mid after planned t g.value is g.fits p.1);
+            holds = λ mirrors. ((read.1.holds (came_mirrors before mid at t came mirrors)).0, g.fits);
+            stays = λ fits.
+                let here = came_fits before mid at t came fits in
+                follows_mirrors mid after planned.counts planned.writes t g.value is (read.1.holds here.mirrors).1 g.fits here;
           };
         };
   };
-  kept = ap (λ (d : Desk). d.kept) is ∙ ap (λ (d : Desk). without_written planned.writes d.kept) came;
+  kept = is.kept ∙ ap (λ (d : Desk). without_written planned.writes d.kept) came;
   settled = settled_then rests reads done;
 })
 
 pub command_done : (command : Command) (planned : Planned) (at : ℕ) (before mid after : Desk) (a b c : KeeperSeen) → mid ≡ desk_at before at → Rests a
-    → Reads (IsPlanned mid command planned) a b → Settled planned.writes b c → after ≡ desk_behind mid planned
+    → Reads (IsPlanned mid command planned) a b → Settled planned.writes b c → Follows mid after planned.counts planned.writes
     → Commanded command planned.reply after.held.now before after a c
 command_done command planned at before mid after a b c came rests reads done is =
-    commanded command planned at after.held.now before mid after a b c came (sym (ap (λ (d : Desk). d.held.now) is)) rests reads done is
+    commanded command planned at after.held.now before mid after a b c came (sym (ap (λ (h : Held). h.now) is.held)) rests reads done is
 
 -- where the office fitted the tables it fits them again: good tables stay good
 pub command_fits : (command : Command) (done : Reply) (now : ℕ) (before after : Desk) (a b : KeeperSeen) → IsTrue (is_sound command)
@@ -108,8 +99,8 @@ pub command_fits : (command : Command) (done : Reply) (now : ℕ) (before after 
 command_fits command done now before after a b sound did short = told_weaker did.tables (λ t u under fits.
     let f = under.holds fits.mirrors in
     let good : Good (step_done t did.writes done).tables =
-    subst (λ (s : Stepped). Good s.tables) f.0.0 (step_keeps_good t now command sound short fits.good) in
-    record { good = subst (λ (v : Tables). Good v) (sym f.0.1) good; mirrors = f.1 })
+    subst (λ (s : Stepped). Good s.tables) f.0 (step_keeps_good t now command sound short fits.good) in
+    record { good = subst (λ (v : Tables). Good v) (sym f.1) good; mirrors = under.stays fits })
 
 -- it wasn't planned
 pub command_refused : (command : Command) (err : AccountErr) (at : ℕ) (before mid : Desk) (a b : KeeperSeen) → mid ≡ desk_at before at → Rests a

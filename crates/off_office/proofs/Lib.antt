@@ -8,3 +8,4 @@ pub mod RequestLemmas
 pub mod PieceLemmas
 pub mod UpLemmas
 pub mod SendLemmas
+pub mod MirrorLemmas

@@ -43,7 +43,7 @@ fault_by : (err : ClerkErr) (now conn : ℕ) (said : Said) (desk : Desk) (k : Ke
     → IsSaid r said (fault_said conn (fault.Clerk err)) → ReadEnds (Err err) now conn said desk desk k k r
 fault_by err now conn said desk k (Ok u) is = record {
   writes = [];
-  tables = told_self (λ t. record { holds = λ mirrors. ((is, refl, refl), mirrors) });
+  tables = told_self (λ t. record { holds = λ mirrors. (is, refl, refl); stays = λ fits. fits.mirrors });
   held = refl;
   kept = kept_unwritten desk desk refl;
   settled = settled_none [] k refl;

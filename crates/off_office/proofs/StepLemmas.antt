@@ -29,7 +29,8 @@ use Rattle.off_kept.specs.Right.{AllRight}
 use Rattle.off_kept.proofs.RightLemmas.{nothing_written}
 use Rattle.off_laws.proofs.Lines.{does_line}
 use Rattle.off_office.specs.Desk.{Desk}
-use Rattle.off_office.specs.Conditions.{Mirrors, Fits, Under, StaysFit}
+use Rattle.off_office.specs.Conditions.{Mirrors, Fits, Under, StaysFit, StaysAs}
+use Rattle.off_office.proofs.MirrorLemmas.{stays_self, stays_by, stays_then, mirrors_as, fits_as, stays_at}
 use Rattle.off_office.specs.Acting.{Acts, Handled, forgets, desk_undone, IsUndone, StepOn, DoesOn, CountsFaults, LeavesNothing, EventBegins, DoingBegins, begun_in, is_quiet, desk_at, effect_of, kept_behind, KeepsBodies}
 use Rattle.off_office.specs.Asking.{Asks, AsksFew}
 use Rattle.off_office.specs.Saying.{SaysTime}
@@ -44,11 +45,10 @@ pub heard_handled : (conn : ℕ) (piece : List ℕ) (said : Said) (before after 
 heard_handled conn piece said before after a b heard asks = record {
   commit = heard.commit;
   tables = told_weaker heard.tables (λ t u under. record {
-    holds = λ mirrors. let f = under.holds mirrors in (
-      subst (λ (x : Said). PieceDid (state_of t before.held) conn piece (record { said = x; commit = heard.commit; after = state_of u after.held }))
-          (sym (as_said conn piece said)) f.0,
-      f.1,
-    );
+    holds = λ mirrors.
+        subst (λ (x : Said). PieceDid (state_of t before.held) conn piece (record { said = x; commit = heard.commit; after = state_of u after.held }))
+        (sym (as_said conn piece said)) (under.holds mirrors);
+    stays = under.stays;
   });
   written = heard.settled.tables;
   keeps = told_weaker heard.settled.tables (λ t u written mirrors. heard.kept);
@@ -75,8 +75,8 @@ failed_on conn piece line outcome said before after t is gone =
     ∙ ap (λ (d : Desk). effect_of (Piece conn piece) outcome (failed_said line) [] (state_of t d.held)) gone
 
 mirrors_still : (conn : ℕ) (before after : Desk) (t : Tables) → after ≡ forgets before conn → Mirrors before t → Mirrors after t
-mirrors_still conn before after t gone mirrors =
-    subst (λ (d : Desk). Mirrors d t) (sym gone) (record { counts = mirrors.counts; kept = mirrors.kept })
+mirrors_still conn before after t gone =
+    mirrors_as before after t (stays_by before (forgets before conn) after gone (record { counts = refl; kept = refl; pools = refl }))
 
 -- nothing was written
 pub stay_written : (a b : KeeperSeen) → ((t : Tables) → a.tables t → b.tables t) → Told a.tables b.tables (IsWritten [])
@@ -118,10 +118,8 @@ memory_handled conn piece said before after a b not asks is = record {
       value = t;
       told = not.keeper.tables t told;
       fits = record {
-        holds = λ mirrors. (
-          failed_on conn piece (codes "http memory") Memory said before after t is not.forgotten,
-          mirrors_still conn before after t not.forgotten mirrors,
-        );
+        holds = λ mirrors. failed_on conn piece (codes "http memory") Memory said before after t is not.forgotten;
+        stays = λ fits. mirrors_still conn before after t not.forgotten fits.mirrors;
       };
     };
   };
@@ -150,10 +148,8 @@ keeper_handled conn piece said before after a b not asks is = record {
       value = t;
       told = not.keeper.tables t told;
       fits = record {
-        holds = λ mirrors. (
-          failed_on conn piece (codes "http keeper") Keeper said before after t is not.forgotten,
-          mirrors_still conn before after t not.forgotten mirrors,
-        );
+        holds = λ mirrors. failed_on conn piece (codes "http keeper") Keeper said before after t is not.forgotten;
+        stays = λ fits. mirrors_still conn before after t not.forgotten fits.mirrors;
       };
     };
   };
@@ -195,7 +191,7 @@ memory_leaves what line said desk a b loud stays named does not asks few is = re
     each = λ t told. record {
       value = t;
       told = not.tables t told;
-      fits = record { holds = λ mirrors. (subst (λ (x : Said). DoesOn what Memory x [] desk desk t t) (sym is) (does t), mirrors) };
+      fits = record { holds = λ mirrors. subst (λ (x : Said). DoesOn what Memory x [] desk desk t t) (sym is) (does t); stays = λ fits. fits.mirrors };
     };
   };
   written = stay_written a b not.tables;
@@ -224,7 +220,7 @@ keeper_leaves what line said desk a b loud stays named does not asks few is = re
     each = λ t told. record {
       value = t;
       told = not.tables t told;
-      fits = record { holds = λ mirrors. (subst (λ (x : Said). DoesOn what Keeper x [] desk desk t t) (sym is) (does t), mirrors) };
+      fits = record { holds = λ mirrors. subst (λ (x : Said). DoesOn what Keeper x [] desk desk t t) (sym is) (does t); stays = λ fits. fits.mirrors };
     };
   };
   written = stay_written a b not.tables;
@@ -247,10 +243,9 @@ keeper_leaves what line said desk a b loud stays named does not asks few is = re
 pub fits_by : (event : Event) (outcome : Outcome) (said : Said) (commit : List Write) (before after : Desk) (a b : Tables → Type 0)
     → Told a b (Under before after (StepOn event outcome said commit before after)) → Told a b (StaysFit before after)
 fits_by event outcome said commit before after a b told = told_weaker told (λ t u under fits.
-    let f = under.holds fits.mirrors in
     record {
-      good = step_good (state_of t before.held) event outcome (effect_of event.what outcome said commit (state_of u after.held)) f.0 fits.good;
-      mirrors = f.1;
+      good = step_good (state_of t before.held) event outcome (effect_of event.what outcome said commit (state_of u after.held)) (under.holds fits.mirrors) fits.good;
+      mirrors = under.stays fits;
     })
 
 -- what a step of the book has committed is what it would leave
@@ -260,7 +255,7 @@ did_begins : (event : Event) (said : Said) (commit : List Write) (before after :
 did_begins event said commit before after a b told t seen u written agree =
     let g = told.each t seen in
     let effect = effect_of event.what Did said commit (state_of g.value after.held) in
-    let step : Step (state_of t before.held) event Did effect = (g.fits.holds agree).0 in
+    let step : Step (state_of t before.held) event Did effect = g.fits.holds agree in
     (effect, (step, written ∙ sym (tables_by_commit (state_of t before.held) event Did effect step)))
 
 -- what an event would leave at the office's moment is what it would
@@ -268,7 +263,7 @@ event_begins : (event : Event) (what : What) (before : Desk) → event.what ≡ 
     → (t u : Tables) → DoingBegins what (desk_at before event.at.0) t u → EventBegins event before t u
 unfolding Step
 event_begins event what before is t u begun mirrors =
-    let b = begun (record { counts = mirrors.counts; kept = mirrors.kept }) in
+    let b = begun (mirrors_as before (desk_at before event.at.0) t (stays_at before event.at.0) mirrors) in
     (b.0, (subst (λ (w : What). Does (state_of t (held_at before.held event.at.0)) w Did b.0) (sym is) b.1.0, b.1.1))
 
 crash_by : (event : Event) (what : What) (outcome : Outcome) (said : Said) (commit : List Write) (before after : Desk) (a b : KeeperSeen)
@@ -315,7 +310,8 @@ acts_by event what outcome said before mid after a b is at handled =
     let step_of : (commit : List Write) (t u : Tables) → DoesOn what outcome said commit (desk_at before event.at.0) after t u → StepOn event outcome said commit before after t u = λ commit t u does.
     subst (λ (w : What). Does (state_of t (held_at before.held event.at.0)) w outcome (effect_of w outcome said commit (state_of u after.held))) (sym is) does in
     let tables : Told a.tables b.tables (Under before after (StepOn event outcome said now.commit before after)) = told_weaker now.tables (λ t u under. record {
-      holds = λ mirrors. let f = under.holds (record { counts = mirrors.counts; kept = mirrors.kept }) in (step_of now.commit t u f.0, f.1);
+      holds = λ mirrors. step_of now.commit t u (under.holds (mirrors_as before (desk_at before event.at.0) t (stays_at before event.at.0) mirrors));
+      stays = λ fits. under.stays (fits_as before (desk_at before event.at.0) t (stays_at before event.at.0) fits);
     }) in
     record {
       commit = now.commit;
@@ -335,7 +331,7 @@ acts_by event what outcome said before mid after a b is at handled =
       leaves = now.leaves;
       quiet = λ is_so.
           let quietly = now.quiet (sym (ap is_quiet is) ∙ is_so) in
-          record { step = λ t. step_of [] t t (quietly.does t); counts = quietly.counts; kept = quietly.kept; keeper = quietly.keeper };
+          record { step = λ t. step_of [] t t (quietly.does t); same = stays_then (stays_at before event.at.0) quietly.same; keeper = quietly.keeper };
       moment = now.moment;
     }
 
@@ -353,24 +349,6 @@ pub record Says (what : What) (outcome : Outcome) (said : Said) : Type 0 where
 
 abbrev pub DoesQuietly : What → Desk → Desk → Outcome → Said → Type 0
 DoesQuietly what before after outcome said = (t : Tables) → DoesOn what outcome said [] before after t t
-
--- of what is kept of the tables nothing changed
-pub record StaysAs (before after : Desk) : Type 0 where
-  pub counts : after.counts ≡ before.counts
-  pub kept : after.kept ≡ before.kept
-
-pub stays_self : (desk : Desk) → StaysAs desk desk
-stays_self desk = record { counts = refl; kept = refl }
-
-pub stays_by : (before mid after : Desk) → after ≡ mid → StaysAs before mid → StaysAs before after
-stays_by before mid after is stays = subst (StaysAs before) (sym is) stays
-
--- so it fits the tables still
-pub fits_as : (before after : Desk) (t : Tables) → StaysAs before after → Fits before t → Fits after t
-fits_as before after t stays fits = record {
-  good = fits.good;
-  mirrors = record { counts = stays.counts ∙ fits.mirrors.counts; kept = subst (AllRight t) (sym stays.kept) fits.mirrors.kept };
-}
 
 -- quiet events keep the bodies, and ask nothing
 kept_quietly : (what : What) (outcome : Outcome) (desk : Desk) (t : Tables) → is_quiet what ≡ true → desk.kept ≡ kept_behind what outcome [] desk t
@@ -398,7 +376,8 @@ pub handled_quietly : (what : What) (outcome : Outcome) (said : Said) (before af
 handled_quietly what outcome said before after k same stays quiet does says undone asks = record {
   commit = [];
   tables = told_self (λ t. record {
-    holds = λ mirrors. (does t, record { counts = stays.counts ∙ mirrors.counts; kept = subst (AllRight t) (sym stays.kept) mirrors.kept });
+    holds = λ mirrors. does t;
+    stays = λ fits. mirrors_as before after t stays fits.mirrors;
   });
   written = told_self (λ t. refl);
   keeps = told_self (λ t mirrors. stays.kept ∙ kept_quietly what outcome before t quiet);
@@ -412,7 +391,7 @@ handled_quietly what outcome said before after k same stays quiet does says undo
   tells = says.tells;
   undone = undone;
   leaves = says.leaves;
-  quiet = λ is_so. record { does = does; counts = stays.counts; kept = stays.kept; keeper = unasked_self k };
+  quiet = λ is_so. record { does = does; same = stays; keeper = unasked_self k };
   moment = same;
 }
 
@@ -471,7 +450,7 @@ pub closed_handled : (conn : ℕ) (outcome : Outcome) (said : Said) (before afte
     → after ≡ forgets before conn → outcome ≡ Did → said ≡ failed_said (codes "http closed") → Handled (Closed conn) outcome said before after k k
 closed_handled conn outcome said before after k left did is =
     said_handled (Closed conn) outcome said (failed_said (codes "http closed")) before after k (ap (λ (x : Desk). x.held.now) left)
-    (stays_by before (forgets before conn) after left (record { counts = refl; kept = refl })) refl did is
+    (stays_by before (forgets before conn) after left (record { counts = refl; kept = refl; pools = refl })) refl did is
     (λ t. ap (λ (x : Desk). effect_of (Closed conn) Did (failed_said (codes "http closed")) [] (state_of t x.held)) left)
     (spent_none k)
 

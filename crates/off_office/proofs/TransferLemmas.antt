@@ -21,7 +21,7 @@ use Rattle.off_outside.specs.declared.keeper.KeepErr.{KeepErr}
 use Rattle.off_outside.specs.declared.keeper.KeepErr.TheVariants as keep
 use Rattle.off_outside.specs.KeeperSeen.{KeeperSeen, Rests}
 use Rattle.off_outside.specs.KeeperCalls.{Reads, NotDone, Looks, Spent}
-use Rattle.off_outside.proofs.KeeperLemmas.{reads_as, reads_told, reads_forgotten, not_begun, still_crash, spent_none}
+use Rattle.off_outside.proofs.KeeperLemmas.{reads_as, reads_then, failed_then, reads_told, reads_forgotten, not_begun, still_crash, spent_none}
 use Rattle.off_laws.proofs.Lines.{packet_tells}
 use Rattle.off_tftp.specs.Calls.{datagram_calls}
 use Rattle.off_tftp.specs.Saying.{Ticks, says_more}
@@ -30,32 +30,46 @@ use Rattle.off_office.specs.Asking.{FewCalls}
 use Rattle.off_kept.specs.Entries.{Entries}
 use Rattle.off_kept.specs.Right.{AllRight}
 use Rattle.off_kept.proofs.RightLemmas.{none_right}
+use Rattle.off_runs.specs.Held.{PoolHeld, KeepsPools}
+use Rattle.off_runs.specs.Leases.{ground}
 use Rattle.off_office.specs.Desk.{Desk}
-use Rattle.off_office.specs.Conditions.{Fits}
+use Rattle.off_office.specs.Conditions.{Fits, Begun}
 use Rattle.off_office.specs.Acting.{Handled, DoesOn, NotStarted, effect_of}
 use Rattle.off_office.specs.Answering.{failed_said}
 use Rattle.off_office.specs.Transferring.{moved, moved_with, MovesTransfers, DidPacket, SaysPacket, FailsPacket, DidTick, MissedTick, TakesTick}
 use Rattle.off_office.specs.declared.office.StartErr.{StartErr}
 use Rattle.off_office.specs.declared.office.StartErr.TheVariants as start
-use Rattle.off_office.proofs.StepLemmas.{DoesQuietly, did_says, stays_self, stays_by, handled_quietly, memory_leaves, keeper_leaves}
+use Rattle.off_office.proofs.StepLemmas.{DoesQuietly, did_says, handled_quietly, memory_leaves, keeper_leaves}
+use Rattle.off_office.proofs.MirrorLemmas.{stays_self, stays_by}
 
 -- ---- an office that begins
 
-pub started : (q : Result Desk StartErr) (counts : Counts) (a b : KeeperSeen)
-    → IfOk q (λ (office : Desk). office ≡ record { held = held_at_start; counts = counts; kept = [] }) → IfErr q (λ (err : StartErr). err ≡ start.Memory)
-    → Reads (λ t. Good t × (counts ≡ counts_of t)) a b
-    → MatchResult q (λ (office : Desk). Reads (Fits office) a b) (λ (err : StartErr). NotStarted err a b)
-started (Ok office) counts a b is none reads =
-    reads_as reads (λ t opens. record {
-      good = opens.0;
-      mirrors = record { counts = ap (λ (d : Desk). d.counts) is ∙ opens.1; kept = subst (λ (d : Desk). AllRight t d.kept) (sym is) (none_right t) };
+pub started : (q : Result Desk StartErr) (counts : Counts) (pools : List PoolHeld) (a b : KeeperSeen)
+    → IfOk q (λ (office : Desk). office ≡ record { held = held_at_start; counts = counts; kept = []; pools = pools }) → IfErr q (λ (err : StartErr). err ≡ start.Memory)
+    → Reads (λ t. KeepsPools pools (ground t)) a b
+    → MatchResult q (λ (office : Desk). Reads (Begun office counts) a b) (λ (err : StartErr). NotStarted err a b)
+started (Ok office) counts pools a b is none reads =
+    reads_as reads (λ t keeps. record {
+      counts_are = ap (λ (d : Desk). d.counts) is;
+      kept = subst (λ (d : Desk). AllRight t d.kept) (sym is) (none_right t);
+      pools = subst (λ (d : Desk). KeepsPools d.pools (ground t)) (sym is) keeps;
     })
-started (Err err) counts a b none is reads = subst (λ (e : StartErr). NotStarted e a b) (sym is) (reads_forgotten reads)
+started (Err err) counts pools a b none is reads = subst (λ (e : StartErr). NotStarted e a b) (sym is) (reads_forgotten reads)
 
-pub started_empty : (q : Result Desk StartErr) (counts : Counts)
-    → IfOk q (λ (office : Desk). office ≡ record { held = held_at_start; counts = counts; kept = [] }) → IfOk q (λ (office : Desk). office.held ≡ held_at_start)
-started_empty (Ok office) counts is = ap (λ (d : Desk). d.held) is
-started_empty (Err err) counts is = tt
+pub started_empty : (q : Result Desk StartErr) (counts : Counts) (pools : List PoolHeld)
+    → IfOk q (λ (office : Desk). office ≡ record { held = held_at_start; counts = counts; kept = []; pools = pools }) → IfOk q (λ (office : Desk). office.held ≡ held_at_start)
+started_empty (Ok office) counts pools is = ap (λ (d : Desk). d.held) is
+started_empty (Err err) counts pools is = tt
+
+-- good tables that were counted, and then read for what is kept of them
+pub opened : (q : Result Desk StartErr) (counts : Counts) (a b c : KeeperSeen) → Reads (λ t. Good t × (counts ≡ counts_of t)) a b
+    → MatchResult q (λ (office : Desk). Reads (Begun office counts) b c) (λ (err : StartErr). NotStarted err b c)
+    → MatchResult q (λ (office : Desk). Reads (Fits office) a c) (λ (err : StartErr). NotStarted err a c)
+opened (Ok office) counts a b c good begun =
+    reads_then good begun (λ t opens is. record { good = opens.0; mirrors = record { counts = is.counts_are ∙ opens.1; kept = is.kept; pools = is.pools } })
+opened (Err (start.Bad key)) counts a b c good not = reads_then good not (λ t opens bad. bad)
+opened (Err start.Failed) counts a b c good not = failed_then good not
+opened (Err start.Memory) counts a b c good not = failed_then good not
 
 -- ---- a datagram
 
@@ -125,10 +139,12 @@ pub packet_handled : (from : Peer) (bytes : List ℕ) (said : Said) (before afte
 packet_handled from bytes said before after a b rests reads moves says spent few = record {
   commit = [];
   tables = reads_told reads (λ t did. record {
-    holds = λ mirrors. (
-      packet_does from bytes before after said t (did mirrors.kept),
-      record { counts = ap (λ (d : Desk). d.counts) moves ∙ mirrors.counts; kept = (did mirrors.kept).right },
-    );
+    holds = λ mirrors. packet_does from bytes before after said t (did mirrors.kept);
+    stays = λ fits. record {
+      counts = ap (λ (d : Desk). d.counts) moves ∙ fits.mirrors.counts;
+      kept = (did fits.mirrors.kept).right;
+      pools = subst (λ (pools : List PoolHeld). KeepsPools pools (ground t)) (sym (ap (λ (d : Desk). d.pools) moves)) fits.mirrors.pools;
+    };
   });
   written = reads_told reads (λ t did. refl);
   keeps = reads_told reads (λ t did mirrors. (did mirrors.kept).keeps);
@@ -221,7 +237,7 @@ pub tick_handled : (outcome : Outcome) (said : Said) (before after : Desk) (k : 
     → Handled Tick outcome said before after k k
 tick_handled Did said before after k did =
     handled_quietly Tick Did said before after k (ap (λ (d : Desk). d.held.now) did.moves)
-    (stays_by before (moved before did.transfers) after did.moves (record { counts = refl; kept = refl })) refl
+    (stays_by before (moved before did.transfers) after did.moves (record { counts = refl; kept = refl; pools = refl })) refl
     (tick_does before after said did) (did_says Tick before after said (tick_does before after said did)) tt (spent_none k)
 tick_handled Memory said before after k missed =
     handled_quietly Tick Memory said before after k (ap (λ (d : Desk). d.held.now) missed.stays) (stays_by before before after missed.stays (stays_self before)) refl

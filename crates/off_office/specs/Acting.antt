@@ -24,7 +24,7 @@ use Rattle.off_outside.specs.declared.keeper.KeepErr.TheVariants as keep
 use Rattle.off_kept.specs.Entries.{Entries, without_written}
 use Rattle.off_tftp.specs.Keeping.{kept_after}
 use Rattle.off_office.specs.Desk.{Desk}
-use Rattle.off_office.specs.Conditions.{Mirrors, Under, StaysFit}
+use Rattle.off_office.specs.Conditions.{Mirrors, Under, StaysFit, StaysAs}
 use Rattle.off_office.specs.Asking.{Asks, AsksFew}
 use Rattle.off_office.specs.declared.office.StartErr.{StartErr}
 use Rattle.off_office.specs.declared.office.StartErr.TheVariants.{Bad, Failed, Memory as NoMemory}
@@ -156,8 +156,7 @@ KeepsBodies what outcome commit before after t =
 pub record HandledQuietly (what : What) (outcome : Outcome) (said : Said) (before after : Desk)
     (old new : KeeperSeen) : Type 0 where
   pub does : (t : Tables) → DoesOn what outcome said [] before after t t
-  pub counts : after.counts ≡ before.counts
-  pub kept : after.kept ≡ before.kept
+  pub same : StaysAs before after
   pub keeper : Unasked old new
 
 -- What an office makes of an event whose moment is its own already, whatever service it is for.
@@ -187,13 +186,12 @@ pub record Handled (what : What) (outcome : Outcome) (said : Said) (before after
 pub record ActsQuietly (event : Event) (outcome : Outcome) (said : Said) (before after : Desk)
     (old new : KeeperSeen) : Type 0 where
   pub step : (t : Tables) → StepOn event outcome said [] before after t t
-  pub counts : after.counts ≡ before.counts
-  pub kept : after.kept ≡ before.kept
+  pub same : StaysAs before after
   pub keeper : Unasked old new
 
 -- One event. `commit` is what it wrote to the tables, in one commit, which the keeper has counted.
--- Where the office mirrored the tables, it's the step of the book, and the office mirrors them
--- again, and keeps of the bodies what `kept_behind` says; good tables stay good. A crash meanwhile
+-- Where the office mirrored the tables, it's the step of the book, and it keeps of the bodies what
+-- `kept_behind` says; where they were good, they stay so, and the office mirrors them again. A crash meanwhile
 -- leaves the tables before it, the commit in doubt, or what the event would leave. What of it is
 -- said of tables that are told has no say in `undone` and `tells`, which hold over any keeper.
 pub record Acts (event : Event) (outcome : Outcome) (said : Said) (before after : Desk)

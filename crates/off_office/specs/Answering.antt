@@ -15,6 +15,7 @@ use Rattle.off_defs.specs.declared.events.What.TheVariants.{Piece}
 use Rattle.off_defs.specs.Told.{Told}
 use Rattle.off_defs.specs.State.{Tables, Said, state_of}
 use Rattle.off_defs.specs.Tables.{write_all}
+use Rattle.off_account_rules.specs.Rows.{counts_of}
 use Rattle.off_account_rules.specs.Clerk.{clerk_step, step_done, step_refused}
 use Rattle.off_clerk_rules.specs.declared.faults.Fault.{Fault}
 use Rattle.off_clerk_rules.specs.declared.faults.Fault.TheVariants as fault
@@ -30,7 +31,7 @@ use Rattle.off_accounts.specs.declared.results.AccountErr.{AccountErr}
 use Rattle.off_accounts.specs.declared.results.AccountErr.TheVariants.{Refused, Failed, Memory}
 use Rattle.off_kept.specs.Entries.{without_written}
 use Rattle.off_office.specs.Desk.{Desk}
-use Rattle.off_office.specs.Conditions.{Mirrors, Under}
+use Rattle.off_office.specs.Conditions.{Mirrors, Under, Follows}
 use Rattle.off_office.specs.Acting.{forgets, DoingBegins}
 use Rattle.off_book.specs.Step.{TellsOutcome}
 
@@ -66,21 +67,13 @@ CountsRows (PutPool n pool) answer = Unit {0}
 CountsRows (Remove key) answer = Unit {0}
 CountsRows (Show key) answer = Unit {0}
 
--- an office behind writes: it forgets the bodies of which they change a row
-abbrev pub desk_written : Desk → List Write → Desk
-desk_written desk writes = record desk { kept = without_written writes desk.kept }
-
--- an office that has done what was planned
-abbrev pub desk_behind : Desk → Planned → Desk
-desk_behind desk planned = record (desk_written desk planned.writes) { counts = planned.counts }
-
 -- What a command was planned to do: where the office mirrors the tables, it's the step of the book,
--- and the office that has done it mirrors those behind its writes.
+-- and its counts are those of the tables behind its writes.
 pub record IsPlanned (desk : Desk) (command : Command) (planned : Planned) (t : Tables) : Type 0
   where
     pub holds : Mirrors desk t
         → (clerk_step t desk.held.now command ≡ step_done t planned.writes planned.reply)
-        × Mirrors (desk_behind desk planned) (write_all t planned.writes)
+        × (planned.counts ≡ counts_of (write_all t planned.writes))
 
 -- it isn't to be done: a rule of the book's refuses it, or the keeper failed, or memory was wanted
 abbrev pub NotPlanned : Desk → Command → AccountErr → KeeperSeen → KeeperSeen → Type 0
@@ -158,7 +151,7 @@ IsAnswered result answer conn said before after old new =
 pub record CarriedOut (planned : Planned) (conn : ℕ) (said : Said) (before after : Desk)
     (old new : KeeperSeen) : Type 0 where
   pub answer : said ≡ reply_said conn planned.reply
-  pub counts : after ≡ desk_behind before planned
+  pub follows : Follows before after planned.counts planned.writes
   pub done : Settled planned.writes old new
 
 -- it wasn't

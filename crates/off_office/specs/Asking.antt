@@ -66,12 +66,12 @@ PieceAsks false bytes old new =
 
 -- a message asks what deciding it does, and one call for the commit; what is no message asks
 -- nothing
-abbrev pub message_asks : Result Received DhcpFault → Option ℕ
-message_asks (Ok m) = option_map (λ n. n + 1) (message_calls m)
-message_asks (Err fault) = Some 0
+abbrev pub message_asks : Result Received DhcpFault → ℕ
+message_asks (Ok m) = message_calls m + 1
+message_asks (Err fault) = 0
 
 abbrev pub Asks : What → Held → KeeperSeen → KeeperSeen → Type 0
-Asks (Datagram Dhcp from bytes) held old new = SpentWithin (message_asks (message_of bytes)) old new
+Asks (Datagram Dhcp from bytes) held old new = Spent (message_asks (message_of bytes)) old new
 Asks (Datagram Time from bytes) held old new = Spent 0 old new
 Asks (Datagram Tftp from bytes) held old new =
     Spent (datagram_calls held.transfers from bytes) old new

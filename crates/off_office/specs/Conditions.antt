@@ -1,27 +1,60 @@
 -- What holds between two calls of what an office keeps and the tables. Whatever else an office
 -- comes to keep of the tables is one more field of `Mirrors`.
-use Rattle.std.specs.Prelude.{◌≡◌}
+use Rattle.std.specs.Prelude.{◌≡◌, List}
+use Rattle.off_defs.specs.declared.orders.Write.{Write}
 use Rattle.off_defs.specs.State.{Tables}
+use Rattle.off_defs.specs.Tables.{write_all}
 use Rattle.off_account_rules.specs.Good.{Good}
+use Rattle.off_account_rules.specs.declared.counts.Counts.{Counts}
 use Rattle.off_account_rules.specs.Rows.{counts_of}
+use Rattle.off_kept.specs.Entries.{without_written}
 use Rattle.off_kept.specs.Right.{AllRight}
+use Rattle.off_runs.specs.Held.{PoolHeld, KeepsPools}
+use Rattle.off_runs.specs.Leases.{ground}
 use Rattle.off_office.specs.Desk.{Desk}
 
 -- what an office keeps of the tables is what stands there: how many rows there are of each kind,
--- and the bodies of files
+-- the bodies of files, and the pools with the expiries of their addresses
 pub record Mirrors (desk : Desk) (tables : Tables) : Type 0 where
   pub counts : desk.counts ≡ counts_of tables
   pub kept : AllRight tables desk.kept
+  pub pools : KeepsPools desk.pools (ground tables)
 
 -- and the tables are good
 pub record Fits (desk : Desk) (tables : Tables) : Type 0 where
   pub good : Good tables
   pub mirrors : Mirrors desk tables
 
--- Where the office mirrored the tables, good or not, P holds of the tables before and after, and it
--- mirrors them again.
+-- Where the office mirrored the tables, good or not, P holds of the tables before and after; where
+-- they were good, it mirrors them again.
 pub record Under (before after : Desk) (P : Tables → Tables → Type 0) (t u : Tables) : Type 0 where
-  pub holds : Mirrors before t → P t u × Mirrors after u
+  pub holds : Mirrors before t → P t u
+  pub stays : Fits before t → Mirrors after u
+
+-- an office that begins over tables whose rows were counted
+pub record Begun (desk : Desk) (counts : Counts) (tables : Tables) : Type 0 where
+  pub counts_are : desk.counts ≡ counts
+  pub kept : AllRight tables desk.kept
+  pub pools : KeepsPools desk.pools (ground tables)
+
+-- of what is kept of the tables nothing changed
+pub record StaysAs (before after : Desk) : Type 0 where
+  pub counts : after.counts ≡ before.counts
+  pub kept : after.kept ≡ before.kept
+  pub pools : after.pools ≡ before.pools
+
+-- What is kept of the tables follows writes: the counts are those that are given, bodies of which a
+-- row was written are forgotten, and the pools are those behind the writes, where the tables before
+-- them were good.
+abbrev pub PoolsFollow : List PoolHeld → List PoolHeld → List Write → Type 0
+PoolsFollow old new writes =
+    (t : Tables) → Good t → KeepsPools old (ground t) → KeepsPools new (ground (write_all t writes))
+
+pub record Follows (before after : Desk) (counts : Counts) (writes : List Write) : Type 0 where
+  pub held : after.held ≡ before.held
+  pub counts_are : after.counts ≡ counts
+  pub kept : after.kept ≡ without_written writes before.kept
+  pub pools : PoolsFollow before.pools after.pools writes
 
 -- what the office keeps still fits the tables
 abbrev pub StaysFit : Desk → Desk → Tables → Tables → Type 0

@@ -1,16 +1,20 @@
--- What an office keeps between two events: what the book says that it holds, how many rows of each
--- kind the tables have, and the bodies of files that were built of them.
-use Rattle.std.specs.Prelude.{ℕ, refl}
-use Rattle.std.specs.Coded.{Coded, code_by, coded×, coded_ℕ}
+-- What an office keeps between two events: what the book says that it holds, and of the tables how
+-- many rows of each kind there are, the bodies of files that were built of them, and the pools with
+-- the expiries of their addresses.
+use Rattle.std.specs.Prelude.{ℕ, List, refl}
+use Rattle.std.specs.Coded.{Coded, code_by, coded×, coded_ℕ, coded_list}
 use Rattle.off_defs.specs.State.{Held}
 use Rattle.off_defs.specs.Codes.{held_code}
 use Rattle.off_account_rules.specs.declared.counts.Counts.{Counts}
 use Rattle.off_kept.specs.Entries.{Entries, kept_code}
+use Rattle.off_runs.specs.Held.{PoolHeld}
+use Rattle.off_runs.specs.Codes.{pool_held_code}
 
 pub record Desk : Type 0 where
   pub held : Held
   pub counts : Counts
   pub kept : Entries
+  pub pools : List PoolHeld
 
 abbrev counts_code : Coded Counts
 counts_code =
@@ -29,6 +33,7 @@ counts_code =
 
 abbrev pub desk_code : Coded Desk
 desk_code =
-    code_by (Held × (Counts × Entries)) (coded× held_code (coded× counts_code kept_code))
-    (λ k. (k.held, (k.counts, k.kept)))
-    (λ p. record { held = p.0; counts = p.1.0; kept = p.1.1 }) (λ _. refl)
+    code_by ((Held × Counts) × (Entries × List PoolHeld))
+    (coded× (coded× held_code counts_code) (coded× kept_code (coded_list pool_held_code)))
+    (λ k. ((k.held, k.counts), (k.kept, k.pools)))
+    (λ p. record { held = p.0.0; counts = p.0.1; kept = p.1.0; pools = p.1.1 }) (λ _. refl)

@@ -17,37 +17,41 @@ use Rattle.off_outside.specs.declared.keeper.KeepErr.TheVariants as keep
 use Rattle.off_outside.specs.KeeperSeen.{KeeperSeen}
 use Rattle.off_outside.specs.KeeperCalls.{IsWritten, Settled, NotCommitted}
 use Rattle.off_office.specs.Desk.{Desk}
-use Rattle.off_office.specs.Answering.{failed_said, desk_written}
+use Rattle.off_office.specs.Conditions.{Mirrors, Follows}
+use Rattle.off_office.specs.Answering.{failed_said}
 
--- what was read of it is done and said at a moment, as the book has it, whatever the tables
+-- what was read of it is done and said at a moment, as the book has it where the office mirrors the
+-- tables
 pub record DidMessage (read : Result Received DhcpFault) (before after : Desk) (said : Said)
     (old new : KeeperSeen) : Type 0 where
   pub commit : List Write
   pub tables : Told old.tables new.tables (λ t u.
-      (said ≡ dhcp_said (step_of t before.held.now read))
-      × (commit ≡ (step_of t before.held.now read).writes) × IsWritten commit t u)
-  pub desk : after ≡ desk_written before commit
+      IsWritten commit t u × (Mirrors before t
+      → (said ≡ dhcp_said (step_of t before.held.now read))
+      × (commit ≡ (step_of t before.held.now read).writes)))
+  pub follows : Follows before after before.counts commit
   pub settled : Settled commit old new
   -- its line has a word of the service, whatever the tables
   pub word : DhcpWord
   pub says : said.line ≡ dhcp_line word
 
 -- the tables that it would leave
-abbrev pub MessageBegins : Result Received DhcpFault → ℕ → Tables → Tables → Type 0
-MessageBegins read now t u = u ≡ write_all t (step_of t now read).writes
+abbrev pub MessageBegins : Result Received DhcpFault → Desk → Tables → Tables → Type 0
+MessageBegins read desk t u =
+    Mirrors desk t → u ≡ write_all t (step_of t desk.held.now read).writes
 
 -- it isn't, and the tables are as before
 abbrev pub ServesMessage : Result (Unit {0}) KeepErr → Result Received DhcpFault → Desk → Desk
     → Said → KeeperSeen → KeeperSeen → Type 0
 ServesMessage result read before after said old new =
     MatchResult result (λ _. DidMessage read before after said old new)
-    (λ err. NotCommitted (MessageBegins read before.held.now) err old new)
+    (λ err. NotCommitted (MessageBegins read before) err old new)
 
 -- what a step says is in hand, and what it writes is committed
 pub record DidStep (step : LeaseStep) (before after : Desk) (said : Said) (old new : KeeperSeen)
     : Type 0 where
   pub said_is : said ≡ dhcp_said step
-  pub desk : after ≡ desk_written before step.writes
+  pub follows : Follows before after before.counts step.writes
   pub settled : Settled step.writes old new
 
 -- why a message couldn't be acted on is said

@@ -7,9 +7,9 @@ ghost use Rattle.off_accounts.specs.Deciding.{most_calls};
 ghost use Rattle.off_outside.specs.KeeperCalls.{Reads, Settled, NotCommitted, IsWritten, Spent};
 ghost use Rattle.off_office.specs.Asking.{SpentWithin, command_calls, most_commits};
 ghost use Rattle.off_office.specs.Asking.{commit_calls};
-ghost use Rattle.off_office.specs.Conditions.{StaysFit};
+ghost use Rattle.off_office.specs.Conditions.{StaysFit, Follows};
 ghost use Rattle.off_office.specs.Answering.{IsPlanned, NotPlanned, Commanded, NotCommanded};
-ghost use Rattle.off_office.specs.Answering.{CountsRows, desk_written};
+ghost use Rattle.off_office.specs.Answering.{CountsRows};
 
 use crate::office::Office;
 use off_account_rules::Counts;
@@ -74,9 +74,9 @@ impl Office {
         }
     }
 
-    // Does what was planned, whatever service planned it: the writes in one commit, where there are
-    // any, and then what the office keeps of the tables, which takes no memory. Bodies of files are
-    // forgotten of which a row was written.
+    // Does what was planned, whatever service planned it: takes room for what the office keeps of
+    // the tables, does the writes in one commit, where there are any, and then brings what is kept
+    // behind them, which takes no memory. Bodies of files are forgotten of which a row was written.
     pub(crate) fn settle<K: Keeper>(
         &mut self,
         keeper: &mut K,
@@ -87,14 +87,15 @@ impl Office {
             (λ _. Settled writes.now (K.seen keeper.old) (K.seen keeper.new))
             (λ err. NotCommitted (IsWritten writes.now) err
             (K.seen keeper.old) (K.seen keeper.new)) }
-        ensures ok { OnOk result (self.new
-            ≡ record (desk_written self.old writes.now) { counts = counts.now }) }
+        ensures ok { OnOk result (Follows self.old self.new counts.now writes.now) }
         ensures err { OnErr result (self.new ≡ self.old) }
         ensures spent { Spent (commit_calls writes.now) (K.seen keeper.old) (K.seen keeper.new) }
     {
+        self.runs.ready(writes)?;
         commit_all(self.alloc, keeper, writes)?;
         self.counts = *counts;
         self.kept.forget(writes);
+        self.runs.apply(writes);
         Ok(())
     }
 }

@@ -5,7 +5,7 @@ ghost use Rattle.off_lease_rules.specs.Words.{unread};
 ghost use Rattle.off_book.specs.Dhcp.{dhcp_line, replies_of};
 ghost use Rattle.off_outside.specs.KeeperCalls.{IsWritten, NotCommitted, Spent};
 ghost use Rattle.off_office.specs.Acting.{Handled};
-ghost use Rattle.off_office.specs.Asking.{SpentWithin, message_asks, commit_calls};
+ghost use Rattle.off_office.specs.Asking.{message_asks, commit_calls};
 ghost use Rattle.off_office.specs.Leasing.{ServesMessage, DidStep, FailsMessage};
 
 use crate::office::Office;
@@ -45,7 +45,7 @@ impl Office {
         ensures told { ServesMessage result (message_of bytes.now) self.old self.new out.new
             (K.seen keeper.old) (K.seen keeper.new) }
         ensures same { OnErr result (self.new ≡ self.old) }
-        ensures spent { SpentWithin (message_asks (message_of bytes.now))
+        ensures spent { Spent (message_asks (message_of bytes.now))
             (K.seen keeper.old) (K.seen keeper.new) }
     {
         match Message::read(bytes) {
@@ -68,10 +68,10 @@ impl Office {
         ensures told { ServesMessage result (Ok m.now) self.old self.new out.new
             (K.seen keeper.old) (K.seen keeper.new) }
         ensures same { OnErr result (self.new ≡ self.old) }
-        ensures spent { SpentWithin (message_asks (Ok m.now))
+        ensures spent { Spent (message_asks (Ok m.now))
             (K.seen keeper.old) (K.seen keeper.new) }
     {
-        match answer(self.alloc, keeper, self.now, m) {
+        match answer(self.alloc, keeper, &self.runs, self.now, m) {
             Ok(step) => self.carry_step(keeper, step, out),
             Err(err) => Err(err),
         }

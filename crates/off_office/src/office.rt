@@ -2,10 +2,11 @@ ghost use Rattle.std.specs.Prelude.{◌≡◌, ◌≤◌, ◌∷◌, ◌++◌, [
 ghost use Rattle.std.specs.Prelude.{MatchResult, IfErr};
 ghost use Rattle.off_defs.specs.State.{held_at_start, says_nothing};
 ghost use Rattle.off_book.specs.Time.{time_answer};
-ghost use Rattle.off_outside.specs.KeeperCalls.{Reads, WalksOnce};
+ghost use Rattle.off_outside.specs.KeeperCalls.{Reads};
 ghost use Rattle.off_office.specs.Acting.{Acts, Handled, NotStarted, desk_at};
 ghost use Rattle.off_office.specs.Acting.{forgets};
-ghost use Rattle.off_office.specs.Conditions.{Mirrors, Fits};
+ghost use Rattle.off_office.specs.Conditions.{Fits, Begun};
+ghost use Rattle.off_runs.specs.Reading.{Walks};
 ghost use Rattle.off_office.specs.Saying.{SaysTime};
 ghost use Rattle.off_office.specs.declared.office.StartErr.TheVariants as start;
 
@@ -16,6 +17,7 @@ use off_base::{Bytes, Moment, NoMemory, Peer};
 use off_defs::{Key, time_of_day};
 use off_kept::Kept;
 use off_outside::{Event, KeepErr, Keeper, Outcome, Replies, Sent, Service, What};
+use off_runs::FreeRuns;
 use off_tftp::Transfers;
 use std::alloc::Global;
 use std::marker::Model;
@@ -46,19 +48,21 @@ impl From<KeepErr> for StartErr {
 }
 
 /// The office between two events: the moment of its latest event, how many rows the tables have,
-/// the bodies of files that were built of them, the files on their way to modems, and the clerks'
-/// connections.
+/// the bodies of files that were built of them, the free addresses of their pools, the files on
+/// their way to modems, and the clerks' connections.
 #[derive(Drop)]
 pub struct Office {
     pub(crate) alloc: Global,
     pub(crate) now: Moment,
     pub(crate) counts: Counts,
     pub(crate) kept: Kept,
+    pub(crate) runs: FreeRuns,
     pub(crate) transfers: Transfers,
     pub(crate) connections: Connections,
 }
 
 impl Model for Office {
+    ghost use Rattle.std.specs.Prelude.{◌≡◌};
     ghost use Rattle.off_office.specs.Desk.{Desk, desk_code};
 
     ghost Value = { Desk };
@@ -69,7 +73,11 @@ impl Model for Office {
       held = record { now = o.now.0; transfers = o.transfers; connections = o.connections };
       counts = o.counts;
       kept = o.kept;
+      pools = o.runs.pools;
     } };
+
+    // the free addresses are those at its moment
+    ghost invariant = { λ o. o.runs.at ≡ o.now.0 };
 }
 
 impl Office {
@@ -77,25 +85,39 @@ impl Office {
     /// bodies of files and moment 0, over tables that are good.
     ///
     /// `Bad` comes exactly where they aren't, with the least bad key. The tables stay as they are.
-    /// They are walked once.
+    /// They are walked once, and their pools and leases once more.
     pub fn start<K: Keeper>(alloc: Global, keeper: &mut K) -> Result<Office, StartErr>
         ensures told { MatchResult result
             (λ office. Reads (Fits office) (K.seen keeper.old) (K.seen keeper.new))
             (λ err. NotStarted err (K.seen keeper.old) (K.seen keeper.new)) }
         ensures held { IfOk result (λ office. office.held ≡ held_at_start) }
         ensures kept { IfOk result (λ office. office.kept ≡ []) }
-        ensures walks { WalksOnce (K.seen keeper.old) (K.seen keeper.new) }
+        ensures walks { Walks 3 (K.seen keeper.old) (K.seen keeper.new) }
     {
         match open_tables(alloc, keeper)? {
-            Opening::Good(counts) => Office::empty(alloc, counts),
+            Opening::Good(counts) => Office::begin(alloc, keeper, counts),
             Opening::Bad(key) => Err(StartErr::Bad(key)),
         }
     }
 
-    // An office with these counts, in which nothing has begun.
-    fn empty(alloc: Global, counts: Counts) -> Result<Office, StartErr>
-        ensures ok { IfOk result
-            (λ office. office ≡ record { held = held_at_start; counts = counts; kept = [] }) }
+    // An office over good tables that have these counts, in which nothing has begun.
+    fn begin<K: Keeper>(alloc: Global, keeper: &mut K, counts: Counts) -> Result<Office, StartErr>
+        ensures told { MatchResult result
+            (λ office. Reads (Begun office counts) (K.seen keeper.old) (K.seen keeper.new))
+            (λ err. NotStarted err (K.seen keeper.old) (K.seen keeper.new)) }
+        ensures held { IfOk result (λ office. office.held ≡ held_at_start) }
+        ensures kept { IfOk result (λ office. office.kept ≡ []) }
+        ensures walks { Walks 2 (K.seen keeper.old) (K.seen keeper.new) }
+    {
+        let runs = FreeRuns::of(alloc, keeper)?;
+        Office::empty(alloc, counts, runs)
+    }
+
+    // An office with these counts and pools, in which nothing has begun.
+    fn empty(alloc: Global, counts: Counts, runs: FreeRuns) -> Result<Office, StartErr>
+        requires { runs.at ≡ 0 }
+        ensures ok { IfOk result (λ office. office
+            ≡ record { held = held_at_start; counts = counts; kept = []; pools = runs.pools }) }
         ensures err { IfErr result (λ err. err ≡ start.Memory) }
     {
         let Ok(kept) = Kept::new(alloc) else {
@@ -107,6 +129,7 @@ impl Office {
                 now: Moment(0),
                 counts,
                 kept,
+                runs,
                 transfers,
                 connections: Connections::new(alloc),
             }),
@@ -147,6 +170,7 @@ impl Office {
         ensures { self.new ≡ desk_at self.old at.0 }
     {
         self.now = later(self.now, at);
+        self.runs.pass(self.now);
     }
 
     // Forgets a connection, if it's live.

@@ -11,3 +11,4 @@ pub mod WriteLemmas
 pub mod SeenLemmas
 pub mod ReadLemmas
 pub mod LeastLemmas
+pub mod WalkLemmas

@@ -1,5 +1,5 @@
 -- The rows of pools and of leases, as writes that would put them.
-use Rattle.std.specs.Prelude.{List, [], Option, Some, None}
+use Rattle.std.specs.Prelude.{ℕ, ◌+◌, ◌*◌, List, [], Option, Some, None}
 use Rattle.std.specs.List.{filter_map}
 use Rattle.std.specs.FinMap as map
 use Rattle.off_defs.specs.declared.keys.Key.{Key}
@@ -9,6 +9,8 @@ use Rattle.off_defs.specs.declared.orders.Write.{Write}
 use Rattle.off_defs.specs.declared.orders.Write.TheVariants.{Put}
 use Rattle.off_defs.specs.State.{Tables}
 use Rattle.off_account_rules.specs.Rows.{pools}
+use Rattle.off_outside.specs.KeeperSeen.{KeeperSeen}
+use Rattle.off_outside.specs.KeeperCalls.{Spent}
 use Rattle.off_runs.specs.Held.{Ground}
 use Rattle.off_runs.specs.Leases.{hub_in}
 
@@ -25,6 +27,10 @@ pools_put t = filter_map pool_put (map.entries t)
 
 abbrev pub leases_put : Tables → List Write
 leases_put t = filter_map lease_put (map.entries t)
+
+-- so many walks over all rows: for each a call for each row at most, and one more that finds the end
+abbrev pub Walks : ℕ → KeeperSeen → KeeperSeen → Type 0
+Walks n old new = (t : Tables) → old.tables t → Spent (n * (map.len t + 1)) old new
 
 -- no pools; and the pools of tables, whose addresses have no leases
 abbrev pub no_ground : Ground

@@ -14,8 +14,8 @@ ghost use Rattle.off_account_rules.specs.Good.{Good};
 ghost use Rattle.off_account_rules.specs.Rows.{pool_fits};
 ghost use Rattle.off_runs.specs.Held.{Ground, KeepsPools, StandsFor, NoneOpen, IsLeastOpen};
 ghost use Rattle.off_runs.specs.Held.{IsLeastOf};
-ghost use Rattle.off_runs.specs.Reading.{bare_ground};
-ghost use Rattle.off_outside.specs.KeeperCalls.{Looks};
+ghost use Rattle.off_runs.specs.Reading.{bare_ground, Walks};
+ghost use Rattle.off_outside.specs.KeeperCalls.{Looks, WalksOnce};
 
 use crate::leases::{count_puts, take_leases, take_pools};
 use crate::pool_runs::PoolRuns;
@@ -74,12 +74,13 @@ impl FreeRuns {
     /// The pools of a keeper's tables, with the leases of their addresses, at moment 0. A row that no
     /// pool or lease may have is passed over.
     ///
-    /// It commits nothing. After an error there is nothing; `Failed` comes only where the keeper
-    /// counted a fault.
+    /// It walks over the pools and over the leases, and commits nothing. After an error there is
+    /// nothing; `Failed` comes only where the keeper counted a fault.
     pub fn of<K: Keeper>(alloc: Global, keeper: &mut K) -> Result<FreeRuns, KeepErr>
         ensures told { Looks result (K.seen keeper.old) (K.seen keeper.new)
             (λ runs t. StandsFor runs (ground t) 0) }
         ensures at { IfOk result (λ runs. runs.at ≡ 0) }
+        ensures walks { Walks 2 (K.seen keeper.old) (K.seen keeper.new) }
     {
         let pools = read_pools(alloc, keeper)?;
         let mut runs = FreeRuns::new(alloc);
@@ -95,6 +96,7 @@ impl FreeRuns {
             (λ _ t. KeepsPools self.old.pools (bare_ground t)
             → KeepsPools self.new.pools (ground t)) }
         ensures at { self.new.at ≡ self.old.at }
+        ensures walks { WalksOnce (K.seen keeper.old) (K.seen keeper.new) }
     {
         take_kept(alloc, keeper, &mut self.pools)?;
         let moment = self.moment;

@@ -4,7 +4,7 @@ ghost use Rattle.std.specs.Prelude.{◌≡◌, ◌<◌, ◌++◌, [], true, vec_
 ghost use Rattle.std.specs.List.{cons_option};
 ghost use Rattle.std.specs.Vec.{vec_capacity};
 ghost use Rattle.off_rows.specs.KeyBytes.{kind_of};
-ghost use Rattle.off_outside.specs.KeeperCalls.{Looks};
+ghost use Rattle.off_outside.specs.KeeperCalls.{Looks, WalksOnce};
 ghost use Rattle.off_runs.specs.Leases.{LeasesTaken};
 ghost use Rattle.off_runs.specs.Reading.{pool_put, lease_put, pools_put, leases_put};
 
@@ -18,8 +18,9 @@ use std::alloc::Global;
 
 /// The pools of the tables, as writes that put them.
 pub(crate) fn read_pools<K: Keeper>(alloc: Global, keeper: &mut K) -> Result<Writes, KeepErr>
-    ensures { Looks result (K.seen keeper.old) (K.seen keeper.new)
+    ensures told { Looks result (K.seen keeper.old) (K.seen keeper.new)
         (λ writes t. writes ≡ pools_put t) }
+    ensures walks { WalksOnce (K.seen keeper.old) (K.seen keeper.new) }
 {
     let mut writes = Writes::new(alloc);
     let mut place = Key::Class(u32::MAX);
@@ -60,6 +61,7 @@ pub(crate) fn take_kept<K: Keeper>(
 ) -> Result<(), KeepErr>
     ensures told { Looks result (K.seen keeper.old) (K.seen keeper.new)
         (λ _ t. LeasesTaken (leases_put t) pools.old.items pools.new.items) }
+    ensures walks { WalksOnce (K.seen keeper.old) (K.seen keeper.new) }
     ensures len { vec_len pools.new ≡ vec_len pools.old }
     ensures capacity { vec_capacity pools.new ≡ vec_capacity pools.old }
 {

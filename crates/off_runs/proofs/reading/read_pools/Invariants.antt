@@ -4,10 +4,14 @@ use Rattle.off_outside.specs.KeeperCalls.{Reads}
 use Rattle.off_readers.specs.Walks.{room}
 use Rattle.off_readers.proofs.GatherLemmas.{Gathered}
 use Rattle.off_runs.specs.Reading.{pool_put, pools_put}
+use Rattle.off_runs.proofs.WalkLemmas.{Walked}
 use Rattle.off_runs.proofs.reading.read_pools.Given as goal
 
 abbrev pub invariant-walk : goal.invariant-walk
-invariant-walk g l = Reads (Gathered pool_put pools_put l.writes (Some l.place)) (g.K.Keeper.seen l.initial.keeper) (g.K.Keeper.seen l.keeper)
+invariant-walk g l = record {
+  read : Reads (Gathered pool_put pools_put l.writes (Some l.place)) (g.K.Keeper.seen l.initial.keeper) (g.K.Keeper.seen l.keeper);
+  asked : Walked l.place (g.K.Keeper.seen l.initial.keeper) (g.K.Keeper.seen l.keeper);
+}
 
 abbrev pub decreases-walk : goal.decreases-walk
 decreases-walk g l = room (Some l.place)
