@@ -54,9 +54,12 @@ step_did m before after step said a b c rests reads did = record {
         record {
           value = g.value;
           told = g.told;
-          fits = (g.fits, λ mirrors.
-              let is = read.1 mirrors in
-              (did.said_is ∙ ap dhcp_said is, ap (λ (s : LeaseStep). s.writes) is));
+          fits = (
+            g.fits,
+            λ mirrors.
+                let is = read.1 mirrors in
+                (did.said_is ∙ ap dhcp_said is, ap (λ (s : LeaseStep). s.writes) is),
+          );
         };
   };
   follows = did.follows;

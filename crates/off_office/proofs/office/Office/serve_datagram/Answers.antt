@@ -4,7 +4,8 @@ use Rattle.off_dhcp.specs.declared.faults.DhcpFault.{DhcpFault}
 use Rattle.off_defs.specs.State.{Said}
 use Rattle.off_lease_rules.specs.Words.{unread}
 use Rattle.off_book.specs.Dhcp.{dhcp_line}
-use Rattle.off_office.specs.Asking.{SpentWithin, message_asks}
+use Rattle.off_outside.specs.KeeperCalls.{Spent}
+use Rattle.off_office.specs.Asking.{message_asks}
 use Rattle.off_office.specs.Leasing.{ServesMessage}
 use Rattle.off_office.proofs.LeaseLemmas.{fault_serves, fault_spent}
 use Rattle.off_office.proofs.office.Office.serve_datagram.Goals as goal
@@ -19,7 +20,7 @@ returns-in-Ok-clause-told g c =
 pub returns-in-Ok-clause-spent : goal.returns-in-Ok-clause-spent
 returns-in-Ok-clause-spent g c =
     subst
-    (λ (read : Result Received DhcpFault). SpentWithin (message_asks read) (g.K.Keeper.seen c.args.keeper.now) (g.K.Keeper.seen c.serve_message.new.keeper))
+    (λ (read : Result Received DhcpFault). Spent (message_asks read) (g.K.Keeper.seen c.args.keeper.now) (g.K.Keeper.seen c.serve_message.new.keeper))
     (sym c.in-Ok.is ∙ c.read.ensures.message) c.serve_message.ensures.spent
 
 pub returns-in-Err-clause-told : goal.returns-in-Err-clause-told

@@ -1,14 +1,15 @@
-use Rattle.std.proofs.Common.{◌≡◌, subst}
+use Rattle.std.proofs.Common.{subst}
 use Rattle.off_office.specs.Desk.{Desk}
-use Rattle.off_lease_rules.specs.Steps.{lease_step}
 use Rattle.off_outside.specs.KeeperCalls.{Reads}
-use Rattle.off_office.proofs.LeaseLemmas.{step_serves, not_serves, step_spent, not_spent}
+use Rattle.off_outside.proofs.KeeperLemmas.{reads_as}
+use Rattle.off_office.proofs.LeaseLemmas.{Decides, step_serves, not_serves, step_spent, not_spent}
 use Rattle.off_office.proofs.office.Office.serve_message.Goals as goal
 
 pub returns-in-Ok-clause-told : goal.returns-in-Ok-clause-told
 returns-in-Ok-clause-told g c =
     step_serves c.carry_step.result _ _ _ c.in-Ok.step _ _ _ _ (g.met.K.Keeper.rests c.args.keeper.now)
-    (subst (λ (d : Desk). Reads (λ t. c.in-Ok.step ≡ lease_step t d.held.now c.args.m.now) (g.K.Keeper.seen c.args.keeper.now) (g.K.Keeper.seen c.answer.new.keeper)) c.self.view_is c.in-Ok.ensures.told)
+    (subst (λ (d : Desk). Reads (Decides c.in-Ok.step d c.args.m.now) (g.K.Keeper.seen c.args.keeper.now) (g.K.Keeper.seen c.answer.new.keeper)) c.self.view_is
+    (reads_as c.in-Ok.ensures.told (λ t says mirrors. says (record { moment = c.self.invariant; keeps = mirrors.pools }))))
     c.carry_step.ensures.told
 
 pub returns-in-Ok-clause-spent : goal.returns-in-Ok-clause-spent
