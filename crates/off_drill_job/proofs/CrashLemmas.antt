@@ -11,7 +11,7 @@ use Rattle.off_defs.specs.Counts.{commits_after}
 use Rattle.off_defs.specs.State.{Tables, State, Held, Said, state_of, held_at, held_at_start}
 use Rattle.off_defs.specs.Tables.{write_all, doubt_behind}
 use Rattle.off_defs.proofs.ToldLemmas.{told_then, told_self}
-use Rattle.off_account_rules.specs.Clerk.{Stepped, clerk_step}
+use Rattle.off_account_rules.specs.Clerk.{Stepped, clerk_step, step_done}
 use Rattle.off_book.specs.Step.{Step, completed}
 use Rattle.off_book.specs.Run.{Turn, effect_of, commits_by}
 use Rattle.off_book.specs.Crashes.{Begins, Doubt, doubt_in, Lasts}
@@ -20,11 +20,17 @@ use Rattle.off_outside.specs.declared.keeper.KeepErr.{KeepErr}
 use Rattle.off_outside.specs.declared.keeper.KeepErr.TheVariants as keep
 use Rattle.off_outside.specs.KeeperSeen.{KeeperSeen, Rests}
 use Rattle.off_outside.specs.KeeperCalls.{Reads, NotCommitted, Crash, IsWritten, begun_by}
-use Rattle.off_office.specs.Acting.{Acts, EventBegins}
+use Rattle.off_office.specs.Acting.{Acts, EventBegins, effect_of}
 use Rattle.off_office.specs.Answering.{Commanded, CommandBegins}
-use Rattle.off_office.specs.Conditions.{Mirrors, Fits, Under}
+use Rattle.off_office.specs.Conditions.{Mirrors, Fits, WhereFit, StaysAs}
 use Rattle.off_office.specs.Desk.{Desk}
-use Rattle.off_office.proofs.StepLemmas.{StaysAs, fits_as}
+use Rattle.off_office.proofs.MirrorLemmas.{fits_as}
+use Rattle.off_laws.proofs.StepLaws.{step_good}
+use Rattle.off_table_laws.specs.Laws.{secret_fits}
+use Rattle.off_table_laws.proofs.StepLaws.{step_keeps_good}
+use Rattle.off_rows.specs.Sound.{is_sound}
+use Rattle.off_account_rules.specs.Good.{Good}
+use Rattle.std.specs.Prelude.{IsTrue}
 use Rattle.off_drill_rules.specs.Rows.{begins_at}
 use Rattle.off_drill_job.specs.Stepping.{Given, commits_given, commands_of, book_writes, written_in, Would, DoubtGiven, behind, LastsDrill, KeeperDid, KeeperDrilled}
 
@@ -263,14 +269,14 @@ keeper_given {given} {more} {turns} {d} {e} {f} {a} {b} {c} p q = record {
 
 -- an office opened the tables, and read them, before
 pub keeper_opened : {given : List Given} {turns : List Turn} {d f : Desk} {i k o : KeeperSeen} {P : Tables → Type 0} → Rests i → d.held ≡ held_at_start → Reads P i k
-    → ((t : Tables) → P t → Mirrors d t) → KeeperDid given turns d f k o → KeeperDrilled given turns i o
-keeper_opened {given} {turns} {d} {f} {i} {k} {o} rests begins reads mirrors did = record {
+    → ((t : Tables) → P t → Fits d t) → KeeperDid given turns d f k o → KeeperDrilled given turns i o
+keeper_opened {given} {turns} {d} {f} {i} {k} {o} rests begins reads fits did = record {
   commits = did.commits ∙ ap (λ (n : ℕ). commits_by turns (commits_given given n)) reads.quiet.commits;
   crash = record {
     each = λ t told.
         let opened = reads.tables t told in
         let g = did.crash.each t opened.0 in
-        let both = g.fits.holds (mirrors t opened.1) in
+        let both = g.fits.holds (fits t opened.1) in
         let still = reads.quiet.still in
         record {
           value = g.value;
@@ -307,7 +313,8 @@ keeper_turn event outcome said went d e a b first rests acts =
               value = g.value;
               told = g.told;
               fits = record {
-                holds = λ agree.
+                holds = λ fits.
+                    let agree = fits.mirrors in
                     let held = g.fits.holds agree in
                     let s = state_of t d.held in
                     let one : OneTurn a.opened b.opened a.doubt b.doubt a.moment b.moment s (state_of g.value e.held) turn = record {
@@ -317,8 +324,8 @@ keeper_turn event outcome said went d e a b first rests acts =
                       doubts = λ u ends. doubts_by a.doubt s turn u (λ begun. begun agree) (acts.doubts t told u ends);
                       rests = λ u shown. rests g.value g.told u shown;
                     } in (
-                      lasts_push a.opened b.opened a.doubt b.doubt a.doubt a.moment s [] a.moment b.moment s (state_of g.value e.held) turn (begins_so a first t told d.held) held.0 one,
-                      held.1,
+                      lasts_push a.opened b.opened a.doubt b.doubt a.doubt a.moment s [] a.moment b.moment s (state_of g.value e.held) turn (begins_so a first t told d.held) held one,
+                      record { good = step_good s event outcome (effect_of event.what outcome said acts.commit (state_of g.value e.held)) held fits.good; mirrors = g.fits.stays fits },
                     );
               };
             };
@@ -326,12 +333,6 @@ keeper_turn event outcome said went d e a b first rests acts =
     }
 
 -- ---- one command
-
-mirrors_as : (d e : Desk) (t : Tables) → StaysAs d e → Mirrors d t → Mirrors e t
-mirrors_as d e t stays agree =
-    let same : e ≡ record d { held = e.held } = λ j. record { held = e.held; counts = stays.counts j; kept = stays.kept j } in
-    let here : Mirrors (record d { held = e.held }) t = record { counts = agree.counts; kept = agree.kept } in
-    subst (λ (v : Desk). Mirrors v t) (sym same) here
 
 -- what a keeper tells over one command, and of the tables behind it
 record OneCommand (given : Given) (t z : Tables) (a b : KeeperSeen) : Type 0 where
@@ -382,8 +383,8 @@ module _ (command : Command) (d e : Desk) (a b : KeeperSeen) (first : Rests a) (
   would : (writes : List Write) (t : Tables) → book_writes t command ≡ writes → (u : Tables) → IsWritten writes t u → Would t command u
   would writes t same u is = is ∙ ap (write_all t) (sym same)
 
-  pub keeper_commanded : (reply : Reply) → (did : Commanded command reply e.held.now d e a b) → KeeperDid (done command did.writes ∷ []) [] d e a b
-  keeper_commanded reply did = record {
+  pub keeper_commanded : (reply : Reply) → IsTrue (is_sound command) → IsTrue (secret_fits command) → (did : Commanded command reply e.held.now d e a b) → KeeperDid (done command did.writes ∷ []) [] d e a b
+  keeper_commanded reply sound short did = record {
     commits = did.settled.commits;
     later = did.settled.crash.later;
     past = did.settled.crash.past;
@@ -394,18 +395,19 @@ module _ (command : Command) (d e : Desk) (a b : KeeperSeen) (first : Rests a) (
             value = g.value;
             told = g.told;
             fits = record {
-              holds = λ agree.
-                  let held = g.fits.holds agree in
-                  let same = written_now t _ held.0.0 in (
+              holds = λ fits.
+                  let held = g.fits.holds fits.mirrors in
+                  let same = written_now t _ held.0 in
+                  let good : Good (step_done t did.writes reply).tables = subst (λ (v : Stepped). Good v.tables) held.0 (step_keeps_good t e.held.now command sound short fits.good) in (
                     one_command (done command did.writes) d.held e.held a b first rests t g.value told g.told comes (record {
                       later = did.settled.crash.later;
                       past = did.settled.crash.past;
                       writes = sym same;
                       within = λ m u second upto shown. or_right (would did.writes t same u) (did.settled.crash.within t told m u second upto shown);
                       doubts = λ u ends. did.settled.doubts t told u ends;
-                      after = held.0.1;
+                      after = held.1;
                     }),
-                    held.1,
+                    record { good = subst (λ (v : Tables). Good v) (sym held.1) good; mirrors = g.fits.stays fits },
                   );
             };
           };
@@ -425,16 +427,16 @@ module _ (command : Command) (d e : Desk) (a b : KeeperSeen) (first : Rests a) (
             value = t;
             told = one.0;
             fits = record {
-              holds = λ agree. (
+              holds = λ fits. (
                 one_command (done command []) d.held e.held a b first rests t t told one.0 comes (record {
                   later = still.later;
                   past = still.past;
-                  writes = sym (none t one.1 agree);
+                  writes = sym (none t one.1 fits.mirrors);
                   within = λ m u second upto shown. or_first (Would t command u) (first t told u (still.within m u (omega (arith, second)) upto shown));
                   doubts = λ u ends. still.doubts u ends;
                   after = refl;
                 }),
-                mirrors_as d e t stays agree,
+                fits_as d e t stays fits,
               );
             };
           };
@@ -498,9 +500,9 @@ module _ (command : Command) (d e : Desk) (a b : KeeperSeen) (first : Rests a) (
             value = t;
             told = still;
             fits = record {
-              holds = λ agree. (
-                one_command (undone err) d.held e.held a b first rests t t told still comes (lost_one err t not agree told),
-                mirrors_as d e t stays agree,
+              holds = λ fits. (
+                one_command (undone err) d.held e.held a b first rests t t told still comes (lost_one err t not fits.mirrors told),
+                fits_as d e t stays fits,
               );
             };
           };

@@ -221,7 +221,7 @@ ends_going (Broken err) n d i j k o l m rests begins opened finds goes =
       };
       up = stays_up_then i k o both.quiet goes.up;
       faults = later_grew (let q = both.quiet.faults in omega (arith, q)) goes.faults;
-      keeper = keeper_opened rests begins both (λ t p. p.0.mirrors) goes.keeper;
+      keeper = keeper_opened rests begins both (λ t p. p.0) goes.keeper;
       sent = goes.sent;
     }
 ends_going (Done tally) n d i j k o l m rests begins opened finds goes =
@@ -239,7 +239,7 @@ ends_going (Done tally) n d i j k o l m rests begins opened finds goes =
       };
       up = stays_up_then i k o both.quiet goes.up;
       faults = goes.faults ∙ both.quiet.faults;
-      keeper = keeper_opened rests begins both (λ t p. p.0.mirrors) goes.keeper;
+      keeper = keeper_opened rests begins both (λ t p. p.0) goes.keeper;
       sent = goes.sent;
       counts = goes.counts;
     }

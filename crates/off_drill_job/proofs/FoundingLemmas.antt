@@ -23,9 +23,9 @@ use Rattle.off_outside.specs.declared.keeper.KeepErr.TheVariants as keep
 use Rattle.off_outside.specs.KeeperSeen.{KeeperSeen, Rests}
 use Rattle.off_outside.specs.KeeperCalls.{NotCommitted}
 use Rattle.off_office.specs.Answering.{Commanded, CommandBegins, NotCommanded}
-use Rattle.off_office.specs.Conditions.{Mirrors}
+use Rattle.off_office.specs.Conditions.{Mirrors, StaysAs}
 use Rattle.off_office.specs.Desk.{Desk}
-use Rattle.off_office.proofs.StepLemmas.{StaysAs, fits_as}
+use Rattle.off_office.proofs.MirrorLemmas.{fits_as}
 use Rattle.off_drill_rules.specs.Rows.{begins_at, with_site, with_class, founded, peopled}
 use Rattle.off_drill_rules.specs.Law.{held_behind}
 use Rattle.off_drill_job.specs.Stepping.{Given, commands_of, book_writes, KeeperDid}
@@ -121,13 +121,13 @@ module _ (command : Command) (before after : Desk) (k l : KeeperSeen) (sound : I
             fits = λ fit.
                 let held = g.fits.holds fit.mirrors in
                 let is : g.value ≡ (clerk_step t begins_at command).tables =
-                held.0.1 ∙ ap (λ (s : Stepped). s.tables) (sym held.0.0) ∙ ap (λ (n : ℕ). (clerk_step t n command).tables) now in
-                (record { good = subst Good (sym is) (step_keeps_good t begins_at command sound fits fit.good); mirrors = held.1 }, is);
+                held.1 ∙ ap (λ (s : Stepped). s.tables) (sym held.0) ∙ ap (λ (n : ℕ). (clerk_step t n command).tables) now in
+                (record { good = subst Good (sym is) (step_keeps_good t begins_at command sound fits fit.good); mirrors = g.fits.stays fit }, is);
           };
     };
     up = done.settled.up;
     faults = done.settled.faults;
-    keeper = keeper_commanded command before after k l first rests now comes reply done;
+    keeper = keeper_commanded command before after k l first rests now comes reply sound fits done;
   }
 
   lost_by : (err : KeepErr) → StaysAs before after → NotCommitted (CommandBegins command after.held.now before) err k l → Halts err (command ∷ []) before k l

@@ -107,9 +107,9 @@ took event words said all same before after a b l m c d first rests acts sending
       tables = told_weaker acts.tables (λ t u under fit.
           let held = under.holds fit.mirrors in
           let step : Step (state_of t before.held) event Did (effect_of turn (state_of u after.held)) =
-          subst (λ (s : Said). Step (state_of t before.held) event Did (record { said = s; commit = acts.commit; after = state_of u after.held })) (did_whole event.what said) held.0 in
+          subst (λ (s : Said). Step (state_of t before.held) event Did (record { said = s; commit = acts.commit; after = state_of u after.held })) (did_whole event.what said) held in
           let good = run_keeps_good (state_of t before.held) (state_of u after.held) (turn ∷ []) (state_of u after.held, (step, refl)) fit.good in
-          (record { good = good; mirrors = held.1 }, step));
+          (record { good = good; mirrors = under.stays fit }, step));
       up = acts.up;
       faults = acts.faults;
       keeper =

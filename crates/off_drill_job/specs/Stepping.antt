@@ -14,7 +14,7 @@ use Rattle.off_book.specs.Run.{Turn, commits_by}
 use Rattle.off_book.specs.Crashes.{doubt_in, Lasts}
 use Rattle.off_outside.specs.KeeperSeen.{KeeperSeen}
 use Rattle.off_outside.specs.KeeperCalls.{IsWritten}
-use Rattle.off_office.specs.Conditions.{Under}
+use Rattle.off_office.specs.Conditions.{WhereFit}
 use Rattle.off_office.specs.Desk.{Desk}
 use Rattle.off_drill_rules.specs.Rows.{begins_at}
 
@@ -78,7 +78,7 @@ pub record KeeperDid (given : List Given) (turns : List Turn) (before after : De
   pub commits : new.commits ≡ commits_by turns (commits_given given old.commits)
   pub later : old.moment ≤ new.moment
   pub past : (m : ℕ) (u : Tables) → m ≤ old.moment → new.opened m u → old.opened m u
-  pub crash : Told old.tables new.tables (Under before after (λ t u.
+  pub crash : Told old.tables new.tables (WhereFit before after (λ t u.
       LastsDrill new.opened new.doubt old.doubt old.moment (state_of t before.held) given turns
       new.moment (state_of u after.held)))
 

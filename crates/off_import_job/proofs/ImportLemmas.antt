@@ -137,7 +137,7 @@ ends_given (Done rows) kind batch command desk k l m s s' rests opened read soun
         each = λ t told.
             let before = opened.tables t told in
             let g = did.done.tables.each t before.0 in
-            let p = (g.fits.holds before.1.mirrors).0 in
+            let p = g.fits.holds before.1.mirrors in
             record {
               value = g.value;
               told = g.told;
@@ -149,7 +149,7 @@ ends_given (Done rows) kind batch command desk k l m s s' rests opened read soun
         each = λ t told.
             let before = opened.tables t told in
             let g = did.done.tables.each t before.0 in
-            let p = (g.fits.holds before.1.mirrors).0 in
+            let p = g.fits.holds before.1.mirrors in
             record {
               value = g.value;
               told = g.told;

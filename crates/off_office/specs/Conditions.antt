@@ -31,6 +31,11 @@ pub record Under (before after : Desk) (P : Tables → Tables → Type 0) (t u :
   pub holds : Mirrors before t → P t u
   pub stays : Fits before t → Mirrors after u
 
+-- the same of several events: where the office fitted the tables, it fits them again
+pub record WhereFit (before after : Desk) (P : Tables → Tables → Type 0) (t u : Tables) : Type 0
+  where
+    pub holds : Fits before t → P t u × Fits after u
+
 -- an office that begins over tables whose rows were counted
 pub record Begun (desk : Desk) (counts : Counts) (tables : Tables) : Type 0 where
   pub counts_are : desk.counts ≡ counts

@@ -41,6 +41,7 @@ impl Office {
         ensures held { self.new.held ≡ held_at self.old.held at.0 }
         ensures counts { OnErr result (self.new.counts ≡ self.old.counts) }
         ensures kept { OnErr result (self.new.kept ≡ self.old.kept) }
+        ensures pools { OnErr result (self.new.pools ≡ self.old.pools) }
         ensures rows { IfOk result (λ done. CountsRows c.now done) }
         ensures good { OnOk result (IsTrue (secret_fits c.now)
             → Told (K.seen keeper.old).tables (K.seen keeper.new).tables

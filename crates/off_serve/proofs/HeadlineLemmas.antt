@@ -119,7 +119,7 @@ ran_office {turns} {first} {last} {a} {b} {c} rests opened fresh ran = record {
           value = g.value;
           told = g.told;
           fits = lasts_run c.opened c.doubt a.doubt a.moment (start t) turns c.moment (state_of g.value last.held)
-              (lasts_opened turns first last a b c rests opened fresh ran t g.value told (g.fits.holds before.1.mirrors).0);
+              (lasts_opened turns first last a b c rests opened fresh ran t g.value told (g.fits.holds before.1).0);
         };
   };
   crash = record {
@@ -129,7 +129,7 @@ ran_office {turns} {first} {last} {a} {b} {c} rests opened fresh ran = record {
         record {
           value = g.value;
           told = g.told;
-          fits = lasts_opened turns first last a b c rests opened fresh ran t g.value told (g.fits.holds before.1.mirrors).0;
+          fits = lasts_opened turns first last a b c rests opened fresh ran t g.value told (g.fits.holds before.1).0;
         };
   };
   keeper = keeper_opened turns a b c opened.quiet ran.keeper;

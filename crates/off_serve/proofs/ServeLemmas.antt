@@ -9,7 +9,7 @@ use Rattle.off_defs.specs.declared.results.Outcome.TheVariants.{Did, Memory, Kee
 use Rattle.off_defs.specs.Counts.{Grew, Tallied, commits_after, calls_after}
 use Rattle.off_defs.specs.State.{Tables, state_of}
 use Rattle.off_defs.specs.Events.{end_event}
-use Rattle.off_book.specs.Run.{Turn, TellsItsOutcome, keeper_failures, failures_by, trouble, troubles_by, writes_by, sent_in, sent_by, line_of, lines_from, events_of, first_events, is_end, IsNoEnd, EndsLast}
+use Rattle.off_book.specs.Run.{Turn, TellsItsOutcome, keeper_failures, failures_by, trouble, troubles_by, writes_by, sent_in, sent_by, line_of, lines_from, events_of, first_events, is_end, IsNoEnd, EndsLast, effect_of}
 use Rattle.off_defs.proofs.ToldLemmas.{told_then, told_self, then_stays}
 use Rattle.off_defs.proofs.CountLemmas.{grew_self, grew_then, later_grew, tallied_none, tallied_then, tallied_stays}
 use Rattle.off_book.specs.Crashes.{Begins}
@@ -17,6 +17,7 @@ use Rattle.off_book.proofs.CrashLemmas.{OneTurn, OnlyReads, lasts_push, lasts_st
 use Rattle.off_book.proofs.RunLemmas.{failures_by_push, troubles_by_push, commits_by_push, writes_by_push, sent_by_push, lost_by_push, lines_from_push}
 use Rattle.off_outside.specs.LinkSeen.{LinkSeen}
 use Rattle.off_outside.specs.KeeperSeen.{KeeperSeen, Rests}
+use Rattle.off_laws.proofs.StepLaws.{step_good}
 use Rattle.off_office.specs.Desk.{Desk}
 use Rattle.off_outside.specs.LinkCalls.{first_event}
 use Rattle.off_outside.specs.Streams.{SinkSeen, SinkUnasked, Wrote, NotWritten}
@@ -165,12 +166,15 @@ from_push {turns} {turn} {first} {before} {after} {a} {b} {c} rests ran made = r
           value = h.value;
           told = h.told;
           fits = record {
-            holds = λ agree.
-                let half = g.fits.holds agree in
-                let whole = h.fits.holds half.1 in (
+            holds = λ fits.
+                let half = g.fits.holds fits in
+                let step = h.fits.holds half.1.mirrors in (
                   lasts_push b.opened c.opened b.doubt c.doubt a.doubt a.moment (state_of x first.held) turns b.moment c.moment (state_of g.value before.held)
-                      (state_of h.value after.held) turn half.0 whole.0 (one_turn turn before after b c rests made g.value h.value g.told h.told half.1),
-                  whole.1,
+                      (state_of h.value after.held) turn half.0 step (one_turn turn before after b c rests made g.value h.value g.told h.told half.1.mirrors),
+                  record {
+                    good = step_good (state_of g.value before.held) turn.event turn.outcome (effect_of turn (state_of h.value after.held)) step half.1.good;
+                    mirrors = h.fits.stays half.1;
+                  },
                 );
           };
         };

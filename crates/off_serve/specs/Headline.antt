@@ -20,7 +20,7 @@ use Rattle.off_outside.specs.KeeperSeen.{KeeperSeen}
 use Rattle.off_office.specs.Desk.{Desk}
 use Rattle.off_outside.specs.KeeperCalls.{StaysUp, Unasked}
 use Rattle.off_outside.specs.LinkCalls.{LinkUnasked, LinkStaysUp}
-use Rattle.off_office.specs.Conditions.{Under, StaysFit}
+use Rattle.off_office.specs.Conditions.{WhereFit, StaysFit}
 use Rattle.off_office.specs.Acting.{NotStarted}
 use Rattle.off_office.specs.declared.office.StartErr.{StartErr}
 use Rattle.off_outside.specs.Streams.{SourceSeen, SourceUnasked, SinkSeen, SinkUnasked, SinkStaysUp, HasFront}
@@ -90,11 +90,10 @@ pub record RanOffice (turns : List Turn) (held : Held) (old new : KeeperSeen) : 
   pub keeper : KeeperRan turns old new
   pub tell : All TellsItsOutcome turns
 
--- the same from any state on, as far as the office's counts are those of its tables; and what
--- fitted the tables fits them still
+-- the same from any state on, where the office fitted the tables; and then it fits them still
 pub record RanFrom (turns : List Turn) (first last : Desk) (old new : KeeperSeen) : Type 0 where
   pub run : Told old.tables new.tables
-      (Under first last (λ t u. LastsIn old new (state_of t first.held) turns
+      (WhereFit first last (λ t u. LastsIn old new (state_of t first.held) turns
       (state_of u last.held)))
   pub past : (m : ℕ) (u : Tables) → m ≤ old.moment → new.opened m u → old.opened m u
   pub later : old.moment ≤ new.moment
