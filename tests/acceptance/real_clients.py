@@ -4,8 +4,9 @@
 In three networks of its own, those of the office, of a relay and of a modem, each relay that is
 installed (dhcrelay, dnsmasq) carries each client that is (udhcpc, dhclient), which gets an address,
 renews it and gives it back; between, each TFTP client that is installed (tftp-hpa, atftp, curl,
-busybox) fetches the modem's file, whose settings and checks bin/modem reads, and rdate asks for the
-time by UDP. What isn't installed is named and skipped. It ends what it started, and takes a minute.
+busybox) fetches the modem's file, with and without the options that it knows (RFC 2348 and 2349),
+bin/modem reads its settings and checks, and rdate asks for the time by UDP. What isn't installed is
+named and skipped. It ends what it started, and takes a minute.
 """
 # needs: unshare nsenter ip
 import contextlib
@@ -202,22 +203,28 @@ def clients():
 # ---- what is fetched
 
 def fetchers(name, out):
-    """The words by which each TFTP client fetches a file."""
-    known = {
-        "tftp": ["-m", "binary", OFFICE, "-c", "get", name, out],
-        "atftp": ["--get", "--option", "blksize 1428", "--remote-file", name, "--local-file", out,
-                  OFFICE],
-        "curl": ["-s", "-o", out, f"tftp://{OFFICE}/{name}"],
-        "busybox": ["tftp", "-g", "-r", name, "-l", out, OFFICE]}
-    return {tool: [found(tool), *words] for tool, words in known.items() if found(tool)}
+    """The words by which each TFTP client fetches a file, and whether it asks for options: curl for
+    all three, unless it's told not to, and busybox for the file's length."""
+    files = ["--remote-file", name, "--local-file", out, OFFICE]
+    known = [
+        ("tftp", False, ["-m", "binary", OFFICE, "-c", "get", name, out]),
+        ("atftp", False, ["--get", *files]),
+        ("atftp", True, ["--get", "--option", "blksize 1428", *files]),
+        ("atftp", True, ["--get", "--option", "tsize 0", "--option", "timeout 5", *files]),
+        ("curl", True, ["-s", "-o", out, f"tftp://{OFFICE}/{name}"]),
+        ("curl", False, ["-s", "--tftp-no-options", "-o", out, f"tftp://{OFFICE}/{name}"]),
+        ("busybox", True, ["tftp", "-g", "-r", name, "-l", out, OFFICE]),
+        ("busybox", True, ["tftp", "-b", "1428", "-g", "-r", name, "-l", out, OFFICE])]
+    return [([found(tool), *words], asks) for tool, asks, words in known if found(tool)]
 
 
 def fetches(network, folder, address, name):
     """Each client gets the modem's own file, good by both checks."""
     modem = loaded("modem")
     held = bytes(map(int, address.split(".")))
-    for tool, words in fetchers(name, os.path.join(folder, "file.cm")).items():
-        path = words[words.index(os.path.join(folder, "file.cm"))]
+    path = os.path.join(folder, "file.cm")
+    for words, _ in fetchers(name, path):
+        tool = " ".join(words[:6])
         with contextlib.suppress(FileNotFoundError):
             os.remove(path)
         status, said = network.within(network.modem, *words, seconds=20)
@@ -285,10 +292,13 @@ def boots(network, folder, log, kind, relay):
     # dhcrelay hands on what it sees of a renewal and a release too, beside the client's own way.
     form = "offer ack( ack)+ released( no-record)*"
     check(re.fullmatch(form, " ".join(line[5:] for line in starts)), f"{what}: {starts}")
-    check(lines.count("tftp done") == len(fetchers("", "")), f"{what}: {lines}")
+    fetched = fetchers("", "")
+    with_options = sum(asks for _, asks in fetched)
+    check((lines.count("tftp done"), lines.count("tftp oack")) == (len(fetched), with_options),
+          f"{what}: {lines}")
     status, text = modems.clerk("GET", f"/leases/{address}")
     check(status == [b"404"], f"{what}: the address is given back: {text}")
-    print(f"{what}: {address}, {len(fetchers('', ''))} fetches, renewed and given back")
+    print(f"{what}: {address}, {len(fetched)} fetches, renewed and given back")
 
 
 def all_of_them():

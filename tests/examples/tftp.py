@@ -1,6 +1,6 @@
 """TFTP packets, modems' files and an office's transfers: a reader, a writer and a plain model.
 
-Packets are read and written from RFC 1350, 2347 and 2348; files from CM-SP-MULPIv3.1, by Python's hashlib and hmac; what an office does of them from
+Packets are read and written from RFC 1350, 2347, 2348 and 2349; files from CM-SP-MULPIv3.1, by Python's hashlib and hmac; what an office does of them from
 the order of its own rules. Only Python's standard library is used, and nothing of the programs that are tried with it.
 """
 import ipaddress
@@ -33,24 +33,37 @@ def data(number, block):
     return headed(DATA, number.to_bytes(2, "big") + block)
 
 
-def options(size):
-    return headed(OPTIONS, b"blksize\0%d\0" % size)
+def options(size=None, length=None, seconds=None):
+    """The options that were read, each with what it is told: the size of blocks, the file's length, the seconds between resends."""
+    told = {b"blksize": size, b"tsize": length, b"timeout": seconds}
+    return headed(OPTIONS, b"".join(b"%s\0%d\0" % each for each in told.items() if each[1] is not None))
 
 
 def error(code, text):
     return headed(ERROR, code.to_bytes(2, "big") + text.encode() + b"\0")
 
 
-def size_in(value):
-    """RFC 2348: 8 to 65464, here in one to five digits; None for another value."""
-    size = int(value) if value.isdigit() and len(value) <= 5 else 0
-    return size if 8 <= size <= 65464 else None
+def number_in(value, digits, least, most):
+    """A number of so many digits at most within bounds; None for another value."""
+    number = int(value) if value.isdigit() and len(value) <= digits else least - 1
+    return number if least <= number <= most else None
 
 
-def asked_size(texts):
-    """The size that the first option of this name says, or None. Names are compared without case (RFC 2347)."""
-    pairs = list(zip(texts[::2], texts[1::2]))
-    return next((size_in(value) for name, value in pairs if name.lower() == b"blksize"), None)
+class Asked:
+    """What the options of a request ask for: of each name the first counts, and names are compared without case (RFC 2347)."""
+
+    def __init__(self, texts):
+        values = {}
+        for name, value in zip(texts[::2], texts[1::2]):
+            values.setdefault(name.lower(), value)
+        # RFC 2348: 8 to 65464, here in one to five digits.
+        self.size = number_in(values.get(b"blksize", b""), 5, 8, 65464)
+        # RFC 2349: 0 in a request, here any number of one to twenty digits; and 1 to 255 seconds, in one to three.
+        self.length = number_in(values.get(b"tsize", b""), 20, 0, 10**20) is not None
+        self.seconds = number_in(values.get(b"timeout", b""), 3, 1, 255)
+
+    def any(self):
+        return self.size is not None or self.length or self.seconds is not None
 
 
 def read_packet(packet):
@@ -62,7 +75,7 @@ def read_packet(packet):
         texts = packet[2:].split(b"\0")[:-1]
         if len(texts) < 2:
             return "form",
-        return ("mode",) if texts[1].lower() != b"octet" else ("read", texts[0], asked_size(texts[2:]))
+        return ("mode",) if texts[1].lower() != b"octet" else ("read", texts[0], Asked(texts[2:]))
     if code == ACKNOWLEDGEMENT:
         return ("form",) if len(packet) < 4 else ("acknowledgement", int.from_bytes(packet[2:4], "big"))
     return ("write",) if code == WRITE else ("error",) if code == ERROR else ("form",)
@@ -169,8 +182,9 @@ class Rows:
 class Transfer:
     def __init__(self, packet, name, mac, subscriber, file, asked, now):
         self.request, self.name, self.mac, self.subscriber, self.file = packet, name, mac, subscriber, file
-        self.size = USUAL_BLOCK if asked is None else min(asked, LARGEST_BLOCK)
-        self.sent = 1 if asked is None else 0
+        self.asked, self.size = asked, USUAL_BLOCK if asked.size is None else min(asked.size, LARGEST_BLOCK)
+        self.seconds = PATIENCE if asked.seconds is None else asked.seconds
+        self.sent = 0 if asked.any() else 1
         self.acknowledged, self.last, self.resends = False, now, 0
 
     def block(self):
@@ -178,7 +192,11 @@ class Transfer:
 
     def packet(self):
         """The packet that was sent last."""
-        return options(self.size) if self.sent == 0 else data(self.sent, self.block())
+        return self.told() if self.sent == 0 else data(self.sent, self.block())
+
+    def told(self):
+        """Each option that was read: the size that is taken, the length of the file, the seconds as they were asked for."""
+        return options(None if self.asked.size is None else self.size, len(self.file) if self.asked.length else None, self.asked.seconds)
 
     def is_at_end(self):
         """The last block is the one that isn't full (RFC 1350, section 6)."""
@@ -222,7 +240,7 @@ class Transfers:
     def sends(self, peer, word):
         return word, (peer, self.live[peer].packet())
 
-    def asked(self, peer, packet, name, size):
+    def asked(self, peer, packet, name, options):
         now, held, old = self.office.now, address(peer.split(":")[0]), self.live.get(peer)
         if old and old.request == packet and not old.acknowledged:
             old.last = now
@@ -237,8 +255,8 @@ class Transfers:
             return self.refused(peer, "name", 1, "file not found")
         if old is None and len(self.live) >= MOST_TRANSFERS:
             return self.refused(peer, "full", 0, "too many transfers")
-        self.live[peer] = Transfer(packet, name, owner, subscriber, self.rows.file(owner, held, now), size, now)
-        return self.sends(peer, "block 1" if size is None else "oack")
+        self.live[peer] = Transfer(packet, name, owner, subscriber, self.rows.file(owner, held, now), options, now)
+        return self.sends(peer, "oack" if options.any() else "block 1")
 
     def agrees(self, peer, transfer):
         held = address(peer.split(":")[0])
@@ -263,7 +281,7 @@ class Transfers:
     def tick(self, moment):
         """What becomes of a Tick: the words of the log, none where nothing is done, and what is sent."""
         now = self.office.now = max(self.office.now, moment_of(moment))
-        due = [peer for peer in sorted(self.live, key=place_of) if now >= later(self.live[peer].last, PATIENCE)]
+        due = [peer for peer in sorted(self.live, key=place_of) if now >= later(self.live[peer].last, self.live[peer].seconds)]
         again = [peer for peer in due if self.live[peer].resends < MOST_RESENDS]
         for peer in due:
             if peer not in again:

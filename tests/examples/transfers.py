@@ -5,6 +5,7 @@ hand too, and the packets of the worked example byte for byte; where the model s
 """
 import hashlib
 import hmac
+import itertools
 
 from examples import answered, compact, datagram, ip, outcome, quoted
 from examples import request as asked_over_http
@@ -13,7 +14,7 @@ from leases import (A, HELD, MAC, MOST, OTHER, SECOND, Clerk, Disagreement, Offi
 import leases
 from tftp import ERROR, OPTIONS, WRITE, Transfers, acknowledgement, data, error, extensions, headed, options, request, tree_in, tree_json
 
-MODEL = "By the model of transfers in tests/examples/tftp.py, from RFC 1350, 2347 and 2348, and the office's rules."
+MODEL = "By the model of transfers in tests/examples/tftp.py, from RFC 1350, 2347, 2348 and 2349, and the office's rules."
 PORT = 5000
 GOLD = "24{ 1=0001 6=07 8=00989680 } 25{ 1=0002 6=07 8=05f5e100 }"
 TWICE_GOLD = "24{ 1=0001 6=07 8=01312d00 } 25{ 1=0002 6=07 8=05f5e100 }"
@@ -463,7 +464,7 @@ def reading_packets(player):
     bad = [b"", b"0", b"7", b"007", b"65465", b"65536", b"99999", b"000008", b"100000", b"+512", b"-512", b" 512", b"512 ", b"5 2", b"0x40", b"512.0", b"\xb2\xb2"]
     player.play("what is no size", [("t", "block 1", reads(value)) for value in bad])
     player.play("any case", [("t", "oack", reads(more=[(word, b"44")])) for word in (b"BLKSIZE", b"blkSize", b"Blksize")])
-    player.play("another name", [("t", "block 1", reads(more=[(word, b"44")])) for word in (b"", b"blksiz", b"blksizes", b" blksize", b"tsize", b"windowsize", b"\xe2lksize")])
+    player.play("another name", [("t", "block 1", reads(more=[(word, b"44")])) for word in (b"", b"blksiz", b"blksizes", b" blksize", b"tsizes", b"windowsize", b"\xe2lksize")])
     twice = [("oack", [(b"blksize", b"44"), (b"BLKSIZE", b"99")]), ("block 1", [(b"blksize", b"7"), (b"blksize", b"44")]),
              ("block 1", [(b"blksize", b""), (b"blksize", b"44")]), ("oack", [(b"tsize", b"blksize"), (b"blksize", b"44")]),
              ("oack", [(b"", b""), (b"blksize", b"44")]), ("block 1", [(b"timeout", b"blksize"), (b"44", b"")])]
@@ -484,6 +485,93 @@ def reading_packets(player):
     for length in range(5):
         made.take("t", None, sends(acknowledgement(7)[:length]))
     player.script.run("an acknowledgement", ["office", *HELD, f"t prefixes tftp from {A}:{PORT} {acknowledgement(7).hex()}"], outcome(wrote=made.wrote, sent=made.sent))
+
+
+def negotiating(player):
+    to, again, closed = f"{A}:{PORT}", "again 1 closed 0", "again 0 closed 1"
+    size, length, seconds = (b"blksize", b"44"), (b"tsize", b"0"), (b"timeout", b"5")
+
+    def asks(*more, **what):
+        return reads(more=more, **what)
+    player.section("the file's length and another time between resends are told to who asks for them",
+                   "The worked example, byte for byte: RFC 2347 and 2349. The file has 88 bytes, and what isn't answered goes again behind five seconds.")
+    told = bytes.fromhex("0006" "626c6b73697a6500" "343400" "7473697a6500" "383800" "74696d656f757400" "3500")
+    made = player.play("", [
+        ("t", "oack", asks(size, length, seconds)), ("t+4", "", TICK), ("t+5", again, TICK), ("t+5", "block 1", acks(0)), ("t+9", "", TICK), ("t+10", again, TICK),
+        ("t+10", "block 2", acks(1)), ("t+14", "block 3", acks(2)), ("t+18", "", TICK), ("t+19", again, TICK), ("t+19", "done", acks(3))], tables=True)
+    for place, packet in enumerate([told, told, data(1, FILE[:44]), data(1, FILE[:44]), data(2, FILE[44:]), data(3, b""), data(3, b"")]):
+        is_sent(made, place, to, packet)
+    made = player.play("the request comes again", [
+        ("t", "oack", asks(size, length, seconds)), ("t+4", "again", asks(size, length, seconds)), ("t+8", "", TICK), ("t+9", again, TICK),
+        ("t+10", "again", asks(size, length, seconds)), ("t+14", "", TICK), ("t+15", "block 1", acks(0))])
+    for place in range(4):
+        is_sent(made, place, to, told)
+    player.play("five times, and then it is closed", [
+        ("t", "oack", asks(size, length, seconds)), *((f"t+{moment}", again, TICK) for moment in (5, 10, 15, 20, 25)), ("t+29", "", TICK), ("t+30", closed, TICK),
+        ("t+30", "unknown", acks(0))])
+    made = player.play("the length alone", [("t", "oack", asks(length)), ("t+1", "", TICK), ("t+2", again, TICK), ("t+2", "block 1", acks(0)), ("t+2", "done", acks(1))])
+    for place, packet in enumerate([bytes.fromhex("0006" "7473697a6500" "383800")] * 2 + [data(1, FILE)]):
+        is_sent(made, place, to, packet)
+    made = player.play("no seconds at all", [("t", "block 1", asks((b"timeout", b"0"))), ("t+1", "", TICK), ("t+2", again, TICK), ("t+2", "done", acks(1))])
+    is_sent(made, 0, to, data(1, FILE))
+    player.section("each option is told where it was read, in one order, whatever the order of the request", "RFC 2347: an option that isn't told isn't taken.")
+    texts = {size: b"blksize\x0044\0", length: b"tsize\x0088\0", seconds: b"timeout\x005\0"}
+    for count in (1, 2, 3):
+        for some in itertools.permutations(texts, count):
+            made = player.play("", [("t", "oack", asks(*some)), ("t+4", "" if seconds in some else again, TICK), ("t+5", again if seconds in some else "", TICK),
+                                    ("t+5", "block 1", acks(0))])
+            is_sent(made, 0, to, headed(OPTIONS, b"".join(text for each, text in texts.items() if each in some)))
+            is_sent(made, 2, to, data(1, FILE[:44] if size in some else FILE))
+    made = player.play("among others", [
+        ("t", "oack", asks((b"rollover", b"0"), seconds, (b"windowsize", b"4"), length, (b"multicast", b""), size, (b"x", b"tsize"), (b"0", b"timeout")))])
+    is_sent(made, 0, to, told)
+    player.section("their names are read in any case, and the first of each name counts", "RFC 2347. Where the first can't be read it hides a later one.")
+    for spell in (bytes.upper, bytes.title, bytes.swapcase):
+        made = player.play("", [("t", "oack", asks(*((spell(word), value) for word, value in (seconds, size, length))))])
+        is_sent(made, 0, to, told)
+    twice = [((b"timeout", b"0"), seconds), ((b"TIMEOUT", b"256"), seconds), ((b"timeout", b""), (b"Timeout", b"5")), ((b"tsize", b"-1"), length),
+             ((b"TSIZE", b""), length), ((b"Tsize", b"0" * 21), (b"tSize", b"0"))]
+    player.play("a bad one in front", [("t", "block 1", asks(*some)) for some in twice])
+    made = player.play("a good one in front", [("t", "oack", asks(*some[::-1])) for some in twice])
+    for place in range(len(twice)):
+        is_sent(made, place, to, headed(OPTIONS, texts[seconds if place < 3 else length]))
+    made = player.play("a bad one of each, and then of two", [
+        ("t", "block 1", asks((b"blksize", b"7"), (b"tsize", b"x"), (b"timeout", b"0"), size, length, seconds)),
+        ("t", "oack", asks((b"blksize", b"7"), size, (b"timeout", b"0"), seconds, length))])
+    is_sent(made, 1, to, headed(OPTIONS, texts[length]))
+    player.section("a length is asked for by one to twenty digits, whatever number they are", "RFC 2349 has a client send 0. It is told the length of its own file.")
+    for value in (b"0", b"00", b"88", b"1428", b"18446744073709551615", b"18446744073709551616", b"9" * 20, b"0" * 20):
+        made = player.play("", [("t", "oack", asks((b"tsize", value)))])
+        is_sent(made, 0, to, headed(OPTIONS, texts[length]))
+    bad = [b"", b"0" * 21, b"1" + b"0" * 20, b"-1", b"+0", b" 0", b"0 ", b"0x0", b"1.0", b"\xb2", b"tsize"]
+    player.play("what is no length", [("t", "block 1", asks((b"tsize", value))) for value in bad])
+    made = player.play("of another file", [
+        ("t", "", put_subscriber(7, active=False)), ("t", "oack", asks(length)), ("t", "", put_subscriber(7)), ("t", "again", asks(length)), ("t+2", again, TICK)])
+    for packet in got(made, to):
+        if packet != datagram("tftp", to, headed(OPTIONS, b"tsize\x0076\0")):
+            raise Disagreement(packet)
+    player.play("with an add-on, and in blocks that it fills", [
+        ("t", "", put_add_on(7, 3, BOOST)), ("t", "oack", asks(length, (b"blksize", b"8"))), *(("t", f"block {number}", acks(number - 1)) for number in range(1, 5))])
+    player.section("a time between resends is asked for by one to three digits from 1 to 255", "RFC 2349. A Tick a second before is too soon; it holds for each packet.")
+    for value, number in {b"1": 1, b"01": 1, b"2": 2, b"3": 3, b"007": 7, b"60": 60, b"100": 100, b"254": 254, b"255": 255}.items():
+        early = [(f"t+{number - 1}", "", TICK)] if number > 1 else [("t", "", TICK)]
+        made = player.play("", [("t", "oack", asks((b"timeout", value))), *early, (f"t+{number}", again, TICK), (f"t+{number}", "block 1", acks(0)),
+                                (f"t+{2 * number - 1}", "", TICK), (f"t+{2 * number}", again, TICK), (f"t+{2 * number}", "done", acks(1))])
+        is_sent(made, 0, to, headed(OPTIONS, b"timeout\0%d\0" % number))
+        is_sent(made, 1, to, headed(OPTIONS, b"timeout\0%d\0" % number))
+        is_sent(made, 3, to, data(1, FILE))
+    bad = [b"", b"0", b"00", b"000", b"256", b"300", b"999", b"0001", b"0255", b"1000", b"-1", b"+5", b" 5", b"5 ", b"5.0", b"0x5", b"\xb2", b"timeout"]
+    player.play("what is no such time", [("t", "block 1", asks((b"timeout", value))) for value in bad])
+    player.play("then it is two seconds", [("t", "oack", asks((b"timeout", b"256"), size)), ("t+1", "", TICK), ("t+2", again, TICK)])
+    player.play("each transfer by its own", [
+        ("t", "oack", asks(size, (b"timeout", b"1"))), ("t", "oack", asks(size, seconds, last=1, held=B)), ("t", "block 1", reads(port=PORT + 1)), ("t", "", TICK),
+        ("t+1", again, TICK), ("t+2", "again 2 closed 0", TICK), ("t+3", again, TICK), ("t+4", "again 2 closed 0", TICK), ("t+5", "again 2 closed 0", TICK),
+        ("t+6", "again 1 closed 1", TICK), ("t+7", "", TICK), ("t+8", again, TICK), ("t+10", "again 2 closed 0", TICK)], rows=BOTH)
+    player.play("another request, other seconds", [
+        ("t", "oack", asks(seconds)), ("t+1", "oack", asks((b"timeout", b"3"))), ("t+3", "", TICK), ("t+4", again, TICK), ("t+5", "block 1", reads()), ("t+7", again, TICK)])
+    last = leased("bound", A, 0xEE, MOST)
+    player.play("behind the last moment there is none", [
+        (MOST - 9, "oack", asks((b"timeout", b"255"))), (MOST - 1, "", TICK), (MOST, again, TICK), (MOST, again, TICK)], rows=last)
 
 
 def refusing(player):
@@ -662,5 +750,5 @@ def failing(player):
 def sections(script, rows):
     """Writes the sections, over an office of these rows."""
     player = TransferPlayer(script, rows)
-    for write in (worked, changing, several, asking_again, ticking, reading_packets, refusing, crowding, keeping, isolated, failing):
+    for write in (worked, changing, several, asking_again, ticking, reading_packets, negotiating, refusing, crowding, keeping, isolated, failing):
         write(player)

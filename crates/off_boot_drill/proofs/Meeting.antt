@@ -14,6 +14,7 @@ use Rattle.off_docsis.specs.Cable.{begins_as_modem}
 use Rattle.off_account_rules.specs.Rows.{possible, as_pool, pool_in, lease_in, has_address}
 use Rattle.off_table_laws.proofs.Reading.{row_lease}
 use Rattle.off_defs.specs.declared.results.Outcome.TheVariants.{Did}
+use Rattle.off_packets.specs.Packets.{only_size}
 use Rattle.off_transfer_rules.specs.Transfers.{Transfers}
 use Rattle.off_book.specs.Step.{Step}
 use Rattle.off_book.specs.Run.{Turn, effect_of}
@@ -144,7 +145,7 @@ module _ (n k : ℕ) (few : n ≤ 4000) (more : k < n) where
       (sym (map.get-empty peer_cmp (by_modem (suc k)))) (omega (arith, empty))
 
   reads_so : (turn : Turn) → turn.event ≡ asks_for_file (suc k)
-      → AsksForFile (drill_state n (suc k)) (mac (suc k)) (by_modem (suc k)) (name (suc k)) (record { blksize = Some 44 }) turn
+      → AsksForFile (drill_state n (suc k)) (mac (suc k)) (by_modem (suc k)) (name (suc k)) (only_size 44) turn
   reads_so turn event =
       let rows = drill_rows n (suc k) (suc k) few (omega arith) (omega (arith, more)) in
       record {
@@ -176,6 +177,6 @@ each_meets_all n k discovers requests reads s1 s2 s3 few more all =
       waits = waits_none (mac (suc k)) (address (suc k)) s1;
       request = subst (λ (s : State). Requests s (requested (suc k)) requests (address (suc k))) (sym offered) (requests_so n k few more requests all.request);
       waits_again = waits_none (mac (suc k)) (address (suc k)) s2;
-      read = subst (λ (s : State). AsksForFile s (mac (suc k)) (by_modem (suc k)) (name (suc k)) (record { blksize = Some 44 }) reads) (sym bound) (reads_so n k few more reads all.read);
+      read = subst (λ (s : State). AsksForFile s (mac (suc k)) (by_modem (suc k)) (name (suc k)) (only_size 44) reads) (sym bound) (reads_so n k few more reads all.read);
       lasts = subst (λ (s : State). LeaseLasts (address (suc k)) s reads) (sym bound) (lasts_so n k few more reads all.read);
     }

@@ -5,6 +5,7 @@ use Rattle.off_defs.specs.State.{State}
 use Rattle.off_defs.specs.declared.results.Outcome.TheVariants.{Did}
 use Rattle.off_dhcp.specs.Datagram.{Received}
 use Rattle.off_lease_rules.specs.Asking.{client}
+use Rattle.off_packets.specs.Packets.{only_size}
 use Rattle.off_book.specs.Step.{Step}
 use Rattle.off_book.specs.Run.{Turn, Run, effect_of, events_of}
 use Rattle.off_drill_rules.specs.Rows.{most_modems, mac, address, is_active, drill_tables}
@@ -36,7 +37,7 @@ pub record MeetsAll (n k : ℕ) (discovers requests reads : Turn) (s1 s2 : State
   pub waits_again : WaitsThrough (mac (suc k)) (address (suc k)) s2 []
   pub read :
       AsksForFile s2 (mac (suc k)) (by_modem (suc k)) (name (suc k))
-      (record { blksize = Some block_size }) reads
+      (only_size block_size) reads
   pub lasts : LeaseLasts (address (suc k)) s2 reads
 
 abbrev pub EachMeetsAll : Type 0

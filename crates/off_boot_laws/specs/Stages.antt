@@ -129,7 +129,7 @@ pub record IsGivenFile (s : State) (mac : Mac) (peer : Peer) (name : List ℕ) (
   pub served : FileIsServed s.tables (moment_of s turn) peer name asked turn later
   pub own : served.modem ≡ mac
   pub sent : packets_to peer (sent_in turn)
-      ≡ packet_of_number served.file (size_for asked) (first_number asked) ∷ []
+      ≡ packet_of_number asked served.file (size_for asked) (first_number asked) ∷ []
 
 -- where the address from which it asks is bound to it
 abbrev pub ReadsAreAccepted : Type 0

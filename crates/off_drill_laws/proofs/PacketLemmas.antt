@@ -27,7 +27,7 @@ use Rattle.off_file_rules.specs.File.{with_stamps}
 use Rattle.off_account_rules.specs.Rows.{passes}
 use Rattle.off_account_rules.specs.Good.{is_mac}
 use Rattle.off_table_laws.proofs.Reading.{row_lease}
-use Rattle.off_packets.specs.Packets.{Reads, Acknowledges, is_zero, packet_of}
+use Rattle.off_packets.specs.Packets.{Reads, Acknowledges, is_zero, packet_of, only_size}
 use Rattle.off_transfer_rules.specs.View.{View, view_by, view, holder, agrees, is_of_subscriber, is_own_name, IsBuiltBy}
 use Rattle.off_transfer_rules.specs.Transfers.{Transfers, has_no_room}
 use Rattle.off_transfer_rules.specs.Steps.{Way, Denies, Accepts, Finishes, GoesOn, BreaksOff, Ignores, file_not_found, way, way_of, way_of_request, way_anew, way_for_holder, way_of_acknowledgement, has_file, way_of_last, Given, gives, GivesBy, TftpStep, last_to}
@@ -155,7 +155,7 @@ length_name secret m ip six =
       length-take 8 (name_key secret m ip),
     )
 
-pub request_says : (i : ℕ) → packet_of (read_request i) ≡ Ok (Reads (name i) (record { blksize = Some 44 }))
+pub request_says : (i : ℕ) → packet_of (read_request i) ≡ Ok (Reads (name i) (only_size 44))
 unfolding read_request number_read
 request_says i =
     let short : length (name i ++ behind_name) ≤ 1498 = omega (arith, length-append (name i) behind_name, length_name site.secret (mac i) (address i) refl) in
@@ -172,7 +172,7 @@ acknowledgement_says number few = ap (λ (n : ℕ). Ok (Acknowledges n)) (from_b
 
 -- ---- a read request is accepted, and its file built
 
-read_way : (i : ℕ) → way (seen i) (moment i) map.empty (by_modem i) (read_request i) ≡ Accepts (mac i) i (name i) (record { blksize = Some 44 })
+read_way : (i : ℕ) → way (seen i) (moment i) map.empty (by_modem i) (read_request i) ≡ Accepts (mac i) i (name i) (only_size 44)
 unfolding way
 read_way i =
     let v = seen i in
@@ -180,10 +180,10 @@ read_way i =
     let ip = address i in
     let bytes = read_request i in
     ap (way_of v now ip (has_no_room map.empty) bytes (map.get map.empty (by_modem i))) (request_says i)
-    ∙ ap (way_of_request v now ip (has_no_room map.empty) bytes (name i) (record { blksize = Some 44 })) (map.get-empty peer_cmp (by_modem i))
-    ∙ ap (λ (full : Bool). way_anew v now ip full (name i) (record { blksize = Some 44 })) (ap (nat_le 256) (map.len-empty peer_cmp Transfer))
-    ∙ ap (way_for_holder v ip false (name i) (record { blksize = Some 44 })) (holder_is i)
-    ∙ ap (λ b. if not b then Denies file_not_found else Accepts (mac i) i (name i) (record { blksize = Some 44 })) (file_there i)
+    ∙ ap (way_of_request v now ip (has_no_room map.empty) bytes (name i) (only_size 44)) (map.get-empty peer_cmp (by_modem i))
+    ∙ ap (λ (full : Bool). way_anew v now ip full (name i) (only_size 44)) (ap (nat_le 256) (map.len-empty peer_cmp Transfer))
+    ∙ ap (way_for_holder v ip false (name i) (only_size 44)) (holder_is i)
+    ∙ ap (λ b. if not b then Denies file_not_found else Accepts (mac i) i (name i) (only_size 44)) (file_there i)
 
 built_size : (i : ℕ) (file : List ℕ) → IsBuiltBy (seen i) (moment i) (address i) file → length file ≡ file_size (is_active i)
 built_size i file b =
@@ -204,7 +204,7 @@ pub record Read (i : ℕ) (given : Given) : Type 0 where
   pub size : length file ≡ file_size (is_active i)
   pub is : given ≡ gives (transfers_with i (moving i file 0 false)) (last_of i (moving i file 0 false)) word.Oack
 
-read_given : (i : ℕ) (given : Given) → GivesBy (seen i) (moment i) map.empty (by_modem i) (read_request i) (Accepts (mac i) i (name i) (record { blksize = Some 44 })) given → Read i given
+read_given : (i : ℕ) (given : Given) → GivesBy (seen i) (moment i) map.empty (by_modem i) (read_request i) (Accepts (mac i) i (name i) (only_size 44)) given → Read i given
 read_given i given g = record { file = g.0; size = built_size i g.0 g.1.0; is = g.1.1 }
 
 pub read_is : (n i : ℕ) → n ≤ 4000 → 1 ≤ i → i ≤ n → (given : Given) → TftpStep (drill_tables n i) (moment i) map.empty (by_modem i) (read_request i) given → Read i given

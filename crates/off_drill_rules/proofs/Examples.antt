@@ -6,7 +6,7 @@ use Rattle.hex.proofs.OnLiterals.{hex_on_literals}
 use Rattle.off_base.specs.Number.{number_read}
 use Rattle.off_mic.specs.Hmac.{hmac}
 use Rattle.off_file_rules.specs.Name.{name_of}
-use Rattle.off_packets.specs.Packets.{Reads, packet_of}
+use Rattle.off_packets.specs.Packets.{Reads, packet_of, only_size}
 use Rattle.off_drill_rules.specs.Rows.{mac, is_active}
 use Rattle.off_drill_rules.specs.Messages.{discover, request, name, read_request, acknowledgement}
 use Rattle.off_drill_rules.specs.Events.{asks_for_offer, asks_for_lease, asks_for_file, acknowledges, modem_events, drill_events}
@@ -35,7 +35,7 @@ first_name : name 1 ≡ codes "020000000001-5d5ce7f911498236.cm"
 unfolding name_of hmac block_words rounds compress hash_after digest_bytes md5 hex_on_literals
 first_name = refl
 
-asks : packet_of (read_request 1) ≡ Ok (Reads (codes "020000000001-5d5ce7f911498236.cm") (record { blksize = Some 44 }))
+asks : packet_of (read_request 1) ≡ Ok (Reads (codes "020000000001-5d5ce7f911498236.cm") (only_size 44))
 unfolding packet_of number_read read_request name_of hmac block_words rounds compress hash_after digest_bytes md5 hex_on_literals
 asks = refl
 

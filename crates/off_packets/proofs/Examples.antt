@@ -1,9 +1,9 @@
 -- Worked examples, evaluated: the definitions say what was meant. A modem asks for its file in
 -- blocks of 44 bytes, by a request of 52 bytes.
-use Rattle.std.proofs.Common.{◌≡◌, ℕ, List, [], ◌∷◌, ◌++◌, Some, None, Ok, Err, refl, codes}
+use Rattle.std.proofs.Common.{◌≡◌, ℕ, List, [], ◌∷◌, ◌++◌, true, false, Some, None, Ok, Err, refl, codes}
 use Rattle.std.specs.Fmt.{digits}
 use Rattle.off_base.specs.Number.{number_read}
-use Rattle.off_packets.specs.Packets.{Reads, Writes, Acknowledges, GivesUp, IsOther, packet_of}
+use Rattle.off_packets.specs.Packets.{Reads, Writes, Acknowledges, GivesUp, IsOther, packet_of, no_options, only_size, options_asked}
 use Rattle.off_packets.specs.Replies.{oack_packet, error_packet}
 use Rattle.off_packets.specs.declared.packets.Options.{Options}
 use Rattle.off_packets.specs.declared.faults.PacketFault.TheVariants as fault
@@ -17,13 +17,7 @@ plain = 0 ∷ 1 ∷ (file_name ++ 0 ∷ (codes "octet" ++ 0 ∷ []))
 abbrev asking : List ℕ → List ℕ
 asking size = plain ++ codes "blksize" ++ 0 ∷ (size ++ 0 ∷ [])
 
-abbrev no_options : Options
-no_options = record { blksize = None }
-
-abbrev in_blocks : ℕ → Options
-in_blocks size = record { blksize = Some size }
-
-request : packet_of (asking (codes "44")) ≡ Ok (Reads file_name (in_blocks 44))
+request : packet_of (asking (codes "44")) ≡ Ok (Reads file_name (only_size 44))
 unfolding packet_of number_read
 request = refl
 
@@ -50,7 +44,7 @@ too_small : packet_of (asking (codes "7") ++ codes "BLKSIZE" ++ 0 ∷ (codes "44
 unfolding packet_of number_read
 too_small = refl
 
-largest : packet_of (asking (codes "65464")) ≡ Ok (Reads file_name (in_blocks 65464))
+largest : packet_of (asking (codes "65464")) ≡ Ok (Reads file_name (only_size 65464))
 unfolding packet_of number_read
 largest = refl
 
@@ -78,9 +72,57 @@ one_byte : packet_of (0 ∷ []) ≡ Err fault.Form
 unfolding packet_of
 one_byte = refl
 
-oack : oack_packet 44 ≡ 0 ∷ 6 ∷ 98 ∷ 108 ∷ 107 ∷ 115 ∷ 105 ∷ 122 ∷ 101 ∷ 0 ∷ 52 ∷ 52 ∷ 0 ∷ []
+-- ---- the file's length and the time between resends, in any order, in any case
+
+abbrev all_three : Options
+all_three = record { blksize = Some 44; tsize = true; timeout = Some 5 }
+
+asks_all : packet_of (asking (codes "44") ++ codes "tsize" ++ 0 ∷ (codes "0" ++ 0 ∷ (codes "timeout" ++ 0 ∷ (codes "5" ++ 0 ∷ [])))) ≡ Ok (Reads file_name all_three)
+unfolding packet_of number_read
+asks_all = refl
+
+in_any_order : options_asked (codes "TimeOut" ∷ codes "005" ∷ codes "rollover" ∷ codes "0" ∷ codes "TSIZE" ∷ codes "0" ∷ codes "BlkSize" ∷ codes "44" ∷ []) ≡ all_three
+unfolding number_read
+in_any_order = refl
+
+-- a value that can't be read hides a later one of the same name
+bad_first : options_asked (codes "timeout" ∷ codes "0" ∷ codes "Timeout" ∷ codes "5" ∷ codes "tsize" ∷ codes "-1" ∷ codes "tsize" ∷ codes "0" ∷ []) ≡ no_options
+unfolding number_read
+bad_first = refl
+
+-- no more than 255 seconds, in no more than three digits
+most_seconds : options_asked (codes "timeout" ∷ codes "255" ∷ []) ≡ record no_options { timeout = Some 255 }
+unfolding number_read
+most_seconds = refl
+
+too_long : options_asked (codes "timeout" ∷ codes "256" ∷ []) ≡ no_options
+unfolding number_read
+too_long = refl
+
+four_digits : options_asked (codes "timeout" ∷ codes "0005" ∷ []) ≡ no_options
+unfolding number_read
+four_digits = refl
+
+-- a length of 20 digits, over what 64 bits hold, and one of 21
+twenty_digits : options_asked (codes "tsize" ∷ codes "99999999999999999999" ∷ []) ≡ record no_options { tsize = true }
+twenty_digits = refl
+
+more_digits : options_asked (codes "tsize" ∷ codes "000000000000000000000" ∷ []) ≡ no_options
+more_digits = refl
+
+oack : oack_packet (only_size 44) 44 88 ≡ 0 ∷ 6 ∷ 98 ∷ 108 ∷ 107 ∷ 115 ∷ 105 ∷ 122 ∷ 101 ∷ 0 ∷ 52 ∷ 52 ∷ 0 ∷ []
 unfolding digits
 oack = refl
+
+oack_of_all : oack_packet all_three 44 88
+    ≡ 0 ∷ 6 ∷ 98 ∷ 108 ∷ 107 ∷ 115 ∷ 105 ∷ 122 ∷ 101 ∷ 0 ∷ 52 ∷ 52 ∷ 0
+    ∷ 116 ∷ 115 ∷ 105 ∷ 122 ∷ 101 ∷ 0 ∷ 56 ∷ 56 ∷ 0 ∷ 116 ∷ 105 ∷ 109 ∷ 101 ∷ 111 ∷ 117 ∷ 116 ∷ 0 ∷ 53 ∷ 0 ∷ []
+unfolding digits
+oack_of_all = refl
+
+oack_of_length : oack_packet (record no_options { tsize = true }) 512 88 ≡ 0 ∷ 6 ∷ 116 ∷ 115 ∷ 105 ∷ 122 ∷ 101 ∷ 0 ∷ 56 ∷ 56 ∷ 0 ∷ []
+unfolding digits
+oack_of_length = refl
 
 error : error_packet 2 (codes "no longer agreed") ≡ 0 ∷ 5 ∷ 0 ∷ 2 ∷ (codes "no longer agreed" ++ 0 ∷ [])
 error = refl

@@ -1,6 +1,8 @@
 -- Texts that are ended by zero bytes, one after another; and the two bytes in front of a packet.
-use Rattle.std.proofs.Common.{◌≡◌, ℕ, suc, ◌+◌, ◌-◌, ◌<◌, ◌≤◌, cond, not, ltb, true, false, List, [], ◌∷◌, length, take, drop, Option, Some, None, Result, Ok, Err, MatchResult, refl, sym, ap, ◌∙◌, subst, arith, length-drop}
-use Rattle.std.specs.List.{slice_split, onto_first, position, position_or_len, before_first, after_first, count_by}
+use Rattle.std.proofs.Common.{◌≡◌, ℕ, suc, ◌+◌, ◌-◌, ◌<◌, ◌≤◌, cond, not, ◌&&◌, ltb, true, false, List, [], ◌∷◌, length, take, drop, Option, Some, None, Result, Ok, Err, MatchResult, refl, sym, ap, ◌∙◌, subst, arith, length-drop}
+use Rattle.std.specs.List.{slice_split, onto_first, position, position_or_len, before_first, after_first, count_by, list_all}
+use Rattle.std.specs.Int.{is_in_range}
+use Rattle.std.specs.Str.{all_ascii_digits}
 use Rattle.std.proofs.lemmas.Bool.{ltb-true, ltb-false, le-ltb, lt-ltb}
 use Rattle.std.proofs.lemmas.List.{take_all}
 use Rattle.std.proofs.lemmas.List.Splits.{slice_split_first, length-slice_split}
@@ -64,6 +66,12 @@ text_is_cut bytes place is = cut_first bytes place (found_by (position_or_len is
 
 pub no_text : (bytes : List ℕ) → None ≡ position is_zero bytes → ended_texts bytes ≡ []
 no_text bytes is = ap all_but_last (alone bytes (missed_by (position_or_len is_zero bytes) (length bytes) is))
+
+-- ---- digits, one by one
+
+pub digits_are : (text : List ℕ) → list_all (is_in_range 48 57) text ≡ all_ascii_digits text
+digits_are [] = refl
+digits_are (c ∷ text) = ap (λ b. is_in_range 48 57 c && b) (digits_are text)
 
 -- ---- packets
 

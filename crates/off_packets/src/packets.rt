@@ -22,6 +22,10 @@ pub enum Packet<'a> {
 pub struct Options {
     /// The size of blocks that is asked for (RFC 2348).
     pub blksize: Option<u16>,
+    /// Whether the file's length is asked for (RFC 2349).
+    pub tsize: bool,
+    /// The seconds between resends that are asked for (RFC 2349).
+    pub timeout: Option<u8>,
 }
 
 impl Options {
@@ -29,6 +33,6 @@ impl Options {
     pub fn has_any(&self) -> bool
         ensures { result ≡ has_option self.now }
     {
-        self.blksize.is_some()
+        self.blksize.is_some() || self.tsize || self.timeout.is_some()
     }
 }

@@ -1,11 +1,14 @@
 //! Packets as clients send them (RFC 1350, section 5; options by RFC 2347).
 
-ghost use Rattle.std.specs.Prelude.{◌≡◌, ◌<◌, ◌≤◌, [], ◌∷◌, length, Ok, Err, MatchResult};
-ghost use Rattle.std.specs.Prelude.{MatchOption, IfSome, IfOk};
-ghost use Rattle.std.specs.List.{position};
+ghost use Rattle.std.specs.Prelude.{◌≡◌, ◌<◌, ◌≤◌, [], ◌∷◌, length, None, Some, Ok, Err};
+ghost use Rattle.std.specs.Prelude.{MatchResult, MatchOption, IfSome, IfOk};
+ghost use Rattle.std.specs.List.{position, list_all};
+ghost use Rattle.std.specs.Int.{is_in_range};
+ghost use Rattle.off_base.specs.Number.{is_number_text};
 ghost use Rattle.off_packets.specs.Packets.{packet_of, request_of, acknowledgement_of};
 ghost use Rattle.off_packets.specs.Packets.{packet_by, meant_by, ended_texts, is_zero};
-ghost use Rattle.off_packets.specs.Packets.{size_asked, size_read, options_asked};
+ghost use Rattle.off_packets.specs.Packets.{value_of, size_asked, size_read, options_asked};
+ghost use Rattle.off_packets.specs.Packets.{length_asked, seconds_asked, seconds_read};
 ghost use Rattle.off_packets.specs.Pieces.{IsNumbered, AsksEnough};
 
 use crate::faults::PacketFault;
@@ -19,6 +22,11 @@ const MOST: usize = 1_500;
 const LEAST_SIZE: u64 = 8;
 
 const MOST_SIZE: u64 = 65_464;
+
+// The seconds between resends that may be asked for (RFC 2349).
+const LEAST_SECONDS: u64 = 1;
+
+const MOST_SECONDS: u64 = 255;
 
 /// What a datagram says, or why it's no packet. It takes no memory.
 pub fn read_packet(bytes: &[u8]) -> Result<Packet<'_>, PacketFault>
@@ -115,31 +123,64 @@ fn place_of_zero(bytes: &[u8]) -> Option<usize>
     bytes.iter().position(|byte| *byte == 0)
 }
 
-// What the options ask for.
+// What the options ask for, each read by itself.
 fn options_asked(options: &[u8]) -> Options
     ensures exact { result ≡ options_asked (ended_texts options.now) }
     ensures least { IfSome result.blksize (λ size. 8 ≤ size) }
 {
     Options {
         blksize: size_asked(options),
+        tsize: length_asked(options),
+        timeout: seconds_asked(options),
     }
 }
 
-// The size of blocks that the options ask for: that of the first option of this name.
+// The size of blocks that the options ask for.
 fn size_asked(options: &[u8]) -> Option<u16>
     ensures exact { result ≡ size_asked (ended_texts options.now) }
     ensures least { IfSome result (λ size. 8 ≤ size) }
 {
+    match option_value(options, b"blksize") {
+        Some(value) => size_read(value),
+        None => None,
+    }
+}
+
+// Whether they ask for the file's length.
+fn length_asked(options: &[u8]) -> bool
+    ensures { result ≡ length_asked (ended_texts options.now) }
+{
+    match option_value(options, b"tsize") {
+        Some(value) => is_number_text(value),
+        None => false,
+    }
+}
+
+// The seconds between resends that they ask for.
+fn seconds_asked(options: &[u8]) -> Option<u8>
+    ensures { result ≡ seconds_asked (ended_texts options.now) }
+{
+    match option_value(options, b"timeout") {
+        Some(value) => seconds_read(value),
+        None => None,
+    }
+}
+
+// The value of the first option of a name, whatever it is.
+fn option_value<'a>(options: &'a [u8], name: &[u8]) -> Option<&'a [u8]>
+    ensures { MatchOption result (value_of name.now (ended_texts options.now) ≡ None)
+        (λ value. value_of name.now (ended_texts options.now) ≡ Some value.now) }
+{
     let mut left = options;
     'options: loop {
-        let Some((name, behind)) = cut_text(left) else {
+        let Some((named, behind)) = cut_text(left) else {
             return None;
         };
         let Some((value, rest)) = cut_text(behind) else {
             return None;
         };
-        if name.eq_ignore_ascii_case(b"blksize") {
-            return size_read(value);
+        if named.eq_ignore_ascii_case(name) {
+            return Some(value);
         }
         left = rest;
     }
@@ -160,4 +201,40 @@ fn size_read(value: &[u8]) -> Option<u16>
         return None;
     }
     Some(size as u16)
+}
+
+// A time between resends, in 1 to 3 digits.
+fn seconds_read(value: &[u8]) -> Option<u8>
+    ensures { result ≡ seconds_read value.now }
+{
+    if value.len() > 3 {
+        return None;
+    }
+    let Some(seconds) = read_number(value, MOST_SECONDS) else {
+        return None;
+    };
+    if seconds < LEAST_SECONDS {
+        return None;
+    }
+    Some(seconds as u8)
+}
+
+// Whether a text is 1 to 20 decimal digits, whatever number they spell.
+#[tactic(auto, using(crate::proofs::PacketLemmas::digits_are))]
+fn is_number_text(text: &[u8]) -> bool
+    ensures { result ≡ is_number_text text.now }
+{
+    !text.is_empty() && text.len() <= 20 && are_digits(text)
+}
+
+fn are_digits(text: &[u8]) -> bool
+    ensures { result ≡ list_all (is_in_range 48 57) text.now }
+{
+    text.iter().all(is_digit)
+}
+
+fn is_digit(byte: &u8) -> bool
+    ensures { result ≡ is_in_range 48 57 byte.now }
+{
+    byte.is_ascii_digit()
 }

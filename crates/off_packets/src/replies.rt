@@ -1,8 +1,10 @@
 //! Packets that the office sends (RFC 1350, section 5; RFC 2347, section 2).
 
-ghost use Rattle.std.specs.Prelude.{◌≡◌, ◌++◌, IfOk};
+ghost use Rattle.std.specs.Prelude.{◌≡◌, ◌++◌, IfOk, OnOk};
 ghost use Rattle.off_packets.specs.Replies.{data_packet, oack_packet, error_packet};
+ghost use Rattle.off_packets.specs.Replies.{told, size_told, length_told, seconds_told};
 
+use crate::packets::Options;
 use itoa::Buffer;
 use off_base::{Bytes, NoMemory};
 use std::alloc::Global;
@@ -28,17 +30,59 @@ pub fn data_packet(
     Ok(packet)
 }
 
-/// The size of blocks that was taken.
-pub fn oack_packet(alloc: Global, size: u16) -> Result<Bytes, NoMemory>
-    ensures { IfOk result (λ packet. packet ≡ oack_packet size) }
+/// The options that were read, each with what it's told: the size of blocks that was taken, the
+/// file's length, and the seconds between resends.
+pub fn oack_packet(
+    alloc: Global,
+    options: Options,
+    size: u16,
+    len: usize,
+) -> Result<Bytes, NoMemory>
+    ensures { IfOk result (λ packet. packet ≡ oack_packet options size len) }
 {
     let mut packet = Bytes::new(alloc);
     packet.push_all(&[0, 6])?;
-    packet.push_all(b"blksize")?;
-    packet.push_all(&[0])?;
-    packet.push_all(Buffer::new().format(size).as_bytes())?;
-    packet.push_all(&[0])?;
+    tell_size(&mut packet, options, size)?;
+    tell_length(&mut packet, options, len)?;
+    tell_seconds(&mut packet, options)?;
     Ok(packet)
+}
+
+fn tell_size(packet: &mut Bytes, options: Options, size: u16) -> Result<(), NoMemory>
+    ensures { OnOk result (packet.new ≡ packet.old ++ size_told options.blksize size) }
+{
+    match options.blksize {
+        Some(_) => tell(packet, b"blksize", u64::from(size)),
+        None => Ok(()),
+    }
+}
+
+fn tell_length(packet: &mut Bytes, options: Options, len: usize) -> Result<(), NoMemory>
+    ensures { OnOk result (packet.new ≡ packet.old ++ length_told options.tsize len) }
+{
+    if options.tsize {
+        return tell(packet, b"tsize", len as u64);
+    }
+    Ok(())
+}
+
+fn tell_seconds(packet: &mut Bytes, options: Options) -> Result<(), NoMemory>
+    ensures { OnOk result (packet.new ≡ packet.old ++ seconds_told options.timeout) }
+{
+    match options.timeout {
+        Some(seconds) => tell(packet, b"timeout", u64::from(seconds)),
+        None => Ok(()),
+    }
+}
+
+// An option's name and a number, each ended by a zero byte.
+fn tell(packet: &mut Bytes, name: &[u8], number: u64) -> Result<(), NoMemory>
+    ensures { OnOk result (packet.new ≡ packet.old ++ told name.now number) }
+{
+    packet.push_all(name)?;
+    packet.push_all(&[0])?;
+    packet.push_all(Buffer::new().format(number).as_bytes())?;
+    packet.push_all(&[0])
 }
 
 /// A refusal: a code, and a text for people.

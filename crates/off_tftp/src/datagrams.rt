@@ -3,6 +3,7 @@
 ghost use Rattle.std.specs.Prelude.{◌≡◌, ◌≤◌, List, ℕ, Ok, false, is_ok, IfOk, IfErr, IfSome};
 ghost use Rattle.std.specs.Prelude.{OnOk, OnErr, MatchResult};
 ghost use Rattle.std.specs.FinMap as map;
+ghost use Rattle.off_packets.specs.Packets.{Reads, packet_of};
 ghost use Rattle.off_transfer_rules.specs.Steps.{way_of_request, way_of_last};
 ghost use Rattle.off_transfer_rules.specs.Steps.{way_of_acknowledgement};
 ghost use Rattle.off_transfer_rules.specs.Transfers.{has_no_room, is_at_last};
@@ -134,7 +135,9 @@ impl Transfers {
         kept: &Kept,
         request: &Request<'_>,
     ) -> Result<Decision, KeepErr>
-        requires { IfSome request.now.options.blksize (λ size. 8 ≤ size) }
+        requires least { IfSome request.now.options.blksize (λ size. 8 ≤ size) }
+        requires read { packet_of request.now.bytes.now
+            ≡ Ok (Reads request.now.name.now request.now.options) }
         ensures told { Looks result (K.seen keeper.old) (K.seen keeper.new)
             (λ d t. AllRight t kept.now → Serves (view t request.now.from.ip)
             request.now.at.0 self.now request.now.from request.now.bytes.now

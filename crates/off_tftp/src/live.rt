@@ -1,10 +1,12 @@
-ghost use Rattle.std.specs.Prelude.{◌≡◌, ◌≤◌, suc, true, false, length, IfOk, IfSome};
+ghost use Rattle.std.specs.Prelude.{◌≡◌, ◌≤◌, suc, true, false, length, Ok, IfOk, IfSome};
 ghost use Rattle.off_file_rules.specs.Name.{name_of};
+ghost use Rattle.off_packets.specs.Packets.{Reads, packet_of};
 ghost use Rattle.off_transfer_rules.specs.Steps.{is_repeated};
 ghost use Rattle.off_transfer_rules.specs.View.{is_own_name};
 ghost use Rattle.off_transfer_rules.specs.Transfers.{packet_of_number, last_packet, is_at_last};
 ghost use Rattle.off_transfer_rules.specs.Transfers.{gone_on, asked_again, sent_again};
-ghost use Rattle.off_transfer_rules.specs.Transfers.{first_number, size_for};
+ghost use Rattle.off_transfer_rules.specs.Transfers.{first_number, size_for, seconds_for};
+ghost use Rattle.off_transfer_rules.specs.Transfers.{options_of, seconds_of};
 ghost use Rattle.off_transfer_rules.specs.Ticks.{is_due, has_resend};
 ghost use Rattle.off_tftp.specs.Granted.{begun_by};
 
@@ -23,8 +25,9 @@ const MOST_SIZE: u16 = 1_428;
 
 const USUAL_SIZE: u16 = 512;
 
-// A packet that wasn't answered is sent again behind so many seconds, and so often.
-const PATIENCE: u64 = 2;
+// A packet that wasn't answered is sent again behind so many seconds, where no others are asked for,
+// and so often.
+const USUAL_SECONDS: u64 = 2;
 
 const MOST_RESENDS: u8 = 5;
 
@@ -45,6 +48,7 @@ struct Held {
     file: File,
     size: u16,
     request: Bytes,
+    options: Options,
     sent: u16,
     is_acknowledged: bool,
     last_send: Moment,
@@ -54,6 +58,7 @@ struct Held {
 impl Model for Live {
     ghost use Rattle.std.specs.Prelude.{◌≡◌, ◌≤◌, length};
     ghost use Rattle.off_file_rules.specs.Name.{name_of};
+    ghost use Rattle.off_packets.specs.Packets.{packet_of, options_by};
     ghost use Rattle.off_defs.specs.State.{Transfer};
     ghost use Rattle.off_defs.specs.Codes.{transfer_code};
 
@@ -76,6 +81,7 @@ impl Model for Live {
 
     ghost invariant = { λ l. (8 ≤ l.held.value.size) × (l.held.value.size ≤ 1428)
         × (length l.held.value.file ≤ 6200)
+        × (options_by (packet_of l.held.value.request) ≡ l.held.value.options)
         × (l.held.value.name
         ≡ name_of l.held.value.named.secret l.held.value.modem l.held.value.named.ip) };
 }
@@ -88,6 +94,8 @@ impl Live {
         grant: Grant,
     ) -> Result<Live, NoMemory>
         requires least { IfSome request.now.options.blksize (λ size. 8 ≤ size) }
+        requires read { packet_of request.now.bytes.now
+            ≡ Ok (Reads request.now.name.now request.now.options) }
         requires few { length grant.file ≤ 6200 }
         requires right { request.now.name.now
             ≡ name_of grant.named.secret grant.modem grant.named.ip }
@@ -105,6 +113,7 @@ impl Live {
             file: grant.file,
             size: size_for(request.options),
             request: asked,
+            options: request.options,
             sent: first_number(request.options),
             is_acknowledged: false,
             last_send: request.at,
@@ -176,7 +185,8 @@ impl Live {
     pub(crate) fn next_packet(&self, alloc: Global) -> Result<Bytes, NoMemory>
         requires { is_at_last self.now ≡ false }
         ensures { IfOk result
-            (λ packet. packet ≡ packet_of_number self.now.file self.now.size (suc self.now.sent)) }
+            (λ packet. packet ≡ packet_of_number (options_of self.now) self.now.file self.now.size
+            (suc self.now.sent)) }
     {
         self.packet(alloc, self.next_number())
     }
@@ -191,10 +201,11 @@ impl Live {
 
     fn packet(&self, alloc: Global, number: u16) -> Result<Bytes, NoMemory>
         ensures { IfOk result
-            (λ packet. packet ≡ packet_of_number self.now.file self.now.size number) }
+            (λ packet. packet ≡ packet_of_number (options_of self.now) self.now.file self.now.size
+            number) }
     {
         if number == 0 {
-            return oack_packet(alloc, self.held.size);
+            return oack_packet(alloc, self.options(), self.held.size, self.held.file.len());
         }
         let block = self.held.file.block(self.held.size, number);
         data_packet(alloc, number, self.held.size, block.first, block.rest)
@@ -231,7 +242,21 @@ impl Live {
     pub(crate) fn is_due(&self, now: Moment) -> bool
         ensures { result ≡ is_due now.0 self.now }
     {
-        self.held.last_send.0.saturating_add(PATIENCE) <= now.0
+        self.held.last_send.0.saturating_add(self.seconds()) <= now.0
+    }
+
+    // Behind how many seconds its packets are sent again.
+    fn seconds(&self) -> u64
+        ensures { result ≡ seconds_of self.now }
+    {
+        seconds_for(self.options())
+    }
+
+    // What its request asked for.
+    fn options(&self) -> Options
+        ensures { result ≡ options_of self.now }
+    {
+        self.held.options
     }
 
     /// Whether it may be sent again.
@@ -252,6 +277,16 @@ fn size_for(options: Options) -> u16
     match options.blksize {
         Some(size) => size.min(MOST_SIZE),
         None => USUAL_SIZE,
+    }
+}
+
+// The seconds that are asked for, or two.
+fn seconds_for(options: Options) -> u64
+    ensures { result ≡ seconds_for options }
+{
+    match options.timeout {
+        Some(seconds) => u64::from(seconds),
+        None => USUAL_SECONDS,
     }
 }
 

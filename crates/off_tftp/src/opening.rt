@@ -1,12 +1,13 @@
 //! A read request that didn't come before.
 
 ghost use Rattle.std.specs.Prelude.{◌≡◌, ◌≤◌, List, Option, Some, length, option_map};
-ghost use Rattle.std.specs.Prelude.{true, false, is_some, IfOk, IfSome};
+ghost use Rattle.std.specs.Prelude.{true, false, is_some, Ok, IfOk, IfSome};
 ghost use Rattle.std.specs.FinMap as map;
 ghost use Rattle.off_base.specs.Tree.{Tree, spelling};
 ghost use Rattle.off_defs.specs.declared.tables.Modem.{Modem as ModemSeen};
 ghost use Rattle.off_account_rules.specs.Rows.{passes};
 ghost use Rattle.off_file_rules.specs.Name.{name_of};
+ghost use Rattle.off_packets.specs.Packets.{Reads, packet_of};
 ghost use Rattle.off_transfer_rules.specs.View.{View, is_own_name};
 ghost use Rattle.off_transfer_rules.specs.Steps.{way_anew, way_for_modem};
 ghost use Rattle.off_transfer_rules.specs.Transfers.{first_word};
@@ -42,6 +43,8 @@ impl Transfers {
         request: &Request<'_>,
     ) -> Result<Decision, NoMemory>
         requires least { IfSome request.now.options.blksize (λ size. 8 ≤ size) }
+        requires read { packet_of request.now.bytes.now
+            ≡ Ok (Reads request.now.name.now request.now.options) }
         requires named { IsNamed request.now.at.0 request.now.from.ip request.now.name.now
             seen.now }
         ensures done { (profile : Option (List Tree))
@@ -78,6 +81,8 @@ impl Transfers {
         subscriber: u32,
     ) -> Result<Decision, NoMemory>
         requires least { IfSome request.now.options.blksize (λ size. 8 ≤ size) }
+        requires read { packet_of request.now.bytes.now
+            ≡ Ok (Reads request.now.name.now request.now.options) }
         requires named { HasName request.now.from.ip request.now.name.now mac seen.now }
         ensures done { (modem : ModemSeen) (profile : Option (List Tree))
             → modem.subscriber ≡ subscriber → seen.now.modem ≡ Some modem
@@ -121,6 +126,8 @@ fn start(
     grant: Option<Grant>,
 ) -> Result<Decision, NoMemory>
     requires least { IfSome request.now.options.blksize (λ size. 8 ≤ size) }
+    requires read { packet_of request.now.bytes.now
+        ≡ Ok (Reads request.now.name.now request.now.options) }
     requires few { IfSome grant (λ grant. length grant.file ≤ 6200) }
     requires right { IfSome grant (λ grant. request.now.name.now
         ≡ name_of grant.named.secret grant.modem grant.named.ip) }

@@ -17,14 +17,14 @@ use Rattle.off_transfer_rules.specs.Steps.{Way, Denies, Repeats, Accepts, Ignore
 use Rattle.off_transfer_rules.proofs.PeerLemmas.{inserted, removed}
 use Rattle.off_transfer_laws.specs.Laws.{Ticks, waits, goes_again, closes}
 use Rattle.off_transfer_laws.specs.Sound.{BeginsWithin, IsSound, AllSound, StepKeepsSound, TickKeepsSound, NumbersFit}
-use Rattle.off_transfer_laws.proofs.TextLemmas.{Fits, IsSize}
+use Rattle.off_transfer_laws.proofs.TextLemmas.{Fits, IsWithin}
 use Rattle.off_transfer_laws.proofs.ViewLemmas.{held_of, live_in, owner_held, file_of_built}
 use Rattle.off_transfer_laws.proofs.WayLemmas.{Accepting, Standing, standing_way}
 use Rattle.off_transfer_laws.proofs.TickLaws.{tick_changes}
 
 -- ---- one transfer
 
-size_by : (size : Option ℕ) → IsSize size → 8 ≤ min (unwrap_or size 512) 1428
+size_by : (size : Option ℕ) → IsWithin 8 65464 size → 8 ≤ min (unwrap_or size 512) 1428
 size_by None fits = lit≤ tt
 size_by (Some size) fits = omega (arith, fits.0)
 
@@ -43,7 +43,7 @@ pub begun_sound : (now : ℕ) (request : List ℕ) (mac : Mac) (owner : ℕ) (na
     → IsSound (begun now request mac owner name asked file)
 begun_sound now request mac owner name asked file short fits = record {
   short = short;
-  least_size = size_by asked.blksize fits;
+  least_size = size_by asked.blksize fits.size;
   most_size = size_most asked;
   within = first_by file (size_for asked) (has_option asked);
   few_resends = lit≤ tt;

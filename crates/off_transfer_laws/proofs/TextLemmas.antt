@@ -1,14 +1,14 @@
--- The texts of a request are those that spell its bytes; and the size that is read of them.
+-- The texts of a request are those that spell its bytes; and the size and the seconds that are read of them.
 use Rattle.std.proofs.Common.{◌≡◌, ℕ, suc, ◌-◌, ◌≤◌, Bool, true, false, cond, ◌&&◌, nat_le, nat_lt, List, [], ◌∷◌, ◌++◌, length, take, append_assoc, Option, Some, None, option_and_then, Result, Ok, Err, if◌then◌else◌, ◌==◌, codes, refl, sym, ap, subst, ◌∙◌, arith}
 use Rattle.std.proofs.lemmas.Bool.{or_parts, or_from, eqb-true, leb-true, le-ltb, and_parts}
-use Rattle.std.specs.List.{flat_map, slice_split, onto_first, AllByRecursion, find}
+use Rattle.std.specs.List.{flat_map, slice_split, onto_first, AllByRecursion}
 use Rattle.std.specs.Str.{str_eq_ignore_ascii_case}
 use Rattle.off_packets.specs.declared.packets.Options.{Options}
 use Rattle.off_base.specs.Number.{number_of, is_number_text, number_read}
-use Rattle.off_packets.specs.Packets.{Meant, Reads, Writes, GivesUp, IsOther, is_zero, all_but_last, ended_texts, option_pairs, is_block_size, size_read, options_asked, request_of, two_byte_number, acknowledgement_of, short_packet_of, packet_of}
+use Rattle.off_packets.specs.Packets.{Meant, Reads, Writes, GivesUp, IsOther, is_zero, all_but_last, ended_texts, at_least, value_of, size_read, seconds_read, options_asked, request_of, two_byte_number, acknowledgement_of, short_packet_of, packet_of}
 use Rattle.off_packets.specs.declared.faults.PacketFault.{PacketFault}
 use Rattle.off_packets.specs.declared.faults.PacketFault.TheVariants as fault
-use Rattle.off_transfer_laws.specs.Texts.{has_zero, with_zero, IsEnded, TextsAreThese, RequestsAreRead, SizesFit}
+use Rattle.off_transfer_laws.specs.Texts.{has_zero, with_zero, IsEnded, TextsAreThese, RequestsAreRead, SizesFit, SecondsFit}
 
 split_free : (xs : List ℕ) → has_zero xs ≡ false → slice_split is_zero xs ≡ xs ∷ []
 split_free [] e = refl
@@ -99,40 +99,44 @@ requests_are_read bytes texts is few =
     let fits : nat_lt 1500 (suc (suc (length bytes))) ≡ false = le-ltb 1500 (suc (suc (length bytes))) (omega (arith, few)) in
     ap (λ b. cond b (Err fault.Form) (request_of (ended_texts bytes))) fits ∙ ap request_of (only_texts bytes texts is)
 
--- ---- sizes
+-- ---- sizes and seconds
 
-abbrev pub IsSize : Option ℕ → Type 0
-IsSize None = Unit {0}
-IsSize (Some size) = (8 ≤ size) × (size ≤ 65464)
+abbrev pub IsWithin : ℕ → ℕ → Option ℕ → Type 0
+IsWithin least most None = Unit {0}
+IsWithin least most (Some n) = (least ≤ n) × (n ≤ most)
 
-abbrev pub Fits : Options → Type 0
-Fits asked = IsSize asked.blksize
+pub record Fits (asked : Options) : Type 0 where
+  pub size : IsWithin 8 65464 asked.blksize
+  pub seconds : IsWithin 1 255 asked.timeout
 
 abbrev pub Fitting : Result Meant PacketFault → Type 0
 Fitting (Ok (Reads name asked)) = Fits asked
 Fitting other = Unit {0}
 
-least_by : (n : ℕ) (b : Bool) → nat_le 8 n ≡ b → n ≤ 65464 → IsSize (if b then Some n else None)
-least_by n true e most = (leb-true 8 n e, most)
-least_by n false e most = tt
+module _ (least most : ℕ) where
+  least_by : (n : ℕ) (b : Bool) → nat_le least n ≡ b → n ≤ most → IsWithin least most (if b then Some n else None)
+  least_by n true e few = (leb-true least n e, few)
+  least_by n false e few = tt
 
-number_by : (n : ℕ) (text : Bool) (b : Bool) → (text && nat_le n 65464) ≡ b
-    → IsSize (option_and_then (λ (size : ℕ). if nat_le 8 size then Some size else None) (if b then Some n else None))
-number_by n text true e = least_by n (nat_le 8 n) refl (leb-true n 65464 (and_parts text (nat_le n 65464) e).1)
-number_by n text false e = tt
+  number_by : (n : ℕ) (text : Bool) (b : Bool) → (text && nat_le n most) ≡ b → IsWithin least most (option_and_then (at_least least) (if b then Some n else None))
+  number_by n text true e = least_by n (nat_le least n) refl (leb-true n most (and_parts text (nat_le n most) e).1)
+  number_by n text false e = tt
 
-number_fits : (value : List ℕ) (b : Bool)
-    → IsSize (option_and_then (λ (size : ℕ). if nat_le 8 size then Some size else None) (if b then number_read 65464 value else None))
-unfolding number_read
-number_fits value true = number_by (number_of value) (is_number_text value) (is_number_text value && nat_le (number_of value) 65464) refl
-number_fits value false = tt
+  number_fits : (value : List ℕ) (b : Bool) → IsWithin least most (option_and_then (at_least least) (if b then number_read most value else None))
+  unfolding number_read
+  number_fits value true = number_by (number_of value) (is_number_text value) (is_number_text value && nat_le (number_of value) most) refl
+  number_fits value false = tt
 
-asked_fits : (o : Option (List ℕ × List ℕ)) → IsSize (option_and_then (λ (named : List ℕ × List ℕ). size_read named.1) o)
+asked_fits : (o : Option (List ℕ)) → IsWithin 8 65464 (option_and_then size_read o)
 asked_fits None = tt
-asked_fits (Some named) = number_fits named.1 (nat_le (length named.1) 5)
+asked_fits (Some value) = number_fits 8 65464 value (nat_le (length value) 5)
+
+seconds_fit_in : (o : Option (List ℕ)) → IsWithin 1 255 (option_and_then seconds_read o)
+seconds_fit_in None = tt
+seconds_fit_in (Some value) = number_fits 1 255 value (nat_le (length value) 3)
 
 octet_fits : (name : List ℕ) (texts : List (List ℕ)) (b : Bool) → Fitting (if b then Ok (Reads name (options_asked texts)) else Err fault.Mode)
-octet_fits name texts true = asked_fits (find is_block_size (option_pairs texts))
+octet_fits name texts true = record { size = asked_fits (value_of (codes "blksize") texts); seconds = seconds_fit_in (value_of (codes "timeout") texts) }
 octet_fits name texts false = tt
 
 request_fits : (texts : List (List ℕ)) → Fitting (request_of texts)
@@ -167,5 +171,11 @@ pub packet_fits : (bytes : List ℕ) → Fitting (packet_of bytes)
 unfolding packet_of
 packet_fits bytes = long_fits bytes (nat_lt 1500 (length bytes))
 
+read_fits : (bytes name : List ℕ) (asked : Options) → packet_of bytes ≡ Ok (Reads name asked) → Fits asked
+read_fits bytes name asked e = subst Fitting e (packet_fits bytes)
+
 pub sizes_fit : SizesFit
-sizes_fit bytes name asked size e is = subst IsSize is (subst Fitting e (packet_fits bytes))
+sizes_fit bytes name asked size e is = subst (IsWithin 8 65464) is (read_fits bytes name asked e).size
+
+pub seconds_fit : SecondsFit
+seconds_fit bytes name asked seconds e is = subst (IsWithin 1 255) is (read_fits bytes name asked e).seconds

@@ -33,3 +33,10 @@ abbrev pub SizesFit : Type 0
 SizesFit =
     (bytes name : List ℕ) (asked : Options) (size : ℕ) → packet_of bytes ≡ Ok (Reads name asked)
     → asked.blksize ≡ Some size → (8 ≤ size) × (size ≤ 65464)
+
+-- and so do seconds that are read
+abbrev pub SecondsFit : Type 0
+SecondsFit =
+    (bytes name : List ℕ) (asked : Options) (seconds : ℕ)
+    → packet_of bytes ≡ Ok (Reads name asked) → asked.timeout ≡ Some seconds
+    → (1 ≤ seconds) × (seconds ≤ 255)

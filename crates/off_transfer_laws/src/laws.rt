@@ -7,6 +7,7 @@ ghost use Rattle.off_transfer_laws.specs.Origins.{EachHasAnOrigin, NextBlockGoes
 ghost use Rattle.off_transfer_laws.specs.SameRows.{RowsDecide};
 ghost use Rattle.off_transfer_laws.specs.Sound.{StepKeepsSound, NumbersFit, TickKeepsSound};
 ghost use Rattle.off_transfer_laws.specs.Texts.{TextsAreThese, RequestsAreRead, SizesFit};
+ghost use Rattle.off_transfer_laws.specs.Texts.{SecondsFit};
 
 /// A datagram gives one thing at a moment, for tables and transfers.
 pub fn a_datagram_gives_one_thing()
@@ -137,4 +138,9 @@ pub fn requests_are_read_as_written()
 /// A size that is asked for lies between 8 and 65,464.
 pub fn sizes_that_are_read_fit()
     ensures { SizesFit }
+{}
+
+/// Seconds between resends that are asked for lie between 1 and 255.
+pub fn seconds_that_are_read_fit()
+    ensures { SecondsFit }
 {}

@@ -11,6 +11,6 @@ pub use laws::{
     answers_go_back, block_numbers_fit, each_datagram_gives_something, each_tick_does_something,
     each_transfer_has_an_origin, equal_views_give_the_same, good_tables_have_the_file,
     no_other_row_decides, refusals_change_nothing, requests_are_read_as_written,
-    sizes_that_are_read_fit, texts_are_those_that_are_spelled, the_next_block_goes,
-    transfers_of_others_stay, transfers_stay_few, transfers_stay_sound,
+    seconds_that_are_read_fit, sizes_that_are_read_fit, texts_are_those_that_are_spelled,
+    the_next_block_goes, transfers_of_others_stay, transfers_stay_few, transfers_stay_sound,
 };

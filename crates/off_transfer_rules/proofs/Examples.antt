@@ -13,10 +13,10 @@ use Rattle.off_defs.specs.declared.tables.Hold.TheVariants.{Bound}
 use Rattle.off_defs.specs.State.{Transfer}
 use Rattle.off_mic.specs.Hmac.{hmac}
 use Rattle.off_file_rules.specs.Name.{name_of}
-use Rattle.off_packets.specs.Packets.{Reads, Writes, Acknowledges, GivesUp}
-use Rattle.off_packets.specs.declared.packets.Options.{Options}
+use Rattle.off_base.specs.Number.{number_read}
+use Rattle.off_packets.specs.Packets.{Reads, Writes, Acknowledges, GivesUp, packet_of, no_options, only_size}
 use Rattle.off_transfer_rules.specs.View.{View}
-use Rattle.off_transfer_rules.specs.Transfers.{size_for, begun, gone_on, sent_again}
+use Rattle.off_transfer_rules.specs.Transfers.{size_for, begun, last_packet, gone_on, sent_again}
 use Rattle.off_transfer_rules.specs.Steps.{Denies, Repeats, Accepts, Ignores, Finishes, BreaksOff, GoesOn, no_lease, file_not_found, too_many_transfers, unknown_transfer, way_of}
 use Rattle.off_transfer_rules.specs.Ticks.{tick_of, is_resent}
 use Rattle.off_transfer_rules.specs.Words.{tftp_line, tick_line}
@@ -33,13 +33,7 @@ plain = 0 ∷ 1 ∷ (file_name ++ 0 ∷ (codes "octet" ++ 0 ∷ []))
 abbrev asking : List ℕ → List ℕ
 asking size = plain ++ codes "blksize" ++ 0 ∷ (size ++ 0 ∷ [])
 
-abbrev no_options : Options
-no_options = record { blksize = None }
-
-abbrev in_blocks : ℕ → Options
-in_blocks size = record { blksize = Some size }
-
-largest_served : size_for (in_blocks 65464) ≡ 1428
+largest_served : size_for (only_size 65464) ≡ 1428
 largest_served = refl
 
 -- ---- ways: modem 02aabbccddee of subscriber 7 is bound to 10.64.0.10 for a day
@@ -63,9 +57,9 @@ abbrev seen : Modem → View
 seen modem = record { site = Some site; lease = Some lease; modem = Some modem; profile = Some [] }
 
 abbrev at_start : Transfer
-at_start = begun 1700000000 (asking (codes "44")) mac 7 file_name (in_blocks 44) (1 ∷ 2 ∷ 3 ∷ [])
+at_start = begun 1700000000 (asking (codes "44")) mac 7 file_name (only_size 44) (1 ∷ 2 ∷ 3 ∷ [])
 
-accepted : way_of (seen (modem_of 7)) 1700000000 address false (asking (codes "44")) None (Ok (Reads file_name (in_blocks 44))) ≡ Accepts mac 7 file_name (in_blocks 44)
+accepted : way_of (seen (modem_of 7)) 1700000000 address false (asking (codes "44")) None (Ok (Reads file_name (only_size 44))) ≡ Accepts mac 7 file_name (only_size 44)
 unfolding block_words rounds compress hash_after digest_bytes md5 hmac name_of hex_on_literals
 accepted = refl
 
@@ -86,10 +80,10 @@ unfolding block_words rounds compress hash_after digest_bytes md5 hmac name_of h
 replaced = refl
 
 -- the same request again before the first acknowledgement, also when the lease has ended; and after it
-again : way_of (seen (modem_of 7)) 1700086400 address false (asking (codes "44")) (Some at_start) (Ok (Reads file_name (in_blocks 44))) ≡ Repeats at_start
+again : way_of (seen (modem_of 7)) 1700086400 address false (asking (codes "44")) (Some at_start) (Ok (Reads file_name (only_size 44))) ≡ Repeats at_start
 again = refl
 
-anew : way_of (seen (modem_of 7)) 1700000000 address false (asking (codes "44")) (Some (gone_on 1700000000 at_start)) (Ok (Reads file_name (in_blocks 44))) ≡ Accepts mac 7 file_name (in_blocks 44)
+anew : way_of (seen (modem_of 7)) 1700000000 address false (asking (codes "44")) (Some (gone_on 1700000000 at_start)) (Ok (Reads file_name (only_size 44))) ≡ Accepts mac 7 file_name (only_size 44)
 unfolding block_words rounds compress hash_after digest_bytes md5 hmac name_of hex_on_literals
 anew = refl
 
@@ -122,20 +116,52 @@ after_ticks [] = Some at_start
 after_ticks (seconds ∷ earlier) = option_and_then (tick_of (behind seconds)) (after_ticks earlier)
 
 too_early : after_ticks (1 ∷ []) ≡ Some at_start
+unfolding packet_of number_read
 too_early = refl
 
 resent : after_ticks (2 ∷ 1 ∷ []) ≡ Some (sent_again (behind 2) at_start)
+unfolding packet_of number_read
 resent = refl
 
 five_times : after_ticks (10 ∷ 8 ∷ 6 ∷ 4 ∷ 2 ∷ 1 ∷ []) ≡ Some (record at_start { last_send = behind 10; resends = 5 })
+unfolding packet_of number_read
 five_times = refl
 
 closed : after_ticks (12 ∷ 10 ∷ 8 ∷ 6 ∷ 4 ∷ 2 ∷ 1 ∷ []) ≡ None
+unfolding packet_of number_read
 closed = refl
 
 -- at the last moment there is no later one, and all is due
 at_the_end : is_resent 0xffffffffffffffff (record at_start { last_send = 0xffffffffffffffff }) ≡ true
+unfolding packet_of number_read
 at_the_end = refl
+
+-- ---- another time between resends: five seconds are asked for, with the file's length, and no size
+
+abbrev with_times : List ℕ
+with_times = plain ++ codes "tsize" ++ 0 ∷ (codes "0" ++ 0 ∷ (codes "timeout" ++ 0 ∷ (codes "5" ++ 0 ∷ [])))
+
+abbrev with_seconds : Transfer
+with_seconds = begun 1700000000 with_times mac 7 file_name (record no_options { tsize = true; timeout = Some 5 }) (1 ∷ 2 ∷ 3 ∷ [])
+
+-- the OACK, which is the same when it's sent again
+opened : last_packet with_seconds ≡ 0 ∷ 6 ∷ (codes "tsize" ++ 0 ∷ 51 ∷ 0 ∷ (codes "timeout" ++ 0 ∷ 53 ∷ 0 ∷ []))
+unfolding packet_of number_read digits
+opened = refl
+
+opened_again : last_packet (sent_again (behind 5) with_seconds) ≡ last_packet with_seconds
+opened_again = refl
+
+usual_size : with_seconds.size ≡ 512
+usual_size = refl
+
+not_yet : tick_of (behind 4) with_seconds ≡ Some with_seconds
+unfolding packet_of number_read
+not_yet = refl
+
+in_five : tick_of (behind 5) with_seconds ≡ Some (sent_again (behind 5) with_seconds)
+unfolding packet_of number_read
+in_five = refl
 
 -- ---- lines
 

@@ -1,6 +1,6 @@
--- What a Tick does to transfers: a packet that wasn't answered for two seconds is sent again, five
--- times at most, and then its transfer is closed (RFC 1350 sections 2 and 7; the times are this
--- project's profile).
+-- What a Tick does to transfers: a packet that wasn't answered for the transfer's seconds is sent
+-- again, five times at most, and then its transfer is closed (RFC 1350 sections 2 and 7; RFC 2349
+-- for seconds that are asked for; how often is this project's profile).
 use Rattle.std.specs.Prelude.{◌≡◌, ℕ, Bool, not, ◌&&◌, nat_le, nat_lt, List, [], ◌∷◌, count_by, Option, Some, None, option_and_then, if◌then◌else◌}
 use Rattle.std.specs.List.{flat_map}
 use Rattle.std.specs.FinMap as map
@@ -8,11 +8,11 @@ use Rattle.off_base.specs.declared.addresses.Peer.{Peer}
 use Rattle.off_defs.specs.declared.results.Sent.{Sent}
 use Rattle.off_defs.specs.Clock.{later_by}
 use Rattle.off_defs.specs.State.{Transfer}
-use Rattle.off_transfer_rules.specs.Transfers.{Transfers, last_packet, sent_again, packet_to}
+use Rattle.off_transfer_rules.specs.Transfers.{Transfers, seconds_of, last_packet, sent_again, packet_to}
 use Rattle.off_transfer_rules.specs.declared.ticks.Ticked.{Ticked}
 
 abbrev pub is_due : ℕ → Transfer → Bool
-is_due now x = nat_le (later_by 2 x.last_send) now
+is_due now x = nat_le (later_by (seconds_of x) x.last_send) now
 
 abbrev pub has_resend : Transfer → Bool
 has_resend x = nat_lt x.resends 5

@@ -1,5 +1,5 @@
 -- A transfer: how it begins, goes on, and is sent again (RFC 1350 sections 2 and 6; RFC 2347
--- section 3).
+-- section 3; RFC 2349).
 use Rattle.std.specs.Prelude.{ℕ, zero, suc, Bool, true, false, List, length, min, nat_le, nat_lt, unwrap_or, if◌then◌else◌}
 use Rattle.std.specs.FinMap as map
 use Rattle.off_base.specs.declared.addresses.Peer.{Peer}
@@ -9,7 +9,7 @@ use Rattle.off_defs.specs.declared.results.Sent.{Sent}
 use Rattle.off_defs.specs.declared.results.Sent.TheVariants as sent
 use Rattle.off_defs.specs.State.{Transfer, peer_cmp}
 use Rattle.off_file_rules.specs.Block.{block}
-use Rattle.off_packets.specs.Packets.{has_option}
+use Rattle.off_packets.specs.Packets.{packet_of, has_option, options_by}
 use Rattle.off_packets.specs.declared.packets.Options.{Options}
 use Rattle.off_packets.specs.Replies.{data_packet, oack_packet}
 use Rattle.off_transfer_rules.specs.declared.words.TftpWord.{TftpWord}
@@ -30,6 +30,11 @@ has_no_room transfers = nat_le most_transfers (map.len transfers)
 -- is, but no more than a datagram carries whole
 abbrev pub size_for : Options → ℕ
 size_for asked = min (unwrap_or asked.blksize 512) 1428
+
+-- A packet that isn't answered goes again behind the seconds that are asked for (RFC 2349), or
+-- behind two where none are
+abbrev pub seconds_for : Options → ℕ
+seconds_for asked = unwrap_or asked.timeout 2
 
 -- the first packet that is sent: the OACK, which has number 0, where there is an option to be told
 abbrev pub first_number : Options → ℕ
@@ -53,13 +58,23 @@ begun now request mac subscriber name asked file = record {
   resends = 0;
 }
 
--- the packet that was sent last
-abbrev pub packet_of_number : List ℕ → ℕ → ℕ → List ℕ
-packet_of_number file size zero = oack_packet size
-packet_of_number file size (suc before) = data_packet (suc before) (block file size (suc before))
+-- what its read request asked for, and so its seconds: they are read of the request's bytes, which
+-- a transfer keeps as they came
+abbrev pub options_of : Transfer → Options
+options_of x = options_by (packet_of x.request)
 
+abbrev pub seconds_of : Transfer → ℕ
+seconds_of x = seconds_for (options_of x)
+
+-- the packet of a number: 0 is the OACK's, and each other one its block's
+abbrev pub packet_of_number : Options → List ℕ → ℕ → ℕ → List ℕ
+packet_of_number asked file size zero = oack_packet asked size (length file)
+packet_of_number asked file size (suc before) =
+    data_packet (suc before) (block file size (suc before))
+
+-- the packet that was sent last
 abbrev pub last_packet : Transfer → List ℕ
-last_packet x = packet_of_number x.file x.size x.sent
+last_packet x = packet_of_number (options_of x) x.file x.size x.sent
 
 -- a block is the last one where it is shorter than the size (RFC 1350 section 6)
 abbrev pub is_last_number : List ℕ → ℕ → ℕ → Bool

@@ -17,7 +17,7 @@ pub enum TftpWord {
     Name,
     /// Too many transfers are live.
     Full,
-    /// A read request was accepted, and the size of its blocks is told.
+    /// A read request was accepted, and what was read of its options is told.
     Oack,
     /// This block was sent.
     Block(u16),

@@ -1,6 +1,6 @@
 -- Where a peer has no transfer, what goes to it is what goes while any packet of any file stands out:
 -- so no block does.
-use Rattle.std.proofs.Common.{◌≡◌, ℕ, Bool, true, false, List, [], ◌∷◌, refl, ap}
+use Rattle.std.proofs.Common.{◌≡◌, ℕ, false, List, [], ◌∷◌}
 use Rattle.std.specs.List.{AllByRecursion}
 use Rattle.off_base.specs.declared.addresses.Peer.{Peer}
 use Rattle.off_book.specs.Run.{Turn}
@@ -10,13 +10,9 @@ use Rattle.off_transfer_runs.specs.Closed.{QuietBy, NoBlockGoes, ClosedAreQuiet}
 use Rattle.off_transfer_runs.proofs.Turned.{gone}
 use Rattle.off_transfer_runs.proofs.Events.{run_goes}
 
-no_data : (packet : List ℕ) (b : Bool) → is_data packet ≡ b → IsAgain [] 0 0 packet → is_data packet ≡ false
-no_data packet true e again = ap is_data (again e)
-no_data packet false e again = e
-
 none_data : (packets : List (List ℕ)) → AllByRecursion (IsAgain [] 0 0) packets → AllByRecursion (λ packet. is_data packet ≡ false) packets
 none_data [] all = tt
-none_data (packet ∷ packets) all = (no_data packet (is_data packet) refl all.0, none_data packets all.1)
+none_data (packet ∷ packets) all = (all.0, none_data packets all.1)
 
 two_numbers : (number : ℕ) → number ≡ 0 → number ≡ 1 → ⊥
 two_numbers number one other = cc

@@ -5,7 +5,8 @@ use Rattle.std.specs.Prelude.{find}
 use Rattle.std.proofs.lemmas.Bool.{ltb-true}
 use Rattle.off_base.specs.declared.addresses.Peer.{Peer}
 use Rattle.off_file_rules.specs.Block.{block}
-use Rattle.off_transfer_rules.specs.Transfers.{packet_of_number, is_last_number}
+use Rattle.off_packets.specs.Replies.{data_packet}
+use Rattle.off_transfer_rules.specs.Transfers.{is_last_number}
 use Rattle.off_book.specs.Run.{Turn}
 use Rattle.off_transfer_runs.specs.Turns.{Fate, Remains, Moves, Ends, Breaks, fate, packets_to, is_data, block_in}
 use Rattle.off_transfer_runs.specs.Got.{with_number, acked_by, acked, CountUp, got_by, got, is_done_by, is_done}
@@ -65,7 +66,7 @@ module _ (file : List ℕ) (size : ℕ) where
     whole = λ e. last_is_all k last;
   }
 
-  next_given : (k : ℕ) (packets : List (List ℕ)) → packets ≡ packet_of_number file size (suc k) ∷ [] → block file size (suc k) ≡ block_in (find is_data packets)
+  next_given : (k : ℕ) (packets : List (List ℕ)) → packets ≡ data_packet (suc k) (block file size (suc k)) ∷ [] → block file size (suc k) ≡ block_in (find is_data packets)
   next_given k packets e = sym (ap (λ (l : List (List ℕ)). block_in (find is_data l)) e)
 
   counts_by : (k : ℕ) (f : Fate) (packets : List (List ℕ)) (later : List ℕ) (Later : ℕ → Type 0) → GoBy f file size k packets Later

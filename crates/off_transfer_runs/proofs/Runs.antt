@@ -13,7 +13,7 @@ use Rattle.off_account_rules.specs.Rows.{lease_in}
 use Rattle.off_file_rules.specs.Block.{block}
 use Rattle.off_file_rules.specs.File.{IsFile}
 use Rattle.off_file_laws.proofs.LawLemmas.{file_is_one, files_boot}
-use Rattle.off_packets.specs.Packets.{Reads, packet_of, has_option}
+use Rattle.off_packets.specs.Packets.{Reads, packet_of, has_option, options_by}
 use Rattle.off_packets.specs.declared.packets.Options.{Options}
 use Rattle.off_transfer_rules.specs.View.{view}
 use Rattle.off_transfer_rules.specs.Transfers.{size_for, first_number, packet_of_number, last_packet, begun}
@@ -53,14 +53,14 @@ ahead_from file size false = let none : zero * size ≡ 0 = omega arith in ap (�
 all_ahead : (file : List ℕ) (asked : Options) → ahead file (size_for asked) (first_number asked) ≡ file
 all_ahead file asked = ahead_from file (size_for asked) (has_option asked)
 
-block_from : (file : List ℕ) (size : ℕ) (any : Bool)
-    → block file size (if any then 0 else 1) ≡ block_in (find is_data (packet_of_number file size (if any then 0 else 1) ∷ []))
-block_from file size true = refl
-block_from file size false = refl
+block_from : (asked : Options) (file : List ℕ) (size : ℕ) (any : Bool)
+    → block file size (if any then 0 else 1) ≡ block_in (find is_data (packet_of_number asked file size (if any then 0 else 1) ∷ []))
+block_from asked file size true = refl
+block_from asked file size false = refl
 
 first_block : (file : List ℕ) (asked : Options)
-    → block file (size_for asked) (first_number asked) ≡ block_in (find is_data (packet_of_number file (size_for asked) (first_number asked) ∷ []))
-first_block file asked = block_from file (size_for asked) (has_option asked)
+    → block file (size_for asked) (first_number asked) ≡ block_in (find is_data (packet_of_number asked file (size_for asked) (first_number asked) ∷ []))
+first_block file asked = block_from asked file (size_for asked) (has_option asked)
 
 -- ---- an accepted read request
 
@@ -98,25 +98,26 @@ module _ (s : State) (turn : Turn) (after last : State) (later : List Turn) (pee
         (owner_held s.held.now (lease_in s.tables peer.ip) b.mac
         (live_in s.tables s.held.now peer.ip b.mac (held_of (view s.tables peer.ip) s.held.now b.mac b.accepting.held))) b.built
 
-    opening : packets_to peer turn.said.items ≡ packet_of_number b.file (size_for asked) (first_number asked) ∷ []
+    opening : packet_of bytes ≡ Ok (Reads name asked) → packets_to peer turn.said.items ≡ packet_of_number asked b.file (size_for asked) (first_number asked) ∷ []
     unfolding first
-    opening =
+    opening read =
         ap (λ (e : Effect). packets_to peer e.said.items) did.does ∙ ap (λ (g : Given). packets_to peer g.items) b.gave ∙ one_packet peer (last_packet first)
+        ∙ ap (λ (o : Options). packet_of_number o b.file (size_for asked) (first_number asked) ∷ []) (ap options_by read)
 
     going : Run after later last → BlocksGo peer b.file (size_for asked) (first_number asked) later
     going run = run_goes peer b.file (size_for asked) (first_number asked) after last later run (stands first first_lives first_at)
 
-    getting : Run after later last → Gets (got peer (block_given peer turn) later) (is_done peer later) b.file
-    getting run =
+    getting : packet_of bytes ≡ Ok (Reads name asked) → Run after later last → Gets (got peer (block_given peer turn) later) (is_done peer later) b.file
+    getting read run =
         let given : block b.file (size_for asked) (first_number asked) ≡ block_given peer turn =
-        first_block b.file asked ∙ sym (ap (λ (ps : List (List ℕ)). block_in (find is_data ps)) opening) in
+        first_block b.file asked ∙ sym (ap (λ (ps : List (List ℕ)). block_in (find is_data ps)) (opening read)) in
         subst (λ stood. Gets (got peer stood later) (is_done peer later) b.file) given
         (subst (Gets (got peer (block b.file (size_for asked) (first_number asked)) later) (is_done peer later)) (all_ahead b.file asked)
         (gets b.file (size_for asked) peer (first_number asked) later (going run)))
 
-    served_so : Run after later last → FileIsServed s.tables s.held.now peer name asked turn later
-    served_so run =
-        let g = getting run in
+    served_so : packet_of bytes ≡ Ok (Reads name asked) → Run after later last → FileIsServed s.tables s.held.now peer name asked turn later
+    served_so read run =
+        let g = getting read run in
         record {
           modem = b.mac;
           subscriber = b.owner;
@@ -126,7 +127,7 @@ module _ (s : State) (turn : Turn) (after last : State) (later : List Turn) (pee
           only = λ other is. file_is_one s.tables b.mac s.held.now peer.ip other b.file is own_file;
           boots = files_boot s.tables b.mac s.held.now peer.ip b.file own_file;
           answered = ap (λ (e : Effect). e.said.line) did.does ∙ ap (λ (g : Given). tftp_line g.word) b.gave;
-          opens = opening;
+          opens = opening read;
           blocks = going run;
           counts = subst (λ n. CountUp n (acked peer later)) (counts_first asked)
               (acked_counts b.file (size_for asked) peer (first_number asked) later (going run));
@@ -143,7 +144,7 @@ module _ (s : State) (turn : Turn) (after last : State) (later : List Turn) (pee
 
   served_did : TftpDid s peer bytes (effect_of turn after) → packet_of bytes ≡ Ok (Reads name asked) → says_accepted turn.said.line ≡ true → Run after later last
       → FileIsServed s.tables s.held.now peer name asked turn later
-  served_did did read says run = served_so did (beginning did read says) run
+  served_did did read says run = served_so did (beginning did read says) read run
 
 pub served_at : (s : State) (turn : Turn) (after last : State) (later : List Turn) (peer : Peer) (name : List ℕ) (asked : Options)
     → Step s turn.event turn.outcome (effect_of turn after) → IsAccepted peer name asked turn → Run after later last

@@ -19,7 +19,7 @@ use Rattle.off_transfer_laws.proofs.SoundLemmas.{sent_again_sound}
 use Rattle.off_transfer_laws.proofs.TickLaws.{tick_changes}
 use Rattle.off_transfer_runs.specs.Turns.{Remains, packets_to, packet_for}
 use Rattle.off_transfer_runs.specs.Served.{IsAgain}
-use Rattle.off_transfer_runs.proofs.Turned.{IsAt, Stands, gone, stands, last_is, After}
+use Rattle.off_transfer_runs.proofs.Turned.{IsAt, Stands, gone, stands, last_again, After}
 
 -- ---- an entry that stands below others is the only one of its peer
 
@@ -132,7 +132,7 @@ module _ (peer : Peer) (now : ℕ) where
     ticks_of (Some y) after x e m = let same : y ≡ x = cc in subst (λ z. Ticks now z after) same m
 
     sends_last : (x : Transfer) (packets : List (List ℕ)) → IsAt file size k x → SendsLast x packets → AllByRecursion (IsAgain file size k) packets
-    sends_last x packets at (true, is) = subst (AllByRecursion (IsAgain file size k)) (sym is) ((λ e. last_is file size k x at), tt)
+    sends_last x packets at (true, is) = subst (AllByRecursion (IsAgain file size k)) (sym is) (last_again file size k x at, tt)
     sends_last x packets at (false, is) = subst (AllByRecursion (IsAgain file size k)) (sym is) tt
 
     pub tick_turned : (old new : Transfers) (items : List Sent) (ticked : Ticked) → TickStep now old new items ticked → Stands file size k (map.get old peer)

@@ -1,12 +1,14 @@
 -- What one turn does to a transfer of which packet k stands out, or that is gone.
-use Rattle.std.proofs.Common.{◌≡◌, ℕ, suc, ◌^◌, ◌<◌, ◌≤◌, Bool, true, false, List, [], ◌∷◌, Option, Some, None, refl, sym, ap, subst, ◌∙◌, arith}
+use Rattle.std.proofs.Common.{◌≡◌, ℕ, zero, suc, ◌^◌, ◌<◌, ◌≤◌, Bool, true, false, List, [], ◌∷◌, Option, Some, None, refl, sym, ap, subst, ◌∙◌, arith}
 use Rattle.std.specs.FinMap as map
 use Rattle.off_base.specs.declared.addresses.Peer.{Peer}
 use Rattle.off_defs.specs.State.{Tables, Transfer}
+use Rattle.off_file_rules.specs.Block.{block}
+use Rattle.off_packets.specs.declared.packets.Options.{Options}
 use Rattle.off_packets.specs.Packets.{packet_of}
 use Rattle.off_transfer_rules.specs.View.{View, view}
-use Rattle.off_transfer_rules.specs.Transfers.{Transfers, last_packet, packet_of_number, is_last_number, is_at_last, gone_on, asked_again}
-use Rattle.off_packets.specs.Replies.{error_packet}
+use Rattle.off_transfer_rules.specs.Transfers.{Transfers, options_of, last_packet, packet_of_number, is_last_number, is_at_last, gone_on, asked_again}
+use Rattle.off_packets.specs.Replies.{data_packet, error_packet}
 use Rattle.off_transfer_rules.specs.Steps.{Way, Denies, Repeats, Accepts, Ignores, Finishes, BreaksOff, GoesOn, Leaves, way, Given, GivesBy, TftpStep}
 use Rattle.off_transfer_rules.specs.Words.{tftp_line}
 use Rattle.off_transfer_rules.proofs.PeerLemmas.{inserted_here}
@@ -31,6 +33,15 @@ pub data Stands (file : List ℕ) (size k : ℕ) (live : Option Transfer) : Type
 abbrev pub After : Fate → List ℕ → ℕ → ℕ → List (List ℕ) → Option Transfer → Type 0
 After fate file size k packets live = GoBy fate file size k packets (λ n. Stands file size n live)
 
+-- a packet that is no DATA, and packet k itself
+other_again : (file : List ℕ) (size k : ℕ) (packet : List ℕ) → is_data packet ≡ false → IsAgain file size k packet
+other_again file size zero packet is = is
+other_again file size (suc before) packet is = λ e. cc
+
+packet_again : (asked : Options) (file : List ℕ) (size k : ℕ) → IsAgain file size k (packet_of_number asked file size k)
+packet_again asked file size zero = refl
+packet_again asked file size (suc before) = λ e. refl
+
 module _ (file : List ℕ) (size k : ℕ) where
   -- the live transfer, if it is known to be there
   pub live_at : (live : Option Transfer) (x : Transfer) → live ≡ Some x → Stands file size k live → IsAt file size k x
@@ -50,23 +61,26 @@ module _ (file : List ℕ) (size k : ℕ) where
   pub nothing_new : (live : Option Transfer) → Stands file size k live → After Remains file size k [] live
   nothing_new live s = (tt, s)
 
-  no_data : (packet : List ℕ) → is_data packet ≡ false → IsAgain file size k packet
-  no_data packet is e = cc
-
   refused : (code : ℕ) (text : List ℕ) (live : Option Transfer) → Stands file size k live → After Remains file size k (error_packet code text ∷ []) live
-  refused code text live s = ((no_data (error_packet code text) refl, tt), s)
+  refused code text live s = ((other_again file size k (error_packet code text) refl, tt), s)
 
   -- its last packet is packet k
-  pub last_is : (x : Transfer) → IsAt file size k x → last_packet x ≡ packet_of_number file size k
+  last_is : (x : Transfer) → IsAt file size k x → last_packet x ≡ packet_of_number (options_of x) file size k
   last_is x at =
-      ap (λ f. packet_of_number f x.size x.sent) at.files ∙ ap (λ n. packet_of_number file n x.sent) at.sizes ∙ ap (packet_of_number file size) at.sents
+      let asked = options_of x in
+      ap (λ f. packet_of_number asked f x.size x.sent) at.files
+      ∙ ap (λ n. packet_of_number asked file n x.sent) at.sizes
+      ∙ ap (packet_of_number asked file size) at.sents
+
+  pub last_again : (x : Transfer) → IsAt file size k x → IsAgain file size k (last_packet x)
+  last_again x at = subst (IsAgain file size k) (sym (last_is x at)) (packet_again (options_of x) file size k)
 
   ends_as : (x : Transfer) (last : Bool) → IsAt file size k x → is_at_last x ≡ last → is_last_number file size k ≡ last
   ends_as x last at is =
       sym (ap (λ f. is_last_number f x.size x.sent) at.files ∙ ap (λ n. is_last_number file n x.sent) at.sizes ∙ ap (is_last_number file size) at.sents) ∙ is
 
   pub again : (x : Transfer) (after : Option Transfer) → IsAt file size k x → Stands file size k after → After Remains file size k (last_packet x ∷ []) after
-  again x after at s = (((λ e. last_is x at), tt), s)
+  again x after at s = ((last_again x at, tt), s)
 
   asked_at : (now : ℕ) (x : Transfer) → IsAt file size k x → IsAt file size k (asked_again now x)
   asked_at now x at = record { files = at.files; sizes = at.sizes; sents = at.sents; sound = asked_again_sound now x at.sound }
@@ -82,9 +96,9 @@ module _ (file : List ℕ) (size k : ℕ) where
     number_is = at.sents;
     more = ends_as x false at more;
     next =
-        ap (λ f. packet_of_number f x.size (suc x.sent) ∷ []) at.files
-        ∙ ap (λ n. packet_of_number file n (suc x.sent) ∷ []) at.sizes
-        ∙ ap (λ n. packet_of_number file size (suc n) ∷ []) at.sents;
+        ap (λ f. data_packet (suc x.sent) (block f x.size (suc x.sent)) ∷ []) at.files
+        ∙ ap (λ n. data_packet (suc x.sent) (block file n (suc x.sent)) ∷ []) at.sizes
+        ∙ ap (λ n. data_packet (suc n) (block file size (suc n)) ∷ []) at.sents;
     fits = small (suc k) (subst (λ n. suc n ≤ 776) at.sents (numbers_fit (gone_on now x) (gone_on_sound now x more at.sound)));
   }
 

@@ -1,15 +1,17 @@
 -- Files over whole runs: what a modem has acknowledged joins to a prefix of its own one file,
 -- whatever happened in between.
-use Rattle.std.specs.Prelude.{◌≡◌, ℕ, suc, ◌^◌, ◌<◌, max, true, false, List, [], ◌∷◌, ◌++◌, Option, Ok}
+use Rattle.std.specs.Prelude.{◌≡◌, ℕ, zero, suc, ◌^◌, ◌<◌, max, true, false, List, [], ◌∷◌, ◌++◌, Option, Ok}
 use Rattle.std.specs.List.{AllByRecursion}
 use Rattle.off_base.specs.declared.addresses.Peer.{Peer}
 use Rattle.off_base.specs.declared.macs.Mac.{Mac}
 use Rattle.off_defs.specs.declared.events.Service.TheVariants as service
 use Rattle.off_defs.specs.declared.events.What.TheVariants as came
 use Rattle.off_defs.specs.State.{Tables, State}
+use Rattle.off_file_rules.specs.Block.{block}
 use Rattle.off_file_rules.specs.File.{with_stamps, IsFile}
 use Rattle.off_file_laws.specs.Laws.{Boots}
 use Rattle.off_packets.specs.Packets.{Reads, packet_of}
+use Rattle.off_packets.specs.Replies.{data_packet}
 use Rattle.off_packets.specs.declared.packets.Options.{Options}
 use Rattle.off_transfer_rules.specs.Transfers.{size_for, first_number, first_word, packet_of_number, is_last_number}
 use Rattle.off_transfer_rules.specs.Words.{tftp_line}
@@ -21,15 +23,18 @@ use Rattle.off_transfer_runs.specs.Got.{acked, CountUp, got, is_done}
 -- ---- the blocks of a file as they go to a peer. Packet k is the one that was sent last and isn't
 -- acknowledged: packet 0 the OACK, and each other the DATA of its block
 
--- meanwhile no other block goes: DATA that goes is packet k again
+-- meanwhile no other block goes: DATA that goes is packet k again, and while the OACK stands out
+-- there is none
 abbrev pub IsAgain : List ℕ → ℕ → ℕ → List ℕ → Type 0
-IsAgain file size k packet = is_data packet ≡ true → packet ≡ packet_of_number file size k
+IsAgain file size zero packet = is_data packet ≡ false
+IsAgain file size (suc before) packet =
+    is_data packet ≡ true → packet ≡ data_packet (suc before) (block file size (suc before))
 
 -- by its acknowledgement the next block goes, for the first time; its number fits in two bytes
 pub record NextGoes (file : List ℕ) (size k number : ℕ) (packets : List (List ℕ)) : Type 0 where
   pub number_is : number ≡ k
   pub more : is_last_number file size k ≡ false
-  pub next : packets ≡ packet_of_number file size (suc k) ∷ []
+  pub next : packets ≡ data_packet (suc k) (block file size (suc k)) ∷ []
   pub fits : suc k < 2 ^ 16
 
 -- or, where it was the file's last, all is done
@@ -75,7 +80,7 @@ pub record FileIsServed (tables : Tables) (now : ℕ) (peer : Peer) (name : List
   pub boots : Boots own.site.secret file (with_stamps own.profile now peer.ip)
   pub answered : turn.said.line ≡ tftp_line (first_word asked)
   pub opens : packets_to peer turn.said.items
-      ≡ packet_of_number file (size_for asked) (first_number asked) ∷ []
+      ≡ packet_of_number asked file (size_for asked) (first_number asked) ∷ []
   pub blocks : BlocksGo peer file (size_for asked) (first_number asked) later
   pub counts : CountUp 1 (acked peer later)
   pub rest : List ℕ

@@ -13,8 +13,11 @@ use Rattle.off_tftp.proofs.ReadLemmas.{acknowledgement_few, few_none}
 use Rattle.off_tftp.proofs.DoesLemmas.{looks_as, looks_at_once, if_ok_as, decides_by, deny_decides, leave_decides, acknowledgement_decides, acknowledged_looks}
 use Rattle.off_tftp.proofs.transfers.Transfers.decide.Goals as goal
 
-pub on_request-requires : goal.on_request-requires
-on_request-requires g c = subst AsksEnough c.in-Ok-Read.field-0-is c.in-Ok-Read.ensures.least
+pub on_request-requires-clause-least : goal.on_request-requires-clause-least
+on_request-requires-clause-least g c = subst AsksEnough c.in-Ok-Read.field-0-is c.in-Ok-Read.ensures.least
+
+pub on_request-requires-clause-read : goal.on_request-requires-clause-read
+on_request-requires-clause-read g c = c.in-Ok-Read.ensures.exact ∙ ap (λ (p : Packet). Ok (meant_by p)) c.in-Ok-Read.field-0-is
 
 pub returns-in-Ok-Read-clause-told : goal.returns-in-Ok-Read-clause-told
 returns-in-Ok-Read-clause-told g c =
