@@ -18,7 +18,8 @@ kept_self a = record {
   };
 }
 
-told_back : {a b : DiskSeen} → Kept a b → (x : List ℕ) → b.bytes x → a.bytes x
+-- what is told behind readings was told before
+pub told_back : {a b : DiskSeen} → Kept a b → (x : List ℕ) → b.bytes x → a.bytes x
 told_back {a} k x told = let y = k.bytes x told in subst (λ (l : List ℕ). a.bytes l) (sym y.1.1) y.1.0
 
 -- what was read is shown
