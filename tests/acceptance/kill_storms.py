@@ -170,7 +170,10 @@ def alone(rounds, kinds):
     modems.address_of_lo(b"lo:1", SERVER, "255.255.255.255")
     modems.address_of_lo(b"lo:2", RELAY, "255.255.0.0")
     for kind in kinds:
-        storms(kind, rounds)
+        if kind == "sqlite:" and store.sqlite3 is None:
+            print("skipped sqlite:, since this Python's sqlite3 is missing")
+        else:
+            storms(kind, rounds)
     return 1 if failures else 0
 
 
