@@ -11,8 +11,8 @@ steady rate, how long questions for the time and clerks' PUTs take.
 It prints figures beside goals and judges nothing. The office's log goes to a file, and its words are counted at the end. It wants bin/officed built
 (or OFFICE_PROGRAM), `cc` and `unshare -rn`. Without arguments it takes 100 modems behind 3 relays and behind 30, and 100,000 behind 30: some minutes.
 
-With a folder in OFFICE_STORES the tables are in a file there, a new one for each number of modems. The bare syncs a second of a file of its own there are
-printed before and behind each, and how long a start over the filled file takes.
+With a folder in OFFICE_STORES the tables are in a file there, a new one for each number of modems, and in a journal where `journal:` stands before the
+folder. The bare syncs a second of a file of its own there are printed before and behind each, and how long a start over the filled file takes.
 """
 import collections
 import contextlib
@@ -36,7 +36,7 @@ ROUNDS, MILLISECONDS = 15, 150
 AT_ONCE = (1, 16, 64)
 FLOOD, FLOOD_SECONDS = 20_000, 3
 GOAL, MANY_GOAL, TIME_GOAL, PUT_GOAL = 20_000, 1.5, 50, 1
-STORES = os.environ.get("OFFICE_STORES")
+STORES, JOURNAL = os.environ.get("OFFICE_STORES", ""), "journal:"
 Told = collections.namedtuple("Told", "done seconds again wrong length")
 
 
@@ -94,9 +94,10 @@ def store():
     if not STORES:
         yield "memory"
         return
-    with tempfile.TemporaryDirectory(dir=STORES) as folder:
+    kind = JOURNAL if STORES.startswith(JOURNAL) else ""
+    with tempfile.TemporaryDirectory(dir=STORES.removeprefix(JOURNAL)) as folder:
         print(f"  a file of its own takes {syncs(folder):.0f} syncs of 16 kB a second")
-        yield os.path.join(folder, "office.db")
+        yield kind + os.path.join(folder, "office.store")
         print(f"  a file of its own takes {syncs(folder):.0f} syncs of 16 kB a second")
 
 
@@ -121,7 +122,7 @@ def start_again(path):
         # Who connects is accepted once the tables are open.
         office.clerk("GET", "/site")
         print(f"  a start over the file: {time.perf_counter() - began:.2f} s, {resident(officed.pid) / 1e6:.1f} MB, "
-              f"{os.path.getsize(path) / 1e6:.1f} MB of file, {processor_seconds(officed.pid):.1f} s of processor")
+              f"{os.path.getsize(path.removeprefix(JOURNAL)) / 1e6:.1f} MB of file, {processor_seconds(officed.pid):.1f} s of processor")
         officed.send_signal(signal.SIGTERM)
         officed.wait(timeout=30)
 

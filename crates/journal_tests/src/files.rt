@@ -18,6 +18,13 @@ const BAD_BEHIND: [u8; 29] = [
     0, 0, 0, 1, 3, 0,
 ];
 
+// The same, and the good record once more behind it.
+const BAD_BETWEEN: [u8; 51] = [
+    1, 0, 0, 0, 0x11, 1, 7, 8, 2, 0xaa, 0xbb, 0xcc, 0xdd, 0xee, 0, 0, 0, 4, 0x0a, 0x40, 0, 0x0a, 1,
+    0, 0, 0, 1, 3, 1, 0, 0, 0, 0x11, 1, 7, 8, 2, 0xaa, 0xbb, 0xcc, 0xdd, 0xee, 0, 0, 0, 4, 0x0a,
+    0x40, 0, 0x0a, 0,
+];
+
 // What an opening makes of a file.
 #[derive(Drop)]
 enum Opens<'a> {
@@ -99,9 +106,10 @@ fn files_are_opened_or_bad(rt: HostRuntime) -> Result<(), Fail> {
         (&shut, Opens::With(false, &shut)),
         (&one_row[..5], Opens::With(false, &[0, 0, 0, 0, 0x11])),
         (&[1, 0, 0, 0, 1, 3], Opens::With(false, &[0, 0, 0, 0, 1, 3])),
-        // A record without writes of a payload, at the front and behind another.
+        // A record without writes of a payload, at the front, behind another, and in between.
         (&[1, 0, 0, 0, 1, 3, 0], Opens::Bad(1)),
         (&BAD_BEHIND, Opens::Bad(23)),
+        (&BAD_BETWEEN, Opens::Bad(23)),
     ];
     for (bytes, expected) in &examples {
         let found = fault(rt.alloc(), bytes, expected)?;

@@ -1,3 +1,4 @@
+pub mod Stretches
 pub mod Images
 pub mod Moments
 pub mod Ends

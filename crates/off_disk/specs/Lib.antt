@@ -1,3 +1,4 @@
+pub mod Ahead
 pub mod DiskSeen
 pub mod DiskCalls
 pub mod Records

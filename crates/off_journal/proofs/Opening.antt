@@ -10,6 +10,7 @@ use Rattle.off_disk.specs.Records.{blocks, AreShort, IsOpen, Stands, IsClosed, I
 use Rattle.off_disk.specs.RecordLaws.{stands_one, closed_stands, broken_stands}
 use Rattle.off_disk.specs.Crashing.{AllLeft, AllRead, Elapsed, Settles}
 use Rattle.off_disk.proofs.Moments.{elapsed, elapsed_then, grew_from}
+use Rattle.off_disk.proofs.Stretches.{kept_self}
 use Rattle.off_journal.specs.Payload.{payload_of}
 use Rattle.off_journal.specs.Journal.{tables_of, Opens, AreCommits}
 use Rattle.off_journal.specs.JournalLaws.{all_short, all_spelled}
@@ -38,6 +39,12 @@ step_before step p back m c u behind before left opens = let d = p.within m c be
 
 pub kept_before : {a b : DiskSeen} → Kept a b → OpensAsBefore a b
 kept_before k = step_before Same k.passes (λ d c u left same opens. opens_from c d u same opens)
+
+-- nothing was asked of the disk, since memory was refused
+pub unasked : (a : DiskSeen) → NotOpened why.Memory a a
+unasked a =
+    let k = kept_self a in
+    record { time = elapsed k.passes; faults = refl; bad = tt; as_before = kept_before k }
 
 late_before : {a b : DiskSeen} → Elapsed a b → OpensAsBefore a b → (d : List ℕ) (u : Tables) → b.left b.moment d → Opens d u
     → (a.moment < b.moment) ⊎ (b.moment ≤ a.moment) → (e : List ℕ) × (a.left a.moment e × Opens e u)

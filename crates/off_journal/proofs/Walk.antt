@@ -9,6 +9,7 @@ use Rattle.off_disk.specs.DiskSeen.{DiskSeen}
 use Rattle.off_disk.specs.DiskCalls.{Kept}
 use Rattle.off_disk.specs.Records.{record_of, blocks, IsOpen}
 use Rattle.off_disk.proofs.Images.{blocks_push}
+use Rattle.off_disk.proofs.Stretches.{told_back}
 use Rattle.off_spelled.specs.Storable.{AllSpelled}
 use Rattle.off_journal.specs.Payload.{payload_of}
 use Rattle.off_journal.specs.Reading.{IsNoPayload}
@@ -16,23 +17,6 @@ use Rattle.off_journal.specs.Journal.{IsCommit}
 use Rattle.off_journal.specs.JournalLaws.{commits_push, tables_push, payloads_push}
 use Rattle.off_journal.specs.Begin.{SoFar, IsBadAt}
 use Rattle.off_journal.proofs.Keeping.{block_size}
-
--- ---- readings in a row
-
-pub kept_self : (a : DiskSeen) → Kept a a
-kept_self a = record {
-  bytes = λ x told. (x, (told, refl));
-  told = λ x told. (x, (told, refl));
-  size = refl;
-  passes = record {
-    later = omega arith;
-    past = λ m x before left. left;
-    within = λ m x behind before left. absurd (omega (arith, behind, before));
-  };
-}
-
-pub told_back : {a b : DiskSeen} → Kept a b → (x : List ℕ) → b.bytes x → a.bytes x
-told_back {a} k x told = let y = k.bytes x told in subst (λ (l : List ℕ). a.bytes l) (sym y.1.1) y.1.0
 
 -- ---- the records
 

@@ -10,10 +10,13 @@ ghost use Rattle.off_journal.specs.Begin.{PayloadDone, IsNotOne, NotLooked};
 use crate::keeper::{Counts, JournalKeeper, Last};
 use crate::reading::{PayloadErr, read_payload};
 use off_base::NoMemory;
-use off_disk::{Disk, close, write_synced};
+use off_disk::{Disk, ReadAhead, close, write_synced};
 use off_keepmem::MemKeeper;
 use off_outside::{Calls, Failed, Keeper};
 use std::alloc::Global;
+
+/// So many bytes of a journal are read at once, since its records are short.
+const STRETCH: usize = 1 << 16;
 
 /// Why a journal couldn't be opened.
 #[derive(Clone, Copy, Debug, PartialEq, Eq)]
@@ -85,16 +88,23 @@ impl<D: Disk> JournalKeeper<D> {
             (⟦<JournalKeeper<D> as Keeper>⟧.seen keeper))
             (λ refused. NotBegun refused.why (D.seen disk) (D.seen refused.disk)) }
     {
-        let mut held = disk;
-        match open(alloc, &mut held) {
+        let Ok(room) = zeros(alloc, STRETCH) else {
+            let why = OpenErr::Memory;
+            return Err(Unopened { why, disk });
+        };
+        let mut ahead = ReadAhead::over(disk, room);
+        match open(alloc, &mut ahead) {
             Ok(found) => Ok(JournalKeeper {
-                disk: held,
+                disk: ahead.into_disk(),
                 gate: found.gate,
                 rows: found.rows,
                 last: Last::Closed,
                 counts: Counts::new(),
             }),
-            Err(why) => Err(Unopened { why, disk: held }),
+            Err(why) => Err(Unopened {
+                why,
+                disk: ahead.into_disk(),
+            }),
         }
     }
 }
