@@ -13,3 +13,4 @@ mod using;
 
 pub use counting::count_rows;
 pub use opening::{Opening, first_bad, open_tables};
+pub use using::read_users;

@@ -3,15 +3,28 @@
 ghost use Rattle.std.specs.Prelude.{◌≡◌, ℕ, IfErr, IfOk, OnOk};
 ghost use Rattle.off_base.specs.declared.macs.Mac.{Mac};
 ghost use Rattle.off_defs.specs.State.{Tables};
+ghost use Rattle.off_outside.specs.KeeperCalls.{Looks, WalksOnce};
 ghost use Rattle.off_users.specs.Users.{StandsFor, named_by};
 ghost use Rattle.off_opening.specs.Marks.{marks_of, named_mark, named_first};
 
-use crate::marks::{Mark, Tie};
+use crate::marks::{Mark, Tie, read_marks};
 use off_base::{Mac, NoMemory};
 use off_defs::Key;
-use off_outside::KeepErr;
+use off_outside::{KeepErr, Keeper};
 use off_users::{Named, Users};
 use std::alloc::Global;
+
+/// What the modems of the tables name. It changes nothing.
+///
+/// An error is that of `open_tables`.
+pub fn read_users<K: Keeper>(alloc: Global, keeper: &mut K) -> Result<Users, KeepErr>
+    ensures told { Looks result (K.seen keeper.old) (K.seen keeper.new)
+        (λ users t. StandsFor users t) }
+    ensures walks { WalksOnce (K.seen keeper.old) (K.seen keeper.new) }
+{
+    let marks = read_marks(alloc, keeper)?;
+    users_in(alloc, marks.as_slice())
+}
 
 /// What modems name in tables that have these marks.
 pub(crate) fn users_in(alloc: Global, marks: &[Mark]) -> Result<Users, KeepErr>

@@ -29,3 +29,5 @@ mod runs;
 mod silence;
 #[cfg(test)]
 mod straying;
+#[cfg(test)]
+mod users;
