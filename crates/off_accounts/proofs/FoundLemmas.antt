@@ -19,7 +19,7 @@ use Rattle.off_accounts.specs.declared.searching.Sought.{Sought}
 use Rattle.off_accounts.specs.Tests.{found_rule, sought_rule}
 use Rattle.off_accounts.specs.declared.searching.Sought.TheVariants.{Overlapping, WithRelay, LiveLost}
 use Rattle.off_account_rules.specs.Rows.{passes}
-use Rattle.off_accounts.specs.Searches.{is_given_up, is_wanted, least_wanted, pool_number, lease_address, live_lost}
+use Rattle.off_accounts.specs.Searches.{is_given_up, least_wanted, pool_number, lease_address, live_lost}
 
 module _ {X : Type 0} (give : Key × Row → Option X) (test : X → Bool) where
   abbrev tested : Key × Row → Bool
