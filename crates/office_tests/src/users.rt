@@ -54,14 +54,24 @@ fn random_writes(alloc: Global, seed: u64) -> Result<Writes, NoMemory> {
     Ok(writes)
 }
 
+// The numbers of the subscriber and the class that a modem's row names.
+fn named_by(row: &Option<Row>) -> Option<(u32, u32)> {
+    let Some(held) = row else { return None };
+    match held {
+        Row::Modem(modem) => Some((modem.subscriber, modem.class)),
+        _ => None,
+    }
+}
+
 // The counts by the modems' rows, one by one.
 fn walked(alloc: Global, keeper: &mut MemKeeper) -> Result<Uses, KeepErr> {
     let mut uses = ([0; 4], [0; 4]);
     for last in 0..12_u8 {
         let key = Key::Modem(Mac([2, 0, 0, 0, 0, last]));
-        if let Some(Row::Modem(modem)) = keeper.get(alloc, &key)? {
-            count(&mut uses.0, modem.subscriber);
-            count(&mut uses.1, modem.class);
+        let row = keeper.get(alloc, &key)?;
+        if let Some((subscriber, class)) = named_by(&row) {
+            count(&mut uses.0, subscriber);
+            count(&mut uses.1, class);
         }
     }
     Ok(uses)
