@@ -21,12 +21,13 @@ use std::alloc::Global;
 /// What a clerk's command is to do, by the rules of its kind in their order, or the first rule that
 /// is broken. It writes nothing.
 ///
-/// The counts that are handed in are those of the tables, and so is who uses what; the counts of the
-/// plan are what they are once its writes are done. The tables needn't be good. `Failed` comes only where the keeper
-/// counted a fault.
+/// The counts that are handed in are those of the tables, and so is who uses what; the counts of
+/// the plan are what they are once its writes are done. The tables needn't be good. `Failed` comes
+/// only where the keeper counted a fault.
 ///
-/// A command that needs no walk over pools or leases makes nine calls of the keeper at most, and three
-/// where it doesn't remove a subscriber; an import makes three for each of its rows and one more.
+/// A command that needs no walk over pools or leases makes nine calls of the keeper at most, and
+/// three where it doesn't remove a subscriber; an import makes three for each of its rows and one
+/// more.
 pub fn decide<K: Keeper>(
     alloc: Global,
     keeper: &mut K,
