@@ -46,8 +46,8 @@ tie_stands tables (key.Batch n) held = true
 abbrev pub is_kept : Tables → Mark → Bool
 is_kept tables mark = mark.fits && tie_stands tables mark.key mark.tie
 
--- what an opening says of the tables: this is their least bad key; or they are good, these are their
--- counts, and so their modems use what they use
+-- what an opening says of the tables: this is their least bad key; or they are good, these are
+-- their counts, and this is what their modems name
 abbrev pub Opens : Tables → Opening → Type 0
 Opens tables (opening.Bad key) = IsLeastBad tables key
 Opens tables (opening.Good counts users) =

@@ -28,8 +28,8 @@ pub enum Opening {
 /// changes nothing.
 ///
 /// An error is the keeper's, or `Memory` where what is kept of the rows has no memory: 48 bytes a
-/// row, and up to three times as much while they grow, besides what `Users` keeps. The time grows as the number of rows times
-/// its logarithm, and as the number of leases times the number of pools.
+/// row, and up to three times as much while they grow, besides what `Users` keeps. The time grows as
+/// the number of rows times its logarithm, and as the number of leases times the number of pools.
 pub fn open_tables<K: Keeper>(alloc: Global, keeper: &mut K) -> Result<Opening, KeepErr>
     ensures told { Looks result (K.seen keeper.old) (K.seen keeper.new)
         (λ opening t. Opens t opening) }
