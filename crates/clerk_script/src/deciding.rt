@@ -3,7 +3,7 @@ ghost use Rattle.off_accounts.specs.Deciding.{is_import};
 
 use crate::counting::{keeper_of, show_counts};
 use crate::faults::show_fault;
-use off_accounts::{AccountErr, Planned, count_rows, decide};
+use off_accounts::{AccountErr, Planned, count_rows, decide, read_users};
 use off_base::{Moment, NoMemory};
 use off_clerk::Fault;
 use off_defs::{Command, Reply, Write};
@@ -72,7 +72,8 @@ fn planned_by(
         return Err(AccountErr::Failed);
     }
     let counts = count_rows(alloc, keeper)?;
-    decide(alloc, keeper, &counts, now, command)
+    let users = read_users(alloc, keeper)?;
+    decide(alloc, keeper, &counts, &users, now, command)
 }
 
 fn show_planned(page: &mut Page, planned: &Planned) -> Result<(), NoMemory> {

@@ -1,43 +1,29 @@
 -- What a search finds, as the rule says it.
-use Rattle.std.proofs.Common.{◌≡◌, ℕ, ◌==◌, Bool, true, false, cond, ◌&&◌, ◌||◌, Option, Some, None, is_some, option_map, List, [], ◌∷◌, refl, sym, ap, ◌∙◌}
-use Rattle.std.specs.List.{find, filter, filter_map, cons_option, list_any}
+use Rattle.std.proofs.Common.{◌≡◌, ℕ, Bool, true, false, cond, ◌&&◌, Option, Some, None, option_map, List, [], ◌∷◌, refl, sym, ap, ◌∙◌}
+use Rattle.std.specs.List.{find, filter, filter_map, cons_option}
 use Rattle.std.specs.FinMap as map
-use Rattle.off_base.specs.Choices.{when}
 use Rattle.off_base.specs.declared.addresses.Ip4.{Ip4}
-use Rattle.off_base.specs.declared.macs.Mac.{Mac}
 use Rattle.off_defs.specs.declared.keys.Key.{Key}
 use Rattle.off_defs.specs.declared.keys.Key.TheVariants as key
 use Rattle.off_defs.specs.declared.tables.Row.{Row}
 use Rattle.off_defs.specs.declared.tables.Row.TheVariants as row
 use Rattle.off_defs.specs.declared.tables.Pool.{Pool}
 use Rattle.off_defs.specs.declared.tables.Lease.{Lease}
-use Rattle.off_defs.specs.declared.tables.Modem.{Modem}
 use Rattle.off_defs.specs.declared.rules.Rule.{Rule}
 use Rattle.off_defs.specs.declared.rules.Rule.TheVariants as rule
 use Rattle.off_defs.specs.State.{Tables}
-use Rattle.off_account_rules.specs.Rows.{pool_of, fitting_pool, pool_fits, lease_of, leases, modem_of, modems}
+use Rattle.off_account_rules.specs.Rows.{pool_of, fitting_pool, pool_fits, lease_of, leases}
 use Rattle.off_account_rules.specs.Clerk.{pool_overlap, relay_taken, is_other_overlapping, is_other_with_relay, is_live}
 use Rattle.off_accounts.specs.declared.lost.Lost.{Lost}
 use Rattle.off_accounts.specs.declared.searching.Sought.{Sought}
 use Rattle.off_accounts.specs.Tests.{found_rule, sought_rule}
-use Rattle.off_accounts.specs.declared.searching.Sought.TheVariants.{Overlapping, WithRelay, LiveLost, OfSubscriber, OfClass}
+use Rattle.off_accounts.specs.declared.searching.Sought.TheVariants.{Overlapping, WithRelay, LiveLost}
 use Rattle.off_account_rules.specs.Rows.{passes}
-use Rattle.off_accounts.specs.Searches.{is_given_up, is_wanted, least_wanted, pool_number, lease_address, live_lost}
+use Rattle.off_accounts.specs.Searches.{is_given_up, least_wanted, pool_number, lease_address, live_lost}
 
 module _ {X : Type 0} (give : Key × Row → Option X) (test : X → Bool) where
   abbrev tested : Key × Row → Bool
   tested e = passes test (give e)
-
-  -- some value passes where an entry is found that gives one
-  any_first : (e : Key × Row) (given : Option X) (es : List (Key × Row)) → is_some (find tested es) ≡ list_any test (filter_map give es)
-      → is_some (cond (passes test given) (Some e) (find tested es)) ≡ list_any test (cons_option given (filter_map give es))
-  any_first e None es rest = rest
-  any_first e (Some x) es rest =
-      elim (test x) as (λ b. is_some (cond b (Some e) (find tested es)) ≡ (b || list_any test (filter_map give es))) [ true ↦ refl | false ↦ rest ]
-
-  pub any_found : (es : List (Key × Row)) → is_some (find tested es) ≡ list_any test (filter_map give es)
-  any_found [] = refl
-  any_found (e ∷ es) = any_first e (give e) es (any_found es)
 
   module _ {Y : Type 0} (said : X → Y) (read : Option Key → Option Y) (reads : (e : Key × Row) (x : X) → give e ≡ Some x → read (Some e.0) ≡ Some (said x)) (reads_none : read None ≡ None) where
     abbrev key_of_found : Option (Key × Row) → Option Key
@@ -99,16 +85,6 @@ relay_found n pool found t is =
 pub none_lost : (now : ℕ) (new : Option Pool) (t : Tables) → live_lost now None new t ≡ None
 none_lost now new t = ap (option_map (λ (entry : Ip4 × Lease). rule.PoolHasLeases entry.0)) (find_in_none (is_live now) (leases t))
 
-kept_some : (found : Option (Key × Row)) → is_some (option_map (λ (entry : Key × Row). entry.0) found) ≡ is_some found
-kept_some None = refl
-kept_some (Some e) = refl
-
-modems_found : (n : ℕ) (found : Option Key) (t : Tables) → found ≡ least_wanted (OfSubscriber n) t → is_some found ≡ list_any (λ (modem : Mac × Modem). modem.1.subscriber == n) (modems t)
-modems_found n found t is = ap is_some is ∙ kept_some (find (is_wanted (OfSubscriber n)) (map.entries t)) ∙ any_found modem_of (λ (modem : Mac × Modem). modem.1.subscriber == n) (map.entries t)
-
-class_found : (n : ℕ) (found : Option Key) (t : Tables) → found ≡ least_wanted (OfClass n) t → is_some found ≡ list_any (λ (modem : Mac × Modem). modem.1.class == n) (modems t)
-class_found n found t is = ap is_some is ∙ kept_some (find (is_wanted (OfClass n)) (map.entries t)) ∙ any_found modem_of (λ (modem : Mac × Modem). modem.1.class == n) (map.entries t)
-
 lost_found : (now : ℕ) (lost : Lost) (found : Option Key) (t : Tables) → found ≡ least_wanted (LiveLost (record { 0 = now }) lost) t
     → live_lost now (Some lost.old) lost.new t ≡ option_map rule.PoolHasLeases (lease_address found)
 lost_found now lost found t is =
@@ -121,5 +97,3 @@ pub found_is : (sought : Sought) (found : Option Key) (t : Tables) → found ≡
 found_is (Overlapping n pool) found t is = sym (overlap_found n pool found t is)
 found_is (WithRelay n pool) found t is = sym (relay_found n pool found t is)
 found_is (LiveLost now lost) found t is = sym (lost_found now.0 lost found t is)
-found_is (OfSubscriber n) found t is = ap (λ b. when b rule.HasModems) (modems_found n found t is)
-found_is (OfClass n) found t is = ap (λ b. when b rule.ClassInUse) (class_found n found t is)

@@ -8,6 +8,7 @@ use Rattle.off_account_rules.specs.Rows.{counts_of}
 use Rattle.off_account_rules.specs.Good.{Good}
 use Rattle.off_account_rules.specs.Clerk.{Decision, stepped_by, clerk_step}
 use Rattle.off_table_laws.proofs.StepLaws.{step_keeps_good}
+use Rattle.off_users.specs.Users.{UsersHeld, StandsFor}
 use Rattle.off_outside.specs.KeeperSeen.{KeeperSeen}
 use Rattle.off_outside.specs.KeeperCalls.{Reads}
 use Rattle.off_accounts.specs.declared.results.Planned.{Planned}
@@ -15,16 +16,16 @@ use Rattle.off_accounts.specs.declared.results.AccountErr.{AccountErr}
 use Rattle.off_accounts.specs.Deciding.{IsDecided, NotDecided}
 use Rattle.off_accounts.specs.Commands.{KeepsGood}
 
-planned_good : (counts : Counts) (now : ℕ) (command : Command) (planned : Planned) (old new : KeeperSeen) → IsTrue (is_sound command)
-    → Reads (λ t. counts ≡ counts_of t → IsDecided counts now command planned t) old new → KeepsGood counts command planned old
+planned_good : (counts : Counts) (users : UsersHeld) (now : ℕ) (command : Command) (planned : Planned) (old new : KeeperSeen) → IsTrue (is_sound command)
+    → Reads (λ t. counts ≡ counts_of t → StandsFor users t → IsDecided counts now command planned t) old new → KeepsGood counts users command planned old
 unfolding clerk_step
-planned_good counts now command planned old new sound reads t told agree fits good =
-    let is = (reads.tables t told).1 agree in
+planned_good counts users now command planned old new sound reads t told agree used fits good =
+    let is = (reads.tables t told).1 agree used in
     subst (λ (d : Decision). Good (stepped_by t d).tables) is.accepted (step_keeps_good t now command sound fits good)
 
 -- the same of what `decide` answers
-pub decided_good : (counts : Counts) (now : ℕ) (command : Command) (result : Result Planned AccountErr) (old new : KeeperSeen) → IsTrue (is_sound command)
-    → MatchResult result (λ planned. Reads (λ t. counts ≡ counts_of t → IsDecided counts now command planned t) old new) (λ err. NotDecided counts now command err old new)
-    → IfOk result (λ planned. KeepsGood counts command planned old)
-decided_good counts now command (Ok planned) old new sound reads = planned_good counts now command planned old new sound reads
-decided_good counts now command (Err err) old new sound not = tt
+pub decided_good : (counts : Counts) (users : UsersHeld) (now : ℕ) (command : Command) (result : Result Planned AccountErr) (old new : KeeperSeen) → IsTrue (is_sound command)
+    → MatchResult result (λ planned. Reads (λ t. counts ≡ counts_of t → StandsFor users t → IsDecided counts now command planned t) old new) (λ err. NotDecided counts users now command err old new)
+    → IfOk result (λ planned. KeepsGood counts users command planned old)
+decided_good counts users now command (Ok planned) old new sound reads = planned_good counts users now command planned old new sound reads
+decided_good counts users now command (Err err) old new sound not = tt

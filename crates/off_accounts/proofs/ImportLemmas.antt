@@ -36,6 +36,7 @@ use Rattle.off_accounts.specs.Tests.{limit_rule}
 use Rattle.off_accounts.proofs.CountsLemmas.{count_with, same_counts}
 use Rattle.off_accounts.proofs.LimitLemmas.{limit_is}
 use Rattle.off_rows.specs.Sound.{is_sound, is_row_of}
+use Rattle.off_users.specs.Users.{UsersHeld, StandsFor}
 use Rattle.off_outside.specs.declared.keeper.KeepErr.{KeepErr}
 use Rattle.off_outside.specs.declared.keeper.KeepErr.TheVariants as keeper
 use Rattle.off_outside.specs.declared.keeper.KeepErr.TheVariants.{Memory}
@@ -173,15 +174,15 @@ module _ {a b c : KeeperSeen} (counts : Counts) (number : ℕ) (batch : Batch) (
       subst (λ (e : KeepErr). NotDone e a c) (sym done) (reads_forgotten (reads_then read all (λ t one other. other)))
 
 -- what a clerk is answered
-pub import_answers : (counts : Counts) (now : ℕ) (c : Command) (number : ℕ) (batch : Batch) (rows : List ImportRow) (a b : KeeperSeen) (verdict : Result (Result Planned Refused) KeepErr) (result : Result Planned AccountErr)
+pub import_answers : (counts : Counts) (users : UsersHeld) (now : ℕ) (c : Command) (number : ℕ) (batch : Batch) (rows : List ImportRow) (a b : KeeperSeen) (verdict : Result (Result Planned Refused) KeepErr) (result : Result Planned AccountErr)
     → c ≡ Import batch.kind number batch.digest rows → result ≡ import_answer verdict → Looks verdict a b (λ one t. IsImported counts number batch rows t one)
-    → MatchResult result (λ planned. Reads (λ t. counts ≡ counts_of t → IsDecided counts now c planned t) a b) (λ err. NotDecided counts now c err a b)
-import_answers counts now c number batch rows a b (Ok (Ok planned)) result means is read =
-    rw is (reads_as read (λ t says agree. subst (λ (v : Command). IsDecided counts now v planned t) (sym means) (says agree now)))
-import_answers counts now c number batch rows a b (Ok (Err refused)) result means is read =
-    rw is (reads_as read (λ t says agree. subst (λ (v : Command). decided t now v ≡ Err (refusal refused.row refused.rule)) (sym means) (says agree now)))
-import_answers counts now c number batch rows a b (Err keeper.Memory) result means is read = rw is read
-import_answers counts now c number batch rows a b (Err keeper.Failed) result means is read = rw is read
+    → MatchResult result (λ planned. Reads (λ t. counts ≡ counts_of t → StandsFor users t → IsDecided counts now c planned t) a b) (λ err. NotDecided counts users now c err a b)
+import_answers counts users now c number batch rows a b (Ok (Ok planned)) result means is read =
+    rw is (reads_as read (λ t says agree used. subst (λ (v : Command). IsDecided counts now v planned t) (sym means) (says agree now)))
+import_answers counts users now c number batch rows a b (Ok (Err refused)) result means is read =
+    rw is (reads_as read (λ t says agree used. subst (λ (v : Command). decided t now v ≡ Err (refusal refused.row refused.rule)) (sym means) (says agree now)))
+import_answers counts users now c number batch rows a b (Err keeper.Memory) result means is read = rw is read
+import_answers counts users now c number batch rows a b (Err keeper.Failed) result means is read = rw is read
 
 -- the rows of a sound import are sound
 pub sound_rows : (c : Command) (kind : ImportKind) (number : ℕ) (digest : List ℕ) (rows : List ImportRow) → c ≡ Import kind number digest rows → IsTrue (is_sound c) → list_all is_sound_row rows ≡ true

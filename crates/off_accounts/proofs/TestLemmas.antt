@@ -1,6 +1,11 @@
 -- The tests of a command say what its rules say.
-use Rattle.std.proofs.Common.{◌≡◌, ℕ, zero, suc, ◌+◌, not, option_map, Option, Some, None, List, [], ◌∷◌, ◌++◌, map, refl, sym, ap, ◌∙◌}
+use Rattle.std.proofs.Common.{◌≡◌, ℕ, zero, suc, ◌+◌, ◌==◌, Bool, true, false, cond, ◌||◌, count_by, arith, not, option_map, Option, Some, None, List, [], ◌∷◌, ◌++◌, map, refl, sym, ap, ◌∙◌}
+use Rattle.std.specs.List.{list_any}
+use Rattle.std.proofs.lemmas.Bool.{eqb-true}
+use Rattle.std.proofs.lemmas.List.Sums.{sum_by-cons}
 use Rattle.off_base.specs.Choices.{when, first_there}
+use Rattle.off_base.specs.declared.macs.Mac.{Mac}
+use Rattle.off_defs.specs.declared.tables.Modem.{Modem}
 use Rattle.off_base.specs.declared.moments.Moment.{Moment}
 use Rattle.off_defs.specs.declared.keys.Key.{Key}
 use Rattle.off_defs.specs.declared.keys.Key.TheVariants as key
@@ -14,7 +19,7 @@ use Rattle.off_defs.specs.State.{Tables}
 use Rattle.off_tree.specs.declared.tables.Kind.TheVariants as tree
 use Rattle.off_tree.specs.Fault.{first_fault}
 use Rattle.off_account_rules.specs.declared.counts.Counts.{Counts}
-use Rattle.off_account_rules.specs.Rows.{has_pool_size, counts_of}
+use Rattle.off_account_rules.specs.Rows.{has_pool_size, counts_of, modems}
 use Rattle.off_account_rules.specs.Clerk.{limit, no_subscriber, no_class, no_row, pool_overlap, relay_taken, pool_has_leases, has_modems, class_in_use, rules_of, removal_rules}
 use Rattle.off_accounts.specs.declared.subject.Subject.{Subject}
 use Rattle.off_accounts.specs.Searches.{live_lost}
@@ -44,16 +49,40 @@ live_is now (Some old) new t = refl
 live_says : (now : Moment) (n : ℕ) (new : Option Pool) (subject : Subject) (t : Tables) → SubjectStands t (key.Pool n) subject → says t (live_test now subject.pool new) ≡ pool_has_leases t now.0 n new
 live_says now n new subject t stands = live_is now subject.pool new t ∙ ap (λ (old : Option Pool). live_lost now.0 old new t) stands.1
 
+-- some element passes where not none does
+positive : (n : ℕ) → not ((1 + n) == 0) ≡ true
+positive n =
+    elim ((1 + n) == 0) as (λ b. ((1 + n) == 0) ≡ b → not b ≡ true) [
+      | true ↦ λ e. let none : 1 + n ≡ 0 = eqb-true (1 + n) 0 e in absurd (omega (arith, none))
+      | false ↦ λ e. refl
+    ] refl
+
+any_counted : {X : Type 0} (test : X → Bool) (xs : List X) → not (count_by test xs == 0) ≡ list_any test xs
+any_counted test [] = refl
+any_counted {X} test (x ∷ xs) =
+    let one = sum_by-cons (λ (y : X). cond (test y) 1 0) x xs in
+    let none : 0 + count_by test xs ≡ count_by test xs = omega arith in
+    ap (λ n. not (n == 0)) one
+    ∙ elim (test x) as (λ b. not ((cond b 1 0 + count_by test xs) == 0) ≡ (b || list_any test xs)) [
+      | true ↦ positive (count_by test xs)
+      | false ↦ ap (λ n. not (n == 0)) none ∙ any_counted test xs
+    ]
+
+use_says : {X : Type 0} (test : X → Bool) (broken : Rule) (uses : ℕ) (xs : List X) → uses ≡ count_by test xs → when (not (uses == 0)) broken ≡ when (list_any test xs) broken
+use_says test broken uses xs is = ap (λ n. when (not (n == 0)) broken) is ∙ ap (λ b. when b broken) (any_counted test xs)
+
 module _ (now : Moment) (subject : Subject) (t : Tables) where
   row_alone : (removed : Key) → SubjectStands t removed subject → first_there (when (not subject.is_there) rule.NoRow ∷ nones 4) ≡ first_there (no_row t removed ∷ [])
   row_alone removed stands = ap (λ (r : Option Rule). first_there (r ∷ nones 4)) (row_is removed t subject.is_there stands.0) ∙ padded (no_row t removed ∷ []) 4
 
   removal_says : (removed : Key) → SubjectStands t removed subject → first_there (map (says t) (removal_tests now subject removed)) ≡ first_there (removal_rules t now.0 removed)
   removal_says (key.Subscriber n) stands =
-      ap (λ (r : Option Rule). first_there (r ∷ has_modems t n ∷ nones 3)) (row_is (key.Subscriber n) t subject.is_there stands.0)
+      ap (λ (r : Option Rule). first_there (r ∷ when (not (subject.uses == 0)) rule.HasModems ∷ nones 3)) (row_is (key.Subscriber n) t subject.is_there stands.0)
+      ∙ ap (λ (r : Option Rule). first_there (no_row t (key.Subscriber n) ∷ r ∷ nones 3)) (use_says (λ (entry : Mac × Modem). entry.1.subscriber == n) rule.HasModems subject.uses (modems t) stands.2)
       ∙ padded (no_row t (key.Subscriber n) ∷ has_modems t n ∷ []) 3
   removal_says (key.Class n) stands =
-      ap (λ (r : Option Rule). first_there (r ∷ class_in_use t n ∷ nones 3)) (row_is (key.Class n) t subject.is_there stands.0)
+      ap (λ (r : Option Rule). first_there (r ∷ when (not (subject.uses == 0)) rule.ClassInUse ∷ nones 3)) (row_is (key.Class n) t subject.is_there stands.0)
+      ∙ ap (λ (r : Option Rule). first_there (no_row t (key.Class n) ∷ r ∷ nones 3)) (use_says (λ (entry : Mac × Modem). entry.1.class == n) rule.ClassInUse subject.uses (modems t) stands.2)
       ∙ padded (no_row t (key.Class n) ∷ class_in_use t n ∷ []) 3
   removal_says (key.Pool n) stands =
       ap (λ (r : Option Rule). first_there (r ∷ says t (live_test now subject.pool None) ∷ nones 3)) (row_is (key.Pool n) t subject.is_there stands.0)

@@ -9,6 +9,7 @@ use Rattle.off_account_rules.specs.declared.counts.Counts.{Counts}
 use Rattle.off_account_rules.specs.Rows.{counts_of}
 use Rattle.off_account_rules.specs.Good.{Good}
 use Rattle.off_table_laws.specs.Laws.{secret_fits}
+use Rattle.off_users.specs.Users.{UsersHeld, StandsFor}
 use Rattle.off_outside.specs.KeeperSeen.{KeeperSeen}
 use Rattle.off_accounts.specs.declared.results.Planned.{Planned}
 
@@ -24,12 +25,12 @@ AnswersImport (PutPool n pool) planned = Unit {0}
 AnswersImport (Remove key) planned = Unit {0}
 AnswersImport (Show key) planned = Unit {0}
 
--- good tables stay good behind what is planned, where the counts were theirs; a site's secret has
--- 64 bytes at most
-abbrev pub KeepsGood : Counts → Command → Planned → KeeperSeen → Type 0
-KeepsGood counts command planned old =
-    (t : Tables) → old.tables t → counts ≡ counts_of t → IsTrue (secret_fits command) → Good t
-    → Good (write_all t planned.writes)
+-- good tables stay good behind what is planned, where the counts were theirs, and what was known of
+-- who uses what; a site's secret has 64 bytes at most
+abbrev pub KeepsGood : Counts → UsersHeld → Command → Planned → KeeperSeen → Type 0
+KeepsGood counts users command planned old =
+    (t : Tables) → old.tables t → counts ≡ counts_of t → StandsFor users t
+    → IsTrue (secret_fits command) → Good t → Good (write_all t planned.writes)
 
 -- how many calls of the keeper an import makes at most: one for its batch, and three for each row
 abbrev pub most_import_calls : Command → Option ℕ

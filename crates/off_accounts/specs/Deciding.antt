@@ -16,6 +16,7 @@ use Rattle.off_account_rules.specs.declared.counts.Counts.{Counts}
 use Rattle.off_account_rules.specs.Rows.{is_possible, counts_of}
 use Rattle.off_account_rules.specs.Clerk.{rules_of, writes_of, decided, by_rule, accepted, refusal}
 use Rattle.off_defs.specs.declared.rules.Rule.{Rule}
+use Rattle.off_users.specs.Users.{UsersHeld, StandsFor}
 use Rattle.off_outside.specs.declared.keeper.KeepErr.{KeepErr}
 use Rattle.off_outside.specs.declared.keeper.KeepErr.TheVariants as keeper
 use Rattle.off_outside.specs.KeeperSeen.{KeeperSeen}
@@ -36,14 +37,14 @@ is_import (PutPool n pool) = false
 is_import (Remove key) = false
 is_import (Show key) = false
 
--- how many calls of the keeper a command makes at most; the others walk the tables, and have no
--- bound
+-- how many calls of the keeper a command makes at most, where it makes no walk over pools or
+-- leases: with a subscriber go its add-ons, each of which is looked up
 abbrev pub most_calls_removing : Key → Option ℕ
 most_calls_removing key.Site = Some 1
-most_calls_removing (key.Subscriber n) = None
+most_calls_removing (key.Subscriber n) = Some 9
 most_calls_removing (key.AddOn n number) = Some 1
 most_calls_removing (key.Modem mac) = Some 1
-most_calls_removing (key.Class n) = None
+most_calls_removing (key.Class n) = Some 1
 most_calls_removing (key.Pool n) = None
 most_calls_removing (key.Lease address) = Some 1
 most_calls_removing (key.Held mac) = Some 1
@@ -59,6 +60,29 @@ most_calls (PutPool n pool) = None
 most_calls (Remove removed) = most_calls_removing removed
 most_calls (Show shown) = Some 1
 most_calls (Import kind batch digest rows) = None
+
+-- how many of them are made to count what is gone
+abbrev pub calls_to_count_removed : Key → ℕ
+calls_to_count_removed (key.Subscriber n) = 8
+calls_to_count_removed key.Site = 0
+calls_to_count_removed (key.AddOn n number) = 0
+calls_to_count_removed (key.Modem mac) = 0
+calls_to_count_removed (key.Class n) = 0
+calls_to_count_removed (key.Pool n) = 0
+calls_to_count_removed (key.Lease address) = 0
+calls_to_count_removed (key.Held mac) = 0
+calls_to_count_removed (key.Batch n) = 0
+
+abbrev pub calls_to_count : Command → ℕ
+calls_to_count (Remove removed) = calls_to_count_removed removed
+calls_to_count (SetSite site) = 0
+calls_to_count (PutSubscriber n subscriber) = 0
+calls_to_count (PutAddOn n number settings) = 0
+calls_to_count (PutModem mac modem) = 0
+calls_to_count (PutClass n class) = 0
+calls_to_count (PutPool n pool) = 0
+calls_to_count (Show shown) = 0
+calls_to_count (Import kind batch digest rows) = 0
 
 -- a command that the book decides by its list of rules
 abbrev pub IsByRules : Command → Type 0
@@ -84,19 +108,22 @@ pub record IsDecided (counts : Counts) (now : ℕ) (command : Command) (planned 
   pub accepted : decided t now command ≡ Ok (accepted planned.writes planned.reply)
   pub counted : planned.counts ≡ counts_of (write_all t planned.writes)
 
--- the command is planned so, or this rule refuses it, where the counts are those of the tables
-abbrev pub IsRuling : Counts → ℕ → Command → Tables → Result Planned Rule → Type 0
-IsRuling counts now command t (Ok planned) =
-    counts ≡ counts_of t → IsDecided counts now command planned t
-IsRuling counts now command t (Err broken) =
-    counts ≡ counts_of t → decided t now command ≡ Err (refusal 0 broken)
+-- the command is planned so, or this rule refuses it, where the counts are those of the tables, and
+-- what is known of who uses what is theirs
+abbrev pub IsRuling : Counts → UsersHeld → ℕ → Command → Tables → Result Planned Rule → Type 0
+IsRuling counts users now command t (Ok planned) =
+    counts ≡ counts_of t → StandsFor users t → IsDecided counts now command planned t
+IsRuling counts users now command t (Err broken) =
+    counts ≡ counts_of t → StandsFor users t → decided t now command ≡ Err (refusal 0 broken)
 
 -- the command isn't to be done: a rule refuses it, or the keeper failed, or memory was wanted
-abbrev pub NotDecided : Counts → ℕ → Command → AccountErr → KeeperSeen → KeeperSeen → Type 0
-NotDecided counts now command (Refused row broken) old new =
-    Reads (λ t. counts ≡ counts_of t → decided t now command ≡ Err (refusal row broken)) old new
-NotDecided counts now command Failed old new = NotDone keeper.Failed old new
-NotDecided counts now command Memory old new = NotDone keeper.Memory old new
+abbrev pub NotDecided : Counts → UsersHeld → ℕ → Command → AccountErr → KeeperSeen → KeeperSeen
+    → Type 0
+NotDecided counts users now command (Refused row broken) old new =
+    Reads (λ t. counts ≡ counts_of t → StandsFor users t
+    → decided t now command ≡ Err (refusal row broken)) old new
+NotDecided counts users now command Failed old new = NotDone keeper.Failed old new
+NotDecided counts users now command Memory old new = NotDone keeper.Memory old new
 
 -- the row of a key as a clerk is shown it, which is of the key's kind
 pub record ShowsRow (key : Key) (reply : Reply) : Type 0 where

@@ -1,5 +1,5 @@
 -- What is looked for among the tables' entries, so that a rule can be tested.
-use Rattle.std.specs.Prelude.{ℕ, ◌==◌, Bool, ◌&&◌, Option, Some, None, List, [], option_map, cond}
+use Rattle.std.specs.Prelude.{ℕ, Bool, ◌&&◌, Option, Some, None, List, [], option_map, cond}
 use Rattle.std.specs.List.{find, filter}
 use Rattle.std.specs.FinMap as map
 use Rattle.off_base.specs.declared.addresses.Ip4.{Ip4}
@@ -12,11 +12,11 @@ use Rattle.off_defs.specs.declared.orders.Write.{Write}
 use Rattle.off_defs.specs.declared.rules.Rule.{Rule}
 use Rattle.off_defs.specs.declared.rules.Rule.TheVariants as rule
 use Rattle.off_defs.specs.State.{Tables}
-use Rattle.off_account_rules.specs.Rows.{passes, modem_of, pool_of, lease_of, leases}
+use Rattle.off_account_rules.specs.Rows.{passes, pool_of, lease_of, leases}
 use Rattle.off_account_rules.specs.Clerk.{is_other_overlapping, is_other_with_relay, gives_up, is_live, lease_drops}
 use Rattle.off_accounts.specs.declared.lost.Lost.{Lost}
 use Rattle.off_accounts.specs.declared.searching.Sought.{Sought}
-use Rattle.off_accounts.specs.declared.searching.Sought.TheVariants.{Overlapping, WithRelay, LiveLost, OfSubscriber, OfClass}
+use Rattle.off_accounts.specs.declared.searching.Sought.TheVariants.{Overlapping, WithRelay, LiveLost}
 
 -- the lease of an address that the pool gives up
 abbrev pub is_given_up : Lost → Ip4 × Lease → Bool
@@ -27,8 +27,6 @@ is_wanted (Overlapping n pool) entry = passes (is_other_overlapping n pool) (poo
 is_wanted (WithRelay n pool) entry = passes (is_other_with_relay n pool) (pool_of entry)
 is_wanted (LiveLost now lost) entry =
     passes (λ lease. is_given_up lost lease && is_live now.0 lease) (lease_of entry)
-is_wanted (OfSubscriber n) entry = passes (λ modem. modem.1.subscriber == n) (modem_of entry)
-is_wanted (OfClass n) entry = passes (λ modem. modem.1.class == n) (modem_of entry)
 
 -- the least key that is wanted
 abbrev pub least_wanted : Sought → Tables → Option Key

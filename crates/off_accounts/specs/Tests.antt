@@ -18,10 +18,11 @@ use Rattle.off_defs.specs.declared.orders.Command.TheVariants.{SetSite, PutSubsc
 use Rattle.off_defs.specs.State.{Tables}
 use Rattle.off_account_rules.specs.declared.counts.Counts.{Counts}
 use Rattle.off_account_rules.specs.Rows.{seen_at, as_pool, is_lease_time, is_offset, has_pool_size}
-use Rattle.off_account_rules.specs.Clerk.{limit_of, no_subscriber, no_class, pool_overlap, relay_taken, has_modems, class_in_use}
+use Rattle.off_account_rules.specs.Clerk.{limit_of, no_subscriber, no_class, pool_overlap, relay_taken}
+use Rattle.off_users.specs.Users.{subscriber_uses, class_uses}
 use Rattle.off_accounts.specs.declared.subject.Subject.{Subject}
 use Rattle.off_accounts.specs.declared.searching.Sought.{Sought}
-use Rattle.off_accounts.specs.declared.searching.Sought.TheVariants.{Overlapping, WithRelay, LiveLost, OfSubscriber, OfClass}
+use Rattle.off_accounts.specs.declared.searching.Sought.TheVariants.{Overlapping, WithRelay, LiveLost}
 use Rattle.off_accounts.specs.declared.testing.Test.{Test}
 use Rattle.off_accounts.specs.declared.testing.Test.TheVariants.{Tested, HasSubscriber, HasClass, FindsNone}
 use Rattle.off_accounts.specs.Changes.{count_in}
@@ -32,15 +33,11 @@ abbrev pub found_rule : Sought → Option Key → Option Rule
 found_rule (Overlapping n pool) found = option_map rule.PoolOverlap (pool_number found)
 found_rule (WithRelay n pool) found = option_map rule.RelayTaken (pool_number found)
 found_rule (LiveLost now lost) found = option_map rule.PoolHasLeases (lease_address found)
-found_rule (OfSubscriber n) found = when (is_some found) rule.HasModems
-found_rule (OfClass n) found = when (is_some found) rule.ClassInUse
 
 abbrev pub sought_rule : Sought → Tables → Option Rule
 sought_rule (Overlapping n pool) t = pool_overlap t n pool
 sought_rule (WithRelay n pool) t = relay_taken t n pool
 sought_rule (LiveLost now lost) t = live_lost now.0 (Some lost.old) lost.new t
-sought_rule (OfSubscriber n) t = has_modems t n
-sought_rule (OfClass n) t = class_in_use t n
 
 -- what a test says of tables: the rule that is broken
 abbrev pub says : Tables → Test → Option Rule
@@ -62,11 +59,24 @@ searches (HasSubscriber n) = false
 searches (HasClass n) = false
 searches (FindsNone sought) = true
 
+-- how many modems name what stands at a key
+abbrev pub uses_at : Tables → Key → ℕ
+uses_at t (key.Subscriber n) = subscriber_uses t n
+uses_at t (key.Class n) = class_uses t n
+uses_at t key.Site = 0
+uses_at t (key.AddOn n number) = 0
+uses_at t (key.Modem mac) = 0
+uses_at t (key.Pool n) = 0
+uses_at t (key.Lease address) = 0
+uses_at t (key.Held mac) = 0
+uses_at t (key.Batch n) = 0
+
 -- what the tables have at the key of a command, before it
 abbrev pub SubjectStands : Tables → Key → Subject → Type 0
 SubjectStands t key subject =
     (subject.is_there ≡ is_some (seen_at t key))
     × (subject.pool ≡ option_and_then as_pool (seen_at t key))
+    × (subject.uses ≡ uses_at t key)
 
 abbrev pub IsSubject : Command → Subject → Tables → Type 0
 IsSubject (SetSite site) subject t = Unit {0}
@@ -103,6 +113,10 @@ limit_test counts kind subject = Tested (limit_rule counts kind subject.is_there
 abbrev pub row_test : Subject → Test
 row_test subject = Tested (when (not subject.is_there) rule.NoRow)
 
+-- no modem names what is removed
+abbrev pub use_test : Subject → Rule → Test
+use_test subject broken = Tested (when (not (subject.uses == 0)) broken)
+
 -- no lease that hasn't expired is lost where a pool, or none, takes the place of the pool, or none,
 -- that is there
 abbrev pub live_test : Moment → Option Pool → Option Pool → Test
@@ -116,9 +130,9 @@ no_test = Tested None
 -- The tests of a command, one for each of its rules, five in all.
 abbrev pub removal_tests : Moment → Subject → Key → List Test
 removal_tests now subject (key.Subscriber n) =
-    row_test subject ∷ FindsNone (OfSubscriber n) ∷ no_test ∷ no_test ∷ no_test ∷ []
+    row_test subject ∷ use_test subject rule.HasModems ∷ no_test ∷ no_test ∷ no_test ∷ []
 removal_tests now subject (key.Class n) =
-    row_test subject ∷ FindsNone (OfClass n) ∷ no_test ∷ no_test ∷ no_test ∷ []
+    row_test subject ∷ use_test subject rule.ClassInUse ∷ no_test ∷ no_test ∷ no_test ∷ []
 removal_tests now subject (key.Pool n) =
     row_test subject ∷ live_test now subject.pool None ∷ no_test ∷ no_test ∷ no_test ∷ []
 removal_tests now subject key.Site = row_test subject ∷ no_test ∷ no_test ∷ no_test ∷ no_test ∷ []

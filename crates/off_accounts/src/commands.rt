@@ -1,6 +1,7 @@
 ghost use Rattle.std.specs.Prelude.{◌≡◌, IsTrue, MatchResult, IfOk, IfSome};
 ghost use Rattle.off_rows.specs.Sound.{is_sound};
 ghost use Rattle.off_account_rules.specs.Rows.{counts_of};
+ghost use Rattle.off_users.specs.Users.{StandsFor};
 ghost use Rattle.off_outside.specs.KeeperCalls.{Reads, Spent};
 ghost use Rattle.off_accounts.specs.Deciding.{most_calls, IsDecided, NotDecided, AnswersCommand};
 ghost use Rattle.off_accounts.specs.Commands.{AnswersImport, KeepsGood};
@@ -14,32 +15,36 @@ use off_account_rules::Counts;
 use off_base::Moment;
 use off_defs::{Batch, Command};
 use off_outside::{KeepErr, Keeper};
+use off_users::Users;
 use std::alloc::Global;
 
 /// What a clerk's command is to do, by the rules of its kind in their order, or the first rule that
 /// is broken. It writes nothing.
 ///
-/// The counts that are handed in are those of the tables, and those of the plan are what they are
-/// once its writes are done. The tables needn't be good. `Failed` comes only where the keeper
-/// counted a fault.
+/// The counts that are handed in are those of the tables, and so is who uses what; the counts of
+/// the plan are what they are once its writes are done. The tables needn't be good. `Failed` comes
+/// only where the keeper counted a fault.
 ///
-/// A command that needs no walk over the tables makes three calls of the keeper at most; an import
-/// three for each of its rows and one more.
+/// A command that needs no walk over pools or leases makes nine calls of the keeper at most, and
+/// three where it doesn't remove a subscriber; an import makes three for each of its rows and one
+/// more.
 pub fn decide<K: Keeper>(
     alloc: Global,
     keeper: &mut K,
     counts: &Counts,
+    users: &Users,
     now: Moment,
     c: &Command,
 ) -> Result<Planned, AccountErr>
     requires sound { IsTrue (is_sound c.now) }
     ensures told { MatchResult result
-        (λ planned. Reads (λ t. counts.now ≡ counts_of t
+        (λ planned. Reads (λ t. counts.now ≡ counts_of t → StandsFor users.now t
         → IsDecided counts.now now.0 c.now planned t) (K.seen keeper.old) (K.seen keeper.new))
-        (λ err. NotDecided counts.now now.0 c.now err (K.seen keeper.old) (K.seen keeper.new)) }
+        (λ err. NotDecided counts.now users.now now.0 c.now err
+        (K.seen keeper.old) (K.seen keeper.new)) }
     ensures answers { IfOk result (λ planned. AnswersCommand c.now planned) }
     ensures rows { IfOk result (λ planned. AnswersImport c.now planned) }
-    ensures good { IfOk result (λ planned. KeepsGood counts.now c.now planned
+    ensures good { IfOk result (λ planned. KeepsGood counts.now users.now c.now planned
         (K.seen keeper.old)) }
     ensures spent { IfSome (most_calls c.now)
         (λ n. Spent n (K.seen keeper.old) (K.seen keeper.new)) }
@@ -53,7 +58,7 @@ pub fn decide<K: Keeper>(
         rows,
     } = c
     else {
-        return crate::deciding::decide(alloc, keeper, counts, now, c);
+        return crate::deciding::decide(alloc, keeper, counts, users, now, c);
     };
     let kept = Batch {
         kind: *kind,

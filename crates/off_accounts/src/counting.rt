@@ -5,7 +5,7 @@ ghost use Rattle.off_rows.specs.Sound.{is_sound, is_removable};
 ghost use Rattle.off_account_rules.specs.Rows.{seen_at};
 ghost use Rattle.off_account_rules.specs.Clerk.{add_on_keys};
 ghost use Rattle.off_outside.specs.KeeperCalls.{Looks, Spent};
-ghost use Rattle.off_accounts.specs.Deciding.{most_calls, most_calls_removing};
+ghost use Rattle.off_accounts.specs.Deciding.{calls_to_count, calls_to_count_removed};
 ghost use Rattle.off_accounts.specs.After.{CountsAfter, CountsAfterRemoval};
 
 use crate::limits::{counts_put, fewer_add_ons, one_less};
@@ -27,8 +27,7 @@ pub(crate) fn counts_after<K: Keeper>(
     requires { is_sound c.now ≡ true }
     ensures told { Looks result (K.seen keeper.old) (K.seen keeper.new)
         (λ after t. CountsAfter counts.now subject.now c.now t after) }
-    ensures spent { is_some (most_calls c.now) ≡ true
-        → Spent 0 (K.seen keeper.old) (K.seen keeper.new) }
+    ensures spent { Spent (calls_to_count c.now) (K.seen keeper.old) (K.seen keeper.new) }
 {
     let is_there = subject.is_there;
     match c {
@@ -53,8 +52,8 @@ fn counts_after_removal<K: Keeper>(
     requires { is_removable key.now ≡ true }
     ensures told { Looks result (K.seen keeper.old) (K.seen keeper.new)
         (λ after t. CountsAfterRemoval counts.now key.now t after) }
-    ensures spent { is_some (most_calls_removing key.now) ≡ true
-        → Spent 0 (K.seen keeper.old) (K.seen keeper.new) }
+    ensures spent { Spent (calls_to_count_removed key.now)
+        (K.seen keeper.old) (K.seen keeper.new) }
 {
     match *key {
         Key::Subscriber(n) => {
@@ -72,8 +71,9 @@ fn counts_after_removal<K: Keeper>(
 
 // How many add-ons the subscriber has.
 fn count_add_ons<K: Keeper>(alloc: Global, keeper: &mut K, n: u32) -> Result<u64, KeepErr>
-    ensures { Looks result (K.seen keeper.old) (K.seen keeper.new)
+    ensures told { Looks result (K.seen keeper.old) (K.seen keeper.new)
         (λ count t. count ≡ count_by (λ key. is_some (seen_at t key)) (add_on_keys n)) }
+    ensures spent { Spent 8 (K.seen keeper.old) (K.seen keeper.new) }
 {
     let mut count: u64 = 0;
     for number in 0..ADD_ONS {

@@ -3,6 +3,7 @@ ghost use Rattle.off_defs.specs.declared.orders.Command.TheVariants.{Show};
 ghost use Rattle.off_defs.specs.declared.orders.Reply.TheVariants.{Done};
 ghost use Rattle.off_rows.specs.Sound.{is_sound};
 ghost use Rattle.off_account_rules.specs.Rows.{counts_of};
+ghost use Rattle.off_users.specs.Users.{StandsFor};
 ghost use Rattle.off_outside.specs.KeeperCalls.{Looks, Reads, Spent};
 ghost use Rattle.off_accounts.specs.Deciding.{is_import, most_calls, IsByRules, IsRuling};
 ghost use Rattle.off_accounts.specs.Deciding.{IsDecided, NotDecided, AnswersCommand, clerk_answer};
@@ -18,34 +19,38 @@ use off_base::Moment;
 use off_defs::{Command, Key, Reply, Rule, ShownRow, Writes};
 use off_outside::{KeepErr, Keeper};
 use off_readers::read_row;
+use off_users::Users;
 use std::alloc::Global;
 
 /// What a clerk's command is to do, by the rules of its kind in their order, or the first rule that
 /// is broken. It writes nothing.
 ///
-/// The counts that are handed in are those of the tables, and those of the plan are what they are
-/// once its writes are done. The tables needn't be good. `Failed` comes only where the keeper
-/// counted a fault.
+/// The counts that are handed in are those of the tables, and so is who uses what; the counts of
+/// the plan are what they are once its writes are done. The tables needn't be good. `Failed` comes
+/// only where the keeper counted a fault.
 ///
-/// A command that needs no walk over the tables makes three calls of the keeper at most.
+/// A command that needs no walk over pools or leases makes nine calls of the keeper at most, and
+/// three where it doesn't remove a subscriber.
 pub fn decide<K: Keeper>(
     alloc: Global,
     keeper: &mut K,
     counts: &Counts,
+    users: &Users,
     now: Moment,
     c: &Command,
 ) -> Result<Planned, AccountErr>
     requires sound { IsTrue (is_sound c.now) }
     requires not_import { is_import c.now ≡ false }
     ensures told { MatchResult result
-        (λ planned. Reads (λ t. counts.now ≡ counts_of t
+        (λ planned. Reads (λ t. counts.now ≡ counts_of t → StandsFor users.now t
         → IsDecided counts.now now.0 c.now planned t) (K.seen keeper.old) (K.seen keeper.new))
-        (λ err. NotDecided counts.now now.0 c.now err (K.seen keeper.old) (K.seen keeper.new)) }
+        (λ err. NotDecided counts.now users.now now.0 c.now err
+        (K.seen keeper.old) (K.seen keeper.new)) }
     ensures answers { IfOk result (λ planned. AnswersCommand c.now planned) }
     ensures spent { IfSome (most_calls c.now)
         (λ n. Spent n (K.seen keeper.old) (K.seen keeper.new)) }
 {
-    let verdict = verdict_on(alloc, keeper, counts, now, c);
+    let verdict = verdict_on(alloc, keeper, counts, users, now, c);
     clerk_answer(verdict)
 }
 
@@ -54,26 +59,27 @@ fn verdict_on<K: Keeper>(
     alloc: Global,
     keeper: &mut K,
     counts: &Counts,
+    users: &Users,
     now: Moment,
     c: &Command,
 ) -> Result<Result<Planned, Rule>, KeepErr>
     requires sound { IsTrue (is_sound c.now) }
     requires not_import { is_import c.now ≡ false }
     ensures told { Looks result (K.seen keeper.old) (K.seen keeper.new)
-        (λ verdict t. IsRuling counts.now now.0 c.now t verdict) }
+        (λ verdict t. IsRuling counts.now users.now now.0 c.now t verdict) }
     ensures answers { IfOk result (λ verdict. IfOk verdict
         (λ planned. AnswersCommand c.now planned)) }
     ensures spent { IfSome (most_calls c.now)
         (λ n. Spent n (K.seen keeper.old) (K.seen keeper.new)) }
 {
     if let Command::Show(key) = c {
-        return show(alloc, keeper, counts, now, key);
+        return show(alloc, keeper, counts, users, now, key);
     }
     let asked = Asked {
         counts: *counts,
         at: now,
     };
-    change(alloc, keeper, &asked, c)
+    change(alloc, keeper, &asked, users, c)
 }
 
 fn clerk_answer(verdict: Result<Result<Planned, Rule>, KeepErr>) -> Result<Planned, AccountErr>
@@ -90,11 +96,12 @@ fn show<K: Keeper>(
     alloc: Global,
     keeper: &mut K,
     counts: &Counts,
+    users: &Users,
     now: Moment,
     key: &Key,
 ) -> Result<Result<Planned, Rule>, KeepErr>
     ensures told { Looks result (K.seen keeper.old) (K.seen keeper.new)
-        (λ verdict t. IsRuling counts.now now.0 (Show key.now) t verdict) }
+        (λ verdict t. IsRuling counts.now users.now now.0 (Show key.now) t verdict) }
     ensures answers { IfOk result (λ verdict. IfOk verdict (λ planned.
         AnswersCommand (Show key.now) planned)) }
     ensures spent { Spent 1 (K.seen keeper.old) (K.seen keeper.new) }
@@ -117,17 +124,18 @@ fn change<K: Keeper>(
     alloc: Global,
     keeper: &mut K,
     asked: &Asked,
+    users: &Users,
     c: &Command,
 ) -> Result<Result<Planned, Rule>, KeepErr>
     requires sound { IsTrue (is_sound c.now) }
     requires changes { IsByRules c.now }
     ensures told { Looks result (K.seen keeper.old) (K.seen keeper.new)
-        (λ verdict t. IsRuling asked.now.counts asked.now.at.0 c.now t verdict) }
+        (λ verdict t. IsRuling asked.now.counts users.now asked.now.at.0 c.now t verdict) }
     ensures answers { IfOk result (λ verdict. IfOk verdict (λ planned. planned.reply ≡ Done)) }
     ensures spent { IfSome (most_calls c.now)
         (λ n. Spent n (K.seen keeper.old) (K.seen keeper.new)) }
 {
-    let subject = subject_of(alloc, keeper, c)?;
+    let subject = subject_of(alloc, keeper, users, c)?;
     let tests = tests_of(asked, &subject, c);
     if let Some(rule) = first_broken(alloc, keeper, &tests)? {
         return Ok(Err(rule));

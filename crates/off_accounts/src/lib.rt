@@ -34,5 +34,6 @@ mod wanted;
 
 pub use commands::decide;
 pub use off_account_rules::Counts;
-pub use off_opening::{Opening, count_rows, first_bad, open_tables};
+pub use off_opening::{Opening, count_rows, first_bad, open_tables, read_users};
+pub use off_users::Users;
 pub use results::{AccountErr, Planned};

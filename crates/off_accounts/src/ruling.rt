@@ -2,7 +2,7 @@
 
 ghost use Rattle.std.specs.Prelude.{◌≡◌};
 ghost use Rattle.off_accounts.specs.Tests.{tests_of, pool_tests, removal_tests, site_tests};
-ghost use Rattle.off_accounts.specs.Tests.{live_test, limit_test, row_test};
+ghost use Rattle.off_accounts.specs.Tests.{live_test, limit_test, row_test, use_test};
 
 use crate::limits::limit_rule;
 use crate::lost::Lost;
@@ -75,8 +75,8 @@ fn removal_tests(at: Moment, subject: &Subject, key: &Key) -> [Test; 5]
     ensures { result ≡ removal_tests at subject.now key.now }
 {
     let second = match *key {
-        Key::Subscriber(n) => Test::FindsNone(Sought::OfSubscriber(n)),
-        Key::Class(n) => Test::FindsNone(Sought::OfClass(n)),
+        Key::Subscriber(_) => use_test(subject, Rule::HasModems),
+        Key::Class(_) => use_test(subject, Rule::ClassInUse),
         Key::Pool(_) => live_test(at, subject.pool, None),
         Key::Site | Key::AddOn(_, _) | Key::Modem(_) => NO_TEST,
         Key::Lease(_) | Key::Held(_) | Key::Batch(_) => NO_TEST,
@@ -106,6 +106,13 @@ fn row_test(subject: &Subject) -> Test
     ensures { result ≡ row_test subject.now }
 {
     Test::Tested(unless(subject.is_there, Rule::NoRow))
+}
+
+// No modem names what is removed.
+fn use_test(subject: &Subject, rule: Rule) -> Test
+    ensures { result ≡ use_test subject.now rule }
+{
+    Test::Tested(unless(subject.uses == 0, rule))
 }
 
 // No lease that hasn't expired is lost where a pool, or none, takes the place of another, or of

@@ -10,7 +10,7 @@ use crate::wanted::is_wanted;
 use off_base::Moment;
 use off_defs::{Key, Pool};
 use off_outside::{KeepErr, Keeper};
-use off_readers::{is_past_modems, is_past_pools, next_behind};
+use off_readers::{is_past_pools, next_behind};
 use std::alloc::Global;
 
 /// What is looked for: the least key of such a row.
@@ -22,10 +22,6 @@ pub enum Sought {
     WithRelay(u32, Pool),
     /// A lease that is lost before it has expired.
     LiveLost(Moment, Lost),
-    /// A modem of the subscriber.
-    OfSubscriber(u32),
-    /// A modem of the class.
-    OfClass(u32),
 }
 
 /// The least key of a row that is sought, or `None` where there is none. It walks over the rows of
@@ -62,8 +58,6 @@ fn before(sought: &Sought) -> Key
         Sought::Overlapping(_, _) => Key::Class(u32::MAX),
         Sought::WithRelay(_, _) => Key::Class(u32::MAX),
         Sought::LiveLost(_, lost) => before_lost(lost),
-        Sought::OfSubscriber(_) => Key::AddOn(u32::MAX, u8::MAX),
-        Sought::OfClass(_) => Key::AddOn(u32::MAX, u8::MAX),
     }
 }
 
@@ -77,7 +71,5 @@ fn is_past(sought: &Sought, key: &Key) -> bool
         Sought::Overlapping(_, _) => is_past_pools(key),
         Sought::WithRelay(_, _) => is_past_pools(key),
         Sought::LiveLost(_, lost) => is_past_lost(lost, key),
-        Sought::OfSubscriber(_) => is_past_modems(key),
-        Sought::OfClass(_) => is_past_modems(key),
     }
 }

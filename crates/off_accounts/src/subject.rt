@@ -1,11 +1,14 @@
 ghost use Rattle.std.specs.Prelude.{◌≡◌, option_and_then};
 ghost use Rattle.off_outside.specs.KeeperCalls.{Looks, Spent, WasCounted};
 ghost use Rattle.off_account_rules.specs.Rows.{as_pool};
-ghost use Rattle.off_accounts.specs.Tests.{SubjectStands, IsSubject, calls_for_subject};
+ghost use Rattle.off_defs.specs.State.{Tables};
+ghost use Rattle.off_users.specs.Users.{StandsFor};
+ghost use Rattle.off_accounts.specs.Tests.{SubjectStands, IsSubject, calls_for_subject, uses_at};
 
 use off_defs::{Command, Key, Pool, Row};
 use off_outside::{KeepErr, Keeper};
 use off_readers::read_row;
+use off_users::Users;
 use std::alloc::Global;
 
 /// What the tables have at the key of a command, before it.
@@ -15,6 +18,8 @@ pub(crate) struct Subject {
     pub is_there: bool,
     /// The row, where it's a pool.
     pub pool: Option<Pool>,
+    /// How many modems name it, where it's a subscriber or a class.
+    pub uses: u64,
 }
 
 /// What the tables have at the key of the command. It's one call at most.
@@ -22,20 +27,22 @@ pub(crate) struct Subject {
 pub(crate) fn subject_of<K: Keeper>(
     alloc: Global,
     keeper: &mut K,
+    users: &Users,
     c: &Command,
 ) -> Result<Subject, KeepErr>
-    ensures told { Looks result (K.seen keeper.old) (K.seen keeper.new) (IsSubject c.now) }
+    ensures told { Looks result (K.seen keeper.old) (K.seen keeper.new)
+        (λ subject t. StandsFor users.now t → IsSubject c.now subject t) }
     ensures spent { Spent (calls_for_subject c.now) (K.seen keeper.old) (K.seen keeper.new) }
 {
     match c {
         Command::SetSite(_) => Ok(nothing()),
-        Command::PutSubscriber(n, _) => at_key(alloc, keeper, &Key::Subscriber(*n)),
-        Command::PutAddOn(n, number, _) => at_key(alloc, keeper, &Key::AddOn(*n, *number)),
-        Command::PutModem(mac, _) => at_key(alloc, keeper, &Key::Modem(*mac)),
-        Command::PutClass(n, _) => at_key(alloc, keeper, &Key::Class(*n)),
-        Command::PutPool(n, _) => at_key(alloc, keeper, &Key::Pool(*n)),
-        Command::Remove(key) => at_key(alloc, keeper, key),
-        Command::Show(key) => at_key(alloc, keeper, key),
+        Command::PutSubscriber(n, _) => at_key(alloc, keeper, users, &Key::Subscriber(*n)),
+        Command::PutAddOn(n, number, _) => at_key(alloc, keeper, users, &Key::AddOn(*n, *number)),
+        Command::PutModem(mac, _) => at_key(alloc, keeper, users, &Key::Modem(*mac)),
+        Command::PutClass(n, _) => at_key(alloc, keeper, users, &Key::Class(*n)),
+        Command::PutPool(n, _) => at_key(alloc, keeper, users, &Key::Pool(*n)),
+        Command::Remove(key) => at_key(alloc, keeper, users, key),
+        Command::Show(key) => at_key(alloc, keeper, users, key),
         Command::Import { .. } => Ok(nothing()),
     }
 }
@@ -44,20 +51,39 @@ fn nothing() -> Subject {
     Subject {
         is_there: false,
         pool: None,
+        uses: 0,
     }
 }
 
 #[tactic(auto, using(off_outside::proofs::KeeperLemmas::reads_as))]
-fn at_key<K: Keeper>(alloc: Global, keeper: &mut K, key: &Key) -> Result<Subject, KeepErr>
+fn at_key<K: Keeper>(
+    alloc: Global,
+    keeper: &mut K,
+    users: &Users,
+    key: &Key,
+) -> Result<Subject, KeepErr>
     ensures told { Looks result (K.seen keeper.old) (K.seen keeper.new)
-        (λ subject t. SubjectStands t key.now subject) }
+        (λ subject t. StandsFor users.now t → SubjectStands t key.now subject) }
     ensures counted { WasCounted (K.seen keeper.old) (K.seen keeper.new) }
 {
     let row = read_row(alloc, keeper, key)?;
     Ok(Subject {
         is_there: row.is_some(),
         pool: as_pool(&row),
+        uses: uses_at(users, key),
     })
+}
+
+// How many modems name what stands at the key.
+fn uses_at(users: &Users, key: &Key) -> u64
+    ensures { (t : Tables) → StandsFor users.now t → result ≡ uses_at t key.now }
+{
+    match *key {
+        Key::Subscriber(number) => users.modems_of_subscriber(number),
+        Key::Class(number) => users.modems_of_class(number),
+        Key::Site | Key::AddOn(_, _) | Key::Modem(_) | Key::Pool(_) => 0,
+        Key::Lease(_) | Key::Held(_) | Key::Batch(_) => 0,
+    }
 }
 
 fn as_pool(row: &Option<Row>) -> Option<Pool>

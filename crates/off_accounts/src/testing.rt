@@ -117,8 +117,6 @@ fn found_rule(sought: &Sought, found: Option<Key>) -> Option<Rule>
             Some(address) => Some(Rule::PoolHasLeases(address)),
             None => None,
         },
-        Sought::OfSubscriber(_) => unless(found.is_none(), Rule::HasModems),
-        Sought::OfClass(_) => unless(found.is_none(), Rule::ClassInUse),
     }
 }
 

@@ -1,5 +1,5 @@
-ghost use Rattle.std.specs.Prelude.{◌≡◌, ◌==◌, ◌&&◌};
-ghost use Rattle.off_account_rules.specs.Rows.{pool_of, lease_of, modem_of};
+ghost use Rattle.std.specs.Prelude.{◌≡◌, ◌&&◌};
+ghost use Rattle.off_account_rules.specs.Rows.{pool_of, lease_of};
 ghost use Rattle.off_account_rules.specs.Clerk.{is_other_overlapping, is_other_with_relay, is_live};
 ghost use Rattle.off_account_rules.specs.Rows.{passes};
 ghost use Rattle.off_accounts.specs.Searches.{is_wanted, is_given_up};
@@ -18,8 +18,6 @@ pub(crate) fn is_wanted(sought: &Sought, key: &Key, row: &Row) -> bool
         Sought::Overlapping(n, pool) => is_overlapping(*n, pool, key, row),
         Sought::WithRelay(n, pool) => is_with_relay(*n, pool, key, row),
         Sought::LiveLost(now, lost) => is_live_lost(*now, lost, key, row),
-        Sought::OfSubscriber(n) => is_of_subscriber(*n, key, row),
-        Sought::OfClass(n) => is_of_class(*n, key, row),
     }
 }
 
@@ -57,30 +55,6 @@ fn is_live_lost(now: Moment, lost: &Lost, key: &Key, row: &Row) -> bool
     match key {
         Key::Lease(address) => match row {
             Row::Lease(lease) => gives_up(lost, *address) && now.0 < lease.expiry.0,
-            _ => false,
-        },
-        _ => false,
-    }
-}
-
-fn is_of_subscriber(n: u32, key: &Key, row: &Row) -> bool
-    ensures { result ≡ passes (λ modem. modem.1.subscriber == n) (modem_of (key.now, row.now)) }
-{
-    match key {
-        Key::Modem(_) => match row {
-            Row::Modem(modem) => modem.subscriber == n,
-            _ => false,
-        },
-        _ => false,
-    }
-}
-
-fn is_of_class(n: u32, key: &Key, row: &Row) -> bool
-    ensures { result ≡ passes (λ modem. modem.1.class == n) (modem_of (key.now, row.now)) }
-{
-    match key {
-        Key::Modem(_) => match row {
-            Row::Modem(modem) => modem.class == n,
             _ => false,
         },
         _ => false,

@@ -1,3 +1,4 @@
 pub mod MarkLemmas
 pub mod OrderLemmas
 pub mod StandingLemmas
+pub mod UsingLemmas

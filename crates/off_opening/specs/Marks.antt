@@ -1,6 +1,7 @@
 -- What the test of the tables keeps of each row.
-use Rattle.std.specs.Prelude.{ℕ, Bool, ◌&&◌, List, map, Option, Some, None}
+use Rattle.std.specs.Prelude.{ℕ, Bool, cond, ◌&&◌, List, map, Option, Some, None}
 use Rattle.std.specs.FinMap as map_of
+use Rattle.off_base.specs.declared.macs.Mac.{Mac}
 use Rattle.off_defs.specs.declared.keys.Key.{Key}
 use Rattle.off_defs.specs.declared.keys.Key.TheVariants as key
 use Rattle.off_defs.specs.declared.tables.Row.{Row}
@@ -10,6 +11,8 @@ use Rattle.off_defs.specs.declared.orders.Kind.{Kind}
 use Rattle.off_defs.specs.State.{Tables}
 use Rattle.off_account_rules.specs.Rows.{is_possible, is_of_kind}
 use Rattle.off_account_rules.specs.Good.{owner_of}
+use Rattle.off_users.specs.declared.named.Named.{Named}
+use Rattle.off_users.specs.Users.{is_same_mac}
 use Rattle.off_opening.specs.declared.marks.Mark.{Mark}
 use Rattle.off_opening.specs.declared.marks.Tie.{Tie}
 use Rattle.off_opening.specs.declared.marks.Tie.TheVariants as tie
@@ -40,6 +43,20 @@ tied_pool key tie = None
 
 abbrev pub marked_pool : Mark → Option (ℕ × Pool)
 marked_pool mark = tied_pool mark.key mark.tie
+
+-- what the modem of a mark names
+abbrev pub named_tied : Key → Tie → Option (Mac × Named)
+named_tied (key.Modem modem) (tie.Modem subscriber class) =
+    Some (modem, record { subscriber = subscriber; class = class })
+named_tied key tie = None
+
+abbrev pub named_mark : Mark → Option (Mac × Named)
+named_mark mark = named_tied mark.key mark.tie
+
+-- what a modem names where an entry, or none, comes first
+abbrev pub named_first : Option (Mac × Named) → Mac → Option Named → Option Named
+named_first None q later = later
+named_first (Some entry) q later = cond (is_same_mac entry.0 q) (Some entry.1) later
 
 -- whether a mark is of a row that is counted
 abbrev pub is_marked : Kind → Mark → Bool

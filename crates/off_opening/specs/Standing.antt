@@ -8,6 +8,7 @@ use Rattle.off_defs.specs.declared.keys.Key.TheVariants as key
 use Rattle.off_defs.specs.State.{Tables}
 use Rattle.off_account_rules.specs.Rows.{counts_of}
 use Rattle.off_account_rules.specs.Good.{raw_pools, is_there, is_apart, pools_around, owner_holds, owns, Good, IsLeastBad}
+use Rattle.off_users.specs.Users.{StandsFor}
 use Rattle.off_opening.specs.declared.marks.Mark.{Mark}
 use Rattle.off_opening.specs.declared.marks.Tie.{Tie}
 use Rattle.off_opening.specs.declared.marks.Tie.TheVariants as tie
@@ -45,8 +46,9 @@ tie_stands tables (key.Batch n) held = true
 abbrev pub is_kept : Tables → Mark → Bool
 is_kept tables mark = mark.fits && tie_stands tables mark.key mark.tie
 
--- what an opening says of the tables: this is their least bad key; or they are good, and these are
--- their counts
+-- what an opening says of the tables: this is their least bad key; or they are good, these are
+-- their counts, and this is what their modems name
 abbrev pub Opens : Tables → Opening → Type 0
 Opens tables (opening.Bad key) = IsLeastBad tables key
-Opens tables (opening.Good counts) = Good tables × (counts ≡ counts_of tables)
+Opens tables (opening.Good counts users) =
+    Good tables × (counts ≡ counts_of tables) × StandsFor users tables

@@ -1,4 +1,5 @@
-//! The test of the tables when the office opens: their least bad key, and how many rows there are.
+//! The test of the tables when the office opens: their least bad key, how many rows there are, and
+//! what their modems use.
 //!
 //! The rows are walked once. What other rows are compared with is kept of each, in the order of
 //! keys, and the lines are tested on that.
@@ -8,6 +9,8 @@ mod counting;
 mod marks;
 mod opening;
 mod standing;
+mod using;
 
 pub use counting::count_rows;
 pub use opening::{Opening, first_bad, open_tables};
+pub use using::read_users;

@@ -1,32 +1,35 @@
 ghost use Rattle.std.specs.Prelude.{◌≡◌, IfOk, IfErr};
 ghost use Rattle.off_defs.specs.State.{Tables};
 ghost use Rattle.off_outside.specs.KeeperCalls.{Looks, WalksOnce};
-ghost use Rattle.off_account_rules.specs.Good.{raw_pools, Judged};
+ghost use Rattle.off_account_rules.specs.Good.{raw_pools, Good, Judged};
 ghost use Rattle.off_opening.specs.Marks.{marks_of};
 ghost use Rattle.off_opening.specs.Standing.{Opens};
 
 use crate::counting::counts_in;
 use crate::marks::{Mark, NumberedPool, pools_in, read_marks};
 use crate::standing::keeps;
+use crate::using::users_in;
 use off_account_rules::Counts;
 use off_defs::Key;
 use off_outside::{KeepErr, Keeper};
+use off_users::Users;
 use std::alloc::Global;
 
 /// What the tables are when the office opens.
-#[derive(Clone, Copy, Debug, PartialEq, Eq)]
+#[derive(Drop)]
 pub enum Opening {
     /// They aren't good, and this is the least key whose row is bad.
     Bad(Key),
-    /// They are good, and have so many rows of each kind.
-    Good(Counts),
+    /// They are good, have so many rows of each kind, and their modems use what they use.
+    Good(Counts, Users),
 }
 
-/// Tests the tables and counts their rows, in one walk over them. It changes nothing.
+/// Tests the tables, counts their rows and notes what their modems name, in one walk over them. It
+/// changes nothing.
 ///
 /// An error is the keeper's, or `Memory` where what is kept of the rows has no memory: 48 bytes a
-/// row, and up to three times as much while they grow. The time grows as the number of rows times
-/// its logarithm, and as the number of leases times the number of pools.
+/// row, and up to three times as much while they grow, besides what `Users` keeps. The time grows as
+/// the number of rows times its logarithm, and as the number of leases times the number of pools.
 pub fn open_tables<K: Keeper>(alloc: Global, keeper: &mut K) -> Result<Opening, KeepErr>
     ensures told { Looks result (K.seen keeper.old) (K.seen keeper.new)
         (λ opening t. Opens t opening) }
@@ -55,18 +58,20 @@ fn opening_of(alloc: Global, marks: &[Mark]) -> Result<Opening, KeepErr>
     ensures err { IfErr result (λ err. err ≡ KeepErr.Memory) }
 {
     match bad_in(alloc, marks) {
-        Ok(bad) => Ok(opening_with(marks, bad)),
+        Ok(Some(key)) => Ok(Opening::Bad(key)),
+        Ok(None) => good_opening(alloc, marks),
         Err(err) => Err(err),
     }
 }
 
-fn opening_with(marks: &[Mark], bad: Option<Key>) -> Opening
-    ensures { (t : Tables) → marks.now ≡ marks_of t → Judged t bad → Opens t result }
+// What good tables are.
+fn good_opening(alloc: Global, marks: &[Mark]) -> Result<Opening, KeepErr>
+    ensures ok { IfOk result (λ opening. (t : Tables) → marks.now ≡ marks_of t → Good t
+        → Opens t opening) }
+    ensures err { IfErr result (λ err. err ≡ KeepErr.Memory) }
 {
-    match bad {
-        Some(key) => Opening::Bad(key),
-        None => Opening::Good(counts_in(marks)),
-    }
+    let users = users_in(alloc, marks)?;
+    Ok(Opening::Good(counts_in(marks), users))
 }
 
 // The least key whose row breaks its line, in tables that have these marks.

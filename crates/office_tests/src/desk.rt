@@ -1,7 +1,7 @@
 ghost use Rattle.std.specs.Prelude.{◌≡◌, false, IfOk, IfSome};
 ghost use Rattle.off_accounts.specs.Deciding.{is_import};
 
-use off_accounts::{AccountErr, Counts, Planned, decide};
+use off_accounts::{AccountErr, Counts, Planned, decide, read_users};
 use off_base::Moment;
 use off_defs::{Command, Key, Reply, Row, Rule, Write, Writes};
 use off_keepmem::MemKeeper;
@@ -108,7 +108,10 @@ pub(crate) fn answered(
     if !sound(command) {
         return Answer::Failed;
     }
-    answer_of(&decide(alloc, keeper, counts, Moment(NOW), command))
+    let Ok(users) = read_users(alloc, keeper) else {
+        return Answer::Failed;
+    };
+    answer_of(&decide(alloc, keeper, counts, &users, Moment(NOW), command))
 }
 
 /// What the command that puts a row is answered.

@@ -5,7 +5,7 @@ use Rattle.off_accounts.proofs.counting.counts_after_removal.Goals as goal
 
 pub returns-in_ok-lost-in-Subscriber-clause-told : goal.returns-in_ok-lost-in-Subscriber-clause-told
 returns-in_ok-lost-in-Subscriber-clause-told g c =
-    reads_as c.in_ok-lost-in-Subscriber.ensures (λ t lost.
+    reads_as c.in_ok-lost-in-Subscriber.ensures.told (λ t lost.
     removed_as c.args.counts.now c.fewer_add_ons.result t c.args.key.now (key.Subscriber c.in-Subscriber.n) c.in-Subscriber.is
     (subscriber_removed c.args.counts.now c.fewer_add_ons.result t c.in-Subscriber.n c.in_ok-lost-in-Subscriber.lost c.one_less.result lost c.one_less.ensures c.fewer_add_ons.ensures))
 

@@ -1,0 +1,4 @@
+pub mod CountLemmas
+pub mod SeenLemmas
+pub mod WriteLemmas
+pub mod UseLemmas

@@ -1,0 +1,22 @@
+-- The code of what is kept, by which a proof tells two such values apart. Nothing here says what
+-- the office does.
+use Rattle.std.specs.Prelude.{ℕ, List, refl}
+use Rattle.std.specs.Coded.{Coded, code_by, coded×, coded_ℕ, coded_list}
+use Rattle.off_base.specs.declared.macs.Mac.{Mac}
+use Rattle.off_users.specs.declared.named.Named.{Named}
+use Rattle.off_users.specs.Users.{UsersHeld}
+
+abbrev mac_code : Coded Mac
+mac_code =
+    code_by (List ℕ) (coded_list coded_ℕ) (λ mac. mac.0) (λ bytes. record { 0 = bytes })
+    (λ _. refl)
+
+abbrev named_code : Coded Named
+named_code =
+    code_by (ℕ × ℕ) (coded× coded_ℕ coded_ℕ) (λ named. (named.subscriber, named.class))
+    (λ p. record { subscriber = p.0; class = p.1 }) (λ _. refl)
+
+abbrev pub users_code : Coded UsersHeld
+users_code =
+    code_by (List (Mac × Named) × ℕ) (coded× (coded_list (coded× mac_code named_code)) coded_ℕ)
+    (λ h. (h.modems, h.room)) (λ p. record { modems = p.0; room = p.1 }) (λ _. refl)

@@ -1,0 +1,6 @@
+/// The numbers of the subscriber and the class that a modem names.
+#[derive(Clone, Copy, Debug, PartialEq, Eq)]
+pub struct Named {
+    pub subscriber: u32,
+    pub class: u32,
+}
