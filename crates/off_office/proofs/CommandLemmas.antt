@@ -27,6 +27,9 @@ use Rattle.off_accounts.specs.Deciding.{IsDecided, NotDecided, AnswersCommand, n
 use Rattle.off_accounts.specs.Commands.{AnswersImport}
 use Rattle.off_kept.specs.Entries.{without_written}
 use Rattle.off_kept.proofs.RightLemmas.{kept_stays_right}
+use Rattle.off_users.specs.Users.{UsersHeld, StandsFor}
+use Rattle.off_users.specs.Kept.{NamedMap, Knows, map_of}
+use Rattle.off_users.proofs.KeptLemmas.{known_stands}
 use Rattle.off_office.specs.Desk.{Desk}
 use Rattle.off_office.specs.Acting.{desk_at}
 use Rattle.off_office.specs.Conditions.{Mirrors, StaysFit, Follows}
@@ -43,16 +46,22 @@ refused_step : (t : Tables) (now : ℕ) (command : Command) (r : Refusal) → de
 unfolding clerk_step
 refused_step t now command r is = ap (stepped_by t) is
 
-pub not_planned : (desk : Desk) (command : Command) (err : AccountErr) (a b : KeeperSeen) → NotDecided desk.counts desk.held.now command err a b → NotPlanned desk command err a b
-not_planned desk command (Refused row rule) a b reads = reads_as reads (λ t says mirrors. refused_step t desk.held.now command (refusal row rule) (says mirrors.counts))
-not_planned desk command Failed a b done = done
-not_planned desk command Memory a b done = done
+-- what the office knows of modems is what it keeps of them
+known_by : (desk : Desk) (users : UsersHeld) (t : Tables) → desk.users ≡ map_of users.modems → Mirrors desk t → StandsFor users t
+known_by desk users t is mirrors = known_stands users t (subst (λ (known : NamedMap). Knows known t) is mirrors.users)
 
-pub is_planned : (planned : Planned) (desk : Desk) (command : Command) (a b : KeeperSeen)
-    → Reads (λ t. desk.counts ≡ counts_of t → IsDecided desk.counts desk.held.now command planned t) a b → Reads (IsPlanned desk command planned) a b
-is_planned planned desk command a b reads = reads_as reads (λ t says. record {
+pub not_planned : (desk : Desk) (users : UsersHeld) (command : Command) (err : AccountErr) (a b : KeeperSeen) → desk.users ≡ map_of users.modems
+    → NotDecided desk.counts users desk.held.now command err a b → NotPlanned desk command err a b
+not_planned desk users command (Refused row rule) a b is reads =
+    reads_as reads (λ t says mirrors. refused_step t desk.held.now command (refusal row rule) (says mirrors.counts (known_by desk users t is mirrors)))
+not_planned desk users command Failed a b is done = done
+not_planned desk users command Memory a b is done = done
+
+pub is_planned : (planned : Planned) (desk : Desk) (users : UsersHeld) (command : Command) (a b : KeeperSeen) → desk.users ≡ map_of users.modems
+    → Reads (λ t. desk.counts ≡ counts_of t → StandsFor users t → IsDecided desk.counts desk.held.now command planned t) a b → Reads (IsPlanned desk command planned) a b
+is_planned planned desk users command a b kept reads = reads_as reads (λ t says. record {
   holds = λ mirrors.
-      let is = says mirrors.counts in
+      let is = says mirrors.counts (known_by desk users t kept mirrors) in
       (accepted_step t desk.held.now command (accepted planned.writes planned.reply) is.accepted, is.counted);
 })
 

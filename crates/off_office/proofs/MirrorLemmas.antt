@@ -10,18 +10,19 @@ use Rattle.off_kept.specs.Entries.{Entries, without_written}
 use Rattle.off_kept.proofs.RightLemmas.{kept_stays_right, nothing_written}
 use Rattle.off_runs.specs.Held.{PoolHeld, KeepsPools}
 use Rattle.off_runs.specs.Leases.{ground}
+use Rattle.off_users.specs.Kept.{NamedMap, Knows}
 use Rattle.off_office.specs.Desk.{Desk}
 use Rattle.off_office.specs.Acting.{desk_at}
 use Rattle.off_office.specs.Conditions.{Mirrors, Fits, StaysAs, Follows}
 
 pub stays_self : (desk : Desk) → StaysAs desk desk
-stays_self desk = record { counts = refl; kept = refl; pools = refl }
+stays_self desk = record { counts = refl; kept = refl; pools = refl; users = refl }
 
 pub stays_by : (before mid after : Desk) → after ≡ mid → StaysAs before mid → StaysAs before after
 stays_by before mid after is stays = subst (StaysAs before) (sym is) stays
 
 pub stays_then : {before mid after : Desk} → StaysAs before mid → StaysAs mid after → StaysAs before after
-stays_then first second = record { counts = second.counts ∙ first.counts; kept = second.kept ∙ first.kept; pools = second.pools ∙ first.pools }
+stays_then first second = record { counts = second.counts ∙ first.counts; kept = second.kept ∙ first.kept; pools = second.pools ∙ first.pools; users = second.users ∙ first.users }
 
 -- where nothing of it changed it mirrors the tables still
 pub mirrors_as : (before after : Desk) (t : Tables) → StaysAs before after → Mirrors before t → Mirrors after t
@@ -29,6 +30,7 @@ mirrors_as before after t stays mirrors = record {
   counts = stays.counts ∙ mirrors.counts;
   kept = subst (AllRight t) (sym stays.kept) mirrors.kept;
   pools = subst (λ (pools : List PoolHeld). KeepsPools pools (ground t)) (sym stays.pools) mirrors.pools;
+  users = subst (λ (users : NamedMap). Knows users t) (sym stays.users) mirrors.users;
 }
 
 pub fits_as : (before after : Desk) (t : Tables) → StaysAs before after → Fits before t → Fits after t
@@ -36,7 +38,7 @@ fits_as before after t stays fits = record { good = fits.good; mirrors = mirrors
 
 -- nothing of it has a moment
 pub stays_at : (desk : Desk) (at : ℕ) → StaysAs desk (desk_at desk at)
-stays_at desk at = record { counts = refl; kept = refl; pools = refl }
+stays_at desk at = record { counts = refl; kept = refl; pools = refl; users = refl }
 
 pub comes_as : (before mid : Desk) (at : ℕ) → mid ≡ desk_at before at → StaysAs before mid
 comes_as before mid at came = stays_by before (desk_at before at) mid came (stays_at before at)
@@ -54,4 +56,5 @@ follows_mirrors before after counts writes t u follows counted written fits = su
   counts = follows.counts_are ∙ counted;
   kept = subst (AllRight (write_all t writes)) (sym follows.kept) (kept_stays_right t writes before.kept fits.mirrors.kept);
   pools = follows.pools t fits.good fits.mirrors.pools;
+  users = follows.users t fits.mirrors.users;
 })

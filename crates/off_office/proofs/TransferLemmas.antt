@@ -32,6 +32,11 @@ use Rattle.off_kept.specs.Right.{AllRight}
 use Rattle.off_kept.proofs.RightLemmas.{none_right}
 use Rattle.off_runs.specs.Held.{PoolHeld, KeepsPools}
 use Rattle.off_runs.specs.Leases.{ground}
+use Rattle.off_users.specs.Users.{UsersHeld}
+use Rattle.off_users.specs.Kept.{NamedMap, Knows, map_of}
+use Rattle.off_users.proofs.KeptLemmas.{stands_known}
+use Rattle.off_opening.specs.Standing.{Opens}
+use Rattle.off_opening.specs.declared.opening.Opening.TheVariants as Opening
 use Rattle.off_office.specs.Desk.{Desk}
 use Rattle.off_office.specs.Conditions.{Fits, Begun}
 use Rattle.off_office.specs.Acting.{Handled, DoesOn, NotStarted, effect_of}
@@ -44,32 +49,37 @@ use Rattle.off_office.proofs.MirrorLemmas.{stays_self, stays_by}
 
 -- ---- an office that begins
 
-pub started : (q : Result Desk StartErr) (counts : Counts) (pools : List PoolHeld) (a b : KeeperSeen)
-    → IfOk q (λ (office : Desk). office ≡ record { held = held_at_start; counts = counts; kept = []; pools = pools }) → IfErr q (λ (err : StartErr). err ≡ start.Memory)
-    → Reads (λ t. KeepsPools pools (ground t)) a b
-    → MatchResult q (λ (office : Desk). Reads (Begun office counts) a b) (λ (err : StartErr). NotStarted err a b)
-started (Ok office) counts pools a b is none reads =
+pub started : (q : Result Desk StartErr) (counts : Counts) (users : UsersHeld) (pools : List PoolHeld) (a b : KeeperSeen)
+    → IfOk q (λ (office : Desk). office ≡ record { held = held_at_start; counts = counts; kept = []; pools = pools; users = map_of users.modems })
+    → IfErr q (λ (err : StartErr). err ≡ start.Memory) → Reads (λ t. KeepsPools pools (ground t)) a b
+    → MatchResult q (λ (office : Desk). Reads (Begun office counts users) a b) (λ (err : StartErr). NotStarted err a b)
+started (Ok office) counts users pools a b is none reads =
     reads_as reads (λ t keeps. record {
       counts_are = ap (λ (d : Desk). d.counts) is;
       kept = subst (λ (d : Desk). AllRight t d.kept) (sym is) (none_right t);
       pools = subst (λ (d : Desk). KeepsPools d.pools (ground t)) (sym is) keeps;
+      users = λ stands. subst (λ (d : Desk). Knows d.users t) (sym is) (stands_known users t stands);
     })
-started (Err err) counts pools a b none is reads = subst (λ (e : StartErr). NotStarted e a b) (sym is) (reads_forgotten reads)
+started (Err err) counts users pools a b none is reads = subst (λ (e : StartErr). NotStarted e a b) (sym is) (reads_forgotten reads)
 
-pub started_empty : (q : Result Desk StartErr) (counts : Counts) (pools : List PoolHeld)
-    → IfOk q (λ (office : Desk). office ≡ record { held = held_at_start; counts = counts; kept = []; pools = pools }) → IfOk q (λ (office : Desk). office.held ≡ held_at_start)
-started_empty (Ok office) counts pools is = ap (λ (d : Desk). d.held) is
-started_empty (Err err) counts pools is = tt
+pub started_empty : (q : Result Desk StartErr) (counts : Counts) (users : NamedMap) (pools : List PoolHeld)
+    → IfOk q (λ (office : Desk). office ≡ record { held = held_at_start; counts = counts; kept = []; pools = pools; users = users })
+    → IfOk q (λ (office : Desk). office.held ≡ held_at_start)
+started_empty (Ok office) counts users pools is = ap (λ (d : Desk). d.held) is
+started_empty (Err err) counts users pools is = tt
 
 -- good tables that were counted, and then read for what is kept of them
-pub opened : (q : Result Desk StartErr) (counts : Counts) (a b c : KeeperSeen) → Reads (λ t. Good t × (counts ≡ counts_of t)) a b
-    → MatchResult q (λ (office : Desk). Reads (Begun office counts) b c) (λ (err : StartErr). NotStarted err b c)
+pub opened : (q : Result Desk StartErr) (counts : Counts) (users : UsersHeld) (a b c : KeeperSeen) → Reads (λ t. Opens t (Opening.Good counts users)) a b
+    → MatchResult q (λ (office : Desk). Reads (Begun office counts users) b c) (λ (err : StartErr). NotStarted err b c)
     → MatchResult q (λ (office : Desk). Reads (Fits office) a c) (λ (err : StartErr). NotStarted err a c)
-opened (Ok office) counts a b c good begun =
-    reads_then good begun (λ t opens is. record { good = opens.0; mirrors = record { counts = is.counts_are ∙ opens.1; kept = is.kept; pools = is.pools } })
-opened (Err (start.Bad key)) counts a b c good not = reads_then good not (λ t opens bad. bad)
-opened (Err start.Failed) counts a b c good not = failed_then good not
-opened (Err start.Memory) counts a b c good not = failed_then good not
+opened (Ok office) counts users a b c good begun =
+    reads_then good begun (λ t opens is. record {
+      good = opens.0;
+      mirrors = record { counts = is.counts_are ∙ opens.1; kept = is.kept; pools = is.pools; users = is.users opens.2 };
+    })
+opened (Err (start.Bad key)) counts users a b c good not = reads_then good not (λ t opens bad. bad)
+opened (Err start.Failed) counts users a b c good not = failed_then good not
+opened (Err start.Memory) counts users a b c good not = failed_then good not
 
 -- ---- a datagram
 
@@ -144,6 +154,7 @@ packet_handled from bytes said before after a b rests reads moves says spent few
       counts = ap (λ (d : Desk). d.counts) moves ∙ fits.mirrors.counts;
       kept = (did fits.mirrors.kept).right;
       pools = subst (λ (pools : List PoolHeld). KeepsPools pools (ground t)) (sym (ap (λ (d : Desk). d.pools) moves)) fits.mirrors.pools;
+      users = subst (λ (users : NamedMap). Knows users t) (sym (ap (λ (d : Desk). d.users) moves)) fits.mirrors.users;
     };
   });
   written = reads_told reads (λ t did. refl);
@@ -237,7 +248,7 @@ pub tick_handled : (outcome : Outcome) (said : Said) (before after : Desk) (k : 
     → Handled Tick outcome said before after k k
 tick_handled Did said before after k did =
     handled_quietly Tick Did said before after k (ap (λ (d : Desk). d.held.now) did.moves)
-    (stays_by before (moved before did.transfers) after did.moves (record { counts = refl; kept = refl; pools = refl })) refl
+    (stays_by before (moved before did.transfers) after did.moves (record { counts = refl; kept = refl; pools = refl; users = refl })) refl
     (tick_does before after said did) (did_says Tick before after said (tick_does before after said did)) tt (spent_none k)
 tick_handled Memory said before after k missed =
     handled_quietly Tick Memory said before after k (ap (λ (d : Desk). d.held.now) missed.stays) (stays_by before before after missed.stays (stays_self before)) refl

@@ -11,14 +11,17 @@ use Rattle.off_kept.specs.Entries.{without_written}
 use Rattle.off_kept.specs.Right.{AllRight}
 use Rattle.off_runs.specs.Held.{PoolHeld, KeepsPools}
 use Rattle.off_runs.specs.Leases.{ground}
+use Rattle.off_users.specs.Users.{UsersHeld, StandsFor}
+use Rattle.off_users.specs.Kept.{NamedMap, Knows}
 use Rattle.off_office.specs.Desk.{Desk}
 
 -- what an office keeps of the tables is what stands there: how many rows there are of each kind,
--- the bodies of files, and the pools with the expiries of their addresses
+-- the bodies of files, the pools with the expiries of their addresses, and what each modem names
 pub record Mirrors (desk : Desk) (tables : Tables) : Type 0 where
   pub counts : desk.counts ≡ counts_of tables
   pub kept : AllRight tables desk.kept
   pub pools : KeepsPools desk.pools (ground tables)
+  pub users : Knows desk.users tables
 
 -- and the tables are good
 pub record Fits (desk : Desk) (tables : Tables) : Type 0 where
@@ -36,30 +39,37 @@ pub record WhereFit (before after : Desk) (P : Tables → Tables → Type 0) (t 
   where
     pub holds : Fits before t → P t u × Fits after u
 
--- an office that begins over tables whose rows were counted
-pub record Begun (desk : Desk) (counts : Counts) (tables : Tables) : Type 0 where
-  pub counts_are : desk.counts ≡ counts
-  pub kept : AllRight tables desk.kept
-  pub pools : KeepsPools desk.pools (ground tables)
+-- an office that begins over tables whose rows were counted, and whose modems name what is given
+pub record Begun (desk : Desk) (counts : Counts) (users : UsersHeld) (tables : Tables) : Type 0
+  where
+    pub counts_are : desk.counts ≡ counts
+    pub kept : AllRight tables desk.kept
+    pub pools : KeepsPools desk.pools (ground tables)
+    pub users : StandsFor users tables → Knows desk.users tables
 
 -- of what is kept of the tables nothing changed
 pub record StaysAs (before after : Desk) : Type 0 where
   pub counts : after.counts ≡ before.counts
   pub kept : after.kept ≡ before.kept
   pub pools : after.pools ≡ before.pools
+  pub users : after.users ≡ before.users
 
 -- What is kept of the tables follows writes: the counts are those that are given, bodies of which a
--- row was written are forgotten, and the pools are those behind the writes, where the tables before
--- them were good.
+-- row was written are forgotten, what modems name is what they name behind the writes, and the pools
+-- are those behind them, where the tables before were good.
 abbrev pub PoolsFollow : List PoolHeld → List PoolHeld → List Write → Type 0
 PoolsFollow old new writes =
     (t : Tables) → Good t → KeepsPools old (ground t) → KeepsPools new (ground (write_all t writes))
+
+abbrev pub UsersFollow : NamedMap → NamedMap → List Write → Type 0
+UsersFollow old new writes = (t : Tables) → Knows old t → Knows new (write_all t writes)
 
 pub record Follows (before after : Desk) (counts : Counts) (writes : List Write) : Type 0 where
   pub held : after.held ≡ before.held
   pub counts_are : after.counts ≡ counts
   pub kept : after.kept ≡ without_written writes before.kept
   pub pools : PoolsFollow before.pools after.pools writes
+  pub users : UsersFollow before.users after.users writes
 
 -- what the office keeps still fits the tables
 abbrev pub StaysFit : Desk → Desk → Tables → Tables → Type 0

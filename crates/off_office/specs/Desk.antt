@@ -1,6 +1,6 @@
 -- What an office keeps between two events: what the book says that it holds, and of the tables how
--- many rows of each kind there are, the bodies of files that were built of them, and the pools with
--- the expiries of their addresses.
+-- many rows of each kind there are, the bodies of files that were built of them, the pools with the
+-- expiries of their addresses, and what each modem names.
 use Rattle.std.specs.Prelude.{ℕ, List, refl}
 use Rattle.std.specs.Coded.{Coded, code_by, coded×, coded_ℕ, coded_list}
 use Rattle.off_defs.specs.State.{Held}
@@ -9,12 +9,15 @@ use Rattle.off_account_rules.specs.declared.counts.Counts.{Counts}
 use Rattle.off_kept.specs.Entries.{Entries, kept_code}
 use Rattle.off_runs.specs.Held.{PoolHeld}
 use Rattle.off_runs.specs.Codes.{pool_held_code}
+use Rattle.off_users.specs.Kept.{NamedMap}
+use Rattle.off_users.specs.Codes.{named_map_code}
 
 pub record Desk : Type 0 where
   pub held : Held
   pub counts : Counts
   pub kept : Entries
   pub pools : List PoolHeld
+  pub users : NamedMap
 
 abbrev counts_code : Coded Counts
 counts_code =
@@ -33,7 +36,15 @@ counts_code =
 
 abbrev pub desk_code : Coded Desk
 desk_code =
-    code_by ((Held × Counts) × (Entries × List PoolHeld))
-    (coded× (coded× held_code counts_code) (coded× kept_code (coded_list pool_held_code)))
-    (λ k. ((k.held, k.counts), (k.kept, k.pools)))
-    (λ p. record { held = p.0.0; counts = p.0.1; kept = p.1.0; pools = p.1.1 }) (λ _. refl)
+    code_by ((Held × Counts) × (Entries × (List PoolHeld × NamedMap)))
+    (coded× (coded× held_code counts_code)
+    (coded× kept_code (coded× (coded_list pool_held_code) named_map_code)))
+    (λ k. ((k.held, k.counts), (k.kept, (k.pools, k.users))))
+    (λ p. record {
+      held = p.0.0;
+      counts = p.0.1;
+      kept = p.1.0;
+      pools = p.1.1.0;
+      users = p.1.1.1;
+    })
+    (λ _. refl)

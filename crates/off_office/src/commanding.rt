@@ -42,6 +42,7 @@ impl Office {
         ensures counts { OnErr result (self.new.counts ≡ self.old.counts) }
         ensures kept { OnErr result (self.new.kept ≡ self.old.kept) }
         ensures pools { OnErr result (self.new.pools ≡ self.old.pools) }
+        ensures users { OnErr result (self.new.users ≡ self.old.users) }
         ensures rows { IfOk result (λ done. CountsRows c.now done) }
         ensures good { OnOk result (IsTrue (secret_fits c.now)
             → Told (K.seen keeper.old).tables (K.seen keeper.new).tables
@@ -69,7 +70,7 @@ impl Office {
             (λ planned. commit_calls planned.writes ≤ most_commits c.now) }
         ensures spent { SpentWithin (most_calls c.now) (K.seen keeper.old) (K.seen keeper.new) }
     {
-        match decide(self.alloc, keeper, &self.counts, self.now, c) {
+        match decide(self.alloc, keeper, &self.counts, &self.users, self.now, c) {
             Ok(planned) => Ok(planned),
             Err(err) => Err(err),
         }
@@ -93,10 +94,12 @@ impl Office {
         ensures spent { Spent (commit_calls writes.now) (K.seen keeper.old) (K.seen keeper.new) }
     {
         self.runs.ready(writes)?;
+        self.users.ready(writes)?;
         commit_all(self.alloc, keeper, writes)?;
         self.counts = *counts;
         self.kept.forget(writes);
         self.runs.apply(writes);
+        self.users.apply(writes);
         Ok(())
     }
 }

@@ -7,6 +7,7 @@ ghost use Rattle.off_office.specs.Acting.{Acts, Handled, NotStarted, desk_at};
 ghost use Rattle.off_office.specs.Acting.{forgets};
 ghost use Rattle.off_office.specs.Conditions.{Fits, Begun};
 ghost use Rattle.off_runs.specs.Reading.{Walks};
+ghost use Rattle.off_users.specs.Kept.{map_of};
 ghost use Rattle.off_office.specs.Saying.{SaysTime};
 ghost use Rattle.off_office.specs.declared.office.StartErr.TheVariants as start;
 
@@ -18,6 +19,7 @@ use off_defs::{Key, time_of_day};
 use off_kept::Kept;
 use off_outside::{Event, KeepErr, Keeper, Outcome, Replies, Sent, Service, What};
 use off_runs::FreeRuns;
+use off_users::Users;
 use off_tftp::Transfers;
 use std::alloc::Global;
 use std::marker::Model;
@@ -48,8 +50,8 @@ impl From<KeepErr> for StartErr {
 }
 
 /// The office between two events: the moment of its latest event, how many rows the tables have,
-/// the bodies of files that were built of them, the free addresses of their pools, the files on
-/// their way to modems, and the clerks' connections.
+/// the bodies of files that were built of them, the free addresses of their pools, who uses which
+/// subscriber and class, the files on their way to modems, and the clerks' connections.
 #[derive(Drop)]
 pub struct Office {
     pub(crate) alloc: Global,
@@ -57,12 +59,14 @@ pub struct Office {
     pub(crate) counts: Counts,
     pub(crate) kept: Kept,
     pub(crate) runs: FreeRuns,
+    pub(crate) users: Users,
     pub(crate) transfers: Transfers,
     pub(crate) connections: Connections,
 }
 
 impl Model for Office {
     ghost use Rattle.std.specs.Prelude.{◌≡◌};
+    ghost use Rattle.off_users.specs.Kept.{map_of};
     ghost use Rattle.off_office.specs.Desk.{Desk, desk_code};
 
     ghost Value = { Desk };
@@ -74,6 +78,7 @@ impl Model for Office {
       counts = o.counts;
       kept = o.kept;
       pools = o.runs.pools;
+      users = map_of o.users.modems;
     } };
 
     // the free addresses are those at its moment
@@ -95,29 +100,45 @@ impl Office {
         ensures walks { Walks 3 (K.seen keeper.old) (K.seen keeper.new) }
     {
         match open_tables(alloc, keeper)? {
-            Opening::Good(counts) => Office::begin(alloc, keeper, counts),
+            Opening::Good(counts, users) => Office::begin(alloc, keeper, counts, users),
             Opening::Bad(key) => Err(StartErr::Bad(key)),
         }
     }
 
-    // An office over good tables that have these counts, in which nothing has begun.
-    fn begin<K: Keeper>(alloc: Global, keeper: &mut K, counts: Counts) -> Result<Office, StartErr>
+    // An office over good tables that have these counts and whose modems name this, in which nothing
+    // has begun.
+    fn begin<K: Keeper>(
+        alloc: Global,
+        keeper: &mut K,
+        counts: Counts,
+        users: Users,
+    ) -> Result<Office, StartErr>
         ensures told { MatchResult result
-            (λ office. Reads (Begun office counts) (K.seen keeper.old) (K.seen keeper.new))
+            (λ office. Reads (Begun office counts users) (K.seen keeper.old) (K.seen keeper.new))
             (λ err. NotStarted err (K.seen keeper.old) (K.seen keeper.new)) }
         ensures held { IfOk result (λ office. office.held ≡ held_at_start) }
         ensures kept { IfOk result (λ office. office.kept ≡ []) }
         ensures walks { Walks 2 (K.seen keeper.old) (K.seen keeper.new) }
     {
         let runs = FreeRuns::of(alloc, keeper)?;
-        Office::empty(alloc, counts, runs)
+        Office::empty(alloc, counts, runs, users)
     }
 
-    // An office with these counts and pools, in which nothing has begun.
-    fn empty(alloc: Global, counts: Counts, runs: FreeRuns) -> Result<Office, StartErr>
+    // An office that keeps this of the tables, in which nothing has begun.
+    fn empty(
+        alloc: Global,
+        counts: Counts,
+        runs: FreeRuns,
+        users: Users,
+    ) -> Result<Office, StartErr>
         requires { runs.at ≡ 0 }
-        ensures ok { IfOk result (λ office. office
-            ≡ record { held = held_at_start; counts = counts; kept = []; pools = runs.pools }) }
+        ensures ok { IfOk result (λ office. office ≡ record {
+          held = held_at_start;
+          counts = counts;
+          kept = [];
+          pools = runs.pools;
+          users = map_of users.modems;
+        }) }
         ensures err { IfErr result (λ err. err ≡ start.Memory) }
     {
         let Ok(kept) = Kept::new(alloc) else {
@@ -130,6 +151,7 @@ impl Office {
                 counts,
                 kept,
                 runs,
+                users,
                 transfers,
                 connections: Connections::new(alloc),
             }),

@@ -2,3 +2,4 @@ pub mod CountLemmas
 pub mod SeenLemmas
 pub mod WriteLemmas
 pub mod UseLemmas
+pub mod KeptLemmas

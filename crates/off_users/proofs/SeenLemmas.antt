@@ -29,7 +29,7 @@ mac_decides a b = ((λ t. ap (λ (x : _). record { 0 = x }) ((bytes_decides a.0 
 pub mac_laws : IsEquivalence is_same_mac
 mac_laws = decided is_same_mac mac_decides
 
-abbrev mac_of : Mac → Key → Mac
+abbrev pub mac_of : Mac → Key → Mac
 mac_of d (key.Modem mac) = mac
 mac_of d k = d
 

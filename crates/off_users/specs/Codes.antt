@@ -5,6 +5,8 @@ use Rattle.std.specs.Coded.{Coded, code_by, coded×, coded_ℕ, coded_list}
 use Rattle.off_base.specs.declared.macs.Mac.{Mac}
 use Rattle.off_users.specs.declared.named.Named.{Named}
 use Rattle.off_users.specs.Users.{UsersHeld}
+use Rattle.off_users.specs.Kept.{NamedMap}
+use Rattle.std.specs.FinMap as map
 
 abbrev mac_code : Coded Mac
 mac_code =
@@ -20,3 +22,6 @@ abbrev pub users_code : Coded UsersHeld
 users_code =
     code_by (List (Mac × Named) × ℕ) (coded× (coded_list (coded× mac_code named_code)) coded_ℕ)
     (λ h. (h.modems, h.room)) (λ p. record { modems = p.0; room = p.1 }) (λ _. refl)
+
+abbrev pub named_map_code : Coded NamedMap
+named_map_code = map.code mac_code named_code

@@ -1,3 +1,4 @@
 pub mod Users
 pub mod Writes
+pub mod Kept
 pub mod Codes

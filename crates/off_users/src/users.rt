@@ -8,6 +8,7 @@ ghost use Rattle.off_defs.specs.Tables.{written, write_all};
 ghost use Rattle.off_users.specs.declared.named.Named.{Named};
 ghost use Rattle.off_users.specs.Users.{StandsFor, named_by, is_same_mac, weighs, tally};
 ghost use Rattle.off_users.specs.Users.{names_subscriber, names_class, subscriber_uses, class_uses};
+ghost use Rattle.off_users.specs.Kept.{map_of, Knows};
 ghost use Rattle.off_users.specs.Writes.{puts_modem, modem_puts};
 
 use crate::named::Named;
@@ -93,6 +94,7 @@ impl Users {
         ensures room { OnOk result (modem_puts writes.now ≤ self.new.room) }
         ensures same { (q : Mac) → named_by q self.new ≡ named_by q self.old }
         ensures stands { (t : Tables) → StandsFor self.old t → StandsFor self.new t }
+        ensures kept { map_of self.new.modems ≡ map_of self.old.modems }
     {
         self.take_room(count_puts(writes))
     }
@@ -101,8 +103,10 @@ impl Users {
     /// put, and it takes no memory.
     pub fn apply(&mut self, writes: &Writes)
         requires { modem_puts writes.now ≤ self.old.room }
-        ensures { (t : Tables) → StandsFor self.old t
+        ensures stands { (t : Tables) → StandsFor self.old t
             → StandsFor self.new (write_all t writes.now) }
+        ensures knows { (t : Tables) → Knows (map_of self.old.modems) t
+            → Knows (map_of self.new.modems) (write_all t writes.now) }
     {
         take_writes(self, writes);
     }
