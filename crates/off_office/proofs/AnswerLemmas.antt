@@ -17,7 +17,7 @@ use Rattle.off_laws.proofs.Lines.{status_tells}
 use Rattle.off_outside.specs.declared.keeper.KeepErr.{KeepErr}
 use Rattle.off_outside.specs.declared.keeper.KeepErr.TheVariants as keep
 use Rattle.off_outside.specs.KeeperSeen.{KeeperSeen, Rests}
-use Rattle.off_outside.specs.KeeperCalls.{Reads, Settled, NotCommitted, IsWritten}
+use Rattle.off_outside.specs.KeeperCalls.{Reads, NotCommitted, IsWritten}
 use Rattle.off_outside.proofs.KeeperLemmas.{reads_told, reads_forgotten, settled_none, settled_then, not_begun, not_begun_then, not_committed_as}
 use Rattle.off_accounts.specs.declared.results.Planned.{Planned}
 use Rattle.off_accounts.specs.declared.results.AccountErr.{AccountErr}
@@ -26,7 +26,7 @@ use Rattle.off_office.specs.Desk.{Desk}
 use Rattle.off_office.specs.Conditions.{Mirrors}
 use Rattle.off_office.proofs.MirrorLemmas.{follows_mirrors}
 use Rattle.off_office.proofs.StepLemmas.{kept_unwritten}
-use Rattle.off_office.specs.Answering.{said_to, fault_said, reply_said, IsPlanned, NotPlanned, AnsweredBy, NotAnswered, AnswerBegins, IsAnswered, CarriedOut, NotCarriedOut, Refuses, answer_to}
+use Rattle.off_office.specs.Answering.{said_to, fault_said, IsPlanned, NotPlanned, AnsweredBy, NotAnswered, AnswerBegins, IsAnswered, CarriedOut, NotCarriedOut, Refuses, answer_to}
 
 -- what was planned was answered and done
 carried_done : (command : Command) (planned : Planned) (conn : ℕ) (said : Said) (before after : Desk) (a b c : KeeperSeen) → Rests a

@@ -26,7 +26,6 @@ use Rattle.off_accounts.specs.declared.results.AccountErr.TheVariants.{Refused, 
 use Rattle.off_accounts.specs.Deciding.{IsDecided, NotDecided, AnswersCommand, not_kept}
 use Rattle.off_accounts.specs.Commands.{AnswersImport}
 use Rattle.off_kept.specs.Entries.{without_written}
-use Rattle.off_kept.proofs.RightLemmas.{kept_stays_right}
 use Rattle.off_users.specs.Users.{UsersHeld, StandsFor}
 use Rattle.off_users.specs.Kept.{NamedMap, Knows, map_of}
 use Rattle.off_users.proofs.KeptLemmas.{known_stands}

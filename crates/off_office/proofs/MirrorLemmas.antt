@@ -1,13 +1,12 @@
 -- What an office keeps of the tables, where it changes and where it stays.
-use Rattle.std.proofs.Common.{◌≡◌, ℕ, List, refl, sym, ap, ◌∙◌, subst}
+use Rattle.std.proofs.Common.{◌≡◌, ℕ, List, refl, sym, ◌∙◌, subst}
 use Rattle.off_defs.specs.declared.orders.Write.{Write}
 use Rattle.off_defs.specs.State.{Tables}
 use Rattle.off_defs.specs.Tables.{write_all}
 use Rattle.off_account_rules.specs.declared.counts.Counts.{Counts}
 use Rattle.off_account_rules.specs.Rows.{counts_of}
 use Rattle.off_kept.specs.Right.{AllRight}
-use Rattle.off_kept.specs.Entries.{Entries, without_written}
-use Rattle.off_kept.proofs.RightLemmas.{kept_stays_right, nothing_written}
+use Rattle.off_kept.proofs.RightLemmas.{kept_stays_right}
 use Rattle.off_runs.specs.Held.{PoolHeld, KeepsPools}
 use Rattle.off_runs.specs.Leases.{ground}
 use Rattle.off_users.specs.Kept.{NamedMap, Knows}

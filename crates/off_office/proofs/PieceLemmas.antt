@@ -20,7 +20,6 @@ use Rattle.off_book.specs.Http.{answer_request, by_meaning, is_full, heard_of, w
 use Rattle.off_outside.specs.declared.keeper.KeepErr.{KeepErr}
 use Rattle.off_outside.specs.declared.keeper.KeepErr.TheVariants as keep
 use Rattle.off_outside.specs.KeeperSeen.{KeeperSeen}
-use Rattle.off_kept.specs.Right.{AllRight}
 use Rattle.off_office.specs.Desk.{Desk}
 use Rattle.off_office.specs.Conditions.{StaysAs}
 use Rattle.off_office.specs.Asking.{Asks, PieceAsks, SpentWithin, meaning_calls}

@@ -25,11 +25,10 @@ use Rattle.off_outside.specs.KeeperSeen.{KeeperSeen}
 use Rattle.off_outside.specs.KeeperCalls.{Crash, IsWritten, NotCommitted}
 use Rattle.off_outside.proofs.KeeperLemmas.{unasked_self, crash_self, crash_weaker, spent_none}
 use Rattle.off_kept.specs.Entries.{without_written}
-use Rattle.off_kept.specs.Right.{AllRight}
 use Rattle.off_kept.proofs.RightLemmas.{nothing_written}
 use Rattle.off_laws.proofs.Lines.{does_line}
 use Rattle.off_office.specs.Desk.{Desk}
-use Rattle.off_office.specs.Conditions.{Mirrors, Fits, Under, StaysFit, StaysAs}
+use Rattle.off_office.specs.Conditions.{Mirrors, Under, StaysFit, StaysAs}
 use Rattle.off_office.proofs.MirrorLemmas.{stays_self, stays_by, stays_then, mirrors_as, fits_as, stays_at}
 use Rattle.off_office.specs.Acting.{Acts, Handled, forgets, desk_undone, IsUndone, StepOn, DoesOn, CountsFaults, LeavesNothing, EventBegins, DoingBegins, begun_in, is_quiet, desk_at, effect_of, kept_behind, KeepsBodies}
 use Rattle.off_office.specs.Asking.{Asks, AsksFew}

@@ -9,8 +9,6 @@ use Rattle.off_defs.specs.declared.results.Outcome.TheVariants.{Did, Memory, Kee
 use Rattle.off_defs.specs.State.{Tables, Said, state_of, says_nothing, held_at_start}
 use Rattle.off_defs.proofs.CountLemmas.{grew_self}
 use Rattle.off_account_rules.specs.declared.counts.Counts.{Counts}
-use Rattle.off_account_rules.specs.Good.{Good}
-use Rattle.off_account_rules.specs.Rows.{counts_of}
 use Rattle.off_transfer_rules.specs.Transfers.{Transfers}
 use Rattle.off_transfer_rules.specs.Steps.{gives}
 use Rattle.off_transfer_rules.specs.Words.{tftp_line, tick_line}

@@ -21,7 +21,7 @@ use Rattle.off_clerk_rules.specs.declared.faults.Fault.{Fault}
 use Rattle.off_clerk_rules.specs.declared.faults.Fault.TheVariants as fault
 use Rattle.off_clerk_rules.specs.Faults.{word_of, status_of, fault_text}
 use Rattle.off_clerk_rules.specs.Replies.{reply_text}
-use Rattle.off_book.specs.Http.{Answered, answer_step, answer_request, answer_and_close, with_connection, without_connection, PieceDid}
+use Rattle.off_book.specs.Http.{Answered, answer_step, answer_request, answer_and_close, with_connection, PieceDid}
 use Rattle.off_outside.specs.declared.keeper.KeepErr.{KeepErr}
 use Rattle.off_outside.specs.declared.keeper.KeepErr.TheVariants as keep
 use Rattle.off_outside.specs.KeeperSeen.{KeeperSeen}

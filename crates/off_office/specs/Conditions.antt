@@ -40,12 +40,12 @@ pub record WhereFit (before after : Desk) (P : Tables → Tables → Type 0) (t 
     pub holds : Fits before t → P t u × Fits after u
 
 -- an office that begins over tables whose rows were counted, and whose modems name what is given
-pub record Begun (desk : Desk) (counts : Counts) (users : UsersHeld) (tables : Tables) : Type 0
+pub record Begun (desk : Desk) (counts : Counts) (named : UsersHeld) (tables : Tables) : Type 0
   where
     pub counts_are : desk.counts ≡ counts
     pub kept : AllRight tables desk.kept
     pub pools : KeepsPools desk.pools (ground tables)
-    pub users : StandsFor users tables → Knows desk.users tables
+    pub users : StandsFor named tables → Knows desk.users tables
 
 -- of what is kept of the tables nothing changed
 pub record StaysAs (before after : Desk) : Type 0 where

@@ -1,5 +1,5 @@
 -- What comes of a datagram to the DHCP port.
-use Rattle.std.specs.Prelude.{◌≡◌, ℕ, List, codes, Result, MatchResult}
+use Rattle.std.specs.Prelude.{◌≡◌, List, codes, Result, MatchResult}
 use Rattle.off_dhcp.specs.Datagram.{Received}
 use Rattle.off_dhcp.specs.declared.faults.DhcpFault.{DhcpFault}
 use Rattle.off_defs.specs.declared.orders.Write.{Write}
