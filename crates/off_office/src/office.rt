@@ -19,8 +19,8 @@ use off_defs::{Key, time_of_day};
 use off_kept::Kept;
 use off_outside::{Event, KeepErr, Keeper, Outcome, Replies, Sent, Service, What};
 use off_runs::FreeRuns;
-use off_users::Users;
 use off_tftp::Transfers;
+use off_users::Users;
 use std::alloc::Global;
 use std::marker::Model;
 
