@@ -20,7 +20,7 @@ use Rattle.off_outside.specs.declared.keeper.KeepErr.{KeepErr}
 use Rattle.off_outside.specs.declared.keeper.KeepErr.TheVariants as keep
 use Rattle.off_outside.specs.KeeperSeen.{KeeperSeen, Rests}
 use Rattle.off_outside.specs.KeeperCalls.{Reads, NotCommitted, Crash, IsWritten, begun_by}
-use Rattle.off_office.specs.Acting.{Acts, EventBegins, effect_of}
+use Rattle.off_office.specs.Acting.{Acts, EventBegins}
 use Rattle.off_office.specs.Answering.{Commanded, CommandBegins}
 use Rattle.off_office.specs.Conditions.{Mirrors, Fits, WhereFit, StaysAs}
 use Rattle.off_office.specs.Desk.{Desk}
@@ -325,7 +325,7 @@ keeper_turn event outcome said went d e a b first rests acts =
                       rests = λ u shown. rests g.value g.told u shown;
                     } in (
                       lasts_push a.opened b.opened a.doubt b.doubt a.doubt a.moment s [] a.moment b.moment s (state_of g.value e.held) turn (begins_so a first t told d.held) held one,
-                      record { good = step_good s event outcome (effect_of event.what outcome said acts.commit (state_of g.value e.held)) held fits.good; mirrors = g.fits.stays fits },
+                      record { good = step_good s event outcome _ held fits.good; mirrors = g.fits.stays fits },
                     );
               };
             };

@@ -6,6 +6,7 @@ use off_keepmem::MemKeeper;
 use off_lease::answer;
 use off_lease_rules::{DhcpWord, LeaseStep};
 use off_outside::{Calls, KeepErr, Keeper};
+use off_runs::FreeRuns;
 use std::alloc::Global;
 use std::test::Fail;
 
@@ -32,10 +33,12 @@ fn summary_of(step: &LeaseStep) -> Summary {
     }
 }
 
-// What is told of the answer to a DISCOVER.
+// What is told of the answer to a DISCOVER, with the free addresses of the office's rows.
 fn answered(alloc: Global, keeper: &mut MemKeeper, datagram: &Bytes) -> Result<Summary, KeepErr> {
+    let mut runs = FreeRuns::of(alloc, &mut keeper_of_office(alloc, 0)?)?;
+    runs.pass(AT);
     match Message::read(datagram.as_slice()) {
-        Ok(m) => Ok(summary_of(&answer(alloc, keeper, AT, &m)?)),
+        Ok(m) => Ok(summary_of(&answer(alloc, keeper, &runs, AT, &m)?)),
         Err(_fault) => Err(KeepErr::Failed),
     }
 }
@@ -79,13 +82,13 @@ fn a_modem_is_offered_an_address(rt: HostRuntime) -> Result<(), Fail> {
     Ok(())
 }
 
-// It takes six calls: the site, the pool, what the modem holds, the modem, the first address, and
-// the lease of the address that is chosen.
+// It takes four calls: the site, what the modem holds, the modem, and the lease of the address that
+// is chosen.
 #[test]
 fn each_call_that_fails_fails_the_answer(rt: HostRuntime) -> Result<(), Fail> {
-    for failing in 2..8 {
+    for failing in 2..6 {
         assert_eq!(rt; offered(rt.alloc(), failing), Err(KeepErr::Failed));
     }
-    assert_eq!(rt; offered(rt.alloc(), 8), Ok(OFFER));
+    assert_eq!(rt; offered(rt.alloc(), 6), Ok(OFFER));
     Ok(())
 }

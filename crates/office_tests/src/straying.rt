@@ -6,6 +6,7 @@ use off_dhcp::Message;
 use off_lease::answer;
 use off_lease_rules::DhcpWord;
 use off_outside::KeepErr;
+use off_runs::FreeRuns;
 use std::alloc::Global;
 use std::test::Fail;
 
@@ -41,7 +42,7 @@ impl Answers for Stray {
     }
 }
 
-// The word of the answer, and how many calls it took.
+// The word of the answer, and how many calls that took, with those that read the pools.
 fn word_over(alloc: Global, keeper: &mut Silent<Stray>) -> Result<(DhcpWord, u64), KeepErr> {
     let Ok(datagram) = discover(alloc) else {
         return Err(KeepErr::Memory);
@@ -49,14 +50,16 @@ fn word_over(alloc: Global, keeper: &mut Silent<Stray>) -> Result<(DhcpWord, u64
     let Ok(m) = Message::read(datagram.as_slice()) else {
         return Err(KeepErr::Failed);
     };
-    let word = answer(alloc, keeper, AT, &m)?.word;
+    let mut runs = FreeRuns::of(alloc, keeper)?;
+    runs.pass(AT);
+    let word = answer(alloc, keeper, &runs, AT, &m)?.word;
     Ok((word, keeper.calls))
 }
 
 #[test]
 fn an_impossible_row_gives_no_lease(rt: HostRuntime) -> Result<(), Fail> {
     let mut keeper = unasked(Stray { number: 9 });
-    let expected = (DhcpWord::NoRelayPool, 5);
+    let expected = (DhcpWord::NoRelayPool, 6);
     assert_eq!(rt; word_over(rt.alloc(), &mut keeper), Ok(expected));
     Ok(())
 }
