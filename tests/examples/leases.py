@@ -423,6 +423,18 @@ class Player:
     def section(self, name, *sources):
         self.script.section(name, *([source for source in sources if source] or [MODEL]))
 
+    def count(self, remark, events, rows, model_rows, calls):
+        """A run of events over many rows, which the script writes as few: what comes of it, and how many calls of the keeper there are. The opening puts the
+        rows by one and reads each, and that there is none behind the last; then the pools again, and the leases, each with what comes behind them."""
+        whole = [*self.rows, *model_rows]
+        played = Played(whole)
+        there = Office(whole).rows()
+        opening = 2 + len(there) + 2 + sum(row.split()[0] in ("pool", "lease") for row in there)
+        for event in events:
+            played.take(*event)
+        given = [line_of(turn, moment, what) for turn, (moment, _, what) in enumerate(events, 1)]
+        self.script.run(remark, ["office", *rows, "show calls", *given], outcome(wrote=played.wrote, sent=played.sent, calls=opening + calls))
+
     def play(self, remark, events, rows=(), lines=(), behind=None, sender=SENDER):
         """A run of events over the office's rows and others: what comes of it, and the tables."""
         played = Played([*self.rows, *rows])
@@ -510,6 +522,24 @@ def worked(player):
 
 
 ONE = ["drop pool 1", f"pool 1 {A} {A} 24 {RELAY} {RELAY}"]
+
+
+def crowded(player):
+    player.section("a message asks as little in a pool of 4,096 addresses that is full but for the last",
+                   "A message by which an address is offered or acknowledged makes five calls of the keeper at most, whatever the tables: the site, what the modem holds, its own "
+                   "row, the lease of what is offered, the commit.")
+    wide = ["drop pool 1", f"pool 1 10.64.16.0 10.64.31.255 16 {RELAY} {RELAY}"]
+    pools = [f"pool {number} 10.65.{number}.0 10.65.{number}.255 24 10.65.{number}.1 10.65.{number}.1" for number in range(2, 40)]
+    ends = {part: 254 if part == 31 else 255 for part in range(16, 32)}
+    folded = [f"repeat 0 {last} lease 10.64.{part}.# declined t+100" for part, last in ends.items()]
+    single = [f"lease 10.64.{part}.{number} declined t+100" for part, last in ends.items() for number in range(last + 1)]
+    last = "10.64.31.255"
+    # An OFFER, the same again, the REQUEST, a renewal, and one of the other modem's, for which there is no address.
+    whole = [("t", "offer", discover(), 5), ("t+1", "offer", discover(), 5), ("t+2", "ack", selects(last), 4), ("t+3", "ack", renews(last), 4), ("t+4", "pool-full", discover(1), 3),
+             ("t+4", "relay-mismatch", discover(remote=mac(1)), 1), ("t+5", "released", releases(last), 3), ("t+6", "offer", discover(1), 5),
+             ("t+100", "offer", discover(), 5)]
+    for count in (1, 2, 3, 4, 5, 7, 8, 9):
+        player.count(f"{count}", [event[:3] for event in whole[:count]], [SECOND, *wide, *pools, *folded], [SECOND, *wide, *pools, *single], sum(event[3] for event in whole[:count]))
 
 
 def freeing(player):
@@ -866,5 +896,5 @@ def failing(player):
 def sections(script, rows):
     """Writes the sections, over an office of these rows."""
     player = Player(script, rows)
-    for write in (worked, freeing, asking, echoes, refusing, reading_faults, ends, clerking, failing):
+    for write in (worked, freeing, crowded, asking, echoes, refusing, reading_faults, ends, clerking, failing):
         write(player)

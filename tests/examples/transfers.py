@@ -182,10 +182,13 @@ class TransferPlayer(Player):
 
     def play(self, remark, events, rows=HELD, lines=(), tables=False, model_rows=None, calls=None):
         """A run of events over the office's rows and others. Where the script writes many rows as one, `model_rows` has them singly. `calls` are those of the
-        keeper behind the opening, which puts the rows by one and then reads each, and that there is none behind the last."""
+        keeper behind the opening, which puts the rows by one, reads each, and that there is none behind the last; then the pools again, and the leases, each with
+        the row that comes behind them, or that there is none."""
         whole = [*self.rows, *(model_rows or rows)]
         made = played(whole, events)
-        opening = 2 + len(Office(whole).rows())
+        rows_there = Office(whole).rows()
+        again = sum(row.split()[0] in ("pool", "lease") for row in rows_there)
+        opening = 2 + len(rows_there) + again + 2
         expected = outcome(wrote=made.wrote, sent=made.sent, tables=made.office.rows() if tables else None, calls=calls and opening + calls)
         shows = [*(["show tables"] if tables else []), *(["show calls"] if calls else [])]
         self.script.run(remark, self.lines(rows, [*lines, *shows], events), expected)
