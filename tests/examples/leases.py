@@ -7,6 +7,7 @@ OFFER, ACK and NAK byte for byte; where the model says another, nothing is writt
 import hashlib
 import hmac
 import ipaddress
+import random
 
 from examples import T, answered, compact, datagram, ip, order_of, outcome
 from messages import (ACK, DECLINE, DISCOVER, INFORM, MODEM, NAK, OFFER, RELAYED, RELAYED_DISCOVER, RELEASE, REQUEST, Message, fault_of,
@@ -830,6 +831,48 @@ def ends(player):
     ], rows=[SECOND, *ONE])
 
 
+def by_chance(seed, low, rows, count):
+    """Events by chance among 24 addresses from one on: pools that come, move, shrink, trade places and go, and what modems make of them. Moments fall now and then."""
+    chance, played, events, now = random.Random(seed), Played(rows), [], 0
+    office = played.office
+    place = lambda number: text_of((low + number).to_bytes(4, "big"))
+    relay = lambda number: f"10.65.{number}.1"
+
+    def pool():
+        number, first = chance.randrange(1, 5), chance.randrange(24)
+        last = min(23, first + chance.choice((0, 1, 3, 7, 11)))
+        new = Pool([place(first), place(last), "24", RELAY, relay(number)])
+        if any(other.first <= new.last and new.first <= other.last for key, other in office.pools.items() if key != number):
+            return None
+        return put_pool(number, place(first), place(last), relay(number))
+
+    def message():
+        last, number = chance.randrange(12), chance.randrange(1, 5)
+        mine = office.held.get(mac(last))
+        mine = text_of(mine) if mine else place(chance.randrange(24))
+        return chance.choice((
+            discover(last, relay=relay(number)), discover(last, relay=relay(number)), discover(last, relay=relay(number), asked=place(chance.randrange(24))),
+            selects(mine, last, relay=relay(number)), renews(mine, last), renews(mine, last, relay=relay(number)), releases(mine, last), declines(mine, last)))
+
+    while len(events) < count:
+        what = pool() if chance.random() < 0.15 else remove(f"/pools/{chance.choice(list(office.pools))}") if office.pools and chance.random() < 0.05 else message()
+        if what is None:
+            continue
+        now += chance.choice((0, 0, 1, 30, 90, 200))
+        event = (f"t+{now if chance.random() < 0.9 else now // 2}", None, what)
+        played.take(*event)
+        events.append(event)
+    return events
+
+
+def shuffled(player):
+    player.section("free addresses follow whatever becomes of pools and leases",
+                   "Events by chance, by the model: pools that come, move, shrink and go, at both ends of the address space too, while leases are live, have ended, and go with them.")
+    rows = ["drop pool 1", "drop site", "site 10.0.0.2 736563726574 3600 300 0.0.0.0", *(modem_row(last) for last in range(12))]
+    for seed, low in ((1, 0x0A410000), (2, 0xFFFFFFE8), (3, 1)):
+        player.play(f"{seed}", by_chance(seed, low, [*player.rows, *rows], 150), rows=rows)
+
+
 def clerking(player):
     player.section("a clerk's commands come between a modem's messages", "")
     player.play("the pool is removed", [
@@ -896,5 +939,5 @@ def failing(player):
 def sections(script, rows):
     """Writes the sections, over an office of these rows."""
     player = Player(script, rows)
-    for write in (worked, freeing, crowded, asking, echoes, refusing, reading_faults, ends, clerking, failing):
+    for write in (worked, freeing, crowded, asking, echoes, refusing, reading_faults, ends, clerking, shuffled, failing):
         write(player)
