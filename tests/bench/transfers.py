@@ -23,8 +23,7 @@ import time
 
 HERE = os.path.dirname(os.path.abspath(__file__))
 sys.path.insert(0, os.path.join(HERE, "..", "acceptance"))
-import leases_over_sockets as office  # noqa: E402
-from time_service import PROGRAM, processor_seconds, start  # noqa: E402
+from harness import PROGRAM, modems as office, processor_seconds, start  # noqa: E402
 import leases  # noqa: E402
 import tftp  # noqa: E402
 
