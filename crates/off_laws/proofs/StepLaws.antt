@@ -1,5 +1,5 @@
 -- The laws of one event: what it gives, the moment and the tables.
-use Rattle.std.proofs.Common.{◌≡◌, ◌≢◌, ℕ, ◌⊎◌, inl, inr, Bool, true, false, cond, Some, None, List, [], ◌++◌, codes, refl, sym, ap, ◌∙◌, subst}
+use Rattle.std.proofs.Common.{◌≡◌, ◌≢◌, ℕ, ◌⊎◌, inl, inr, Bool, true, false, cond, Option, Some, None, List, [], ◌++◌, codes, refl, sym, ap, ◌∙◌, subst}
 use Rattle.std.specs.Ordering.{nat_cmp, eq_by_cmp}
 use Rattle.std.specs.Cmp.{nat_cmp_total}
 use Rattle.off_defs.proofs.EntryLemmas.{is_equal}
@@ -29,7 +29,8 @@ use Rattle.off_transfer_rules.specs.declared.ticks.Ticked.{Ticked}
 use Rattle.off_transfer_laws.proofs.StepLaws.{step_is_one, others_stay}
 use Rattle.off_transfer_laws.proofs.TickLaws.{tick_is_one}
 use Rattle.off_book.specs.Tftp.{TftpDid, TickDid, transfers_effect, tftp_said, tick_said}
-use Rattle.off_book.specs.Dhcp.{DhcpDid}
+use Rattle.off_book.specs.Dhcp.{DatagramDid}
+use Rattle.off_query_rules.specs.Asked.{query_of}
 use Rattle.off_defs.specs.declared.orders.Write.{Write}
 use Rattle.off_laws.specs.Laws.{OneResult, MomentIsGreatest, TablesByCommit, ChangesItsPart}
 use Rattle.off_laws.proofs.Answers.{WritesNothingOrDone, request_writes, request_good}
@@ -55,8 +56,12 @@ tick_one s one other p q =
     ∙ (ap (λ (x : List Sent). transfers_effect s q.transfers (tick_said x p.ticked)) same.items_sent
     ∙ (ap (λ (x : Ticked). transfers_effect s q.transfers (tick_said q.items x)) same.counts ∙ sym q.does)))
 
+datagram_one : (s : State) (bytes : List ℕ) (one other : Effect) (query : Option (List ℕ)) → DatagramDid s bytes one query → DatagramDid s bytes other query → one ≡ other
+datagram_one s bytes one other (Some q) p r = p ∙ sym r
+datagram_one s bytes one other None p r = p ∙ sym r
+
 does_one : (s : State) (what : What) (outcome : Outcome) (one other : Effect) → Does s what outcome one → Does s what outcome other → one ≡ other
-does_one s (Datagram Dhcp from bytes) Did one other p q = p ∙ sym q
+does_one s (Datagram Dhcp from bytes) Did one other p q = datagram_one s bytes one other (query_of bytes) p q
 does_one s (Datagram Dhcp from bytes) Memory one other p q = p ∙ sym q
 does_one s (Datagram Dhcp from bytes) Keeper one other p q = p ∙ sym q
 does_one s (Datagram Time from bytes) Did one other p q = p ∙ sym q
@@ -165,8 +170,10 @@ acting_writes : (acting : Bool) (w : List Write) → (acting ≡ false → w ≡
 acting_writes true w none = inr refl
 acting_writes false w none = inl (none refl)
 
-message_part : (s : State) (bytes : List ℕ) (effect : Effect) → DhcpDid s bytes effect → Changes (by_message bytes) s effect
-message_part s bytes effect did = subst (λ (e : Effect). Changes (by_message bytes) s e) (sym did) (record {
+message_part : (s : State) (bytes : List ℕ) (effect : Effect) (query : Option (List ℕ)) → DatagramDid s bytes effect query → Changes (by_message bytes) s effect
+message_part s bytes effect (Some q) did =
+    subst (λ (e : Effect). Changes (by_message bytes) s e) (sym did) (record { commit = inl refl; connections = refl; transfers = refl })
+message_part s bytes effect None did = subst (λ (e : Effect). Changes (by_message bytes) s e) (sym did) (record {
   commit = acting_writes (acts (dhcp_step s.tables s.held.now bytes).word) (dhcp_step s.tables s.held.now bytes).writes (datagram_refused s.tables s.held.now bytes);
   connections = refl;
   transfers = refl;
@@ -195,7 +202,7 @@ tick_part s effect did = record {
 }
 
 does_part : (s : State) (what : What) (outcome : Outcome) (effect : Effect) → Does s what outcome effect → Changes (part_of what outcome) s effect
-does_part s (Datagram Dhcp from bytes) Did effect p = message_part s bytes effect p
+does_part s (Datagram Dhcp from bytes) Did effect p = message_part s bytes effect (query_of bytes) p
 does_part s (Datagram Dhcp from bytes) Memory effect p = quiet_part s effect (after_of effect _ p) (commit_of effect _ p)
 does_part s (Datagram Dhcp from bytes) Keeper effect p = quiet_part s effect (after_of effect _ p) (commit_of effect _ p)
 does_part s (Datagram Time from bytes) Did effect p = quiet_part s effect (after_of effect _ p) (commit_of effect _ p)
