@@ -27,7 +27,7 @@ piece_some false s conn piece heard same says = (
   record { meaning = says.0; says = subst (λ (x : List ℕ). RequestIs x says.0) same says.1; does = refl },
 )
 
-datagram_some : (s : State) (bytes : List ℕ) (query : Option (List ℕ)) → (effect : Effect) × DatagramDid s bytes effect query
+pub datagram_some : (s : State) (bytes : List ℕ) (query : Option (List ℕ)) → (effect : Effect) × DatagramDid s bytes effect query
 datagram_some s bytes (Some q) = (query_effect s (query_step s.tables s.held.now q), refl)
 datagram_some s bytes None = (dhcp_effect s (dhcp_step s.tables s.held.now bytes), refl)
 

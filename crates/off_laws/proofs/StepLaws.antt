@@ -32,7 +32,7 @@ use Rattle.off_book.specs.Tftp.{TftpDid, TickDid, transfers_effect, tftp_said, t
 use Rattle.off_book.specs.Dhcp.{DatagramDid}
 use Rattle.off_query_rules.specs.Asked.{query_of}
 use Rattle.off_defs.specs.declared.orders.Write.{Write}
-use Rattle.off_laws.specs.Laws.{OneResult, MomentIsGreatest, TablesByCommit, ChangesItsPart}
+use Rattle.off_laws.specs.Laws.{OneResult, MomentIsGreatest, TablesByCommit, ChangesItsPart, QueriesChangeNothing}
 use Rattle.off_laws.proofs.Answers.{WritesNothingOrDone, request_writes, request_good}
 use Rattle.off_laws.proofs.Ways.{Way, stays, serves, forgets, hears, answers, messages, way}
 
@@ -227,6 +227,20 @@ does_part s End Keeper effect p = absurd p
 pub changes_its_part : ChangesItsPart
 unfolding Step
 changes_its_part s event outcome effect p = does_part (at_moment s event.at.0) event.what outcome effect p
+
+-- a query changes nothing
+does_nothing : (s : State) (from : Peer) (bytes query : List ℕ) (outcome : Outcome) (effect : Effect) → Does s (Datagram Dhcp from bytes) outcome effect → query_of bytes ≡ Some query
+    → (effect.commit ≡ []) × (effect.after ≡ s)
+does_nothing s from bytes query Did effect p asks =
+    let did = subst (DatagramDid s bytes effect) asks p in
+    (commit_of effect _ did, after_of effect _ did)
+does_nothing s from bytes query Memory effect p asks = (commit_of effect _ p, after_of effect _ p)
+does_nothing s from bytes query Keeper effect p asks = (commit_of effect _ p, after_of effect _ p)
+
+pub queries_change_nothing : QueriesChangeNothing
+unfolding Step
+queries_change_nothing s event outcome effect from bytes query p came asks =
+    does_nothing (at_moment s event.at.0) from bytes query outcome effect (subst (λ (what : What). Does (at_moment s event.at.0) what outcome effect) came p) asks
 
 -- good tables stay good
 way_good : (s : State) (what : What) (outcome : Outcome) (effect : Effect) → Way s what outcome effect → Good s.tables → Good effect.after.tables
