@@ -21,10 +21,7 @@ pub(crate) fn word_of(now: Moment, question: Question, case: &QueryCase) -> Quer
         (QueryWord::Relay, case.site.is_none()),
         (QueryWord::Form, is_formless(question)),
         (QueryWord::Active, is_active(now, question, case.lease)),
-        (
-            QueryWord::Unassigned,
-            is_unassigned(question, case.address),
-        ),
+        (QueryWord::Unassigned, is_unassigned(question, case.address)),
     ])
 }
 

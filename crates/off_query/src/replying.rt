@@ -139,7 +139,14 @@ fn write_active(
     let mut hardware = Bytes::new(alloc);
     hardware.push_all(&mac.0)?;
     push_zeros(&mut hardware, 10)?;
-    let mut out = write_head(alloc, q, 1, 6, &address.0.to_be_bytes(), hardware.as_slice())?;
+    let mut out = write_head(
+        alloc,
+        q,
+        1,
+        6,
+        &address.0.to_be_bytes(),
+        hardware.as_slice(),
+    )?;
     push_option(&mut out, MESSAGE_TYPE, &[ACTIVE])?;
     push_number(&mut out, SERVER_IDENTIFIER, server.0)?;
     push_number(&mut out, LEASE_TIME, left)?;

@@ -71,11 +71,7 @@ fn only_within<K: Keeper>(
 
 // The hub of the pool that is wanted.
 #[tactic(auto, using(crate::proofs::Chain::rows))]
-fn hub_for<K: Keeper>(
-    alloc: Global,
-    keeper: &mut K,
-    wanted: Wanted,
-) -> Result<Option<u32>, KeepErr>
+fn hub_for<K: Keeper>(alloc: Global, keeper: &mut K, wanted: Wanted) -> Result<Option<u32>, KeepErr>
     ensures { Looks result (K.seen keeper.old) (K.seen keeper.new)
         (λ hub t. hub ≡ hub_for t wanted) }
 {

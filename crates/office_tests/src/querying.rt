@@ -155,11 +155,17 @@ fn both_answers_are_one(rt: HostRuntime) -> Result<(), Fail> {
 #[test]
 fn each_call_that_fails_fails_a_query(rt: HostRuntime) -> Result<(), Fail> {
     for failing in 2..4 {
-        assert_eq!(rt; by_address(rt.alloc(), By::Runs, HELD, failing), Err(KeepErr::Failed));
+        assert_eq!(rt;
+            by_address(rt.alloc(), By::Runs, HELD, failing),
+            Err(KeepErr::Failed)
+        );
     }
     assert_eq!(rt; by_address(rt.alloc(), By::Runs, HELD, 4), Ok(ACTIVE));
     for failing in 2..5 {
-        assert_eq!(rt; by_modem(rt.alloc(), By::Runs, failing), Err(KeepErr::Failed));
+        assert_eq!(rt;
+            by_modem(rt.alloc(), By::Runs, failing),
+            Err(KeepErr::Failed)
+        );
     }
     assert_eq!(rt; by_modem(rt.alloc(), By::Runs, 5), Ok(ACTIVE));
     Ok(())
