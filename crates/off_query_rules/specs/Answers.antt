@@ -106,23 +106,27 @@ seconds_left now lease = min (lease.expiry.0 - now) 4294967295
 abbrev pub to_relay : List ℕ → List ℕ → Sent
 to_relay q bytes = sent.Datagram service.Dhcp (peer_at (giaddr_of q) 67) bytes
 
-abbrev pub active_for : ℕ → List ℕ → Ip4 → Ip4 → Lease → Option Sent
-active_for now q server address lease =
-    option_map (λ mac. to_relay q (active_bytes (seconds_left now lease) q server address mac))
+abbrev pub active_for : ℕ → List ℕ → Site → Ip4 → Lease → Option Sent
+active_for now q site address lease =
+    option_map
+    (λ mac. to_relay q (active_bytes (seconds_left now lease) q site.server address mac))
     (bound_mac lease.hold)
 
-abbrev pub reply_by : ℕ → List ℕ → QueryCase → Site → QueryWord → Option Sent
-reply_by now q c site word.Active =
-    option_and_then (λ address. option_and_then (active_for now q site.server address) c.lease)
-    c.address
-reply_by now q c site word.Unassigned = Some (to_relay q (plain_bytes 11 q site.server))
-reply_by now q c site word.Unknown = Some (to_relay q (plain_bytes 12 q site.server))
-reply_by now q c site word = None
+abbrev pub reply_by_word : ℕ → List ℕ → QueryCase → Site → QueryWord → Option Sent
+reply_by_word now q c site word.Active =
+    option_and_then (λ address. option_and_then (active_for now q site address) c.lease) c.address
+reply_by_word now q c site word.Unassigned = Some (to_relay q (plain_bytes 11 q site.server))
+reply_by_word now q c site word.Unknown = Some (to_relay q (plain_bytes 12 q site.server))
+reply_by_word now q c site word = None
 
 abbrev pub answered : ℕ → List ℕ → QueryCase → QueryWord → QueryStep
 answered now q c word =
-    record { reply = option_and_then (λ site. reply_by now q c site word) c.site; word = word }
+    record {
+      reply = option_and_then (λ site. reply_by_word now q c site word) c.site;
+      word = word;
+    }
 
+-- by the rows, the first word whose condition holds, and its reply
 unfoldable pub settled : ℕ → List ℕ → QueryCase → QueryStep
 settled now q c = answered now q c (first_word (query_words now (question_of q) c))
 
