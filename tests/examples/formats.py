@@ -477,7 +477,7 @@ def is_told(data, is_one):
 
 
 def queries():
-    section("a datagram is a relay's query, or it isn't", "RFC 4388, section 5.2: a head of BOOTP, the one byte 10 in option 53, and no option 52.")
+    section("a datagram is a relay's query, or it isn't", "RFC 4388, section 6.2: a head of BOOTP, the one byte 10 in option 53, and no option 52.")
     relay = bytes([10, 64, 0, 1])
     whole, other = query(client=bytes([10, 64, 0, 10]), relay=relay), query(hardware=bytes.fromhex(MODEM), relay=relay)
     for data in (whole, other, query(), query(options=option(61, b"\1")), query(kind=b"\x06\x10", hardware=b"\7" * 16), whole[:-1], whole + b"\0" * 60):

@@ -948,7 +948,7 @@ FAR = ["pool 2 10.65.0.10 10.65.0.11 24 10.65.0.1 10.65.0.1"]
 def querying(player):
     to = f"{RELAY}:67"
     player.section("a relay asks who has an address, and which address a modem has",
-                   "The worked example, byte for byte: RFC 4388, sections 6.3 and 6.4; each answer has 300 bytes. A query changes nothing.")
+                   "The worked example, byte for byte: RFC 4388, sections 6.2 and 6.4; each answer has 300 bytes. A query changes nothing.")
     played = player.play("", [
         ("t", "offer", discover()), ("t", "ack", selects()), ("t+400", "query-active", who_has(A)), ("t+400", "query-active", has_which()),
         ("t+400", "query-unassigned", who_has("10.64.0.50")), ("t+400", "query-unknown", has_which(0xEF)),
@@ -1005,7 +1005,7 @@ def querying(player):
         ("t", "query-relay", has_which(1, relay="10.65.0.1")), ("t", "query-active", has_which(1, relay="10.65.0.2")), ("t+50", "", remove("/pools/2")),
         ("t+50", "query-relay", who_has(A, relay="10.65.0.2")), ("t+50", "query-unknown", who_has("10.65.0.10")), ("t+50", "query-unknown", has_which(1))], rows=far)
     player.section("a query asks by address or by hardware address alone",
-                   "RFC 4388, section 6.3: by address ciaddr isn't 0, and htype, hlen and chaddr are; by hardware address ciaddr is 0. What is behind the six bytes isn't read.")
+                   "RFC 4388, section 6.2: by address ciaddr isn't 0, and htype, hlen and chaddr are; by hardware address ciaddr is 0. What is behind the six bytes isn't read.")
     formless = [who_has(A, kind=b"\0\1"), who_has(A, kind=b"\1\0"), who_has(A, hardware=MAC, kind=bytes(2)), who_has(A, hardware=bytes(15) + b"\1", kind=bytes(2)),
                 who_has(A, hardware=MAC), has_which(kind=b"\6\6"), has_which(kind=b"\1\7"), has_which(kind=b"\0\6"), has_which(kind=b"\1\0"), has_which(kind=bytes(2)),
                 who_has(A, options=option(61, b"")), has_which(options=option(61, b"\0") * 2)]
@@ -1035,7 +1035,7 @@ def querying(player):
 
 def reading_queries(player):
     player.section("a datagram is a query by its fixed part and its options 53 and 52, and else a message or none",
-                   "RFC 4388, section 5.2. A query's hardware isn't looked at where it's read.")
+                   "RFC 4388, section 6.2. A query's hardware isn't looked at where it's read.")
     whole = who_has(A)
     full = whole + bytes(1500 - len(whole))
     like = has_which()

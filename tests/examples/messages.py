@@ -147,7 +147,7 @@ def reply_in(data):
 # ---- queries
 
 def query(client=bytes(4), hardware=b"", kind=None, rest=None, options=b"", relay=bytes(4), xid=0x11223344, hops=0, secs=0, flags=0, code=QUERY):
-    """A relay's query: by an address, which stands in ciaddr, or by a hardware address (RFC 4388, section 6.3). `kind` is the type and length of that."""
+    """A relay's query: by an address, which stands in ciaddr, or by a hardware address (RFC 4388, section 6.2). `kind` is the type and length of that."""
     kind = kind if kind is not None else b"\x01\x06" if hardware else bytes(2)
     fixed = (b"\x01" + kind + bytes([hops]) + xid.to_bytes(4, "big") + secs.to_bytes(2, "big") + flags.to_bytes(2, "big") + client + bytes(8) + relay
              + hardware.ljust(16, b"\0") + (bytes(192) if rest is None else rest))

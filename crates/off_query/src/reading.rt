@@ -15,7 +15,7 @@ const OPTION_OVERLOAD: u8 = 52;
 // DHCPLEASEQUERY (RFC 4388, section 6.1).
 const LEASE_QUERY: u8 = 10;
 
-/// A relay's query for a lease (RFC 4388, section 5.2): a head whose option 53 says so. It lies in
+/// A relay's query for a lease (RFC 4388, section 6.2): a head whose option 53 says so. It lies in
 /// the datagram's bytes, and contracts see these.
 #[derive(Debug, Drop)]
 pub struct Query<'a> {

@@ -1,4 +1,4 @@
--- When a datagram is a relay's query for a lease, and what it asks (RFC 4388 sections 5.2 and 6.1).
+-- When a datagram is a relay's query for a lease, and what it asks (RFC 4388 sections 6.1 and 6.2).
 use Rattle.std.specs.Prelude.{ℕ, ◌+◌, ◌==◌, Bool, true, false, not, ◌&&◌, List, length, Option, Some, None, is_some, is_none, slice_index, if◌then◌else◌, replicate}
 use Rattle.std.specs.Int.{w32, from_be_bytes}
 use Rattle.std.specs.List.{slice_range}

@@ -1,6 +1,6 @@
 use off_base::{Ip4, Mac};
 
-/// What a query asks (RFC 4388, section 6.1).
+/// What a query asks (RFC 4388, section 6.2).
 #[derive(Clone, Copy, Debug, PartialEq, Eq)]
 pub enum Question {
     /// Who has this address.
