@@ -19,7 +19,7 @@ use Rattle.off_query_rules.specs.Asked.{query_of}
 use Rattle.off_book.specs.Dhcp.{DatagramDid, dhcp_said, dhcp_effect}
 use Rattle.off_book.specs.Step.{Step}
 use Rattle.off_book.specs.Tftp.{transfers_effect, tftp_said}
-use Rattle.off_laws.proofs.Messages.{no_query}
+use Rattle.off_query_laws.proofs.KindLemmas.{no_query}
 use Rattle.off_drill_rules.specs.Rows.{moment, mac, address, is_active, lease, drill_tables}
 use Rattle.off_drill_rules.specs.Messages.{by_relay, by_modem, discover, request, read_request, acknowledgement}
 use Rattle.off_drill_rules.specs.Events.{asks_for_offer, asks_for_lease, asks_for_file, acknowledges, blocks_of}
