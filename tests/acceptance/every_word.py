@@ -18,14 +18,14 @@ QUERIES = "query-relay query-form query-active query-unassigned query-unknown".s
 TFTP = """form write mode again no-lease agreement name full oack block unknown stale-ack done
 peer-error""".split()
 FAULTS = """head body too-long no-path no-method not-json field value header width import-field
-too-many site no-row no-subscriber no-class tree pool-size pool-overlap relay-taken pool-has-leases
-has-modems class-in-use batch-differs limit""".split()
+too-many site no-row no-subscriber no-class no-hub tree pool-size pool-overlap relay-taken pool-has-leases
+has-modems class-in-use hub-in-use device-overlap batch-differs limit""".split()
 TOLD = ["illegal operation", "access violation", "octet only", "no lease", "no longer agreed",
         "file not found", "too many transfers", "unknown transfer"]
 ENDS = [f"{word} refused" for word in ("words", "tables", "keeper", "link", "memory", "source")]
 REFUSED = """too-long cut no-end after-end early-pad no-mic twice-mic mic-length header width field
 too-many batch-differs limit not-empty""".split() + ["row"]
-KEYS = "site subscriber add-on modem class pool lease held batch".split()
+KEYS = "site subscriber add-on modem class pool lease held batch hub pool-hub device-pool device".split()
 STATUSES = [str(status) for status in range(12)] + ["70", "129", "130", "131", "137", "143"]
 ANSWERS = ['{"ok":true}', '{"rows":}', '{"fault":}', '{"at":,"fault":}', '"state":"offered"',
            '"state":"bound"', '"state":"declined"']

@@ -217,9 +217,11 @@ def trees():
     ask(f"add-on {many['full']} {many['half']} {many['more']}", "too-long 513")
 
 
+DEVICE = "0200000000a1"
 KEYS = [("site", "01"), ("subscriber 7", "0200000007"), ("add-on 16909060 5", "030102030405"), (f"modem {MODEM}", f"04{MODEM}"),
         ("class 4294967295", "05ffffffff"), ("pool 64", "0600000040"), ("lease 10.64.0.10", "070a40000a"), (f"held {MODEM}", f"08{MODEM}"),
-        ("batch 18446744073709551615", "09ffffffffffffffff")]
+        ("batch 18446744073709551615", "09ffffffffffffffff"), ("hub 64", "0a00000040"), ("pool-hub 64", "0b00000040"),
+        ("device-pool 64", "0c00000040"), ("device 10.128.0.10", "0d0a80000a")]
 # Rows with their bytes, and where their fields begin.
 ROWS = [("site", "site 10.0.0.2 736563726574 -18000 86400 0.0.0.0", "0a000002" + "06736563726574" + "ffffb9b0" + "00015180" + "00000000", (0, 4, 11, 15, 19)),
         ("subscriber 7", 'subscriber 7 active 2 "Ann"', "0102" + "03416e6e", (0, 1, 2)),
@@ -232,7 +234,13 @@ ROWS = [("site", "site 10.0.0.2 736563726574 -18000 86400 0.0.0.0", "0a000002" +
         ("lease 10.64.0.10", f"lease 10.64.0.10 bound {MODEM} 1700000120", f"02{MODEM}" + "000000006553f178", (0, 1, 7)),
         ("lease 10.64.0.10", "lease 10.64.0.10 declined 1700000120", "03" + "000000006553f178", (0, 1)),
         (f"held {MODEM}", f"held {MODEM} 10.64.0.10", "0a40000a", (0,)),
-        ("batch 9", "batch 9 modems 2 900150983cd24fb0d6963f7d28e17f72", "02" + hashlib.md5(b"abc").hexdigest() + "00000002", (0, 1, 17))]
+        ("batch 9", "batch 9 modems 2 900150983cd24fb0d6963f7d28e17f72", "02" + hashlib.md5(b"abc").hexdigest() + "00000002", (0, 1, 17)),
+        ("hub 1", "hub 1 10.0.0.3 6f74686572 0 60 10.0.0.9", "0a000003" + "056f74686572" + "00000000" + "0000003c" + "0a000009", (0, 4, 10, 14, 18)),
+        ("pool-hub 2", "pool-hub 2 1", "00000001", (0,)),
+        ("device-pool 1", "device-pool 1 10.128.0.10 10.128.0.20 24 10.128.0.1 10.128.0.1", "0a80000a" + "0a800014" + "18" + "0a800001" + "0a800001", (0, 4, 8, 9, 13)),
+        ("device 10.128.0.10", f"device 10.128.0.10 offered {MODEM} {DEVICE} 1700000120", f"01{MODEM}{DEVICE}" + "000000006553f178", (0, 1, 7, 13)),
+        ("device 10.128.0.10", f"device 10.128.0.10 bound {MODEM} {DEVICE} 1700000120", f"02{MODEM}{DEVICE}" + "000000006553f178", (0, 1, 7, 13)),
+        ("device 10.128.0.10", "device 10.128.0.10 declined 1700000120", "03" + "000000006553f178", (0, 1))]
 
 
 def tables():
@@ -241,7 +249,7 @@ def tables():
         ask(f"key {text}", f"{data} {text}")
         ask(f"key-of {data}", text)
         ask(f"key-of {data[:-2] or '-'}", "none")
-    for data in ("00", "0a", "0100", "020000000700", "0300000007", "0a00000001"):
+    for data in ("00", "0a", "0d", "0e", "0100", "020000000700", "0300000007", "0a0000000100", "0e00000001"):
         ask(f"key-of {data}", "none")
     section("a row is read, and each cut of it is refused at the field that lacks bytes", "A byte behind it is refused at its place.")
     for key, text, data, places in ROWS:
@@ -253,7 +261,8 @@ def tables():
     for key, data, place in (("subscriber 7", "020200", 0), ("subscriber 7", "010201ff", 2), ("lease 0.0.0.1", "000000000000000001", 0),
                              ("lease 0.0.0.1", "040000000000000001", 0), ("add-on 7 0", "00020000", 0), ("add-on 7 0", "0002ff00", 0),
                              ("add-on 7 0", "0004030101ff", 0), ("add-on 7 0", "0003030201", 0), ("add-on 7 0", "000418020101", 0), ("class 1", "00000103", 1),
-                             ("batch 9", "00" * 21, 0), ("batch 9", "03" * 21, 0)):
+                             ("batch 9", "00" * 21, 0), ("batch 9", "03" * 21, 0), ("device 0.0.0.1", "000000000000000001", 0),
+                             ("device 0.0.0.1", "04" + "00" * 20, 0), ("device 0.0.0.1", "03" + "00" * 20, 9), ("hub 1", "0a00000241" + "ff" * 77, 4)):
         ask(f"row-of {key} {data}", f"bad {place}")
     for count in (64, 65):
         ask(f'row-of subscriber 7 0102{count:02x} {count}* "a"', f'subscriber 7 active 2 "{"a" * 64}"; 010240{"61" * 64}' if count == 64 else "bad 2")
@@ -278,7 +287,7 @@ def tables():
     for text, _ in KEYS:
         kind = text.split()[0]
         ask(f"sound remove {text}", "yes" if kind in ("subscriber", "add-on", "modem", "class", "pool") else "no")
-        ask(f"sound show {text}", "no" if kind in ("held", "batch") else "yes")
+        ask(f"sound show {text}", "no" if kind in ("held", "batch", "hub", "pool-hub", "device-pool", "device") else "yes")
     ask('sound import modems 0', "yes")
     ask('sound import subscribers 2000 subscriber 7 active 2 "Ann"', "yes")
     ask('sound import subscribers 2001 subscriber 7 active 2 "Ann"', "no")

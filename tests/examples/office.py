@@ -518,12 +518,22 @@ JUDGED = {
 }
 
 
+# A row of each kind that no good tables have yet.
+UNUSED = ("hub 1 10.0.0.3 6f74686572 0 60 0.0.0.0", "pool-hub 1 1", "device-pool 1 10.128.0.10 10.128.0.20 24 10.128.0.1 10.128.0.1",
+          "device 10.128.0.10 bound 02aabbccddee 0200000000a1 t+120")
+
+
 def judging():
     for name, rows in JUDGED.items():
         section(name, "The conditions on good tables; the least bad key is named.")
         for changes, bad in rows:
             lines = ["office", *(change(text.strip()) for text in changes.split(";") if text)]
             run("", lines, outcome(2, [f"tables refused {bad}"]) if bad else outcome())
+    section("no good tables have a kind of row that isn't in use yet", "Hubs, the hubs of pools, pools for devices, and devices' leases.")
+    for row in UNUSED:
+        run("", ["office", row], outcome(2, [f"tables refused {' '.join(row.split(' ')[:2])}"]))
+    run("", ["office", *UNUSED], outcome(2, ["tables refused hub 1"]))
+    run("", ["office", *reversed(UNUSED)], outcome(2, ["tables refused hub 1"]))
 
 
 def customers():

@@ -12,7 +12,6 @@ use Rattle.off_defs.specs.Keys.{key_cmp}
 use Rattle.off_defs.specs.State.{Tables, State, Held, state_of, held_at_start}
 use Rattle.off_defs.specs.Tables.{is_after, next_entry}
 use Rattle.off_defs.proofs.ToldLemmas.{told_then, told_weaker}
-use Rattle.off_defs.proofs.CountLemmas.{later_grew}
 use Rattle.off_defs.specs.Told.{Told}
 use Rattle.off_account_rules.specs.Good.{Good, IsLeastBad}
 use Rattle.off_book.specs.Run.{Turn}
@@ -22,9 +21,9 @@ use Rattle.off_outside.specs.KeeperSeen.{KeeperSeen, Rests}
 use Rattle.off_outside.specs.KeeperCalls.{Reads, NotDone}
 use Rattle.off_outside.specs.LinkSeen.{LinkSeen}
 use Rattle.off_outside.specs.Streams.{SinkSeen}
-use Rattle.off_outside.proofs.KeeperLemmas.{reads_as, reads_then, still_then, stays_up_then}
+use Rattle.off_outside.proofs.KeeperLemmas.{reads_as, reads_then, still_then, stays_up_then, tallied_behind}
 use Rattle.off_jobs.specs.Jobs.{Tells}
-use Rattle.off_office.specs.Conditions.{Fits}
+use Rattle.off_office.specs.Conditions.{Fits, Opened}
 use Rattle.off_office.specs.Desk.{Desk}
 use Rattle.off_office.specs.declared.office.StartErr.TheVariants as start_err
 use Rattle.off_office.proofs.UpLemmas.{up_chain}
@@ -145,8 +144,8 @@ broken_by n few err d e i j k l m built held stops =
                 let part = whole.1 start in
                 front_of n few part.stage stops.turns part.mid part.place (subst (λ (v : State). Along n (Waits 0) part.stage stops.turns v part.mid) start part.along),
           ));
-      up = up_chain (let q = built.faults in omega (arith, q)) stops.faults.later (λ up. inl (built.up up)) stops.up;
-      faults = later_grew (let q = built.faults in omega (arith, q)) stops.faults;
+      up = up_chain (let q = built.faults in omega (arith, q)) stops.faults.grew.later (λ up. inl (built.up up)) stops.up;
+      faults = tallied_behind built.faults stops.faults;
       keeper = subst (λ (v : List Given). KeeperDid v (stops.turns ++ stops.tried) d stops.after i k) (sym (append-nil built.given)) (keeper_turns built.keeper stops.keeper);
       sent = stops.sent;
     }
@@ -168,10 +167,10 @@ broken_before n few err d i j l halts = record {
 
 -- ---- the tables were opened
 
-pub ends_with_rows : (n : ℕ) (d : Desk) (i j k : KeeperSeen) (l : LinkSeen) → Reads (Fits d) i j → FindsRows true j k → Ends NotEmpty n i k l l
-ends_with_rows n d i j k l opened finds = (reads_then opened finds (λ t fit differs. (fit.good, differs)), link_unasked l)
+pub ends_with_rows : (n : ℕ) (d : Desk) (i j k : KeeperSeen) (l : LinkSeen) → Opened d i j → FindsRows true j k → Ends NotEmpty n i k l l
+ends_with_rows n d i j k l opened finds = (reads_then opened.reads finds (λ t fit differs. (fit.good, differs)), link_unasked l)
 
-pub ends_unread : (n : ℕ) → n ≤ 4000 → (err : KeepErr) (d : Desk) (i j k : KeeperSeen) (l : LinkSeen) → Rests i → Reads (Fits d) i j → NotDone err j k → Ends (Broken err) n i k l l
+pub ends_unread : (n : ℕ) → n ≤ 4000 → (err : KeepErr) (d : Desk) (i j k : KeeperSeen) (l : LinkSeen) → Rests i → Opened d i j → NotDone err j k → Ends (Broken err) n i k l l
 ends_unread n few err d i j k l rests opened not = record {
   given = [];
   lost = [];
@@ -180,19 +179,19 @@ ends_unread n few err d i j k l rests opened not = record {
   came = record { gave = gave_none (founding n); did = All-nil (λ (t : Turn). t.outcome ≡ Did); one = tried_none; order = inl refl };
   tables = record {
     each = λ t told.
-        let before = opened.tables t told in
+        let before = opened.reads.tables t told in
         record { value = t; told = not.tables t before.0; fits = (before.1.good, front_none n few) };
   };
-  up = stays_up_then i j k opened.quiet not.up;
-  faults = later_grew (let q = opened.quiet.faults in omega (arith, q)) not.faults;
+  up = stays_up_then i j k opened.reads.quiet not.up;
+  faults = tallied_behind opened.reads.quiet.faults not.faults;
   keeper = record {
-    commits = not.commits ∙ opened.quiet.commits;
+    commits = not.commits ∙ opened.reads.quiet.commits;
     crash = record {
       each = λ t told.
-          let still = still_then opened.quiet.still not.still in
+          let still = still_then opened.reads.quiet.still not.still in
           record {
             value = t;
-            told = not.tables t (opened.tables t told).0;
+            told = not.tables t (opened.reads.tables t told).0;
             fits = (held_at_start, (refl, (still.later, (still.doubts, λ m u early upto shown. rests t told u (still.within m u early upto shown)))));
           };
     };
@@ -200,12 +199,12 @@ ends_unread n few err d i j k l rests opened not = record {
   sent = sent_nothing l;
 }
 
-pub ends_going : (ended : Ended) (n : ℕ) (d : Desk) (i j k o : KeeperSeen) (l m : LinkSeen) → Rests i → d.held ≡ held_at_start → Reads (Fits d) i j → FindsRows false j k
+pub ends_going : (ended : Ended) (n : ℕ) (d : Desk) (i j k o : KeeperSeen) (l m : LinkSeen) → Rests i → d.held ≡ held_at_start → Opened d i j → FindsRows false j k
     → GoesOn ended n d k o l m → Ends ended n i o l m
 ends_going (Closed err) n d i j k o l m rests begins opened finds goes = absurd goes
 ends_going NotEmpty n d i j k o l m rests begins opened finds goes = absurd goes
 ends_going (Broken err) n d i j k o l m rests begins opened finds goes =
-    let both = reads_then {R = λ t. Fits d t × (t ≡ map.empty)} opened finds (λ t fit is. (fit, is)) in
+    let both = reads_then {R = λ t. Fits d t × (t ≡ map.empty)} opened.reads finds (λ t fit is. (fit, is)) in
     record {
       given = goes.given;
       lost = goes.lost;
@@ -220,12 +219,12 @@ ends_going (Broken err) n d i j k o l m rests begins opened finds goes =
             record { value = g.value; told = g.told; fits = (p.0, p.1 before.1.1) };
       };
       up = stays_up_then i k o both.quiet goes.up;
-      faults = later_grew (let q = both.quiet.faults in omega (arith, q)) goes.faults;
+      faults = tallied_behind both.quiet.faults goes.faults;
       keeper = keeper_opened rests begins both (λ t p. p.0) goes.keeper;
       sent = goes.sent;
     }
 ends_going (Done tally) n d i j k o l m rests begins opened finds goes =
-    let both = reads_then {R = λ t. Fits d t × (t ≡ map.empty)} opened finds (λ t fit is. (fit, is)) in
+    let both = reads_then {R = λ t. Fits d t × (t ≡ map.empty)} opened.reads finds (λ t fit is. (fit, is)) in
     record {
       given = goes.given;
       gave = goes.gave;
@@ -258,10 +257,10 @@ FewStatuses status = (status ≡ 0) ⊎ ((status ≡ 2) ⊎ ((status ≡ 6) ⊎ 
 
 few_of : (ended : Ended) (n status : ℕ) (k k' : KeeperSeen) (l m : LinkSeen) (s s' : SinkSeen) → Ends ended n k k' l m → NoneFailed k k' s s' → status ≡ ended_status ended → FewStatuses status
 few_of (Closed (start_err.Bad key)) n status k k' l m s s' ends none is = inr (inl is)
-few_of (Closed start_err.Failed) n status k k' l m s s' ends none is = absurd (stands k.faults k'.faults none.keeper_same none.keeper_count ends.0.faults)
+few_of (Closed start_err.Failed) n status k k' l m s s' ends none is = absurd (stands k.faults k'.faults none.keeper_same none.keeper_count ends.0.faults.grew)
 few_of (Closed start_err.Memory) n status k k' l m s s' ends none is = inr (inr (inl is))
 few_of NotEmpty n status k k' l m s s' ends none is = inr (inr (inr is))
-few_of (Broken keep.Failed) n status k k' l m s s' ends none is = absurd (stands k.faults k'.faults none.keeper_same none.keeper_count ends.faults)
+few_of (Broken keep.Failed) n status k k' l m s s' ends none is = absurd (stands k.faults k'.faults none.keeper_same none.keeper_count ends.faults.grew)
 few_of (Broken keep.Memory) n status k k' l m s s' ends none is = inr (inr (inl is))
 few_of (Done tally) n status k k' l m s s' ends none is = inl is
 
@@ -271,10 +270,10 @@ never_bad key bad = let f : Some bad.held ≡ None = sym bad.there ∙ map.get-e
 done_of : (ended : Ended) (n status : ℕ) (k k' : KeeperSeen) (l m : LinkSeen) (s s' : SinkSeen) → Ends ended n k k' l m → k.tables map.empty → NoneFailed k k' s s' → status ≢ 6
     → status ≡ ended_status ended → status ≡ 0
 done_of (Closed (start_err.Bad key)) n status k k' l m s s' ends told none other is = absurd (never_bad key (ends.0.tables map.empty told).1)
-done_of (Closed start_err.Failed) n status k k' l m s s' ends told none other is = absurd (stands k.faults k'.faults none.keeper_same none.keeper_count ends.0.faults)
+done_of (Closed start_err.Failed) n status k k' l m s s' ends told none other is = absurd (stands k.faults k'.faults none.keeper_same none.keeper_count ends.0.faults.grew)
 done_of (Closed start_err.Memory) n status k k' l m s s' ends told none other is = absurd (other is)
 done_of NotEmpty n status k k' l m s s' ends told none other is = absurd ((ends.0.tables map.empty told).1.1 refl)
-done_of (Broken keep.Failed) n status k k' l m s s' ends told none other is = absurd (stands k.faults k'.faults none.keeper_same none.keeper_count ends.faults)
+done_of (Broken keep.Failed) n status k k' l m s s' ends told none other is = absurd (stands k.faults k'.faults none.keeper_same none.keeper_count ends.faults.grew)
 done_of (Broken keep.Memory) n status k k' l m s s' ends told none other is = absurd (other is)
 done_of (Done tally) n status k k' l m s s' ends told none other is = is
 

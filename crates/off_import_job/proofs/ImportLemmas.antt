@@ -37,7 +37,7 @@ use Rattle.off_jobs.specs.Jobs.{Tells, NoFault}
 use Rattle.off_jobs.specs.declared.input.InputErr.TheVariants as input_err
 use Rattle.off_jobs.proofs.JobLemmas.{told_whole, source_held, sink_kept, told_file, too_many_of}
 use Rattle.off_office.specs.Answering.{CommandBegins, Commanded, NotCommanded, CountsRows}
-use Rattle.off_office.specs.Conditions.{Fits}
+use Rattle.off_office.specs.Conditions.{Opened}
 use Rattle.off_office.specs.Desk.{Desk}
 use Rattle.off_office.specs.declared.office.StartErr.TheVariants as start_err
 use Rattle.off_import_job.specs.Telling.{ended_text, ended_status}
@@ -100,30 +100,30 @@ told_rows kind batch rows bytes command reply is counts are =
     found.1 ∙ ap (λ (n : ℕ). let r : Reply = Rows n in r) (sym (are found.0 found.1))
 
 -- what a command of an office that has just begun would leave, over the tables that it opened
-begins_on : {err : KeepErr} (desk : Desk) (command : Command) {k l m : KeeperSeen} → Rests k → Reads (Fits desk) k l
+begins_on : {err : KeepErr} (desk : Desk) (command : Command) {k l m : KeeperSeen} → Rests k → Opened desk k l
     → NotCommitted (CommandBegins command 0 desk) err l m → NotCommitted (ImportBegins command) err k m
 begins_on desk command rests opened not =
-    not_committed_as (not_begun_then rests opened not) (λ t told u begins. begins ((opened.tables t told).1.mirrors))
+    not_committed_as (not_begun_then rests opened.reads not) (λ t told u begins. begins ((opened.reads.tables t told).1.mirrors))
 
-left_undone : (err : AccountErr) (desk : Desk) (command : Command) (k l m : KeeperSeen) → Rests k → Reads (Fits desk) k l
+left_undone : (err : AccountErr) (desk : Desk) (command : Command) (k l m : KeeperSeen) → Rests k → Opened desk k l
     → NotCommanded command err 0 desk l m → LeftUndone err command k m
-left_undone (account_err.Refused row broken) desk command k l m rests opened not = reads_then opened not (λ t fits says. says fits.mirrors)
+left_undone (account_err.Refused row broken) desk command k l m rests opened not = reads_then opened.reads not (λ t fits says. says fits.mirrors)
 left_undone account_err.Failed desk command k l m rests opened not = begins_on desk command rests opened not
 left_undone account_err.Memory desk command k l m rests opened not = begins_on desk command rests opened not
 
-pub opened_good : {desk : Desk} {k l : KeeperSeen} → Reads (Fits desk) k l → Reads Good k l
-opened_good opened = reads_as opened (λ t fits. fits.good)
+pub opened_good : {desk : Desk} {k l : KeeperSeen} → Opened desk k l → Reads Good k l
+opened_good opened = reads_as opened.reads (λ t fits. fits.good)
 
 -- the office opened, the import was read, and the command was given to the office
 pub ends_given : (ended : Ended) (kind : ImportKind) (batch : ℕ) (command : Command) (desk : Desk) (k l m : KeeperSeen) (s s' : SourceSeen) → Rests k
-    → Reads (Fits desk) k l → ReadAs kind batch command s s' → IsTrue (is_sound command) → CarriesOut ended command desk l m → Ends ended kind batch k m s s'
+    → Opened desk k l → ReadAs kind batch command s s' → IsTrue (is_sound command) → CarriesOut ended command desk l m → Ends ended kind batch k m s s'
 ends_given (Closed err) kind batch command desk k l m s s' rests opened read sound did = absurd did
 ends_given (Unread err) kind batch command desk k l m s s' rests opened read sound did = absurd did
 ends_given (NoImport err) kind batch command desk k l m s s' rests opened read sound did = absurd did
 ends_given (NotDone err) kind batch command desk k l m s s' rests opened read sound did = record {
   command = command;
   read = read;
-  good = λ t told. (opened.tables t told).1.good;
+  good = λ t told. (opened.reads.tables t told).1.good;
   undone = left_undone err desk command k l m rests opened did;
 }
 ends_given (Done rows) kind batch command desk k l m s s' rests opened read sound did =
@@ -131,11 +131,11 @@ ends_given (Done rows) kind batch command desk k l m s s' rests opened read soun
     record {
       command = command;
       read = read;
-      good = λ t told. (opened.tables t told).1.good;
+      good = λ t told. (opened.reads.tables t told).1.good;
       writes = did.done.writes;
       tables = record {
         each = λ t told.
-            let before = opened.tables t told in
+            let before = opened.reads.tables t told in
             let g = did.done.tables.each t before.0 in
             let p = g.fits.holds before.1.mirrors in
             record {
@@ -144,10 +144,10 @@ ends_given (Done rows) kind batch command desk k l m s s' rests opened read soun
               fits = (subst (λ (r : Reply). clerk_step t 0 command ≡ step_done t did.done.writes r) is p.0, p.1);
             };
       };
-      settled = settled_then rests opened did.done.settled;
+      settled = settled_then rests opened.reads did.done.settled;
       stays_good = record {
         each = λ t told.
-            let before = opened.tables t told in
+            let before = opened.reads.tables t told in
             let g = did.done.tables.each t before.0 in
             let p = g.fits.holds before.1.mirrors in
             record {
@@ -160,7 +160,7 @@ ends_given (Done rows) kind batch command desk k l m s s' rests opened read soun
 
 -- the office opened, and no import was taken from the source
 pub ends_unread : (ended : Ended) (kind : ImportKind) (batch : ℕ) (desk : Desk) (k l : KeeperSeen) (s s' : SourceSeen)
-    → Reads (Fits desk) k l → NotTaken ended kind batch s s' → Ends ended kind batch k l s s'
+    → Opened desk k l → NotTaken ended kind batch s s' → Ends ended kind batch k l s s'
 ends_unread (Closed err) kind batch desk k l s s' opened not = absurd not
 ends_unread (Unread err) kind batch desk k l s s' opened not = (opened_good opened, not)
 ends_unread (NoImport err) kind batch desk k l s s' opened not = (opened_good opened, not)
@@ -209,7 +209,7 @@ is_nine e = inr (inr (inr e))
 few_of : (ended : Ended) (kind : ImportKind) (batch status : ℕ) (k k' : KeeperSeen) (s s' : SourceSeen) (t t' : SinkSeen) → Ends ended kind batch k k' s s'
     → NoneFailed k k' s s' t t' → status ≡ ended_status ended → FewStatuses status
 few_of (Closed (start_err.Bad key)) kind batch status k k' s s' t t' ends none is = is_two is
-few_of (Closed start_err.Failed) kind batch status k k' s s' t t' ends none is = absurd (stands k.faults k'.faults none.keeper_same none.keeper_count ends.0.faults)
+few_of (Closed start_err.Failed) kind batch status k k' s s' t t' ends none is = absurd (stands k.faults k'.faults none.keeper_same none.keeper_count ends.0.faults.grew)
 few_of (Closed start_err.Memory) kind batch status k k' s s' t t' ends none is = is_six is
 few_of (Unread input_err.TooLong) kind batch status k k' s s' t t' ends none is = is_nine is
 few_of (Unread input_err.Failed) kind batch status k k' s s' t t' ends none is = absurd (source_held ends.1 none.streams)
@@ -217,7 +217,7 @@ few_of (Unread input_err.Memory) kind batch status k k' s s' t t' ends none is =
 few_of (NoImport (import_err.Fault fault)) kind batch status k k' s s' t t' ends none is = is_nine is
 few_of (NoImport import_err.Memory) kind batch status k k' s s' t t' ends none is = is_six is
 few_of (NotDone (account_err.Refused row broken)) kind batch status k k' s s' t t' ends none is = is_nine is
-few_of (NotDone account_err.Failed) kind batch status k k' s s' t t' ends none is = absurd (stands k.faults k'.faults none.keeper_same none.keeper_count ends.undone.faults)
+few_of (NotDone account_err.Failed) kind batch status k k' s s' t t' ends none is = absurd (stands k.faults k'.faults none.keeper_same none.keeper_count ends.undone.faults.grew)
 few_of (NotDone account_err.Memory) kind batch status k k' s s' t t' ends none is = is_six is
 few_of (Done rows) kind batch status k k' s s' t t' ends none is = inl is
 
@@ -285,7 +285,7 @@ done_of : (ended : Ended) (kind : ImportKind) (batch status : ℕ) (k k' : Keepe
     → Doable kind batch k s → NoneFailed k k' s s' t t' → status ≢ 6 → status ≡ ended_status ended → status ≡ 0
 done_of (Closed (start_err.Bad key)) kind batch status k k' s s' t t' ends can none other is =
     absurd (not_bad can.tables key can.good (ends.0.tables can.tables can.told).1)
-done_of (Closed start_err.Failed) kind batch status k k' s s' t t' ends can none other is = absurd (stands k.faults k'.faults none.keeper_same none.keeper_count ends.0.faults)
+done_of (Closed start_err.Failed) kind batch status k k' s s' t t' ends can none other is = absurd (stands k.faults k'.faults none.keeper_same none.keeper_count ends.0.faults.grew)
 done_of (Closed start_err.Memory) kind batch status k k' s s' t t' ends can none other is = absurd (other is)
 done_of (Unread input_err.TooLong) kind batch status k k' s s' t t' ends can none other is =
     absurd (too_many_of ends.1 can.held can.short)
@@ -298,7 +298,7 @@ done_of (NoImport import_err.Memory) kind batch status k k' s s' t t' ends can n
 done_of (NotDone (account_err.Refused row broken)) kind batch status k k' s s' t t' ends can none other is =
     let step = same_step kind batch can.bytes ends.read.bytes can.command ends.command can.tables _ can.means ends.read.means (told_file ends.read.took can.held) can.step in
     absurd (not_refused can.tables can.writes can.reply row broken (sym step ∙ (ends.undone.tables can.tables can.told).1))
-done_of (NotDone account_err.Failed) kind batch status k k' s s' t t' ends can none other is = absurd (stands k.faults k'.faults none.keeper_same none.keeper_count ends.undone.faults)
+done_of (NotDone account_err.Failed) kind batch status k k' s s' t t' ends can none other is = absurd (stands k.faults k'.faults none.keeper_same none.keeper_count ends.undone.faults.grew)
 done_of (NotDone account_err.Memory) kind batch status k k' s s' t t' ends can none other is = absurd (other is)
 done_of (Done rows) kind batch status k k' s s' t t' ends can none other is = is
 

@@ -7,7 +7,7 @@ use Rattle.off_defs.specs.declared.events.What.TheVariants.{Datagram, Tick}
 use Rattle.off_defs.specs.declared.results.Outcome.{Outcome}
 use Rattle.off_defs.specs.declared.results.Outcome.TheVariants.{Did, Memory, Keeper}
 use Rattle.off_defs.specs.State.{Tables, Said, state_of, says_nothing, held_at_start}
-use Rattle.off_defs.proofs.CountLemmas.{grew_self}
+use Rattle.off_defs.proofs.CountLemmas.{tallied_none}
 use Rattle.off_account_rules.specs.declared.counts.Counts.{Counts}
 use Rattle.off_transfer_rules.specs.Transfers.{Transfers}
 use Rattle.off_transfer_rules.specs.Steps.{gives}
@@ -36,7 +36,7 @@ use Rattle.off_users.proofs.KeptLemmas.{stands_known}
 use Rattle.off_opening.specs.Standing.{Opens}
 use Rattle.off_opening.specs.declared.opening.Opening.TheVariants as Opening
 use Rattle.off_office.specs.Desk.{Desk}
-use Rattle.off_office.specs.Conditions.{Fits, Begun}
+use Rattle.off_office.specs.Conditions.{Opened, Begun}
 use Rattle.off_office.specs.Acting.{Handled, DoesOn, NotStarted, effect_of}
 use Rattle.off_office.specs.Answering.{failed_said}
 use Rattle.off_office.specs.Transferring.{moved, moved_with, MovesTransfers, DidPacket, SaysPacket, FailsPacket, DidTick, MissedTick, TakesTick}
@@ -69,12 +69,14 @@ started_empty (Err err) counts users pools is = tt
 -- good tables that were counted, and then read for what is kept of them
 pub opened : (q : Result Desk StartErr) (counts : Counts) (users : UsersHeld) (a b c : KeeperSeen) → Reads (λ t. Opens t (Opening.Good counts users)) a b
     → MatchResult q (λ (office : Desk). Reads (Begun office counts users) b c) (λ (err : StartErr). NotStarted err b c)
-    → MatchResult q (λ (office : Desk). Reads (Fits office) a c) (λ (err : StartErr). NotStarted err a c)
+    → MatchResult q (λ (office : Desk). Opened office a c) (λ (err : StartErr). NotStarted err a c)
 opened (Ok office) counts users a b c good begun =
-    reads_then good begun (λ t opens is. record {
-      good = opens.0;
-      mirrors = record { counts = is.counts_are ∙ opens.1; kept = is.kept; pools = is.pools; users = is.users opens.2 };
-    })
+    record {
+      reads = reads_then good begun (λ t opens is. record {
+        good = opens.0;
+        mirrors = record { counts = is.counts_are ∙ opens.1; kept = is.kept; pools = is.pools; users = is.users opens.2 };
+      });
+    }
 opened (Err (start.Bad key)) counts users a b c good not = reads_then good not (λ t opens bad. bad)
 opened (Err start.Failed) counts users a b c good not = failed_then good not
 opened (Err start.Memory) counts users a b c good not = failed_then good not
@@ -251,6 +253,6 @@ tick_handled Did said before after k did =
 tick_handled Memory said before after k missed =
     handled_quietly Tick Memory said before after k (ap (λ (d : Desk). d.held.now) missed.stays) (stays_by before before after missed.stays (stays_self before)) refl
     (missed_does before after said missed)
-    (record { faults = grew_self; tells = ap (λ (s : Said). s.line) missed.says; leaves = ap (λ (s : Said). s.items) missed.says })
+    (record { faults = tallied_none; tells = ap (λ (s : Said). s.line) missed.says; leaves = ap (λ (s : Said). s.items) missed.says })
     (refl, missed.stays) (spent_none k)
 tick_handled Keeper said before after k none = absurd none
