@@ -12,7 +12,7 @@ use Rattle.off_query_rules.specs.declared.cases.QueryCase.{QueryCase}
 use Rattle.off_query_rules.specs.declared.words.QueryWord.{QueryWord}
 use Rattle.off_query_rules.specs.declared.words.QueryWord.TheVariants as query
 use Rattle.off_query_rules.specs.Asked.{question_of}
-use Rattle.off_query_rules.specs.Answers.{bound_mac, query_words, first_word, query_case, to_relay, active_bytes, seconds_left, active_for, reply_by, settled, query_step}
+use Rattle.off_query_rules.specs.Answers.{bound_mac, query_words, first_word, query_case, to_relay, active_bytes, seconds_left, active_for, reply_by_word, settled, query_step}
 
 -- it's a datagram of the DHCP port, where it's there
 abbrev pub IsOfDhcp : Option Sent → Type 0
@@ -28,20 +28,20 @@ module _ (now : ℕ) (q : List ℕ) where
   owner_goes server address left None = tt
   owner_goes server address left (Some mac) = tt
 
-  active_goes : (server : Ip4) (address : Option Ip4) (lease : Option Lease)
-      → IsOfDhcp (option_and_then (λ (a : Ip4). option_and_then (active_for now q server a) lease) address)
-  active_goes server None lease = tt
-  active_goes server (Some address) None = tt
-  active_goes server (Some address) (Some lease) = owner_goes server address (seconds_left now lease) (bound_mac lease.hold)
+  active_goes : (site : Site) (address : Option Ip4) (lease : Option Lease)
+      → IsOfDhcp (option_and_then (λ (a : Ip4). option_and_then (active_for now q site a) lease) address)
+  active_goes site None lease = tt
+  active_goes site (Some address) None = tt
+  active_goes site (Some address) (Some lease) = owner_goes site.server address (seconds_left now lease) (bound_mac lease.hold)
 
-  word_goes : (c : QueryCase) (site : Site) (said : QueryWord) → IsOfDhcp (reply_by now q c site said)
+  word_goes : (c : QueryCase) (site : Site) (said : QueryWord) → IsOfDhcp (reply_by_word now q c site said)
   word_goes c site query.Relay = tt
   word_goes c site query.Form = tt
-  word_goes c site query.Active = active_goes site.server c.address c.lease
+  word_goes c site query.Active = active_goes site c.address c.lease
   word_goes c site query.Unassigned = tt
   word_goes c site query.Unknown = tt
 
-  site_goes : (c : QueryCase) (said : QueryWord) (site : Option Site) → IsOfDhcp (option_and_then (λ (s : Site). reply_by now q c s said) site)
+  site_goes : (c : QueryCase) (said : QueryWord) (site : Option Site) → IsOfDhcp (option_and_then (λ (s : Site). reply_by_word now q c s said) site)
   site_goes c said None = tt
   site_goes c said (Some site) = word_goes c site said
 
