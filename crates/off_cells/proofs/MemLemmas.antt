@@ -1,6 +1,7 @@
 -- What a call of cells in memory tells.
 use Rattle.std.proofs.Common.{◌≡◌, ◌≤◌, Result, Ok, Err, inl, List, sym, ap, subst, ◌∙◌, arith}
-use Rattle.off_defs.specs.Counts.{Grew, one_more, most_count}
+use Rattle.off_defs.specs.Counts.{Tallied, one_more, most_count}
+use Rattle.off_defs.proofs.CountLemmas.{tallied_one}
 use Rattle.off_defs.proofs.ToldLemmas.{told_known}
 use Rattle.off_outside.specs.InMemory.{CallsHeld}
 use Rattle.off_outside.specs.KeeperCalls.{keeper_faults_in}
@@ -12,15 +13,18 @@ use Rattle.off_cells.specs.SortedCells.{MemCellsHeld}
 use Rattle.off_cells.specs.MemCellsSeen.{mem_seen, MemCellsKept, MemCellLooks, MemCellCommits}
 use Rattle.off_cells.specs.declared.writes.CellWrite.{CellWrite}
 
-kept_grew : (err : KeepErr) (old new : MemCellsHeld) → MemCellsKept err old new → Grew (keeper_faults_in err) old.faults new.faults
-kept_grew Memory old new kept = record { later = omega (arith, kept.faults); grew = omega (arith, kept.faults, kept.fits) }
-kept_grew Failed old new kept = record { later = omega (arith, kept.faults, kept.fits); grew = omega (arith, kept.faults) }
+kept_counts : (err : KeepErr) (old new : MemCellsHeld) → MemCellsKept err old new → Tallied (keeper_faults_in err) old.faults new.faults
+kept_counts Memory old new kept = record {
+  grew = record { later = omega (arith, kept.faults); grew = omega (arith, kept.faults, kept.fits) };
+  stands = λ none. kept.faults;
+}
+kept_counts Failed old new kept = tallied_one (record { later = omega (arith, kept.faults, kept.fits); grew = omega (arith, kept.faults) })
 
 pub kept_tells : (err : KeepErr) (old new : MemCellsHeld) → MemCellsKept err old new → CellsKept err (mem_seen old) (mem_seen new)
 kept_tells err old new kept = record {
   cells = λ m told. told ∙ sym kept.cells;
   up = λ up. inl up;
-  faults = kept_grew err old new kept;
+  faults = kept_counts err old new kept;
 }
 
 pub looks_told : {A : Type 0} (P : A → CellMap → Type 0) (r : Result A KeepErr) (old new : MemCellsHeld)

@@ -1,7 +1,7 @@
 -- What each call on cells does to each of their meanings.
 use Rattle.std.specs.Prelude.{◌≡◌, ◌+◌, ◌≤◌, ◌⊎◌, List, Result, MatchResult}
 use Rattle.off_defs.specs.Told.{Told}
-use Rattle.off_defs.specs.Counts.{Grew, one_more}
+use Rattle.off_defs.specs.Counts.{Grew, Tallied, one_more}
 use Rattle.off_outside.specs.KeeperCalls.{keeper_faults_in}
 use Rattle.off_outside.specs.declared.keeper.KeepErr.{KeepErr}
 use Rattle.off_cells.specs.CellsSeen.{CellMap, CellsSeen}
@@ -14,11 +14,11 @@ pub record CellsRead (P : CellMap → Type 0) (old new : CellsSeen) : Type 0 whe
   pub up : old.up → new.up
   pub faults : new.faults ≡ old.faults
 
--- nothing was done: the cells are as before
+-- nothing was done: the cells are as before, and no fault was counted where memory was wanted
 pub record CellsKept (err : KeepErr) (old new : CellsSeen) : Type 0 where
   pub cells : (m : CellMap) → old.cells m → new.cells m
   pub up : old.up → new.up ⊎ Grew 1 old.faults new.faults
-  pub faults : Grew (keeper_faults_in err) old.faults new.faults
+  pub faults : Tallied (keeper_faults_in err) old.faults new.faults
 
 -- what writes make of cells
 abbrev pub AreWritten : List CellWrite → CellMap → CellMap → Type 0

@@ -12,7 +12,6 @@ use Rattle.off_defs.specs.Keys.{key_cmp}
 use Rattle.off_defs.specs.State.{Tables, State, Held, state_of, held_at_start}
 use Rattle.off_defs.specs.Tables.{is_after, next_entry}
 use Rattle.off_defs.proofs.ToldLemmas.{told_then, told_weaker}
-use Rattle.off_defs.proofs.CountLemmas.{later_grew}
 use Rattle.off_defs.specs.Told.{Told}
 use Rattle.off_account_rules.specs.Good.{Good, IsLeastBad}
 use Rattle.off_book.specs.Run.{Turn}
@@ -22,7 +21,7 @@ use Rattle.off_outside.specs.KeeperSeen.{KeeperSeen, Rests}
 use Rattle.off_outside.specs.KeeperCalls.{Reads, NotDone}
 use Rattle.off_outside.specs.LinkSeen.{LinkSeen}
 use Rattle.off_outside.specs.Streams.{SinkSeen}
-use Rattle.off_outside.proofs.KeeperLemmas.{reads_as, reads_then, still_then, stays_up_then}
+use Rattle.off_outside.proofs.KeeperLemmas.{reads_as, reads_then, still_then, stays_up_then, tallied_behind}
 use Rattle.off_jobs.specs.Jobs.{Tells}
 use Rattle.off_office.specs.Conditions.{Fits}
 use Rattle.off_office.specs.Desk.{Desk}
@@ -145,8 +144,8 @@ broken_by n few err d e i j k l m built held stops =
                 let part = whole.1 start in
                 front_of n few part.stage stops.turns part.mid part.place (subst (λ (v : State). Along n (Waits 0) part.stage stops.turns v part.mid) start part.along),
           ));
-      up = up_chain (let q = built.faults in omega (arith, q)) stops.faults.later (λ up. inl (built.up up)) stops.up;
-      faults = later_grew (let q = built.faults in omega (arith, q)) stops.faults;
+      up = up_chain (let q = built.faults in omega (arith, q)) stops.faults.grew.later (λ up. inl (built.up up)) stops.up;
+      faults = tallied_behind built.faults stops.faults;
       keeper = subst (λ (v : List Given). KeeperDid v (stops.turns ++ stops.tried) d stops.after i k) (sym (append-nil built.given)) (keeper_turns built.keeper stops.keeper);
       sent = stops.sent;
     }
@@ -184,7 +183,7 @@ ends_unread n few err d i j k l rests opened not = record {
         record { value = t; told = not.tables t before.0; fits = (before.1.good, front_none n few) };
   };
   up = stays_up_then i j k opened.quiet not.up;
-  faults = later_grew (let q = opened.quiet.faults in omega (arith, q)) not.faults;
+  faults = tallied_behind opened.quiet.faults not.faults;
   keeper = record {
     commits = not.commits ∙ opened.quiet.commits;
     crash = record {
@@ -220,7 +219,7 @@ ends_going (Broken err) n d i j k o l m rests begins opened finds goes =
             record { value = g.value; told = g.told; fits = (p.0, p.1 before.1.1) };
       };
       up = stays_up_then i k o both.quiet goes.up;
-      faults = later_grew (let q = both.quiet.faults in omega (arith, q)) goes.faults;
+      faults = tallied_behind both.quiet.faults goes.faults;
       keeper = keeper_opened rests begins both (λ t p. p.0) goes.keeper;
       sent = goes.sent;
     }
@@ -258,10 +257,10 @@ FewStatuses status = (status ≡ 0) ⊎ ((status ≡ 2) ⊎ ((status ≡ 6) ⊎ 
 
 few_of : (ended : Ended) (n status : ℕ) (k k' : KeeperSeen) (l m : LinkSeen) (s s' : SinkSeen) → Ends ended n k k' l m → NoneFailed k k' s s' → status ≡ ended_status ended → FewStatuses status
 few_of (Closed (start_err.Bad key)) n status k k' l m s s' ends none is = inr (inl is)
-few_of (Closed start_err.Failed) n status k k' l m s s' ends none is = absurd (stands k.faults k'.faults none.keeper_same none.keeper_count ends.0.faults)
+few_of (Closed start_err.Failed) n status k k' l m s s' ends none is = absurd (stands k.faults k'.faults none.keeper_same none.keeper_count ends.0.faults.grew)
 few_of (Closed start_err.Memory) n status k k' l m s s' ends none is = inr (inr (inl is))
 few_of NotEmpty n status k k' l m s s' ends none is = inr (inr (inr is))
-few_of (Broken keep.Failed) n status k k' l m s s' ends none is = absurd (stands k.faults k'.faults none.keeper_same none.keeper_count ends.faults)
+few_of (Broken keep.Failed) n status k k' l m s s' ends none is = absurd (stands k.faults k'.faults none.keeper_same none.keeper_count ends.faults.grew)
 few_of (Broken keep.Memory) n status k k' l m s s' ends none is = inr (inr (inl is))
 few_of (Done tally) n status k k' l m s s' ends none is = inl is
 
@@ -271,10 +270,10 @@ never_bad key bad = let f : Some bad.held ≡ None = sym bad.there ∙ map.get-e
 done_of : (ended : Ended) (n status : ℕ) (k k' : KeeperSeen) (l m : LinkSeen) (s s' : SinkSeen) → Ends ended n k k' l m → k.tables map.empty → NoneFailed k k' s s' → status ≢ 6
     → status ≡ ended_status ended → status ≡ 0
 done_of (Closed (start_err.Bad key)) n status k k' l m s s' ends told none other is = absurd (never_bad key (ends.0.tables map.empty told).1)
-done_of (Closed start_err.Failed) n status k k' l m s s' ends told none other is = absurd (stands k.faults k'.faults none.keeper_same none.keeper_count ends.0.faults)
+done_of (Closed start_err.Failed) n status k k' l m s s' ends told none other is = absurd (stands k.faults k'.faults none.keeper_same none.keeper_count ends.0.faults.grew)
 done_of (Closed start_err.Memory) n status k k' l m s s' ends told none other is = absurd (other is)
 done_of NotEmpty n status k k' l m s s' ends told none other is = absurd ((ends.0.tables map.empty told).1.1 refl)
-done_of (Broken keep.Failed) n status k k' l m s s' ends told none other is = absurd (stands k.faults k'.faults none.keeper_same none.keeper_count ends.faults)
+done_of (Broken keep.Failed) n status k k' l m s s' ends told none other is = absurd (stands k.faults k'.faults none.keeper_same none.keeper_count ends.faults.grew)
 done_of (Broken keep.Memory) n status k k' l m s s' ends told none other is = absurd (other is)
 done_of (Done tally) n status k k' l m s s' ends told none other is = is
 

@@ -9,7 +9,7 @@ use Rattle.off_defs.specs.declared.orders.Reply.{Reply}
 use Rattle.off_defs.specs.declared.orders.Write.{Write}
 use Rattle.off_defs.specs.declared.results.Outcome.TheVariants.{Did}
 use Rattle.off_defs.proofs.ToldLemmas.{told_then, told_self, told_weaker}
-use Rattle.off_defs.proofs.CountLemmas.{grew_self, later_grew}
+use Rattle.off_defs.proofs.CountLemmas.{later_grew, tallied_none}
 use Rattle.off_account_rules.specs.Good.{Good}
 use Rattle.off_account_rules.specs.Clerk.{Stepped, clerk_step, step_refused}
 use Rattle.off_defs.specs.declared.rules.Rule.{Rule}
@@ -22,6 +22,7 @@ use Rattle.off_outside.specs.declared.keeper.KeepErr.{KeepErr}
 use Rattle.off_outside.specs.declared.keeper.KeepErr.TheVariants as keep
 use Rattle.off_outside.specs.KeeperSeen.{KeeperSeen, Rests}
 use Rattle.off_outside.specs.KeeperCalls.{NotCommitted}
+use Rattle.off_outside.proofs.KeeperLemmas.{tallied_behind}
 use Rattle.off_office.specs.Answering.{Commanded, CommandBegins, NotCommanded}
 use Rattle.off_office.specs.Conditions.{Mirrors, StaysAs}
 use Rattle.off_office.specs.Desk.{Desk}
@@ -242,7 +243,7 @@ halts_then {first = first} {a = a} {c = c} built halts = record {
   gave = front_behind built.given built.did built.are halts.gave;
   tables = told_then built.tables halts.tables (λ x y z one other fit. other (one fit).0);
   up = λ up. let u = halts.up (built.up up) in elim u [ inl still ↦ inl still | inr grew ↦ inr (later_grew (omega (arith, built.faults)) grew) ];
-  faults = later_grew (omega (arith, built.faults)) halts.faults;
+  faults = tallied_behind built.faults halts.faults;
   keeper = subst (λ (v : List Given). KeeperDid v [] first halts.after a c) (sym (append_assoc built.given halts.given halts.lost)) (keeper_given built.keeper halts.keeper);
 }
 
@@ -255,7 +256,7 @@ halts_at_once commands d k rests = record {
   gave = gave_none commands;
   tables = told_self (λ t fit. fit.good);
   up = λ up. inl up;
-  faults = grew_self k.faults;
+  faults = tallied_none k.faults;
   keeper = keeper_none d k rests;
 }
 

@@ -5,7 +5,7 @@ use Rattle.std.specs.Str.{bytes_eq}
 use Rattle.off_defs.specs.declared.events.Event.{Event}
 use Rattle.off_defs.specs.State.{State, Said}
 use Rattle.off_defs.proofs.ToldLemmas.{told_self}
-use Rattle.off_defs.proofs.CountLemmas.{grew_self}
+use Rattle.off_defs.proofs.CountLemmas.{tallied_none}
 use Rattle.off_book.specs.Run.{effect_of}
 use Rattle.off_outside.specs.declared.keeper.KeepErr.{KeepErr}
 use Rattle.off_outside.specs.declared.keeper.KeepErr.TheVariants as keep
@@ -31,7 +31,7 @@ loses_at_once d k l rests = (
     one = tried_none;
     tables = told_self (λ t fit. fit.good);
     up = λ up. inl up;
-    faults = grew_self k.faults;
+    faults = tallied_none k.faults;
     keeper = keeper_none d k rests;
   },
   link_unasked l,

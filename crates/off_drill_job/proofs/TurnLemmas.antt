@@ -11,7 +11,7 @@ use Rattle.off_defs.specs.declared.results.Sent.{Sent}
 use Rattle.off_defs.specs.Counts.{Tallied}
 use Rattle.off_defs.specs.State.{State, Said, state_of}
 use Rattle.off_defs.proofs.ToldLemmas.{told_then, told_self, told_weaker, stays_self, then_stays}
-use Rattle.off_defs.proofs.CountLemmas.{later_grew, tallied_none, tallied_then, tallied_stays}
+use Rattle.off_defs.proofs.CountLemmas.{tallied_none, tallied_then, tallied_stays}
 use Rattle.off_book.specs.Step.{Step, completed}
 use Rattle.off_book.specs.Run.{Turn, effect_of, sent_in, sent_by, lost_in, lost_by}
 use Rattle.off_laws.proofs.RunLaws.{run_keeps_good}
@@ -20,6 +20,7 @@ use Rattle.off_outside.specs.declared.keeper.KeepErr.TheVariants as keep
 use Rattle.off_outside.specs.KeeperSeen.{KeeperSeen, Rests}
 use Rattle.off_outside.specs.LinkSeen.{LinkSeen}
 use Rattle.off_outside.specs.LinkCalls.{LinkUnasked}
+use Rattle.off_outside.proofs.KeeperLemmas.{tallied_behind}
 use Rattle.off_office.specs.Acting.{Acts}
 use Rattle.off_office.specs.Desk.{Desk}
 use Rattle.off_office.specs.Sending.{SentAll}
@@ -266,8 +267,8 @@ stopped_behind {n} {from} {by} {d} {e} p lost place = record {
   one = lost.0.one;
   tables = told_then p.tables lost.0.tables (λ x y z one two fit.
       let half = one fit in (two half.0, λ stands. record { stage = by; mid = state_of y e.held; place = place; along = half.1 stands }));
-  up = up_chain (let e = p.faults in omega (arith, e)) lost.0.faults.later p.up lost.0.up;
-  faults = later_grew (let e = p.faults in omega (arith, e)) lost.0.faults;
+  up = up_chain (let e = p.faults in omega (arith, e)) lost.0.faults.grew.later p.up lost.0.up;
+  faults = tallied_behind p.faults lost.0.faults;
   keeper = keeper_turns p.keeper lost.0.keeper;
   sent = sent_unasked p.sent lost.1;
 }
@@ -294,8 +295,8 @@ stopped_then {n} {from} {by} {d} {e} {i} {j} {k} p stops = record {
               along = along_then n from by part.stage p.turns stops.turns (state_of x d.held) (state_of y e.held) part.mid first part.along;
             },
       ));
-  up = up_chain (let e = p.faults in omega (arith, e)) stops.faults.later p.up stops.up;
-  faults = later_grew (let e = p.faults in omega (arith, e)) stops.faults;
+  up = up_chain (let e = p.faults in omega (arith, e)) stops.faults.grew.later p.up stops.up;
+  faults = tallied_behind p.faults stops.faults;
   keeper = subst (λ (v : List Turn). KeeperDid [] v d stops.after i k) (sym (append_assoc p.turns stops.turns stops.tried)) (keeper_turns p.keeper stops.keeper);
   sent = sent_turns p.sent stops.sent;
 }

@@ -2,7 +2,7 @@
 -- founded, and its modems boot one after another.
 use Rattle.std.specs.Prelude.{◌≡◌, ◌≢◌, ℕ, ◌<◌, ◌⊎◌, Bool, true, false, List, [], ◌++◌}
 use Rattle.std.specs.FinMap as map
-use Rattle.off_defs.specs.Counts.{Grew, most_count}
+use Rattle.off_defs.specs.Counts.{Tallied, most_count}
 use Rattle.off_defs.specs.Told.{Told}
 use Rattle.off_defs.specs.State.{Tables, State}
 use Rattle.off_account_rules.specs.Good.{Good}
@@ -84,7 +84,7 @@ pub record BrokeOff (err : KeepErr) (n : ℕ) (old new : KeeperSeen) (link link'
   pub came : CameSoFar n given lost turns tried
   pub tables : Told old.tables new.tables (λ t u. Good u × FrontDrill n turns)
   pub up : StaysUp old new
-  pub faults : Grew (keeper_faults_in err) old.faults new.faults
+  pub faults : Tallied (keeper_faults_in err) old.faults new.faults
   pub keeper : KeeperDrilled (given ++ lost) (turns ++ tried) old new
   pub sent : SentTurns turns link link'
 
@@ -124,7 +124,7 @@ pub record BrokenBy (err : KeepErr) (n : ℕ) (before : Desk) (old new : KeeperS
   pub tables : Told old.tables new.tables (λ t u.
       Fits before t → Good u × (t ≡ map.empty → FrontDrill n turns))
   pub up : StaysUp old new
-  pub faults : Grew (keeper_faults_in err) old.faults new.faults
+  pub faults : Tallied (keeper_faults_in err) old.faults new.faults
   pub keeper : KeeperDid (given ++ lost) (turns ++ tried) before after old new
   pub sent : SentTurns turns link link'
 

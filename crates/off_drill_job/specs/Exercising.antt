@@ -63,7 +63,7 @@ pub record LostTurn (err : KeepErr) (before : Desk) (old new : KeeperSeen) : Typ
   pub one : TriedOne tried
   pub tables : Told old.tables new.tables (λ t u. Fits before t → Good u)
   pub up : StaysUp old new
-  pub faults : Grew (keeper_faults_in err) old.faults new.faults
+  pub faults : Tallied (keeper_faults_in err) old.faults new.faults
   pub keeper : KeeperDid [] tried before after old new
 
 -- and nothing is sent
@@ -105,6 +105,6 @@ pub record Stopped (err : KeepErr) (n : ℕ) (from : Stage) (before : Desk) (old
       Fits before t → Good u
       × (Stands n from (state_of t before.held) → PartWay n from turns (state_of t before.held)))
   pub up : StaysUp old new
-  pub faults : Grew (keeper_faults_in err) old.faults new.faults
+  pub faults : Tallied (keeper_faults_in err) old.faults new.faults
   pub keeper : KeeperDid [] (turns ++ tried) before after old new
   pub sent : SentTurns turns link link'

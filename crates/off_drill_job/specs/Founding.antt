@@ -4,7 +4,7 @@ use Rattle.off_defs.specs.declared.orders.Command.{Command}
 use Rattle.off_defs.specs.declared.orders.Command.TheVariants.{SetSite, PutSubscriber, PutModem, PutClass, PutPool}
 use Rattle.off_defs.specs.declared.orders.Write.{Write}
 use Rattle.off_defs.specs.declared.results.Outcome.TheVariants.{Did}
-use Rattle.off_defs.specs.Counts.{Grew}
+use Rattle.off_defs.specs.Counts.{Tallied}
 use Rattle.off_defs.specs.Told.{Told}
 use Rattle.off_defs.specs.State.{Tables}
 use Rattle.off_account_rules.specs.Good.{Good}
@@ -91,7 +91,7 @@ pub record Halts (err : KeepErr) (commands : List Command) (before : Desk) (old 
   pub gave : GaveFront commands given lost
   pub tables : Told old.tables new.tables (λ t u. Fits before t → Good u)
   pub up : StaysUp old new
-  pub faults : Grew (keeper_faults_in err) old.faults new.faults
+  pub faults : Tallied (keeper_faults_in err) old.faults new.faults
   pub keeper : KeeperDid (given ++ lost) [] before after old new
 
 -- a rule's refusal is passed over

@@ -209,7 +209,7 @@ is_nine e = inr (inr (inr e))
 few_of : (ended : Ended) (kind : ImportKind) (batch status : ℕ) (k k' : KeeperSeen) (s s' : SourceSeen) (t t' : SinkSeen) → Ends ended kind batch k k' s s'
     → NoneFailed k k' s s' t t' → status ≡ ended_status ended → FewStatuses status
 few_of (Closed (start_err.Bad key)) kind batch status k k' s s' t t' ends none is = is_two is
-few_of (Closed start_err.Failed) kind batch status k k' s s' t t' ends none is = absurd (stands k.faults k'.faults none.keeper_same none.keeper_count ends.0.faults)
+few_of (Closed start_err.Failed) kind batch status k k' s s' t t' ends none is = absurd (stands k.faults k'.faults none.keeper_same none.keeper_count ends.0.faults.grew)
 few_of (Closed start_err.Memory) kind batch status k k' s s' t t' ends none is = is_six is
 few_of (Unread input_err.TooLong) kind batch status k k' s s' t t' ends none is = is_nine is
 few_of (Unread input_err.Failed) kind batch status k k' s s' t t' ends none is = absurd (source_held ends.1 none.streams)
@@ -217,7 +217,7 @@ few_of (Unread input_err.Memory) kind batch status k k' s s' t t' ends none is =
 few_of (NoImport (import_err.Fault fault)) kind batch status k k' s s' t t' ends none is = is_nine is
 few_of (NoImport import_err.Memory) kind batch status k k' s s' t t' ends none is = is_six is
 few_of (NotDone (account_err.Refused row broken)) kind batch status k k' s s' t t' ends none is = is_nine is
-few_of (NotDone account_err.Failed) kind batch status k k' s s' t t' ends none is = absurd (stands k.faults k'.faults none.keeper_same none.keeper_count ends.undone.faults)
+few_of (NotDone account_err.Failed) kind batch status k k' s s' t t' ends none is = absurd (stands k.faults k'.faults none.keeper_same none.keeper_count ends.undone.faults.grew)
 few_of (NotDone account_err.Memory) kind batch status k k' s s' t t' ends none is = is_six is
 few_of (Done rows) kind batch status k k' s s' t t' ends none is = inl is
 
@@ -285,7 +285,7 @@ done_of : (ended : Ended) (kind : ImportKind) (batch status : ℕ) (k k' : Keepe
     → Doable kind batch k s → NoneFailed k k' s s' t t' → status ≢ 6 → status ≡ ended_status ended → status ≡ 0
 done_of (Closed (start_err.Bad key)) kind batch status k k' s s' t t' ends can none other is =
     absurd (not_bad can.tables key can.good (ends.0.tables can.tables can.told).1)
-done_of (Closed start_err.Failed) kind batch status k k' s s' t t' ends can none other is = absurd (stands k.faults k'.faults none.keeper_same none.keeper_count ends.0.faults)
+done_of (Closed start_err.Failed) kind batch status k k' s s' t t' ends can none other is = absurd (stands k.faults k'.faults none.keeper_same none.keeper_count ends.0.faults.grew)
 done_of (Closed start_err.Memory) kind batch status k k' s s' t t' ends can none other is = absurd (other is)
 done_of (Unread input_err.TooLong) kind batch status k k' s s' t t' ends can none other is =
     absurd (too_many_of ends.1 can.held can.short)
@@ -298,7 +298,7 @@ done_of (NoImport import_err.Memory) kind batch status k k' s s' t t' ends can n
 done_of (NotDone (account_err.Refused row broken)) kind batch status k k' s s' t t' ends can none other is =
     let step = same_step kind batch can.bytes ends.read.bytes can.command ends.command can.tables _ can.means ends.read.means (told_file ends.read.took can.held) can.step in
     absurd (not_refused can.tables can.writes can.reply row broken (sym step ∙ (ends.undone.tables can.tables can.told).1))
-done_of (NotDone account_err.Failed) kind batch status k k' s s' t t' ends can none other is = absurd (stands k.faults k'.faults none.keeper_same none.keeper_count ends.undone.faults)
+done_of (NotDone account_err.Failed) kind batch status k k' s s' t t' ends can none other is = absurd (stands k.faults k'.faults none.keeper_same none.keeper_count ends.undone.faults.grew)
 done_of (NotDone account_err.Memory) kind batch status k k' s s' t t' ends can none other is = absurd (other is)
 done_of (Done rows) kind batch status k k' s s' t t' ends can none other is = is
 

@@ -4,7 +4,8 @@ use Rattle.std.proofs.lemmas.Bool.{cases_lt}
 use Rattle.off_defs.specs.declared.orders.Write.{Write}
 use Rattle.off_defs.specs.State.{Tables}
 use Rattle.off_defs.specs.Tables.{write_all}
-use Rattle.off_defs.specs.Counts.{Grew, one_more}
+use Rattle.off_defs.specs.Counts.{Grew, Tallied, one_more}
+use Rattle.off_defs.proofs.CountLemmas.{tallied_one}
 use Rattle.off_outside.specs.KeeperSeen.{KeeperSeen}
 use Rattle.off_outside.specs.KeeperCalls.{Still, Crash, Reads, NotDone, Committed, NotCommitted, IsWritten, begun_by, keeper_faults_in}
 use Rattle.off_outside.specs.declared.keeper.KeepErr.{KeepErr}
@@ -27,11 +28,11 @@ use Rattle.off_disk.proofs.Images.{blocks_push}
 pub grew_disk : (n x y own same : ℕ) → Grew n x y → same ≡ own → Grew n (x + own) (y + same)
 grew_disk n x y own same grew is = record { later = omega (arith, grew.later, is); grew = omega (arith, grew.later, grew.grew, is) }
 
-pub grew_own : (x own more : ℕ) → CountsOne own more → Grew 1 (x + own) (x + more)
-grew_own x own more one = record { later = omega (arith, one.0, one.1); grew = omega (arith, one.0, one.1) }
+pub own_counted : (x own more : ℕ) → CountsOne own more → Tallied 1 (x + own) (x + more)
+own_counted x own more one = tallied_one (record { later = omega (arith, one.0, one.1); grew = omega (arith, one.0, one.1) })
 
-pub grew_none : (x own more : ℕ) → more ≡ own → Grew 0 (x + own) (x + more)
-grew_none x own more is = record { later = omega (arith, is); grew = omega (arith, is) }
+pub none_counted : (x own more : ℕ) → more ≡ own → Tallied 0 (x + own) (x + more)
+none_counted x own more is = record { grew = record { later = omega (arith, is); grew = omega (arith, is) }; stands = λ none. omega (arith, is) }
 
 -- ---- the disk isn't asked
 
@@ -70,14 +71,14 @@ pub wants_here : (d : DiskSeen) (r : Tables) (g : ℕ) (l : Last) (a b : Counts)
 wants_here d r g l a b own commits = record {
   tables = λ t told. told;
   up = λ up. inl up;
-  faults = grew_none d.faults a.own b.own own;
+  faults = none_counted d.faults a.own b.own own;
   commits = commits;
   still = still_here d r r g l a b refl;
 }
 
 -- a commit that is refused before anything is written
 pub refused_here : (P : Tables → Tables → Type 0) (err : KeepErr) (d : DiskSeen) (r s : Tables) (g : ℕ) (l : Last) (a b : Counts) → s ≡ r
-    → Grew (keeper_faults_in err) (d.faults + a.own) (d.faults + b.own) → b.commits ≡ a.commits
+    → Tallied (keeper_faults_in err) (d.faults + a.own) (d.faults + b.own) → b.commits ≡ a.commits
     → NotCommitted P err (journal_seen d r g l a) (journal_seen d s g l b)
 refused_here P err d r s g l a b same faults commits = record {
   tables = told_here d r s g l a b same;
@@ -286,7 +287,7 @@ pub closed_commit : (d e : DiskSeen) (r : Tables) (g : ℕ) (ws : List Write) (a
 closed_commit d e r g ws a can done = record {
   tables = λ t told. (told.0, ends_told d e r g ws (commit_of ws can) done told.1);
   up = λ up. inl up;
-  faults = grew_disk 1 d.faults e.faults a.own a.own done.faults refl;
+  faults = tallied_one (grew_disk 1 d.faults e.faults a.own a.own done.faults refl);
   commits = refl;
   crash = append_crash (IsWritten ws) d e r r g g ws appended.Closed Closed a a (commit_of ws can) done (λ t u begun. begun) (λ t same u doubt. absurd doubt);
 }
@@ -296,7 +297,7 @@ pub doubtful_commit : (d e : DiskSeen) (r : Tables) (g : ℕ) (ws : List Write) 
 doubtful_commit d e r g ws a can done = record {
   tables = λ t told. (told.0, doubtful_told d e r g ws (commit_of ws can) done told.1);
   up = λ up. inl up;
-  faults = grew_disk 1 d.faults e.faults a.own a.own done.faults refl;
+  faults = tallied_one (grew_disk 1 d.faults e.faults a.own a.own done.faults refl);
   commits = refl;
   crash = append_crash (IsWritten ws) d e r r g g ws appended.Doubtful (Doubtful ws) a a (commit_of ws can) done (λ t u begun. begun)
       (λ t same u doubt. doubt ∙ ap (λ (x : Tables). write_all x ws) (sym same));
@@ -381,7 +382,7 @@ pub not_committed_then : {P : Tables → Tables → Type 0} {err : KeepErr} {a b
 not_committed_then {P} {err} {a} {b} {c} q p = record {
   tables = λ t told. p.tables t (q.tables t told);
   up = λ up. up_either a b c q.faults (p.up (q.up up));
-  faults = subst (λ (k : ℕ). Grew (keeper_faults_in err) k c.faults) q.faults p.faults;
+  faults = subst (λ (k : ℕ). Tallied (keeper_faults_in err) k c.faults) q.faults p.faults;
   commits = p.commits ∙ q.commits;
   crash = crash_then q p.crash;
 }
@@ -390,7 +391,7 @@ pub not_settled_commit : (P : Tables → Tables → Type 0) {a b : KeeperSeen} �
 not_settled_commit P {a} {b} up s = record {
   tables = s.settling.tables;
   up = λ was. inl up;
-  faults = s.faults;
+  faults = tallied_one s.faults;
   commits = s.settling.commits;
   crash = record {
     later = s.settling.crash.later;

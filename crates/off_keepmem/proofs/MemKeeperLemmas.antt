@@ -15,7 +15,8 @@ use Rattle.off_defs.proofs.TableLemmas.{entries_with, entries_without}
 use Rattle.off_defs.proofs.ToldLemmas.{told_known}
 use Rattle.off_outside.specs.declared.keeper.KeepErr.{KeepErr}
 use Rattle.off_outside.specs.declared.keeper.KeepErr.TheVariants.{Memory, Failed}
-use Rattle.off_defs.specs.Counts.{Grew, one_more, most_count}
+use Rattle.off_defs.specs.Counts.{Tallied, one_more, most_count}
+use Rattle.off_defs.proofs.CountLemmas.{tallied_one}
 use Rattle.off_outside.specs.InMemory.{CallsHeld}
 use Rattle.off_outside.specs.KeeperCalls.{Still, Crash, Reads, NotDone, Looks, Commits, WasCounted, keeper_faults_in}
 use Rattle.off_keepmem.specs.KeeperInMemory.{MemKeeperHeld, keeper_seen, MemRead, MemUndone, MemLooks, MemCommits, IsShallow}
@@ -110,15 +111,18 @@ read_tells {P} {old} {new} p read = record {
   };
 }
 
-undone_grew : (err : KeepErr) (old new : MemKeeperHeld) → MemUndone err old new → Grew (keeper_faults_in err) old.faults new.faults
-undone_grew Memory old new undone = record { later = omega (arith, undone.faults); grew = omega (arith, undone.faults, undone.fits) }
-undone_grew Failed old new undone = record { later = omega (arith, undone.faults, undone.fits); grew = omega (arith, undone.faults) }
+undone_counts : (err : KeepErr) (old new : MemKeeperHeld) → MemUndone err old new → Tallied (keeper_faults_in err) old.faults new.faults
+undone_counts Memory old new undone = record {
+  grew = record { later = omega (arith, undone.faults); grew = omega (arith, undone.faults, undone.fits) };
+  stands = λ none. undone.faults;
+}
+undone_counts Failed old new undone = tallied_one (record { later = omega (arith, undone.faults, undone.fits); grew = omega (arith, undone.faults) })
 
 undone_tells : (err : KeepErr) (old new : MemKeeperHeld) → MemUndone err old new → NotDone err (keeper_seen old) (keeper_seen new)
 undone_tells err old new undone = record {
   tables = λ t told. told ∙ sym undone.tables;
   up = λ up. inl up;
-  faults = undone_grew err old new undone;
+  faults = undone_counts err old new undone;
   commits = undone.commits;
   still = still_seen old new;
 }
@@ -151,7 +155,7 @@ commit_told writes (Ok a) old new h = record {
 commit_told writes (Err err) old new h = record {
   tables = λ t told. told ∙ sym h.tables;
   up = λ up. inl up;
-  faults = undone_grew err old new h;
+  faults = undone_counts err old new h;
   commits = h.commits;
   crash = crash_seen old new;
 }

@@ -3,7 +3,8 @@ use Rattle.std.proofs.Common.{◌≡◌, ℕ, ◌+◌, ◌≤◌, ◌⊎◌, inl
 use Rattle.off_defs.specs.declared.orders.Write.{Write}
 use Rattle.off_defs.specs.State.{Tables}
 use Rattle.off_defs.specs.Tables.{write_all}
-use Rattle.off_defs.specs.Counts.{Grew, one_more, most_count}
+use Rattle.off_defs.specs.Counts.{Grew, Tallied, one_more, most_count}
+use Rattle.off_defs.proofs.CountLemmas.{tallied_one}
 use Rattle.off_outside.specs.KeeperCalls.{Still, Crash, Reads, NotDone, Committed, NotCommitted, IsWritten, begun_by, keeper_faults_in, WasCounted}
 use Rattle.off_outside.specs.declared.keeper.KeepErr.{KeepErr}
 use Rattle.off_outside.specs.declared.keeper.KeepErr.TheVariants.{Memory, Failed}
@@ -47,11 +48,20 @@ pub record OwnCounted (c d : Counts) : Type 0 where
 grew_cells : (n x y own same : ℕ) → Grew n x y → same ≡ own → Grew n (x + own) (y + same)
 grew_cells n x y own same grew is = record { later = omega (arith, grew.later, is); grew = omega (arith, grew.later, grew.grew, is) }
 
-grew_own : (x y own more : ℕ) → y ≡ x → more ≡ one_more own → own ≤ most_count → Grew 1 (x + own) (y + more)
-grew_own x y own more same is fits = record { later = omega (arith, same, is, fits); grew = omega (arith, same, is, fits) }
+cells_counted : (n x y own same : ℕ) → Tallied n x y → same ≡ own → Tallied n (x + own) (y + same)
+cells_counted n x y own same counted is = record {
+  grew = grew_cells n x y own same counted.grew is;
+  stands = λ none. let stands : y ≡ x = counted.stands none in omega (arith, stands, is);
+}
 
-grew_none : (x y own more : ℕ) → y ≡ x → more ≡ own → Grew 0 (x + own) (y + more)
-grew_none x y own more same is = record { later = omega (arith, same, is); grew = omega (arith, same, is) }
+own_counted : (x y own more : ℕ) → y ≡ x → more ≡ one_more own → own ≤ most_count → Tallied 1 (x + own) (y + more)
+own_counted x y own more same is fits = tallied_one (record { later = omega (arith, same, is, fits); grew = omega (arith, same, is, fits) })
+
+none_counted : (x y own more : ℕ) → y ≡ x → more ≡ own → Tallied 0 (x + own) (y + more)
+none_counted x y own more same is = record {
+  grew = record { later = omega (arith, same, is); grew = omega (arith, same, is) };
+  stands = λ none. omega (arith, same, is);
+}
 
 -- ---- reading
 
@@ -75,7 +85,7 @@ pub kept_over : {err : KeepErr} {a b : CellsSeen} {c d : Counts} → CellsKept e
 kept_over {err} {a} {b} {c} {d} kept counted = record {
   tables = λ t s. record { cells = s.cells; told = kept.cells s.cells s.told; stores = s.stores };
   up = λ up. up_cells 1 a.faults b.faults c.own d.own (kept.up up) counted.own;
-  faults = grew_cells (keeper_faults_in err) a.faults b.faults c.own d.own kept.faults counted.own;
+  faults = cells_counted (keeper_faults_in err) a.faults b.faults c.own d.own kept.faults counted.own;
   commits = counted.commits;
   still = still_over a b c d;
 }
@@ -84,7 +94,7 @@ pub wanting_over : {P : CellMap → Type 0} {a b : CellsSeen} {c d : Counts} →
 wanting_over {P} {a} {b} {c} {d} read counted = record {
   tables = λ t s. record { cells = s.cells; told = (read.cells s.cells s.told).0; stores = s.stores };
   up = λ up. inl (read.up up);
-  faults = grew_none a.faults b.faults c.own d.own read.faults counted.own;
+  faults = none_counted a.faults b.faults c.own d.own read.faults counted.own;
   commits = counted.commits;
   still = still_over a b c d;
 }
@@ -93,7 +103,7 @@ pub bad_over : {P : CellMap → Type 0} {a b : CellsSeen} {c d : Counts} → Cel
 bad_over {P} {a} {b} {c} {d} read counted = record {
   tables = λ t s. record { cells = s.cells; told = (read.cells s.cells s.told).0; stores = s.stores };
   up = λ up. inl (read.up up);
-  faults = grew_own a.faults b.faults c.own d.own read.faults counted.own counted.fits;
+  faults = own_counted a.faults b.faults c.own d.own read.faults counted.own counted.fits;
   commits = counted.commits;
   still = still_over a b c d;
 }
@@ -124,7 +134,7 @@ pub uncommitted_over : (writes : List Write) {err : KeepErr} {a b : CellsSeen} {
 uncommitted_over writes {err} {a} {b} {c} {d} kept counted = record {
   tables = λ t s. record { cells = s.cells; told = kept.cells s.cells s.told; stores = s.stores };
   up = λ up. up_cells 1 a.faults b.faults c.own d.own (kept.up up) counted.own;
-  faults = grew_cells (keeper_faults_in err) a.faults b.faults c.own d.own kept.faults counted.own;
+  faults = cells_counted (keeper_faults_in err) a.faults b.faults c.own d.own kept.faults counted.own;
   commits = counted.commits;
   crash = crash_over (begun_by err (IsWritten writes)) a b c d;
 }
@@ -134,7 +144,7 @@ pub unspelled_over : (writes : List Write) {a : CellsSeen} {c d : Counts} → Ow
 unspelled_over writes {a} {c} {d} counted = record {
   tables = λ t s. s;
   up = λ up. inl up;
-  faults = grew_own a.faults a.faults c.own d.own refl counted.own counted.fits;
+  faults = own_counted a.faults a.faults c.own d.own refl counted.own counted.fits;
   commits = counted.commits;
   crash = crash_over (begun_by Failed (IsWritten writes)) a a c d;
 }
@@ -143,7 +153,7 @@ pub unwritten_over : (writes : List Write) {a : CellsSeen} {c d : Counts} → Co
 unwritten_over writes {a} {c} {d} counted = record {
   tables = λ t s. s;
   up = λ up. inl up;
-  faults = grew_none a.faults a.faults c.own d.own refl counted.own;
+  faults = none_counted a.faults a.faults c.own d.own refl counted.own;
   commits = counted.commits;
   crash = crash_over (begun_by Memory (IsWritten writes)) a a c d;
 }

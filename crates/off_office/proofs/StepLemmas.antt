@@ -13,7 +13,7 @@ use Rattle.off_defs.specs.declared.results.Outcome.TheVariants.{Did, Memory, Kee
 use Rattle.off_defs.specs.State.{Tables, Held, Said, state_of, held_at, says_nothing}
 use Rattle.off_defs.specs.Told.{Told}
 use Rattle.off_defs.proofs.ToldLemmas.{told_self, told_weaker}
-use Rattle.off_defs.proofs.CountLemmas.{grew_self}
+use Rattle.off_defs.proofs.CountLemmas.{tallied_none}
 use Rattle.off_book.specs.Http.{PieceDid}
 use Rattle.off_book.specs.Step.{Step, Does, TellsOutcome, completed, service_word}
 use Rattle.off_defs.specs.Tables.{write_all, doubt_behind}
@@ -416,7 +416,7 @@ time_does from bytes desk Did said is =
     (does, did_says (Datagram Time from bytes) desk desk said does)
 time_does from bytes desk Memory said is = (
   λ t. ap (λ (x : Said). effect_of (Datagram Time from bytes) Memory x [] (state_of t desk.held)) is,
-  record { faults = grew_self; tells = ap (λ (x : Said). x.line) is; leaves = ap (λ (x : Said). x.items) is },
+  record { faults = tallied_none; tells = ap (λ (x : Said). x.line) is; leaves = ap (λ (x : Said). x.items) is },
 )
 time_does from bytes desk Keeper said is = absurd is
 

@@ -7,7 +7,7 @@ use Rattle.off_defs.specs.declared.events.What.TheVariants.{Datagram, Tick}
 use Rattle.off_defs.specs.declared.results.Outcome.{Outcome}
 use Rattle.off_defs.specs.declared.results.Outcome.TheVariants.{Did, Memory, Keeper}
 use Rattle.off_defs.specs.State.{Tables, Said, state_of, says_nothing, held_at_start}
-use Rattle.off_defs.proofs.CountLemmas.{grew_self}
+use Rattle.off_defs.proofs.CountLemmas.{tallied_none}
 use Rattle.off_account_rules.specs.declared.counts.Counts.{Counts}
 use Rattle.off_transfer_rules.specs.Transfers.{Transfers}
 use Rattle.off_transfer_rules.specs.Steps.{gives}
@@ -251,6 +251,6 @@ tick_handled Did said before after k did =
 tick_handled Memory said before after k missed =
     handled_quietly Tick Memory said before after k (ap (λ (d : Desk). d.held.now) missed.stays) (stays_by before before after missed.stays (stays_self before)) refl
     (missed_does before after said missed)
-    (record { faults = grew_self; tells = ap (λ (s : Said). s.line) missed.says; leaves = ap (λ (s : Said). s.items) missed.says })
+    (record { faults = tallied_none; tells = ap (λ (s : Said). s.line) missed.says; leaves = ap (λ (s : Said). s.items) missed.says })
     (refl, missed.stays) (spent_none k)
 tick_handled Keeper said before after k none = absurd none

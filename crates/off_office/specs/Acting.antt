@@ -10,7 +10,7 @@ use Rattle.off_defs.specs.declared.results.Outcome.{Outcome}
 use Rattle.off_defs.specs.declared.results.Outcome.TheVariants.{Did, Memory, Keeper}
 use Rattle.off_defs.specs.declared.results.Sent.{Sent}
 use Rattle.off_defs.specs.Told.{Told}
-use Rattle.off_defs.specs.Counts.{Grew, commits_after}
+use Rattle.off_defs.specs.Counts.{Tallied, commits_after}
 use Rattle.off_defs.specs.State.{Tables, State, Said, Effect, state_of, held_at}
 use Rattle.off_account_rules.specs.Good.{IsLeastBad}
 use Rattle.off_defs.specs.Tables.{doubt_behind}
@@ -75,11 +75,11 @@ StepOn event outcome said commit before after t u =
     Step (state_of t before.held) event outcome
     (effect_of event.what outcome said commit (state_of u after.held))
 
--- a keeper's count of faults stands, but for an outcome that says otherwise
+-- a keeper counted as many faults as the outcome says: one at least where it failed, else none
 abbrev pub CountsFaults : Outcome → ℕ → ℕ → Type 0
 CountsFaults Did old new = new ≡ old
-CountsFaults Memory old new = Grew 0 old new
-CountsFaults Keeper old new = Grew 1 old new
+CountsFaults Memory old new = Tallied 0 old new
+CountsFaults Keeper old new = Tallied 1 old new
 
 -- of an event that wasn't acted on nothing is left to be sent
 abbrev pub LeavesNothing : Outcome → List Sent → Type 0

@@ -5,8 +5,8 @@ use Rattle.off_defs.specs.declared.orders.Write.{Write}
 use Rattle.off_defs.specs.State.{Tables}
 use Rattle.off_defs.specs.Tables.{doubt_behind}
 use Rattle.off_defs.specs.Told.{Told, Stays}
-use Rattle.off_defs.specs.Counts.{Grew, commits_after}
-use Rattle.off_defs.proofs.CountLemmas.{grew_self}
+use Rattle.off_defs.specs.Counts.{Grew, Tallied, commits_after}
+use Rattle.off_defs.proofs.CountLemmas.{tallied_none}
 use Rattle.off_defs.proofs.ToldLemmas.{told_self}
 use Rattle.off_outside.specs.declared.keeper.KeepErr.{KeepErr}
 use Rattle.off_outside.specs.declared.keeper.KeepErr.TheVariants.{Memory, Failed}
@@ -53,6 +53,9 @@ quiet_then p q = record {
 pub grew_behind : {n a b c : ℕ} → b ≡ a → Grew n b c → Grew n a c
 grew_behind {n} {a} {b} {c} same grew = subst (λ k. Grew n k c) same grew
 
+pub tallied_behind : {n a b c : ℕ} → b ≡ a → Tallied n b c → Tallied n a c
+tallied_behind {n} {a} {b} {c} same tallied = subst (λ k. Tallied n k c) same tallied
+
 up_either : (a b c : KeeperSeen) → b.faults ≡ a.faults → c.up ⊎ Grew 1 b.faults c.faults → c.up ⊎ Grew 1 a.faults c.faults
 up_either a b c same (inl up) = inl up
 up_either a b c same (inr grew) = inr (grew_behind same grew)
@@ -72,7 +75,7 @@ pub failed_then : {P : Tables → Type 0} {err : KeepErr} {a b c : KeeperSeen} �
 failed_then {P} {err} {a} {b} {c} p q = record {
   tables = λ t told. q.tables t (p.tables t told).0;
   up = stays_up_then a b c p.quiet q.up;
-  faults = grew_behind p.quiet.faults q.faults;
+  faults = tallied_behind p.quiet.faults q.faults;
   commits = q.commits ∙ p.quiet.commits;
   still = still_then p.quiet.still q.still;
 }
@@ -91,7 +94,7 @@ pub wants_memory : (a : KeeperSeen) → NotDone Memory a a
 wants_memory a = record {
   tables = λ t told. told;
   up = λ up. inl up;
-  faults = grew_self a.faults;
+  faults = tallied_none a.faults;
   commits = refl;
   still = still_self a;
 }
@@ -111,7 +114,7 @@ crash_self a = record {
 
 -- memory was wanted before any call
 pub nothing_begun : {P : Tables → Tables → Type 0} (a : KeeperSeen) → NotCommitted P Memory a a
-nothing_begun a = record { tables = λ t told. told; up = λ up. inl up; faults = grew_self a.faults; commits = refl; crash = crash_self a }
+nothing_begun a = record { tables = λ t told. told; up = λ up. inl up; faults = tallied_none a.faults; commits = refl; crash = crash_self a }
 
 -- nothing to write is done by nothing, and writes by their commit
 pub settled_none : (writes : List Write) (a : KeeperSeen) → length writes ≡ 0 → Settled writes a a
@@ -222,7 +225,7 @@ pub not_begun_then : {P : Tables → Tables → Type 0} {Q : Tables → Type 0} 
 not_begun_then {P} {Q} {err} {a} {b} {c} rests p q = record {
   tables = λ t told. q.tables t (p.tables t told).0;
   up = stays_up_then a b c p.quiet q.up;
-  faults = grew_behind p.quiet.faults q.faults;
+  faults = tallied_behind p.quiet.faults q.faults;
   commits = q.commits ∙ p.quiet.commits;
   crash = read_crash rests p q.crash;
 }

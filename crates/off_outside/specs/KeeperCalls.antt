@@ -5,7 +5,7 @@ use Rattle.off_defs.specs.declared.orders.Write.{Write}
 use Rattle.off_defs.specs.State.{Tables}
 use Rattle.off_defs.specs.Tables.{write_all, doubt_behind}
 use Rattle.off_defs.specs.Told.{Told}
-use Rattle.off_defs.specs.Counts.{Grew, one_more, commits_after}
+use Rattle.off_defs.specs.Counts.{Grew, Tallied, one_more, commits_after}
 use Rattle.off_outside.specs.KeeperSeen.{KeeperSeen}
 use Rattle.off_outside.specs.declared.keeper.KeepErr.{KeepErr}
 use Rattle.off_outside.specs.declared.keeper.KeepErr.TheVariants.{Memory, Failed}
@@ -50,11 +50,11 @@ pub record Reads (P : Tables → Type 0) (old new : KeeperSeen) : Type 0 where
   pub tables : (t : Tables) → old.tables t → new.tables t × P t
   pub quiet : Quiet old new
 
--- nothing was done: the tables are as before
+-- nothing was done: the tables are as before, and no fault was counted where memory was wanted
 pub record NotDone (err : KeepErr) (old new : KeeperSeen) : Type 0 where
   pub tables : (t : Tables) → old.tables t → new.tables t
   pub up : StaysUp old new
-  pub faults : Grew (keeper_faults_in err) old.faults new.faults
+  pub faults : Tallied (keeper_faults_in err) old.faults new.faults
   pub commits : new.commits ≡ old.commits
   pub still : Still old new
 
@@ -81,7 +81,7 @@ pub record NotCommitted (P : Tables → Tables → Type 0) (err : KeepErr)
     (old new : KeeperSeen) : Type 0 where
   pub tables : (t : Tables) → old.tables t → new.tables t
   pub up : StaysUp old new
-  pub faults : Grew (keeper_faults_in err) old.faults new.faults
+  pub faults : Tallied (keeper_faults_in err) old.faults new.faults
   pub commits : new.commits ≡ old.commits
   pub crash : Crash (begun_by err P) old new
 

@@ -102,13 +102,13 @@ ran_push {turns} {turn} {before} {after} {a} {b} {c} ran missed no_end made = re
 -- the counts of a turn by its outcome
 turn_grew : (outcome : Outcome) (a b : ℕ) → CountsFaults outcome a b → Grew (keeper_failures outcome) a b
 turn_grew Did a b same = record { later = omega (arith, same); grew = omega (arith, same) }
-turn_grew Memory a b grew = grew
-turn_grew Keeper a b grew = grew
+turn_grew Memory a b tallied = tallied.grew
+turn_grew Keeper a b tallied = tallied.grew
 
 turn_stands : (outcome : Outcome) (a b : ℕ) → CountsFaults outcome a b → trouble outcome ≡ 0 → b ≡ a
 turn_stands Did a b same none = same
-turn_stands Memory a b grew none = absurd (omega (arith, none))
-turn_stands Keeper a b grew none = absurd (omega (arith, none))
+turn_stands Memory a b tallied none = absurd (omega (arith, none))
+turn_stands Keeper a b tallied none = absurd (omega (arith, none))
 
 keeper_push : (turns : List Turn) (turn : Turn) (before after : Desk) (a b c : KeeperSeen) → KeeperRan turns a b → OfficeTurn turn before after b c
     → KeeperRan (turns ++ turn ∷ []) a c

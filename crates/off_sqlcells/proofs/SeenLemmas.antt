@@ -2,6 +2,7 @@
 use Rattle.std.proofs.Common.{ℕ, List, inl, inr, refl, arith}
 use Rattle.sqlite_trees.specs.declared.store.Store.{Ghosts}
 use Rattle.sqlite.specs.Held.{Held, state}
+use Rattle.off_defs.proofs.CountLemmas.{tallied_one}
 use Rattle.off_outside.specs.declared.keeper.KeepErr.{KeepErr}
 use Rattle.off_outside.specs.declared.keeper.KeepErr.TheVariants.{Memory, Failed}
 use Rattle.off_cells.specs.CellsSeen.{CellMap}
@@ -36,10 +37,10 @@ pub refused_kept : {S : Type 0} (g : Ghosts S) (old mid new : Held S) (err : Kee
 refused_kept g old mid new Memory faults counted before after still stiller counts = record {
   cells = λ m p. (p.0, stiller p.0 m (still p.0 m p.1));
   up = λ up. inl (up.0, counts.1 up.0);
-  faults = record { later = omega (arith, counts.0); grew = omega (arith, counts.0) };
+  faults = record { grew = record { later = omega (arith, counts.0); grew = omega (arith, counts.0) }; stands = λ none. counts.0 };
 }
 refused_kept g old mid new Failed faults counted before after still stiller counts = record {
   cells = λ m p. (p.0, stiller p.0 m (still p.0 m p.1));
   up = λ up. inr (record { later = omega (arith, counts.0, counts.1); grew = omega (arith, counts.0) });
-  faults = record { later = omega (arith, counts.0, counts.1); grew = omega (arith, counts.0) };
+  faults = tallied_one (record { later = omega (arith, counts.0, counts.1); grew = omega (arith, counts.0) });
 }
