@@ -14,6 +14,7 @@ DHCP = """offer ack declined released dhcp-short dhcp-long dhcp-not-request dhcp
 dhcp-cookie dhcp-option-cut dhcp-no-type dhcp-overload no-site not-served request-form part-cut
 relay-mismatch not-a-modem no-relay-pool unknown-modem serial-mismatch other-server pool-full
 no-record not-your-address""".split()
+QUERIES = "query-relay query-form query-active query-unassigned query-unknown".split()
 TFTP = """form write mode again no-lease agreement name full oack block unknown stale-ack done
 peer-error""".split()
 FAULTS = """head body too-long no-path no-method not-json field value header width import-field
@@ -30,7 +31,7 @@ ANSWERS = ['{"ok":true}', '{"rows":}', '{"fault":}', '{"at":,"fault":}', '"state
            '"state":"bound"', '"state":"declined"']
 # Each section of the page, its words, and the column that has them.
 SECTIONS = {
-    "DHCP": DHCP, "Time": ["sent"], "TFTP": TFTP, "Ticks": ["again closed"],
+    "DHCP": DHCP, "Queries": QUERIES, "Time": ["sent"], "TFTP": TFTP, "Ticks": ["again closed"],
     "Clerks in the log": ["wait", "200", "busy", "closed", ""],
     "Each service": ["memory", "keeper", "link"], "The last line": ENDS, "Statuses": STATUSES,
     "What jobs write": ["cm good", "cm bad", "cmts good", "cmts bad", "rows",
@@ -41,6 +42,7 @@ SECTIONS = {
 # Where the program's definitions say them: a section's words are all that the pattern finds.
 DEFINED = {
     "DHCP": [("off_lease_rules", "Words", r'^word_text .*codes "([^"]*)"')],
+    "Queries": [("off_query_rules", "Words", r'^query_text .*codes "([^"]*)"')],
     "Time": [("off_book", "Time", r'codes "time ([^"]*)"')],
     "TFTP": [("off_transfer_rules", "Words", r'^tftp_text .*codes "([^"]*)"')],
     "Ticks": [("off_transfer_rules", "Words", r'codes "tick (again) " .*codes "( closed) "')],

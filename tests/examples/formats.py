@@ -12,7 +12,7 @@ import sys
 
 from examples import GROUPS, Fault, Script, covered, escaped, hexed, ip, quoted, read_file, sealed, spelled, verdict
 from imports import HEADERS, MARK, MOST_ROWS, ImportFault, rows_of
-from messages import MODEM, RELAYED, RELAYED_DISCOVER as DISCOVER, fault_of, option, options_in, reply_to
+from messages import MODEM, RELAYED, RELAYED_DISCOVER as DISCOVER, fault_of, is_query, option, options_in, query, reply_to
 
 script = Script("formats.py", "By hand, from the formats' rules in docs/CONTRACTS.md.")
 section = script.section
@@ -478,6 +478,35 @@ def imports():
             asks_import(kind, head + b"\n", (MOST_ROWS - 1, good), wrong, (2, wrong), fault=fault)
 
 
+def is_told(data, is_one):
+    """Whether a datagram is a query, as the reader in Python says and as stands here by hand."""
+    if is_query(data) != is_one:
+        raise AssertionError(f"{data.hex()} is {'no' if is_one else 'a'} query")
+    ask(f"query {data.hex() or '-'}", "query" if is_one else "none")
+
+
+def queries():
+    section("a datagram is a relay's query, or it isn't", "RFC 4388, section 6.2: a head of BOOTP, the one byte 10 in option 53, and no option 52.")
+    relay = bytes([10, 64, 0, 1])
+    whole, other = query(client=bytes([10, 64, 0, 10]), relay=relay), query(hardware=bytes.fromhex(MODEM), relay=relay)
+    for data in (whole, other, query(), query(options=option(61, b"\1")), query(kind=b"\x06\x10", hardware=b"\7" * 16), whole[:-1], whole + b"\0" * 60):
+        is_told(data, True)
+    for length in (0, 1, 239, 240, 241, 242):
+        is_told(whole[:length], False)
+    is_told(DISCOVER, False)
+    for places in (((0, 0),), ((0, 2),), ((236, 0),), ((239, 0x64),), ((240, 52),), ((241, 0),), ((241, 2),), ((242, 9),), ((242, 11),), ((242, 13),), ((243, 53),)):
+        is_told(changed(whole, *places), False)
+    ten = option(53, b"\x0a")
+    for options, is_one in ((b"", False), (ten, True), (b"\0" * 9 + ten, True), (b"\xff" + ten, False), (ten + ten, False), (option(53, b"") + ten, True), (option(53, b"\x0a\x0a"), False),
+                            (ten + option(52, b""), False), (option(52, b"\1") + ten, False), (ten + b"\xff" + option(52, b"\1"), True), (ten + b"\x33", False),
+                            (ten + b"\x33\x04\0\0\0", False), (ten + b"\xff\x33", True)):
+        is_told(whole[:240] + options, is_one)
+    for length, answer in ((1500, "query"), (1501, "none")):
+        if is_query(whole + bytes(length - len(whole))) != (answer == "query"):
+            raise AssertionError(f"{length} bytes")
+        ask(f"query {whole.hex()} {length - len(whole)}* 00", answer)
+
+
 def main():
     texts()
     files()
@@ -486,6 +515,7 @@ def main():
     tables()
     imports()
     messages()
+    queries()
     return script.write("format_script")
 
 

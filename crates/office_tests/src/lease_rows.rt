@@ -8,7 +8,7 @@ pub(crate) const AT: Moment = Moment(1_700_000_000);
 
 pub(crate) const RELAY: Ip4 = Ip4(0x0a40_0001);
 
-const MODEM: Mac = Mac([0x02, 0xaa, 0xbb, 0xcc, 0xdd, 0xee]);
+pub(crate) const MODEM: Mac = Mac([0x02, 0xaa, 0xbb, 0xcc, 0xdd, 0xee]);
 
 const POOL: Pool = Pool {
     first: Ip4(0x0a40_000a),
