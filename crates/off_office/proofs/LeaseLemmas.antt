@@ -202,16 +202,12 @@ undone_told from bytes keep.Memory outcome said desk a b not spent is =
 undone_told from bytes keep.Failed outcome said desk a b not spent is =
     subst (λ (o : Outcome). Handled (Datagram Dhcp from bytes) o said desk desk a b) (sym is.0) (keeper_told from bytes said desk a b not spent is.1)
 
-begun_as : (err : KeepErr) (P Q : Tables → Tables → Type 0) (a b : KeeperSeen) → ((t u : Tables) → P t u → Q t u) → NotCommitted P err a b → NotCommitted Q err a b
-begun_as keep.Memory P Q a b more not = not_committed_as not (λ t told u begun. begun)
-begun_as keep.Failed P Q a b more not = not_committed_as not (λ t told u begun. more t u begun)
-
 pub message_failed : (from : Peer) (bytes : List ℕ) (err : KeepErr) (outcome : Outcome) (said : Said) (desk : Desk) (a b : KeeperSeen) → query_of bytes ≡ None
     → NotCommitted (MessageBegins (message_of bytes) desk) err a b → Spent (message_asks (message_of bytes)) a b
     → FailsMessage err outcome said → Handled (Datagram Dhcp from bytes) outcome said desk desk a b
 message_failed from bytes err outcome said desk a b none not spent is =
     undone_told from bytes err outcome said desk a b
-    (begun_as err (MessageBegins (message_of bytes) desk) (DoingBegins (Datagram Dhcp from bytes) desk) a b (λ t u begun. message_begins from bytes desk t u none begun) not)
+    (not_committed_as not (λ t told u begun. message_begins from bytes desk t u none begun))
     (asks_as_message bytes a b none spent) is
 
 -- where it couldn't be acted on the office is as before
