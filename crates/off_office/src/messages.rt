@@ -137,11 +137,7 @@ fn say_step(reply: Option<Sent>, word: DhcpWord, out: &mut Replies) -> Result<()
 }
 
 // Says a reply, where there is one, and the line.
-pub(crate) fn say_reply(
-    reply: Option<Sent>,
-    line: &[u8],
-    out: &mut Replies,
-) -> Result<(), NoMemory>
+pub(crate) fn say_reply(reply: Option<Sent>, line: &[u8], out: &mut Replies) -> Result<(), NoMemory>
     requires silent { out.old ≡ says_nothing }
     requires short { length line.now ≤ 80 }
     ensures { OnOk result (out.new ≡ record { items = replies_of reply; line = line.now }) }
