@@ -69,7 +69,12 @@ fn connect(rt: &HostRuntime, path: &str) -> Result<Connection<FileStore<File>>, 
 // it for others to read.
 fn make_private(rt: &HostRuntime, path: &str) -> Result<(), StoreErr> {
     let mut options = OpenOptions::new();
-    match options.write(true).create_new(true).mode(MODE).open(rt, path) {
+    match options
+        .write(true)
+        .create_new(true)
+        .mode(MODE)
+        .open(rt, path)
+    {
         Ok(_file) => Ok(()),
         Err(fault) if fault.kind() == ErrorKind::AlreadyExists => Ok(()),
         Err(fault) => Err(not_opened(&OpenError::Io(fault))),
