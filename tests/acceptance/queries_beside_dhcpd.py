@@ -130,7 +130,7 @@ def asking():
 
 def beside(folder):
     """dhcpd in this network, and the relay in another one."""
-    with subprocess.Popen(["unshare", "-n", "sleep", "60"]) as other:
+    with subprocess.Popen(["unshare", "-n", "sleep", "300"]) as other:
         time.sleep(0.3)
         subprocess.run(["sh", "-ec", NETWORK.format(other.pid)], check=True)
         for name, text in (("dhcpd.conf", CONFIGURED), ("dhcpd.leases", "")):
@@ -152,7 +152,7 @@ def main():
     if sys.argv[1:] == ["beside"]:
         with tempfile.TemporaryDirectory() as folder:
             return beside(folder)
-    return only_alone(__file__, "beside", 60, "both answer alike")
+    return only_alone(__file__, "beside", 300, "both answer alike")
 
 
 if __name__ == "__main__":
