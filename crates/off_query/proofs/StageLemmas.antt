@@ -24,11 +24,6 @@ pub looks_then : {P : Tables → Type 0} {a b : KeeperSeen} (c : KeeperSeen) (re
 looks_then c (Ok s) Q R p q join = reads_then p q (join s)
 looks_then c (Err err) Q R p q join = failed_then p q
 
--- another call's answer, by what it says
-pub looks_as : {a b : KeeperSeen} (result : Result QueryCase KeepErr) (Q R : QueryCase → Tables → Type 0) → Looks result a b Q → ((s : QueryCase) (t : Tables) → Q s t → R s t) → Looks result a b R
-looks_as (Ok s) Q R q weaker = reads_as q (weaker s)
-looks_as (Err err) Q R q weaker = q
-
 pub step_of_case : (t : Tables) (now : ℕ) (q : List ℕ) (case : QueryCase) → case ≡ query_case t q → settled now q case ≡ query_step t now q
 unfolding query_step
 step_of_case t now q case same = ap (settled now q) same
