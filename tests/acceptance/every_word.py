@@ -14,23 +14,24 @@ DHCP = """offer ack declined released dhcp-short dhcp-long dhcp-not-request dhcp
 dhcp-cookie dhcp-option-cut dhcp-no-type dhcp-overload no-site not-served request-form part-cut
 relay-mismatch not-a-modem no-relay-pool unknown-modem serial-mismatch other-server pool-full
 no-record not-your-address""".split()
+QUERIES = "query-relay query-form query-active query-unassigned query-unknown".split()
 TFTP = """form write mode again no-lease agreement name full oack block unknown stale-ack done
 peer-error""".split()
 FAULTS = """head body too-long no-path no-method not-json field value header width import-field
-too-many site no-row no-subscriber no-class tree pool-size pool-overlap relay-taken pool-has-leases
-has-modems class-in-use batch-differs limit""".split()
+too-many site no-row no-subscriber no-class no-hub tree pool-size pool-overlap relay-taken pool-has-leases
+has-modems class-in-use hub-in-use device-overlap batch-differs limit""".split()
 TOLD = ["illegal operation", "access violation", "octet only", "no lease", "no longer agreed",
         "file not found", "too many transfers", "unknown transfer"]
 ENDS = [f"{word} refused" for word in ("words", "tables", "keeper", "link", "memory", "source")]
 REFUSED = """too-long cut no-end after-end early-pad no-mic twice-mic mic-length header width field
 too-many batch-differs limit not-empty""".split() + ["row"]
-KEYS = "site subscriber add-on modem class pool lease held batch".split()
+KEYS = "site subscriber add-on modem class pool lease held batch hub pool-hub device-pool device".split()
 STATUSES = [str(status) for status in range(12)] + ["70", "129", "130", "131", "137", "143"]
 ANSWERS = ['{"ok":true}', '{"rows":}', '{"fault":}', '{"at":,"fault":}', '"state":"offered"',
            '"state":"bound"', '"state":"declined"']
 # Each section of the page, its words, and the column that has them.
 SECTIONS = {
-    "DHCP": DHCP, "Time": ["sent"], "TFTP": TFTP, "Ticks": ["again closed"],
+    "DHCP": DHCP, "Queries": QUERIES, "Time": ["sent"], "TFTP": TFTP, "Ticks": ["again closed"],
     "Clerks in the log": ["wait", "200", "busy", "closed", ""],
     "Each service": ["memory", "keeper", "link"], "The last line": ENDS, "Statuses": STATUSES,
     "What jobs write": ["cm good", "cm bad", "cmts good", "cmts bad", "rows",
@@ -41,6 +42,7 @@ SECTIONS = {
 # Where the program's definitions say them: a section's words are all that the pattern finds.
 DEFINED = {
     "DHCP": [("off_lease_rules", "Words", r'^word_text .*codes "([^"]*)"')],
+    "Queries": [("off_query_rules", "Words", r'^query_text .*codes "([^"]*)"')],
     "Time": [("off_book", "Time", r'codes "time ([^"]*)"')],
     "TFTP": [("off_transfer_rules", "Words", r'^tftp_text .*codes "([^"]*)"')],
     "Ticks": [("off_transfer_rules", "Words", r'codes "tick (again) " .*codes "( closed) "')],

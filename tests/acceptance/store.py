@@ -2,7 +2,7 @@
 """officed over a file: starts, kills and starts again, what it refuses, and what Python's sqlite3 finds in the file.
 
 A new file is made; a clerk's changes and modems' leases are there behind a stop and behind a kill; in a stream of changes the office is killed,
-20 times or as often as OFFICE_KILLS says, and each change that was acknowledged is there. Files that are refused: one that is open already, a text, a
+20 times or as often as OFFICE_KILLS says, and each change that was acknowledged is there. What it makes is for its owner alone. Files that are refused: one that is open already, a text, a
 folder, a locked one, one without the right to write, bad rows. `import` twice. A full disk, in a memory disk of its own. What needs a network or a
 mount of its own is skipped by name where `unshare` isn't allowed. Rows are read back by the form that docs/OPERATING.md gives. It ends what it
 started, and takes about a minute.
@@ -156,6 +156,22 @@ CHANGES = [("/site", {"server": "10.0.0.2", "secret": b"secret".hex(), "offset":
            ("/classes/1", {"name": "gold", "settings": SETTINGS}), ("/subscribers/7", subscriber(7)),
            ("/pools/1", {"first": "10.64.0.10", "last": "10.64.0.99", "prefix": 24, "router": "10.64.0.1", "relay": "10.64.0.1"}),
            ("/modems/02aabbccddee", {"subscriber": 7, "class": 1, "serial": "SN01"})]
+
+
+def private():
+    """What the office makes is for its owner alone, whatever the umask: the site's secret stands in it. The mode of a file that is there stays."""
+    def modes(path):
+        return {name: oct(os.stat(os.path.join(os.path.dirname(path), name)).st_mode & 0o777) for name in os.listdir(os.path.dirname(path))}
+
+    for kind in ("", "journal:"):
+        with folder() as (_, store):
+            check(ended(kind + store, limits=lambda: os.umask(0))[0] == 0, f"{kind or 'a database'}: a new file")
+            check(os.path.exists(store) and set(modes(store).values()) == {"0o600"}, f"{kind or 'a database'}: made for its owner alone, and not {modes(store)}")
+            os.chmod(store, 0o640)
+            check(ended(kind + store)[0] == 0 and modes(store)[os.path.basename(store)] == "0o640", f"{kind or 'a database'}: an owner's own mode stays")
+    with folder() as (_, store), Serving(store) as office:
+        office.puts("/subscribers/7", subscriber(7))
+        check(len(modes(store)) == 2 and set(modes(store).values()) == {"0o600"}, f"the log beside a database is for its owner alone too: {modes(store)}")
 
 
 def raises(conn, text):
@@ -442,7 +458,7 @@ def main():
     alone = {"booting": booting, "full_disk": full_disk}
     if sys.argv[1:]:
         return alone[sys.argv[1]]()
-    for each in (new_file, kills, refusals, journal, imports, hungry, guide):
+    for each in (new_file, private, kills, refusals, journal, imports, hungry, guide):
         each()
     in_its_own("booting", "-rn")
     in_its_own("full_disk", "-rm")

@@ -1,10 +1,10 @@
 #!/usr/bin/env python3
-"""Leases a second over loopback, in a network of its own: DISCOVER, OFFER, REQUEST and ACK ("DORA") of modems behind relays.
+"""Leases a second over loopback, in a network of its own: DISCOVER, OFFER, REQUEST and ACK ("DORA") of modems behind relays, and relays' queries.
 
     python3 tests/bench/dora.py [MODEMS[:RELAYS] ..]
 
 A clerk fills the tables; then modems boot for the first time, and go on booting while they hold their leases, with 1, 16 and 64 modems waiting for an
-answer at a time. Beside it, by turns, the same datagrams go to a bare echo, whose answers are as long as the office's. The best of some rounds is
+answer at a time; then their relays ask which addresses they have (RFC 4388). Beside both, by turns, the same datagrams go to a bare echo, whose answers are as long as the office's. The best of some rounds is
 printed, since others may disturb this machine, and the processor's time of each exchange, which they disturb less. Then, while datagrams come at a
 steady rate, how long questions for the time and clerks' PUTs take.
 
@@ -183,24 +183,31 @@ class Measured:
         told = exchanges(self.program, mode, 0, self.rows.modems, self.rows.relays, at_once, MILLISECONDS)
         return told, processor_seconds(server.pid) - before
 
-    def by_turns(self, at_once, echo):
+    def by_turns(self, at_once, echo, ours, echoed):
         """Of the office, and of the echo: the most exchanges a second, and the microseconds of processor of each."""
-        rounds = [(self.one_round("renew", at_once, self.officed), self.one_round("echoed", at_once, echo)) for _ in range(ROUNDS)]
+        rounds = [(self.one_round(ours, at_once, self.officed), self.one_round(echoed, at_once, echo)) for _ in range(ROUNDS)]
         for column in zip(*rounds):
             done = sum(told.done for told, _ in column)
             yield max(told.done / told.seconds for told, _ in column), sum(used for _, used in column) / max(done, 1) * 1e6
 
     def leased(self):
         """Modems that hold leases, beside the echo; the time and the processor's time of a DORA for each number of modems at once."""
+        return self.beside_the_echo("leased", "DORA", "renew", "echoed", GOAL)
+
+    def queried(self):
+        """Relays that ask about modems that hold leases, beside the echo."""
+        return self.beside_the_echo("asked about", "queries", "query", "query-echoed", None)
+
+    def beside_the_echo(self, what, unit, mode, echoed, wanted):
         taken = {}
-        length = int(self.one_round("renew", 16, self.officed)[0].length)
+        length = int(self.one_round(mode, 16, self.officed)[0].length)
         echo = subprocess.Popen([self.program, "echo", str(length)])
         time.sleep(0.2)
         try:
             for at_once in AT_ONCE:
-                (ours, used), (others, other_used) = self.by_turns(at_once, echo)
-                goal = f", goal {GOAL}: {'met' if ours >= GOAL else 'missed'}" if at_once > 1 and self.rows.modems == 100 else ""
-                print(f"  leased, {at_once} at once: {ours:.0f} DORA/s ({used:.1f} us of processor each), echo of {length} bytes {others:.0f} "
+                (ours, used), (others, other_used) = self.by_turns(at_once, echo, mode, echoed)
+                goal = f", goal {wanted}: {'met' if ours >= wanted else 'missed'}" if wanted and at_once > 1 and self.rows.modems == 100 else ""
+                print(f"  {what}, {at_once} at once: {ours:.0f} {unit}/s ({used:.1f} us of processor each), echo of {length} bytes {others:.0f} "
                       f"({other_used:.1f} us): {ours / others:.2f}{goal}")
                 taken[at_once] = (1 / ours, used)
         finally:
@@ -241,6 +248,7 @@ def measure(program, modems, relays):
             measured = Measured(program, officed, rows)
             measured.first_boots()
             rates = measured.leased()
+            measured.queried()
             measured.under_a_flood("flood", 0, modems, FLOOD)
             measured.under_a_flood("padded", 0, modems, FLOOD)
             measured.under_a_flood("full", modems, relays, FLOOD)

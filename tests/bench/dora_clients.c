@@ -4,6 +4,8 @@
  *     dora_clients release FIRST COUNT RELAYS OUTSTANDING        each modem once: DISCOVER, OFFER, RELEASE
  *     dora_clients renew FIRST COUNT RELAYS OUTSTANDING MS       boots that go on, in a mixed order, for so many milliseconds
  *     dora_clients echoed FIRST COUNT RELAYS OUTSTANDING MS      the same datagrams to the echo, as often
+ *     dora_clients query FIRST COUNT RELAYS OUTSTANDING MS       relays ask which address a modem has (RFC 4388), as long
+ *     dora_clients query-echoed FIRST COUNT RELAYS OUTSTANDING MS        the same datagrams to the echo
  *         prints: exchanges, seconds, datagrams sent again, wrong answers, bytes of an answer
  *     dora_clients flood FIRST COUNT RELAYS RATE MS              DISCOVERs and REQUESTs of modems with leases, so many a second
  *     dora_clients padded FIRST COUNT RELAYS RATE MS             the same with 1,100 pads before the options
@@ -25,7 +27,7 @@
 #include <time.h>
 #include <unistd.h>
 
-enum { DISCOVER = 1, OFFER = 2, REQUEST = 3, ACK = 5, RELEASE = 7 };
+enum { DISCOVER = 1, OFFER = 2, REQUEST = 3, ACK = 5, RELEASE = 7, QUERY = 10, ACTIVE = 13 };
 enum { DHCP_PORT = 67, TIME_PORT = 37, ECHO_PORT = 7, MOST_RELAYS = 64, MOST_SLOTS = 256, PADS = 1100 };
 static const unsigned SERVER = 0x0a000002, RELAYS_AT = 0x0a400001, RELAYS_APART = 8192;
 static const double PATIENCE = 1;
@@ -84,6 +86,15 @@ static unsigned char *option(unsigned char *end, int code, int length, const voi
     return end + length;
 }
 
+/* The kind of what is asked first, and of an answer to a kind. */
+static int first_of(const struct plan *plan) {
+    return is(plan, "query") || is(plan, "query-echoed") ? QUERY : DISCOVER;
+}
+
+static int answer_to(int kind) {
+    return kind == DISCOVER ? OFFER : kind == QUERY ? ACTIVE : ACK;
+}
+
 static unsigned relay_of(int modem, int relays) {
     return RELAYS_AT + RELAYS_APART * (modem % relays);
 }
@@ -96,7 +107,8 @@ static unsigned char *ways(unsigned char *end, int modem, const unsigned char *m
     return option(option(option(end, 60, 10, "docsis3.1:"), 43, 15, cable), 82, 14, way);
 }
 
-/* A modem's message (RFC 2131 with the options of RFC 2132), and its length. A REQUEST asks for an address, and a RELEASE gives it back. */
+/* A modem's message (RFC 2131 with the options of RFC 2132), or its relay's query for its lease, and its length. A REQUEST asks for an address, and a RELEASE
+ * gives it back. */
 static int message(unsigned char *text, int kind, int modem, int relays, unsigned number, const unsigned char *address) {
     unsigned char mac[6] = {2, 0}, server[4], one = kind, *end = text + 240;
     put4(mac + 2, modem);
@@ -110,8 +122,8 @@ static int message(unsigned char *text, int kind, int modem, int relays, unsigne
     memcpy(text + 236, "\x63\x82\x53\x63", 4);
     end = option(end, 53, 1, &one);
     if (kind == REQUEST) end = option(end, 50, 4, address);
-    if (kind != DISCOVER) end = option(end, 54, 4, server);
-    if (kind != RELEASE) end = ways(end, modem, mac);
+    if (kind != DISCOVER && kind != QUERY) end = option(end, 54, 4, server);
+    if (kind != RELEASE && kind != QUERY) end = ways(end, modem, mac);
     *end++ = 255;
     return end - text;
 }
@@ -169,7 +181,7 @@ static void begin(struct share *s, int place) {
     int turn = (int)(((long)s->begun * s->step + s->start) % s->modems);
     s->begun++;
     s->slots[place].modem = s->plan->first + s->part + s->parts * turn;
-    ask(s, place, DISCOVER, NULL);
+    ask(s, place, first_of(s->plan), NULL);
 }
 
 /* Whether an answer has a question's number. */
@@ -184,14 +196,14 @@ static void hear(struct share *s, const unsigned char *answer, long length) {
     int place = answer[7];
     struct slot *slot = &s->slots[place];
     if (length < 244 || slot->kind == 0 || !tells(answer, slot->number)) return;
-    int kind = is(s->plan, "echoed") ? slot->kind == DISCOVER ? OFFER : ACK : answer[242];
-    if (answer[0] != 2 || kind != (slot->kind == DISCOVER ? OFFER : ACK)) {
+    int kind = s->plan->port == ECHO_PORT ? answer_to(slot->kind) : answer[242];
+    if (answer[0] != 2 || kind != answer_to(slot->kind)) {
         s->told.wrong++;
         begin(s, place);
         return;
     }
     s->told.length = length;
-    if (slot->kind == REQUEST) {
+    if (slot->kind == REQUEST || slot->kind == QUERY) {
         s->told.done++;
         begin(s, place);
     } else if (is(s->plan, "release")) {
@@ -395,7 +407,7 @@ int main(int argc, char **argv) {
     struct plan plan = {argv[1], atoi(argv[2]), atoi(argv[3]), atoi(argv[4]), atoi(argv[5]), DHCP_PORT, argc == 7 ? atoi(argv[6]) / 1e3 : 0};
     if (plan.relays < 1 || plan.relays > MOST_RELAYS || plan.relays % 3 != 0 || plan.count < 1) return 2;
     if (is(&plan, "flood") || is(&plan, "padded") || is(&plan, "full")) return flood(&plan);
-    if (is(&plan, "echoed")) plan.port = ECHO_PORT;
+    if (is(&plan, "echoed") || is(&plan, "query-echoed")) plan.port = ECHO_PORT;
     if (plan.outstanding < 1 || plan.outstanding > MOST_SLOTS) return 2;
     return exchange(&plan);
 }

@@ -3,7 +3,8 @@
 A modem discovers, requests and reads its file; other events come between each two of its messages, in every place. Then each thing that it needs for that is
 taken away alone, and the log has the word that says so. What is expected is computed by the models of leases.py and tftp.py, and the words are said here by hand.
 """
-from leases import A, HELD, ONE, RELAY, SECOND, declines, discover, leased, modem_row, put_pool, put_site, reboots, releases, remove, selects, vendor
+from leases import (A, HELD, ONE, RELAY, SECOND, declines, discover, has_which, leased, modem_row, put_pool, put_site, reboots, releases, remove, selects, vendor,
+                    who_has)
 import leases
 from transfers import (B, BOTH, PLAIN, PORT, TICK, TransferPlayer, acks, gives_up, name, put_class, put_modem, put_subscriber, reads, sends)
 
@@ -44,6 +45,12 @@ def with_between(place, events):
     return at("t", [*BOOT[:place + 1], *events, *BOOT[place + 1:]])
 
 
+def queries(place):
+    """What a relay asks behind the modem's message of this number: about it, about the other modem, and as an unknown relay."""
+    by_address, by_modem = ("query-unassigned", "query-unknown") if place == 0 else ("query-active", "query-active")
+    return [(by_address, who_has(A)), (by_modem, has_which()), ("query-active", who_has(B)), ("query-active", has_which(1)), ("query-relay", who_has(A, relay="10.64.0.2"))]
+
+
 def booting(player):
     player.section("a modem boots, whatever comes between its messages", MODEL)
     alone = player.play("nothing", at("t", BOOT), rows=OTHERS, tables=True)
@@ -53,6 +60,11 @@ def booting(player):
             if files_in(made) != files_in(alone):
                 raise leases.Disagreement(f"{remark}: the modem gets another file")
         player.play(f"{remark}, in every place", at("t", [BOOT[0], *(event for own in BOOT[1:] for event in (*events, own))]), rows=OTHERS)
+    asked = [queries(place) for place in range(len(BOOT) - 1)]
+    for place, events in enumerate(asked):
+        if files_in(player.play(f"a relay asks, behind message {place + 1}", with_between(place, events), rows=OTHERS)) != files_in(alone):
+            raise leases.Disagreement("a relay asks: the modem gets another file")
+    player.play("a relay asks, in every place", at("t", [*(event for own, events in zip(BOOT, asked) for event in (own, *events)), BOOT[-1]]), rows=OTHERS, tables=True)
     player.play("a clerk is refused what would take its address, in every place",
                 at("t", [BOOT[0], *(event for own in BOOT[1:] for event in (("pool-has-leases", SMALL), ("pool-has-leases", remove("/pools/1")), own))]), rows=OTHERS)
     player.section("a modem boots though its own messages come again", MODEL, "RFC 2131, section 4.1, and RFC 1123, section 4.2.3.1.")

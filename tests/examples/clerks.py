@@ -337,10 +337,11 @@ def answers():
         ask(f"lease 10.64.0.10 {hold} t+86400", compact({"expiry": 1_700_086_400, "owner": words[1] if len(words) > 1 else "", "state": words[0]}))
     section("a fault has a status, a word and a text", "docs/CLERK_API.md, the table of faults.")
     ask("head", "; ".join(told(status, word) for status, word in ((400, "head"), (400, "body"), (413, "too-long"))))
-    plain = {"no-row": 404, "has-modems": 409, "class-in-use": 409, "no-subscriber": 422, "no-class": 422, "pool-size": 422}
+    plain = {"no-row": 404, "has-modems": 409, "class-in-use": 409, "no-subscriber": 422, "no-class": 422, "no-hub": 422, "pool-size": 422}
     for word, status in plain.items():
         ask(f"rule 0 {word}", told(status, word))
     for word, status, at in (("pool-overlap", 409, 2), ("relay-taken", 409, 64), ("pool-has-leases", 409, "10.64.0.10"), ("batch-differs", 409, 2**64 - 1),
+                             ("hub-in-use", 409, 2), ("device-overlap", 409, 64),
                              ("site", 422, 1), ("site", 422, 2), ("site", 422, 3), ("site", 422, 4)):
         ask(f"rule 0 {word} {at}", told(status, word, at))
     for kind, most in (("subscribers", 200_000), ("add-ons", 100_000), ("modems", 200_000), ("classes", 1_000), ("pools", 64), ("batches", 100_000)):

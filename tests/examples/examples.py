@@ -19,7 +19,7 @@ PHRASES = {200: "OK", 400: "Bad Request", 404: "Not Found", 405: "Method Not All
 GROUPS = (22, 23, 24, 25, 43)
 # The settings that the CMTS MIC covers, in order: this project's profile.
 COVERED = (1, 2, 3, 4, 17, 43, 6, 18, 19, 20, 22, 23, 24, 25, 28, 29, 26, 35, 36, 37, 40)
-KINDS = ("site", "subscriber", "add-on", "modem", "class", "pool", "lease", "held", "batch")
+KINDS = ("site", "subscriber", "add-on", "modem", "class", "pool", "lease", "held", "batch", "hub", "pool-hub", "device-pool", "device")
 
 
 def ip(number):
@@ -149,13 +149,14 @@ def order_of(row):
     """Where a row stands in the tables: by its kind, and then by its numbers."""
     kind, *words = row.split(" ")
     key = words[:2] if kind == "add-on" else words[:0 if kind == "site" else 1]
-    return KINDS.index(kind), [int(word, 16) if kind in ("modem", "held") else int(ipaddress.IPv4Address(word)) if kind == "lease" else int(word) for word in key]
+    return KINDS.index(kind), [int(word, 16) if kind in ("modem", "held") else int(ipaddress.IPv4Address(word)) if kind in ("lease", "device") else int(word)
+                                for word in key]
 
 
 def shown(row):
     """A row as it is printed: its moment in full."""
     words = row.split(" ")
-    if words[0] == "lease" and words[-1].startswith("t"):
+    if words[0] in ("lease", "device") and words[-1].startswith("t"):
         words[-1] = str(T + int(words[-1][1:] or "0"))
     return " ".join(words)
 

@@ -12,7 +12,7 @@ import sys
 
 from examples import GROUPS, Fault, Script, covered, escaped, hexed, ip, quoted, read_file, sealed, spelled, verdict
 from imports import HEADERS, MARK, MOST_ROWS, ImportFault, rows_of
-from messages import MODEM, RELAYED, RELAYED_DISCOVER as DISCOVER, fault_of, option, options_in, reply_to
+from messages import MODEM, RELAYED, RELAYED_DISCOVER as DISCOVER, fault_of, is_query, option, options_in, query, reply_to
 
 script = Script("formats.py", "By hand, from the formats' rules in docs/CONTRACTS.md.")
 section = script.section
@@ -217,9 +217,11 @@ def trees():
     ask(f"add-on {many['full']} {many['half']} {many['more']}", "too-long 513")
 
 
+DEVICE = "0200000000a1"
 KEYS = [("site", "01"), ("subscriber 7", "0200000007"), ("add-on 16909060 5", "030102030405"), (f"modem {MODEM}", f"04{MODEM}"),
         ("class 4294967295", "05ffffffff"), ("pool 64", "0600000040"), ("lease 10.64.0.10", "070a40000a"), (f"held {MODEM}", f"08{MODEM}"),
-        ("batch 18446744073709551615", "09ffffffffffffffff")]
+        ("batch 18446744073709551615", "09ffffffffffffffff"), ("hub 64", "0a00000040"), ("pool-hub 64", "0b00000040"),
+        ("device-pool 64", "0c00000040"), ("device 10.128.0.10", "0d0a80000a")]
 # Rows with their bytes, and where their fields begin.
 ROWS = [("site", "site 10.0.0.2 736563726574 -18000 86400 0.0.0.0", "0a000002" + "06736563726574" + "ffffb9b0" + "00015180" + "00000000", (0, 4, 11, 15, 19)),
         ("subscriber 7", 'subscriber 7 active 2 "Ann"', "0102" + "03416e6e", (0, 1, 2)),
@@ -232,7 +234,13 @@ ROWS = [("site", "site 10.0.0.2 736563726574 -18000 86400 0.0.0.0", "0a000002" +
         ("lease 10.64.0.10", f"lease 10.64.0.10 bound {MODEM} 1700000120", f"02{MODEM}" + "000000006553f178", (0, 1, 7)),
         ("lease 10.64.0.10", "lease 10.64.0.10 declined 1700000120", "03" + "000000006553f178", (0, 1)),
         (f"held {MODEM}", f"held {MODEM} 10.64.0.10", "0a40000a", (0,)),
-        ("batch 9", "batch 9 modems 2 900150983cd24fb0d6963f7d28e17f72", "02" + hashlib.md5(b"abc").hexdigest() + "00000002", (0, 1, 17))]
+        ("batch 9", "batch 9 modems 2 900150983cd24fb0d6963f7d28e17f72", "02" + hashlib.md5(b"abc").hexdigest() + "00000002", (0, 1, 17)),
+        ("hub 1", "hub 1 10.0.0.3 6f74686572 0 60 10.0.0.9", "0a000003" + "056f74686572" + "00000000" + "0000003c" + "0a000009", (0, 4, 10, 14, 18)),
+        ("pool-hub 2", "pool-hub 2 1", "00000001", (0,)),
+        ("device-pool 1", "device-pool 1 10.128.0.10 10.128.0.20 24 10.128.0.1 10.128.0.1", "0a80000a" + "0a800014" + "18" + "0a800001" + "0a800001", (0, 4, 8, 9, 13)),
+        ("device 10.128.0.10", f"device 10.128.0.10 offered {MODEM} {DEVICE} 1700000120", f"01{MODEM}{DEVICE}" + "000000006553f178", (0, 1, 7, 13)),
+        ("device 10.128.0.10", f"device 10.128.0.10 bound {MODEM} {DEVICE} 1700000120", f"02{MODEM}{DEVICE}" + "000000006553f178", (0, 1, 7, 13)),
+        ("device 10.128.0.10", "device 10.128.0.10 declined 1700000120", "03" + "000000006553f178", (0, 1))]
 
 
 def tables():
@@ -241,7 +249,7 @@ def tables():
         ask(f"key {text}", f"{data} {text}")
         ask(f"key-of {data}", text)
         ask(f"key-of {data[:-2] or '-'}", "none")
-    for data in ("00", "0a", "0100", "020000000700", "0300000007", "0a00000001"):
+    for data in ("00", "0a", "0d", "0e", "0100", "020000000700", "0300000007", "0a0000000100", "0e00000001"):
         ask(f"key-of {data}", "none")
     section("a row is read, and each cut of it is refused at the field that lacks bytes", "A byte behind it is refused at its place.")
     for key, text, data, places in ROWS:
@@ -253,7 +261,8 @@ def tables():
     for key, data, place in (("subscriber 7", "020200", 0), ("subscriber 7", "010201ff", 2), ("lease 0.0.0.1", "000000000000000001", 0),
                              ("lease 0.0.0.1", "040000000000000001", 0), ("add-on 7 0", "00020000", 0), ("add-on 7 0", "0002ff00", 0),
                              ("add-on 7 0", "0004030101ff", 0), ("add-on 7 0", "0003030201", 0), ("add-on 7 0", "000418020101", 0), ("class 1", "00000103", 1),
-                             ("batch 9", "00" * 21, 0), ("batch 9", "03" * 21, 0)):
+                             ("batch 9", "00" * 21, 0), ("batch 9", "03" * 21, 0), ("device 0.0.0.1", "000000000000000001", 0),
+                             ("device 0.0.0.1", "04" + "00" * 20, 0), ("device 0.0.0.1", "03" + "00" * 20, 9), ("hub 1", "0a00000241" + "ff" * 77, 4)):
         ask(f"row-of {key} {data}", f"bad {place}")
     for count in (64, 65):
         ask(f'row-of subscriber 7 0102{count:02x} {count}* "a"', f'subscriber 7 active 2 "{"a" * 64}"; 010240{"61" * 64}' if count == 64 else "bad 2")
@@ -278,7 +287,7 @@ def tables():
     for text, _ in KEYS:
         kind = text.split()[0]
         ask(f"sound remove {text}", "yes" if kind in ("subscriber", "add-on", "modem", "class", "pool") else "no")
-        ask(f"sound show {text}", "no" if kind in ("held", "batch") else "yes")
+        ask(f"sound show {text}", "no" if kind in ("held", "batch", "hub", "pool-hub", "device-pool", "device") else "yes")
     ask('sound import modems 0', "yes")
     ask('sound import subscribers 2000 subscriber 7 active 2 "Ann"', "yes")
     ask('sound import subscribers 2001 subscriber 7 active 2 "Ann"', "no")
@@ -469,6 +478,35 @@ def imports():
             asks_import(kind, head + b"\n", (MOST_ROWS - 1, good), wrong, (2, wrong), fault=fault)
 
 
+def is_told(data, is_one):
+    """Whether a datagram is a query, as the reader in Python says and as stands here by hand."""
+    if is_query(data) != is_one:
+        raise AssertionError(f"{data.hex()} is {'no' if is_one else 'a'} query")
+    ask(f"query {data.hex() or '-'}", "query" if is_one else "none")
+
+
+def queries():
+    section("a datagram is a relay's query, or it isn't", "RFC 4388, section 6.2: a head of BOOTP, the one byte 10 in option 53, and no option 52.")
+    relay = bytes([10, 64, 0, 1])
+    whole, other = query(client=bytes([10, 64, 0, 10]), relay=relay), query(hardware=bytes.fromhex(MODEM), relay=relay)
+    for data in (whole, other, query(), query(options=option(61, b"\1")), query(kind=b"\x06\x10", hardware=b"\7" * 16), whole[:-1], whole + b"\0" * 60):
+        is_told(data, True)
+    for length in (0, 1, 239, 240, 241, 242):
+        is_told(whole[:length], False)
+    is_told(DISCOVER, False)
+    for places in (((0, 0),), ((0, 2),), ((236, 0),), ((239, 0x64),), ((240, 52),), ((241, 0),), ((241, 2),), ((242, 9),), ((242, 11),), ((242, 13),), ((243, 53),)):
+        is_told(changed(whole, *places), False)
+    ten = option(53, b"\x0a")
+    for options, is_one in ((b"", False), (ten, True), (b"\0" * 9 + ten, True), (b"\xff" + ten, False), (ten + ten, False), (option(53, b"") + ten, True), (option(53, b"\x0a\x0a"), False),
+                            (ten + option(52, b""), False), (option(52, b"\1") + ten, False), (ten + b"\xff" + option(52, b"\1"), True), (ten + b"\x33", False),
+                            (ten + b"\x33\x04\0\0\0", False), (ten + b"\xff\x33", True)):
+        is_told(whole[:240] + options, is_one)
+    for length, answer in ((1500, "query"), (1501, "none")):
+        if is_query(whole + bytes(length - len(whole))) != (answer == "query"):
+            raise AssertionError(f"{length} bytes")
+        ask(f"query {whole.hex()} {length - len(whole)}* 00", answer)
+
+
 def main():
     texts()
     files()
@@ -477,6 +515,7 @@ def main():
     tables()
     imports()
     messages()
+    queries()
     return script.write("format_script")
 
 

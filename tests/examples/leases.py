@@ -10,8 +10,8 @@ import ipaddress
 import random
 
 from examples import T, answered, compact, datagram, ip, order_of, outcome
-from messages import (ACK, DECLINE, DISCOVER, INFORM, MODEM, NAK, OFFER, RELAYED, RELAYED_DISCOVER, RELEASE, REQUEST, Message, fault_of,
-                      first_of, message, option, parts_in, reply_to, split)
+from messages import (ACK, ACTIVE, DECLINE, DISCOVER, INFORM, MODEM, NAK, OFFER, RELAYED, RELAYED_DISCOVER, RELEASE, REQUEST, UNASSIGNED, UNKNOWN, Message,
+                      answer_to, asked_by, fault_of, first_of, is_query, message, option, parts_in, query, reply_to, split)
 
 MOST = 2**64 - 1
 OFFERED, RESTS = 120, 600
@@ -174,6 +174,8 @@ class Office:
     def take(self, moment, data):
         """What becomes of a datagram: the word of the log, and what is sent as (where, bytes) or None."""
         self.now = max(self.now, moment)
+        if is_query(data):
+            return self.tell(data)
         fault = fault_of(data)
         if fault:
             return "dhcp-" + fault.split(" ")[0], None
@@ -184,6 +186,24 @@ class Office:
         if word:
             return word, None
         return {DISCOVER: self.offer, REQUEST: self.acknowledge, DECLINE: self.decline, RELEASE: self.release}[m.kind](m, data)
+
+    def tell(self, data):
+        """What a relay's query is answered (RFC 4388, section 6.4); the words, and in which order they come, are the office's own rules."""
+        relay, asked = data[24:28], asked_by(data)
+        if ("site",) not in self.kept or all(pool.relay != relay for pool in self.pools.values()):
+            return "query-relay", None
+        if asked is None:
+            return "query-form", None
+        form, value = asked
+        held = value if form == "address" else self.held.get(value)
+        is_within = held is not None and any(pool.has(held) for pool in self.pools.values())
+        hold, owner, expiry = self.leases.get(held, ("", None, 0))
+        to, server = f"{text_of(relay)}:67", self.site()["server"]
+        if is_within and hold == "bound" and expiry > self.now and form in ("address", "client" if owner == value else ""):
+            return "query-active", (to, answer_to(data, ACTIVE, server, (held, owner, expiry - self.now)))
+        if is_within and form == "address":
+            return "query-unassigned", (to, answer_to(data, UNASSIGNED, server))
+        return "query-unknown", (to, answer_to(data, UNKNOWN, server))
 
     def destination(self, m, direct):
         return f"{direct}:68" if m.relay == bytes(4) else f"{text_of(m.relay)}:67"
@@ -308,6 +328,16 @@ def declines(asked=A, last=0xEE, **what):
 
 def releases(client=A, last=0xEE, relay="0.0.0.0", **what):
     return says(RELEASE, last, client=client, relay=relay, **what)
+
+
+def who_has(held, relay=RELAY, **what):
+    """A relay's query by address."""
+    return query(client=address(held), relay=address(relay), **what)
+
+
+def has_which(last=0xEE, relay=RELAY, **what):
+    """A relay's query by a modem's hardware address."""
+    return query(hardware=mac(last), relay=address(relay), **what)
 
 
 def packed(data):
@@ -722,7 +752,7 @@ def refusing(player):
         player.play("", events, rows=[modem_row(1, "SN01"), *FULL, *HELD])
     player.section("a kind that isn't served has its word", "RFC 2132, section 9.6: DISCOVER, REQUEST, DECLINE and RELEASE are served.")
     player.play("", [("t", "not-served", says(kind, relay="10.64.0.2", last=0x99, way=b"\x02\x06"))
-                     for kind in (0, OFFER, ACK, NAK, INFORM, 9, 10, 18, 255)])
+                     for kind in (0, OFFER, ACK, NAK, INFORM, 9, UNASSIGNED, UNKNOWN, ACTIVE, 18, 255)])
     player.section("without a site no message is served", "A datagram that is no message has its own word all the same.")
     kinds = [says(kind) for kind in (DISCOVER, REQUEST, DECLINE, RELEASE, INFORM)]
     player.play("", [*(("t", "no-site", data) for data in [*kinds, selects()]), ("t", "dhcp-short", b""), ("t", "dhcp-no-type", reading(53, b""))],
@@ -905,6 +935,132 @@ def clerking(player):
     ], rows=[*leased("offered", A, 5, "t-1"), *leased("bound", "10.64.0.11", 6, MOST), "lease 10.64.0.12 declined 0"])
 
 
+# The answer by which a relay learns who has the address, byte for byte; 86,000 seconds are left.
+FIRST_ACTIVE = (bytes.fromhex("020106001122334400000000" + "0a40000a" + "00000000" * 2 + "0a400001" + MODEM) + bytes(10 + 192)
+                + bytes.fromhex("63825363" + "35010d" + "36040a000002" + "330400014ff0" + "ff")).ljust(300, b"\0")
+FIRST_UNASSIGNED = (bytes.fromhex("020000001122334400000000" + "0a400032" + "00000000" * 2 + "0a400001") + bytes(16 + 192)
+                    + bytes.fromhex("63825363" + "35010b" + "36040a000002" + "ff")).ljust(300, b"\0")
+FIRST_UNKNOWN = (bytes.fromhex("020106001122334400000000" + "00000000" * 3 + "0a400001" + "02aabbccddef") + bytes(10 + 192)
+                 + bytes.fromhex("63825363" + "35010c" + "36040a000002" + "ff")).ljust(300, b"\0")
+FAR = ["pool 2 10.65.0.10 10.65.0.11 24 10.65.0.1 10.65.0.1"]
+
+
+def querying(player):
+    to = f"{RELAY}:67"
+    player.section("a relay asks who has an address, and which address a modem has",
+                   "The worked example, byte for byte: RFC 4388, sections 6.2 and 6.4; each answer has 300 bytes. A query changes nothing.")
+    played = player.play("", [
+        ("t", "offer", discover()), ("t", "ack", selects()), ("t+400", "query-active", who_has(A)), ("t+400", "query-active", has_which()),
+        ("t+400", "query-unassigned", who_has("10.64.0.50")), ("t+400", "query-unknown", has_which(0xEF)),
+        ("t+400", "query-relay", who_has(A, relay="0.0.0.0"))])
+    for place, made in enumerate((FIRST_ACTIVE, FIRST_ACTIVE, FIRST_UNASSIGNED, FIRST_UNKNOWN), 2):
+        is_sent(played, place, to, made)
+    player.section("a query has the first word whose condition holds", "")
+    identified = option(61, b"\x01" + MAC)
+    alone = {
+        "query-relay": [who_has(A, relay="10.64.0.2"), has_which(relay="10.64.0.2"), has_which(relay="0.0.0.0"), has_which(relay=A)],
+        "query-form": [who_has("10.64.0.50", options=identified), who_has("0.0.0.0"), has_which(0xEF, options=option(61, b""))],
+        "query-active": [has_which()],
+        "query-unassigned": [who_has("10.64.0.99"), who_has("10.64.0.11")],
+        "query-unknown": [who_has("10.64.0.9"), who_has("10.64.0.100"), who_has("255.255.255.255"), has_which(1), has_which(0xEF)],
+    }
+    with_the_next = {
+        "query-relay": [who_has(A, relay="10.64.0.2", options=identified), has_which(relay="10.64.0.2", kind=b"\6\6")],
+        "query-form": [who_has(A, options=identified), has_which(options=identified), who_has(A, kind=b"\1\6")],
+        "query-active": [who_has(A)],
+        "query-unassigned": [who_has("10.64.0.99")],
+    }
+    for remark, asked in (("each alone", alone), ("each with the next", with_the_next)):
+        player.play(remark, [("t", word, data) for word, all_data in asked.items() for data in all_data], rows=[SECOND, *HELD])
+    player.play("no site, and then one", [("t", "query-relay", who_has(A)), ("t", "query-relay", has_which()), ("t", "query-relay", who_has("0.0.0.0")),
+                                          ("t", "", put_site(server="10.0.0.9")), ("t", "query-active", who_has(A)), ("t", "query-active", has_which())],
+                rows=["drop site", *HELD])
+    player.play("the site is another", [("t", "query-active", who_has(A)), ("t", "", put_site(server="10.0.0.9", lease=60)), ("t", "query-active", who_has(A)),
+                                        ("t", "query-unassigned", who_has("10.64.0.11"))], rows=HELD)
+    player.play("no pool", [("t", "query-relay", who_has(A)), ("t", "query-relay", has_which())], rows=["drop pool 1"])
+    player.section("a lease is active while it is bound and hasn't ended", "An address that is offered or declined has no client.")
+    for rows in (leased("offered", A, 0xEE, "t+120"), leased("bound", A, 0xEE, "t+120")):
+        word = ("query-active", "query-active") if rows[0].split()[2] == "bound" else ("query-unassigned", "query-unknown")
+        player.play("", [
+            ("t", word[0], who_has(A)), ("t", word[1], has_which()), ("t+119", word[0], who_has(A)), ("t+119", word[1], has_which()),
+            ("t+120", "query-unassigned", who_has(A)), ("t+120", "query-unknown", has_which()), ("t+121", "query-unassigned", who_has(A)),
+            ("t+119", "query-unknown", has_which())], rows=rows)
+    player.play("declined", [("t", "query-unassigned", who_has(A)), ("t+600", "query-unassigned", who_has(A)), ("t", "query-unknown", has_which())],
+                rows=[f"lease {A} declined t+600"])
+    player.play("through a modem's life", [
+        ("t", "query-unknown", has_which()), ("t", "offer", discover()), ("t", "query-unknown", has_which()), ("t", "query-unassigned", who_has(A)),
+        ("t", "ack", selects()), ("t", "query-active", has_which()), ("t+100", "ack", renews()), ("t+100", "query-active", who_has(A)),
+        ("t+200", "released", releases()), ("t+200", "query-unknown", has_which()), ("t+200", "query-unassigned", who_has(A)), ("t+201", "offer", discover(1)),
+        ("t+201", "ack", selects(last=1)), ("t+201", "query-active", who_has(A)), ("t+201", "query-unknown", has_which()), ("t+201", "query-active", has_which(1)),
+        ("t+202", "declined", declines(last=1)), ("t+202", "query-unassigned", who_has(A)), ("t+202", "query-unknown", has_which(1))], rows=[SECOND])
+    player.play("the modem's row is gone", [
+        ("t", "", remove(f"/modems/{MODEM}")), ("t", "query-active", who_has(A)), ("t", "query-active", has_which())], rows=HELD)
+    player.section("a query speaks of all pools of the relay's server", "The answer goes to the relay that asked.")
+    far = [*FAR, SECOND, *HELD, *leased("bound", "10.65.0.10", 1, "t+50")]
+    player.play("", [
+        ("t", "query-active", who_has("10.65.0.10")), ("t", "query-active", has_which(1)), ("t", "query-unassigned", who_has("10.65.0.11")),
+        ("t", "query-active", who_has(A, relay="10.65.0.1")), ("t", "query-active", has_which(relay="10.65.0.1")), ("t", "query-unknown", who_has("10.65.0.12"))], rows=far)
+    player.play("a pool gets another relay, and goes", [
+        ("t", "query-active", has_which(1, relay="10.65.0.1")), ("t", "", put_pool(2, "10.65.0.10", "10.65.0.11", relay="10.65.0.2")),
+        ("t", "query-relay", has_which(1, relay="10.65.0.1")), ("t", "query-active", has_which(1, relay="10.65.0.2")), ("t+50", "", remove("/pools/2")),
+        ("t+50", "query-relay", who_has(A, relay="10.65.0.2")), ("t+50", "query-unknown", who_has("10.65.0.10")), ("t+50", "query-unknown", has_which(1))], rows=far)
+    player.section("a query asks by address or by hardware address alone",
+                   "RFC 4388, section 6.2: by address ciaddr isn't 0, and htype, hlen and chaddr are; by hardware address ciaddr is 0. What is behind the six bytes isn't read.")
+    formless = [who_has(A, kind=b"\0\1"), who_has(A, kind=b"\1\0"), who_has(A, hardware=MAC, kind=bytes(2)), who_has(A, hardware=bytes(15) + b"\1", kind=bytes(2)),
+                who_has(A, hardware=MAC), has_which(kind=b"\6\6"), has_which(kind=b"\1\7"), has_which(kind=b"\0\6"), has_which(kind=b"\1\0"), has_which(kind=bytes(2)),
+                who_has(A, options=option(61, b"")), has_which(options=option(61, b"\0") * 2)]
+    player.play("neither", [("t", "query-form", data) for data in formless], rows=HELD)
+    player.play("either", [
+        ("t", "query-active", query(hardware=MAC + b"\1" * 10, relay=address(RELAY))), ("t", "query-unknown", query(hardware=mac(1) + b"\1" * 10, relay=address(RELAY))),
+        ("t", "query-active", who_has(A, options=option(55, b"\x33\x52") + option(82, agent(MAC)))),
+        ("t", "query-active", who_has(A, xid=0xFFFFFFFF, hops=7, secs=65535, flags=0xFFFF)), ("t", "query-unassigned", who_has("10.64.0.50", hops=7, secs=1, flags=0x8000)),
+        ("t", "query-unknown", has_which(1, xid=0, hops=255, secs=256, flags=1)), ("t", "query-active", who_has(A, rest=b"\1" * 192))], rows=HELD)
+    reading_queries(player)
+    player.section("the seconds that are left are told in four bytes", "At most 4,294,967,295, also at the greatest moments.")
+    player.play("", [(0, "query-active", who_has(A)), (MOST - 2**32, "query-active", has_which()), (MOST - 2**32 + 1, "query-active", who_has(A)),
+                     (MOST - 256, "query-active", who_has(A)), (MOST - 1, "query-active", who_has(A)), (MOST, "query-unassigned", who_has(A))],
+                rows=leased("bound", A, 0xEE, MOST))
+    player.section("a query in which the keeper fails has no answer", "Each call of the keeper fails in turn; the query comes again and is answered then.")
+    player.fails_each("by address", ("t", "query-active", who_has(A)), rows=HELD)
+    player.fails_each("by hardware address", ("t", "query-active", has_which()), rows=HELD)
+    player.loses("an answer is lost, and comes again", [("t", "query-active", who_has(A)), ("t", "query-active", who_has(A))], 0, rows=HELD, lines=["fails link 2"])
+    player.section("a query makes three calls of the keeper at most",
+                   "One for the site and one for the lease; by hardware address one more, for the address that the modem holds.",
+                   "A query of an unknown relay makes none, and one of which nothing is looked up that of the site.")
+    asked = [(who_has(A), "query-active", 2), (has_which(), "query-active", 3), (who_has("10.64.0.9"), "query-unknown", 1), (has_which(1), "query-unknown", 2),
+             (who_has(A, relay="10.64.0.2"), "query-relay", 0), (who_has("0.0.0.0"), "query-form", 1)]
+    for data, word, calls in asked:
+        player.count("", [("t", word, data)], HELD, HELD, calls)
+
+
+def reading_queries(player):
+    player.section("a datagram is a query by its fixed part and its options 53 and 52, and else a message or none",
+                   "RFC 4388, section 6.2. A query's hardware isn't looked at where it's read.")
+    whole = who_has(A)
+    full = whole + bytes(1500 - len(whole))
+    like = has_which()
+    player.play("how long", [
+        ("t", "dhcp-short", like[:239]), ("t", "dhcp-no-type", like[:240]), ("t", "dhcp-hardware", whole[:240]), ("t", "query-active", whole[:243]),
+        ("t", "query-active", full), ("t", "dhcp-long", full + b"\0"), ("t", "dhcp-long", like + bytes(1501 - len(like)))], rows=HELD)
+    player.play("another fixed part", [
+        ("t", "dhcp-not-request", changed(like, (0, 2))), ("t", "dhcp-cookie", changed(like, (236, 0))), ("t", "dhcp-cookie", changed(like, (239, 0x64)))], rows=HELD)
+    bare = like[:240]
+    ten = option(53, b"\x0a")
+    player.play("its options", [
+        ("t", "dhcp-option-cut", bare + ten + b"\x33\x04\0"), ("t", "dhcp-option-cut", bare + ten + b"\x33"), ("t", "dhcp-overload", bare + option(52, b"\1") + ten + b"\xff"),
+        ("t", "dhcp-overload", bare + ten + option(52, b"") + b"\xff"), ("t", "dhcp-no-type", bare + ten * 2), ("t", "dhcp-no-type", bare + option(53, b"\x0a\x0a")),
+        ("t", "query-active", bare + option(53, b"") + ten), ("t", "query-active", bare + b"\0" * 9 + ten), ("t", "query-active", bare + ten + b"\xff" + option(52, b"\1")),
+        ("t", "dhcp-no-type", bare + b"\xff" + ten)], rows=HELD)
+    player.play("its kind", [(
+        "t", {10: "query-active", 1: "not-a-modem", 3: "request-form", 4: "no-record", 7: "no-record"}.get(kind, "not-served"), has_which(code=kind))
+        for kind in (0, 1, 2, 3, 4, 5, 6, 7, 8, 9, 10, 11, 12, 13, 14, 255)], rows=HELD)
+    player.section("each prefix of a query has its word", "")
+    played = Played([*player.rows, *HELD])
+    for data in prefixes(like):
+        played.take("t", None, data)
+    player.script.run("", ["office", *HELD, "show tables", f"t prefixes dhcp from {SENDER} {packed(like)}"], played.outcome())
+
+
 def failing(player):
     player.section("a message in which the keeper fails changes nothing, and has no reply",
                    "Each call of the keeper fails in turn: of the opening, status 3; of a message, which comes again and is answered then;",
@@ -939,5 +1095,5 @@ def failing(player):
 def sections(script, rows):
     """Writes the sections, over an office of these rows."""
     player = Player(script, rows)
-    for write in (worked, freeing, crowded, asking, echoes, refusing, reading_faults, ends, clerking, shuffled, failing):
+    for write in (worked, freeing, crowded, asking, echoes, refusing, reading_faults, querying, ends, clerking, shuffled, failing):
         write(player)

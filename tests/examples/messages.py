@@ -1,8 +1,11 @@
-"""DHCP messages: a reader and a writer, from RFC 2131 with the options of RFC 2132, RFC 3046, RFC 3396 and CANN-DHCP-Reg.
+"""DHCP messages: a reader and a writer, from RFC 2131 with the options of RFC 2132, RFC 3046, RFC 3396 and CANN-DHCP-Reg,
+and relays' queries for leases, from RFC 4388.
 
 Only Python's standard library is used, and nothing of the programs that are tried with it.
 """
 DISCOVER, OFFER, REQUEST, DECLINE, ACK, NAK, RELEASE, INFORM = range(1, 9)
+# RFC 4388, section 6.1.
+QUERY, UNASSIGNED, UNKNOWN, ACTIVE = range(10, 14)
 COOKIE = b"\x63\x82\x53\x63"
 
 
@@ -139,3 +142,43 @@ def reply_in(data):
         options.append((data[at], data[at + 2:at + 2 + data[at + 1]]))
         at += 2 + data[at + 1]
     return {"kind": dict(options)[53][0], "address": data[16:20], "server": data[20:24], "name": data[108:236].rstrip(b"\0"), "options": options}
+
+
+# ---- queries
+
+def query(client=bytes(4), hardware=b"", kind=None, rest=None, options=b"", relay=bytes(4), xid=0x11223344, hops=0, secs=0, flags=0, code=QUERY):
+    """A relay's query: by an address, which stands in ciaddr, or by a hardware address (RFC 4388, section 6.2). `kind` is the type and length of that."""
+    kind = kind if kind is not None else b"\x01\x06" if hardware else bytes(2)
+    fixed = (b"\x01" + kind + bytes([hops]) + xid.to_bytes(4, "big") + secs.to_bytes(2, "big") + flags.to_bytes(2, "big") + client + bytes(8) + relay
+             + hardware.ljust(16, b"\0") + (bytes(192) if rest is None else rest))
+    return fixed + COOKIE + option(53, bytes([code])) + options + b"\xff"
+
+
+def is_query(data):
+    """Whether a datagram is a query that the office reads."""
+    if not 240 <= len(data) <= 1500 or data[0] != 1 or data[236:240] != COOKIE:
+        return False
+    cut, values = options_in(data[240:])
+    return cut is None and b"".join(values.get(53, [])) == bytes([QUERY]) and 52 not in values
+
+
+def asked_by(data):
+    """What a query asks: about an address, about a client, or None where it asks by neither."""
+    client, kind, hardware = data[12:16], data[1:3], data[28:44]
+    if 61 in options_in(data[240:])[1]:
+        return None
+    if client != bytes(4):
+        return ("address", client) if kind == bytes(2) and hardware == bytes(16) else None
+    return ("client", hardware[:6]) if kind == b"\x01\x06" else None
+
+
+def answer_to(data, kind, server, active=None):
+    """The answer to a query (RFC 4388, section 6.4); of an active lease its address, its owner and the seconds until it ends."""
+    hardware, client, behind = data[1:3] + data[28:44], data[12:16], option(53, bytes([kind])) + option(54, server)
+    if active is not None:
+        client, owner, left = active
+        hardware = b"\x01\x06" + owner + bytes(10)
+        behind += option(51, min(left, 2**32 - 1).to_bytes(4, "big"))
+    made = (b"\x02" + hardware[:2] + b"\0" + data[4:8] + bytes(2) + data[10:12] + client + bytes(8) + data[24:28] + hardware[2:] + bytes(192) + COOKIE
+            + behind + b"\xff")
+    return made + bytes(max(0, 300 - len(made)))

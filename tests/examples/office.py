@@ -4,14 +4,17 @@
 The office of the worked examples is a site, class 1, subscriber 7, a modem and a pool. What is expected is said here by hand, from the rules
 in docs/, or computed by Python's hashlib, hmac and json and the readers of examples.py, which are written from the standards. The sections on
 DHCP are those of leases.py, those on TFTP of transfers.py, those on whole boots
-of boots.py, those on imports of import_job.py, and those on drills of drills.py. With the word `check` it compares the two files with what it would write.
+of boots.py, those on imports of import_job.py, those on drills of drills.py, those on calls that fail of faults.py, and those on input from strangers
+of strangers.py. With the word `check` it compares the two files with what it would write.
 """
 import sys
 
 import boots
 import drills
+import faults
 import import_job
 import leases
+import strangers
 import transfers
 from examples import T, Fault, Script, answer, answered, compact, datagram, fixed, ip, outcome, request, sealed, time_reply, verdict
 
@@ -527,12 +530,22 @@ JUDGED = {
 }
 
 
+# A row of each kind that no good tables have yet.
+UNUSED = ("hub 1 10.0.0.3 6f74686572 0 60 0.0.0.0", "pool-hub 1 1", "device-pool 1 10.128.0.10 10.128.0.20 24 10.128.0.1 10.128.0.1",
+          "device 10.128.0.10 bound 02aabbccddee 0200000000a1 t+120")
+
+
 def judging():
     for name, rows in JUDGED.items():
         section(name, "The conditions on good tables; the least bad key is named.")
         for changes, bad in rows:
             lines = ["office", *(change(text.strip()) for text in changes.split(";") if text)]
             run("", lines, outcome(2, [f"tables refused {bad}"]) if bad else outcome())
+    section("no good tables have a kind of row that isn't in use yet", "Hubs, the hubs of pools, pools for devices, and devices' leases.")
+    for row in UNUSED:
+        run("", ["office", row], outcome(2, [f"tables refused {' '.join(row.split(' ')[:2])}"]))
+    run("", ["office", *UNUSED], outcome(2, ["tables refused hub 1"]))
+    run("", ["office", *reversed(UNUSED)], outcome(2, ["tables refused hub 1"]))
 
 
 def customers():
@@ -696,6 +709,8 @@ def main():
     boots.sections(script, OFFICE)
     import_job.sections(script, OFFICE)
     drills.sections(script, OFFICE)
+    faults.sections(script, OFFICE)
+    strangers.sections(script, OFFICE)
     return script.write("office_script")
 
 

@@ -1,6 +1,6 @@
 //! Answers questions on formats, a line each: numbers and addresses, configuration files and their
-//! MICs, trees of settings, keys and rows, imports, DHCP messages and the parts of their options.
-//! Each question is printed, and behind it its answer.
+//! MICs, trees of settings, keys and rows, imports, DHCP messages and the parts of their options,
+//! relays' queries. Each question is printed, and behind it its answer.
 //!
 //! `tests/examples/README.md` says how a question is written. The text that is expected is the file
 //! `stdout`, which comes from public vectors, the standards' tables and
@@ -53,6 +53,7 @@ impl Answers for Formats {
             b"docsis" => messages::docsis(alloc, page, line),
             b"dhcp" => messages::dhcp(alloc, page, line),
             b"dhcp-option" => messages::dhcp_option(alloc, page, line),
+            b"query" => messages::query(alloc, page, line),
             b"offer" => replies::offer(alloc, page, line),
             b"nak" => replies::nak(alloc, page, line),
             _ => Err(Unread::Words),

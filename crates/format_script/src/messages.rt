@@ -1,6 +1,7 @@
 use off_base::{Joined, NoMemory, first_cut};
 use off_dhcp::{DhcpFault, Message};
 use off_docsis::{DeviceParts, PartCut, RelayParts, Span, device, is_modem, relay};
+use off_query::Query;
 use script_words::{Line, Page, Unread};
 use std::alloc::Global;
 
@@ -154,5 +155,15 @@ pub fn dhcp_option(alloc: Global, page: &mut Page, line: Line<'_>) -> Result<(),
     match Message::read(bytes.as_slice()) {
         Ok(message) => Ok(show_joined(page, &message.option(code))?),
         Err(fault) => Ok(show_fault(page, fault)?),
+    }
+}
+
+/// `query 0101..`: whether a datagram is a relay's query for a lease.
+pub fn query(alloc: Global, page: &mut Page, line: Line<'_>) -> Result<(), Unread> {
+    let mut line = line;
+    let bytes = line.bytes(alloc)?;
+    match Query::read(bytes.as_slice()) {
+        Some(_query) => Ok(page.text("query")?),
+        None => Ok(page.text("none")?),
     }
 }

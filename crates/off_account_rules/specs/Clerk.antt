@@ -117,6 +117,10 @@ removal_rules tables now key.Site = no_row tables key.Site ∷ []
 removal_rules tables now (key.Lease address) = no_row tables (key.Lease address) ∷ []
 removal_rules tables now (key.Held mac) = no_row tables (key.Held mac) ∷ []
 removal_rules tables now (key.Batch n) = no_row tables (key.Batch n) ∷ []
+removal_rules tables now (key.Hub n) = no_row tables (key.Hub n) ∷ []
+removal_rules tables now (key.PoolHub n) = no_row tables (key.PoolHub n) ∷ []
+removal_rules tables now (key.DevicePool n) = no_row tables (key.DevicePool n) ∷ []
+removal_rules tables now (key.Device address) = no_row tables (key.Device address) ∷ []
 
 -- the rules of a command in their order. An import has rules for each of its rows, below
 abbrev pub rules_of : Tables → ℕ → Command → List (Option Rule)
@@ -170,6 +174,10 @@ removal_writes tables key.Site = Drop key.Site ∷ []
 removal_writes tables (key.Lease address) = Drop (key.Lease address) ∷ []
 removal_writes tables (key.Held mac) = Drop (key.Held mac) ∷ []
 removal_writes tables (key.Batch n) = Drop (key.Batch n) ∷ []
+removal_writes tables (key.Hub n) = Drop (key.Hub n) ∷ []
+removal_writes tables (key.PoolHub n) = Drop (key.PoolHub n) ∷ []
+removal_writes tables (key.DevicePool n) = Drop (key.DevicePool n) ∷ []
+removal_writes tables (key.Device address) = Drop (key.Device address) ∷ []
 
 -- what a command writes that no rule refuses
 abbrev pub writes_of : Tables → Command → List Write

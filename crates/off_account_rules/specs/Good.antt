@@ -99,6 +99,11 @@ stands_right tables (key.Pool n) held =
 stands_right tables (key.Lease address) held = passes (lease_stands tables address) (as_lease held)
 stands_right tables (key.Held mac) held = passes (owns tables mac) (as_held held)
 stands_right tables (key.Batch n) held = true
+-- no tables have these yet
+stands_right tables (key.Hub n) held = false
+stands_right tables (key.PoolHub n) held = false
+stands_right tables (key.DevicePool n) held = false
+stands_right tables (key.Device address) held = false
 
 abbrev pub keeps : Tables → Key → Row → Bool
 keeps tables key held = is_possible key held && stands_right tables key held

@@ -116,6 +116,11 @@ is_possible (key.Pool n) held = passes pool_fits (as_pool held)
 is_possible (key.Lease address) held = is_some (as_lease held)
 is_possible (key.Held mac) held = is_some (as_held held)
 is_possible (key.Batch n) held = is_some (as_batch held)
+-- the office has no use for these yet: whoever reads one takes it as one that isn't there
+is_possible (key.Hub n) held = false
+is_possible (key.PoolHub n) held = false
+is_possible (key.DevicePool n) held = false
+is_possible (key.Device address) held = false
 
 -- the row of a key, as whoever reads it takes it
 abbrev pub possible : Key → Option Row → Option Row
@@ -196,6 +201,10 @@ kind_counted (key.Pool n) = Some Pools
 kind_counted (key.Lease address) = None
 kind_counted (key.Held mac) = None
 kind_counted (key.Batch n) = Some Batches
+kind_counted (key.Hub n) = None
+kind_counted (key.PoolHub n) = None
+kind_counted (key.DevicePool n) = None
+kind_counted (key.Device address) = None
 
 abbrev pub kind_number : Kind → ℕ
 kind_number Subscribers = 1

@@ -113,6 +113,10 @@ removal_after counts after subject t (key.Modem mac) left now agree stands none 
 removal_after counts after subject t (key.Lease address) left now agree stands none = left agree (unbroken (rules_of t now (Remove (key.Lease address))) none).0
 removal_after counts after subject t (key.Held mac) left now agree stands none = left agree (unbroken (rules_of t now (Remove (key.Held mac))) none).0
 removal_after counts after subject t (key.Batch n) left now agree stands none = left agree (unbroken (rules_of t now (Remove (key.Batch n))) none).0
+removal_after counts after subject t (key.Hub n) left now agree stands none = left agree (unbroken (rules_of t now (Remove (key.Hub n))) none).0
+removal_after counts after subject t (key.PoolHub n) left now agree stands none = left agree (unbroken (rules_of t now (Remove (key.PoolHub n))) none).0
+removal_after counts after subject t (key.DevicePool n) left now agree stands none = left agree (unbroken (rules_of t now (Remove (key.DevicePool n))) none).0
+removal_after counts after subject t (key.Device address) left now agree stands none = left agree (unbroken (rules_of t now (Remove (key.Device address))) none).0
 
 -- the key and the command as they were handed in
 pub removed_as : (counts after : Counts) (t : Tables) (removed wanted : Key) → removed ≡ wanted → CountsAfterRemoval counts wanted t after → CountsAfterRemoval counts removed t after

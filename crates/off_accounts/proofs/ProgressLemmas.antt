@@ -85,6 +85,10 @@ pub is_marked : (k : Key) (old new : BTreeSet Key)
 is_marked k old new updates =
     marked_by k old new (subst (λ (r : Key → Key → Ordering). (q : Key) → contains r new q ≡ cond (is_at (r k) q) true (contains r old q)) derived_is updates)
 
+pub put_by_order : (keys : BTreeSet Key) (q : Key) → contains (derived.ghosts).cmp keys q ≡ was_put keys q
+unfolding was_put
+put_by_order keys q = ap (λ (r : Key → Key → Ordering). contains r keys q) derived_is
+
 none_put : (keys : BTreeSet Key) (q : Key) → keys.keys ≡ [] → was_put keys q ≡ false
 unfolding was_put
 none_put keys q none = ap (list_any (is_at (key_cmp q))) none

@@ -94,6 +94,10 @@ module _ (now : Moment) (subject : Subject) (t : Tables) where
   removal_says (key.Lease address) stands = row_alone (key.Lease address) stands
   removal_says (key.Held mac) stands = row_alone (key.Held mac) stands
   removal_says (key.Batch n) stands = row_alone (key.Batch n) stands
+  removal_says (key.Hub n) stands = row_alone (key.Hub n) stands
+  removal_says (key.PoolHub n) stands = row_alone (key.PoolHub n) stands
+  removal_says (key.DevicePool n) stands = row_alone (key.DevicePool n) stands
+  removal_says (key.Device address) stands = row_alone (key.Device address) stands
 
   pub tests_say : (counts : Counts) (c : Command) → counts ≡ counts_of t → IsSubject c subject t → first_there (map (says t) (tests_of counts now subject c)) ≡ first_there (rules_of t now.0 c)
   tests_say counts (SetSite site) agree stands = padded (rules_of t now.0 (SetSite site)) 1

@@ -49,6 +49,10 @@ most_calls_removing (key.Pool n) = None
 most_calls_removing (key.Lease address) = Some 1
 most_calls_removing (key.Held mac) = Some 1
 most_calls_removing (key.Batch n) = Some 1
+most_calls_removing (key.Hub n) = Some 1
+most_calls_removing (key.PoolHub n) = Some 1
+most_calls_removing (key.DevicePool n) = Some 1
+most_calls_removing (key.Device address) = Some 1
 
 abbrev pub most_calls : Command → Option ℕ
 most_calls (SetSite site) = Some 0
@@ -72,6 +76,10 @@ calls_to_count_removed (key.Pool n) = 0
 calls_to_count_removed (key.Lease address) = 0
 calls_to_count_removed (key.Held mac) = 0
 calls_to_count_removed (key.Batch n) = 0
+calls_to_count_removed (key.Hub n) = 0
+calls_to_count_removed (key.PoolHub n) = 0
+calls_to_count_removed (key.DevicePool n) = 0
+calls_to_count_removed (key.Device address) = 0
 
 abbrev pub calls_to_count : Command → ℕ
 calls_to_count (Remove removed) = calls_to_count_removed removed

@@ -70,6 +70,10 @@ uses_at t (key.Pool n) = 0
 uses_at t (key.Lease address) = 0
 uses_at t (key.Held mac) = 0
 uses_at t (key.Batch n) = 0
+uses_at t (key.Hub n) = 0
+uses_at t (key.PoolHub n) = 0
+uses_at t (key.DevicePool n) = 0
+uses_at t (key.Device address) = 0
 
 -- what the tables have at the key of a command, before it
 abbrev pub SubjectStands : Tables → Key → Subject → Type 0
@@ -145,6 +149,14 @@ removal_tests now subject (key.Lease address) =
 removal_tests now subject (key.Held mac) =
     row_test subject ∷ no_test ∷ no_test ∷ no_test ∷ no_test ∷ []
 removal_tests now subject (key.Batch n) =
+    row_test subject ∷ no_test ∷ no_test ∷ no_test ∷ no_test ∷ []
+removal_tests now subject (key.Hub n) =
+    row_test subject ∷ no_test ∷ no_test ∷ no_test ∷ no_test ∷ []
+removal_tests now subject (key.PoolHub n) =
+    row_test subject ∷ no_test ∷ no_test ∷ no_test ∷ no_test ∷ []
+removal_tests now subject (key.DevicePool n) =
+    row_test subject ∷ no_test ∷ no_test ∷ no_test ∷ no_test ∷ []
+removal_tests now subject (key.Device address) =
     row_test subject ∷ no_test ∷ no_test ∷ no_test ∷ no_test ∷ []
 
 abbrev pub site_tests : Site → List Test

@@ -65,7 +65,8 @@ fn counts_after_removal<K: Keeper>(
         Key::Class(_) => Ok(one_less(counts, Kind::Classes)),
         Key::Pool(_) => Ok(one_less(counts, Kind::Pools)),
         // A clerk doesn't remove these.
-        Key::Site | Key::Lease(_) | Key::Held(_) | Key::Batch(_) => unreachable!(),
+        Key::Site | Key::Lease(_) | Key::Held(_) | Key::Batch(_) | Key::Hub(_) => unreachable!(),
+        Key::PoolHub(_) | Key::DevicePool(_) | Key::Device(_) => unreachable!(),
     }
 }
 

@@ -49,7 +49,8 @@ pub(crate) fn is_past_lost(lost: &Lost, key: &Key) -> bool
 {
     match *key {
         Key::Lease(address) => lost.old.last.0 < address.0,
-        Key::Held(_) | Key::Batch(_) => true,
+        Key::Held(_) | Key::Batch(_) | Key::Hub(_) | Key::PoolHub(_) => true,
+        Key::DevicePool(_) | Key::Device(_) => true,
         Key::Site | Key::Subscriber(_) | Key::AddOn(_, _) => false,
         Key::Modem(_) | Key::Class(_) | Key::Pool(_) => false,
     }

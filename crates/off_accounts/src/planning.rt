@@ -76,7 +76,9 @@ fn removal_writes<K: Keeper>(
         Key::Pool(_) => with_drops(alloc, keeper, Write::Drop(*key), subject.pool, None),
         Key::Site | Key::AddOn(_, _) | Key::Modem(_) => one_write(alloc, Write::Drop(*key)),
         Key::Class(_) | Key::Lease(_) => one_write(alloc, Write::Drop(*key)),
-        Key::Held(_) | Key::Batch(_) => one_write(alloc, Write::Drop(*key)),
+        Key::Held(_) | Key::Batch(_) | Key::Hub(_) => one_write(alloc, Write::Drop(*key)),
+        Key::PoolHub(_) | Key::DevicePool(_) => one_write(alloc, Write::Drop(*key)),
+        Key::Device(_) => one_write(alloc, Write::Drop(*key)),
     }
 }
 

@@ -36,7 +36,7 @@ pub(crate) fn begin(alloc: Global, counts: &Counts) -> Progress
 }
 
 /// Whether the rows put the key.
-#[tactic(auto, unfolding(crate::specs::Imports::was_put))]
+#[tactic(auto, using(crate::proofs::ProgressLemmas::put_by_order))]
 pub(crate) fn was_put(keys: &BTreeSet<Key>, key: &Key) -> bool
     ensures { result ≡ was_put keys.now key.now }
 {

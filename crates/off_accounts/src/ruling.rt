@@ -79,7 +79,8 @@ fn removal_tests(at: Moment, subject: &Subject, key: &Key) -> [Test; 5]
         Key::Class(_) => use_test(subject, Rule::ClassInUse),
         Key::Pool(_) => live_test(at, subject.pool, None),
         Key::Site | Key::AddOn(_, _) | Key::Modem(_) => NO_TEST,
-        Key::Lease(_) | Key::Held(_) | Key::Batch(_) => NO_TEST,
+        Key::Lease(_) | Key::Held(_) | Key::Batch(_) | Key::Hub(_) => NO_TEST,
+        Key::PoolHub(_) | Key::DevicePool(_) | Key::Device(_) => NO_TEST,
     };
     [row_test(subject), second, NO_TEST, NO_TEST, NO_TEST]
 }

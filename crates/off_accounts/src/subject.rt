@@ -82,7 +82,8 @@ fn uses_at(users: &Users, key: &Key) -> u64
         Key::Subscriber(number) => users.modems_of_subscriber(number),
         Key::Class(number) => users.modems_of_class(number),
         Key::Site | Key::AddOn(_, _) | Key::Modem(_) | Key::Pool(_) => 0,
-        Key::Lease(_) | Key::Held(_) | Key::Batch(_) => 0,
+        Key::Lease(_) | Key::Held(_) | Key::Batch(_) | Key::Hub(_) => 0,
+        Key::PoolHub(_) | Key::DevicePool(_) | Key::Device(_) => 0,
     }
 }
 

@@ -32,6 +32,8 @@ use Rattle.off_lease_laws.proofs.EffectLemmas.{acks_bind}
 use Rattle.off_lease_laws.proofs.OutcomeLemmas.{outcome}
 use Rattle.off_lease_laws.proofs.LawLemmas.{messages_do}
 use Rattle.off_lease_laws.proofs.GoodLemmas.{good_agree}
+use Rattle.off_query_rules.specs.Asked.{query_of}
+use Rattle.off_book.specs.Dhcp.{DatagramDid}
 use Rattle.off_book.specs.Step.{Step, Does}
 use Rattle.off_book.specs.Run.{Turn, effect_of}
 use Rattle.off_laws.specs.Leases.{TakesMessage, DoesNotServe, moment_of}
@@ -169,10 +171,15 @@ module _ (t : Tables) (now : ℕ) (m : Received) (address : Ip4) (good : Good t)
 
 -- ---- the turn
 
+did_message : (s : State) (bytes : List ℕ) (effect : Effect) (query : Option (List ℕ)) → DatagramDid s bytes effect query
+    → (effect.after.tables ≡ s.tables) ⊎ (effect.after.tables ≡ write_all s.tables (dhcp_step s.tables s.held.now bytes).writes)
+did_message s bytes effect (Some q) did = inl (ap (λ (e : Effect). e.after.tables) did)
+did_message s bytes effect None did = inr (ap (λ (e : Effect). e.after.tables) did)
+
 -- a turn that takes a message leaves the tables, or does what the message asks
 does_message : (s : State) (from : Peer) (bytes : List ℕ) (outcome : Outcome) (effect : Effect) → Does s (Datagram Dhcp from bytes) outcome effect
     → (effect.after.tables ≡ s.tables) ⊎ (effect.after.tables ≡ write_all s.tables (dhcp_step s.tables s.held.now bytes).writes)
-does_message s from bytes Did effect does = inr (ap (λ (e : Effect). e.after.tables) does)
+does_message s from bytes Did effect does = did_message s bytes effect (query_of bytes) does
 does_message s from bytes Memory effect does = inl (ap (λ (e : Effect). e.after.tables) does)
 does_message s from bytes Keeper effect does = inl (ap (λ (e : Effect). e.after.tables) does)
 

@@ -51,6 +51,7 @@ use Rattle.off_lease_laws.proofs.OutcomeLemmas.{outcome}
 use Rattle.off_lease_laws.proofs.LawLemmas.{messages_do}
 use Rattle.off_lease_laws.proofs.GoodLemmas.{good_agree}
 use Rattle.off_book.specs.Dhcp.{replies_of, dhcp_line, dhcp_effect}
+use Rattle.off_laws.proofs.Messages.{message_did}
 use Rattle.off_book.specs.Step.{Step, Does}
 use Rattle.off_book.specs.Run.{Turn, effect_of}
 use Rattle.off_laws.specs.Leases.{TakesMessage, moment_of}
@@ -367,12 +368,13 @@ offering_of t now m step (declining was) e = let said = was.said in cc
 offering_of t now m step (releasing was) e = let said = was.said in cc
 
 -- ---- a turn that takes a message and acts on it does what the message asks
-message_acts : (s after : State) (turn : Turn) (m : Received) → Step s turn.event turn.outcome (effect_of turn after) → TakesMessage m turn → turn.outcome ≡ Did
+message_acts : (s after : State) (turn : Turn) (m : Received) → Step s turn.event turn.outcome (effect_of turn after) → TakesMessage m turn → turn.outcome ≡ Did → (m.kind == 10) ≡ false
     → effect_of turn after ≡ dhcp_effect (at_moment s turn.event.at.0) (lease_step s.tables (moment_of s turn) m)
 unfolding Step
-message_acts s after turn m step takes did =
-    subst (λ (o : Outcome). Does (at_moment s turn.event.at.0) (Datagram Dhcp takes.from takes.bytes) o (effect_of turn after)) did
-    (subst (λ (what : What). Does (at_moment s turn.event.at.0) what turn.outcome (effect_of turn after)) takes.came step)
+message_acts s after turn m step takes did other =
+    message_did (at_moment s turn.event.at.0) takes.bytes (effect_of turn after) m takes.read other
+    (subst (λ (o : Outcome). Does (at_moment s turn.event.at.0) (Datagram Dhcp takes.from takes.bytes) o (effect_of turn after)) did
+    (subst (λ (what : What). Does (at_moment s turn.event.at.0) what turn.outcome (effect_of turn after)) takes.came step))
     ∙ ap (dhcp_effect (at_moment s turn.event.at.0)) (messages_do s.tables (moment_of s turn) takes.bytes m takes.read)
 
 -- an address without a lease, or with one that has ended, is free
@@ -388,7 +390,7 @@ opened_of t now mac address (inr free) = inr (ended_of now (lease_in t address) 
 pub discovers_are_offered : DiscoversAreOffered
 unfolding known_of
 discovers_are_offered s after turn m good step well d =
-    let is = message_acts s after turn m step d.takes well.did in
+    let is = message_acts s after turn m step d.takes well.did (ap (λ k. k == 10) d.kind) in
     let now = moment_of s turn in
     let said : (lease_step s.tables now m).word ≡ word.Offer = discover_word s.tables now m d.kind (known_of s.tables m good d.known (λ none. absurd (d.told none))) d.address d.within (opened_of s.tables now (client m) d.address d.opens) in
     let one = offers_one s.tables now m (good_agree s.tables good) (lease_step s.tables now m) (offering_of s.tables now m (lease_step s.tables now m) (outcome s.tables now m) said) in
@@ -414,7 +416,7 @@ same_address a b o e f = let both : ◌≡◌ {A = Option Ip4} (Some a) (Some b)
 pub requests_are_acknowledged : RequestsAreAcknowledged
 unfolding known_of
 requests_are_acknowledged s after turn m address good step well r held =
-    let is = message_acts s after turn m step r.takes well.did in
+    let is = message_acts s after turn m step r.takes well.did (ap (λ k. k == 10) r.kind) in
     let now = moment_of s turn in
     let said : (lease_step s.tables now m).word ≡ word.Ack = request_word s.tables now m r.kind (known_of s.tables m good r.known (λ none. ap (λ k. k == 1) r.kind)) address (right_server m r.known.site r.server) r.claim r.within held in
     let acked : IsBoundBy s.tables now m (lease_step s.tables now m) = acks_bind s.tables now m said in

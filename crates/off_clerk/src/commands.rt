@@ -92,6 +92,10 @@ fn put(alloc: Global, key: Key, body: &[u8]) -> Result<Command, CommandErr>
         Key::Lease(_) => Err(CommandErr::Fault(ClerkErr::NoMethod)),
         Key::Held(_) => Err(CommandErr::Fault(ClerkErr::NoMethod)),
         Key::Batch(_) => Err(CommandErr::Fault(ClerkErr::NoMethod)),
+        Key::Hub(_) => Err(CommandErr::Fault(ClerkErr::NoMethod)),
+        Key::PoolHub(_) => Err(CommandErr::Fault(ClerkErr::NoMethod)),
+        Key::DevicePool(_) => Err(CommandErr::Fault(ClerkErr::NoMethod)),
+        Key::Device(_) => Err(CommandErr::Fault(ClerkErr::NoMethod)),
     }
 }
 

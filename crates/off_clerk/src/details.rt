@@ -117,6 +117,8 @@ fn cause_of(rule: Rule) -> Option<Detail>
         Rule::PoolHasLeases(address) => Some(Detail::Address(address)),
         Rule::Tree(fault) => Some(Detail::Number(tree_number(fault))),
         Rule::BatchDiffers(batch) => Some(Detail::Number(batch)),
+        Rule::HubInUse(pool) => Some(Detail::Number(u64::from(pool))),
+        Rule::DeviceOverlap(pool) => Some(Detail::Number(u64::from(pool))),
         Rule::Limit(_, most) => Some(Detail::Number(u64::from(most))),
         Rule::Site(field) => Some(Detail::Number(u64::from(field))),
         _ => None,

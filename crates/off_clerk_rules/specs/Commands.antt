@@ -117,6 +117,10 @@ put_read (key.Pool number) body = do
 put_read (key.Lease address) body = Err NoMethod
 put_read (key.Held mac) body = Err NoMethod
 put_read (key.Batch number) body = Err NoMethod
+put_read (key.Hub number) body = Err NoMethod
+put_read (key.PoolHub pool) body = Err NoMethod
+put_read (key.DevicePool number) body = Err NoMethod
+put_read (key.Device address) body = Err NoMethod
 
 -- the body of an import isn't JSON
 abbrev pub as_import : Result Command ImportFault → Result Command ClerkErr

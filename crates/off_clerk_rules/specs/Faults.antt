@@ -42,6 +42,9 @@ rule_word (rule.BatchDiffers batch) = codes "batch-differs"
 rule_word rule.NoRow = codes "no-row"
 rule_word (rule.Limit kind most) = codes "limit"
 rule_word (rule.Site field) = codes "site"
+rule_word rule.NoHub = codes "no-hub"
+rule_word (rule.HubInUse pool) = codes "hub-in-use"
+rule_word (rule.DeviceOverlap pool) = codes "device-overlap"
 
 abbrev pub word_of : Fault → List ℕ
 word_of (fault.Clerk err) = clerk_word err
@@ -71,12 +74,15 @@ rule_status (rule.PoolOverlap pool) = 409
 rule_status (rule.RelayTaken pool) = 409
 rule_status (rule.PoolHasLeases address) = 409
 rule_status (rule.BatchDiffers batch) = 409
+rule_status (rule.HubInUse pool) = 409
+rule_status (rule.DeviceOverlap pool) = 409
 rule_status rule.NoSubscriber = 422
 rule_status rule.NoClass = 422
 rule_status rule.PoolSize = 422
 rule_status (rule.Tree f) = 422
 rule_status (rule.Limit kind most) = 422
 rule_status (rule.Site field) = 422
+rule_status rule.NoHub = 422
 
 abbrev pub status_of : Fault → ℕ
 status_of (fault.Clerk err) = clerk_status err
@@ -119,6 +125,9 @@ rule_detail (rule.BatchDiffers batch) = Some (decimal batch)
 rule_detail rule.NoRow = None
 rule_detail (rule.Limit kind most) = Some (decimal most)
 rule_detail (rule.Site field) = Some (decimal field)
+rule_detail rule.NoHub = None
+rule_detail (rule.HubInUse pool) = Some (decimal pool)
+rule_detail (rule.DeviceOverlap pool) = Some (decimal pool)
 
 -- a row of an import comes before what stands against it
 abbrev pub detail_of : Fault → Option (List ℕ)

@@ -9,7 +9,7 @@ use Rattle.std.specs.FinMap.{IsAntisymmetric, nat_cmp-IsAntisymmetric, slice_cmp
 use Rattle.off_base.specs.declared.macs.Mac.{Mac}
 use Rattle.off_base.specs.declared.addresses.Ip4.{Ip4}
 use Rattle.off_defs.specs.declared.keys.Key.{Key}
-use Rattle.off_defs.specs.declared.keys.Key.TheVariants.{Site, Subscriber, AddOn, Modem, Class, Pool, Lease, Held, Batch}
+use Rattle.off_defs.specs.declared.keys.Key.TheVariants.{Site, Subscriber, AddOn, Modem, Class, Pool, Lease, Held, Batch, Hub, PoolHub, DevicePool, Device}
 use Rattle.off_defs.specs.Keys.{key_cmp}
 use Rattle.off_defs.specs.contracts.keys.KeyOrd.TheImpl as derived
 use Rattle.off_defs.specs.contracts.keys.KeyOrd.TheImpl.Laws.{total-law}
@@ -25,6 +25,10 @@ derived_at (Pool a) (Pool b) = refl
 derived_at (Lease a) (Lease b) = refl
 derived_at (Held a) (Held b) = refl
 derived_at (Batch a) (Batch b) = refl
+derived_at (Hub a) (Hub b) = refl
+derived_at (PoolHub a) (PoolHub b) = refl
+derived_at (DevicePool a) (DevicePool b) = refl
+derived_at (Device a) (Device b) = refl
 derived_at _ _ = refl
 
 pub derived_is : (derived.ghosts).cmp ≡ key_cmp
@@ -59,4 +63,8 @@ key_exact (Pool a) (Pool b) e = ap Pool (nat_cmp-IsAntisymmetric a b e)
 key_exact (Lease a) (Lease b) e = ap Lease (same_ip a b e)
 key_exact (Held a) (Held b) e = ap Held (same_mac a b e)
 key_exact (Batch a) (Batch b) e = ap Batch (nat_cmp-IsAntisymmetric a b e)
+key_exact (Hub a) (Hub b) e = ap Hub (nat_cmp-IsAntisymmetric a b e)
+key_exact (PoolHub a) (PoolHub b) e = ap PoolHub (nat_cmp-IsAntisymmetric a b e)
+key_exact (DevicePool a) (DevicePool b) e = ap DevicePool (nat_cmp-IsAntisymmetric a b e)
+key_exact (Device a) (Device b) e = ap Device (same_ip a b e)
 key_exact _ _ e = cc

@@ -1,5 +1,5 @@
--- Which rows a clerk is shown: all but what a modem holds and the batches, which are the office's
--- own.
+-- Which rows a clerk is shown: all but what a modem holds, the batches, the hubs of pools and the
+-- leases of devices, which are the office's own.
 use Rattle.std.specs.Prelude.{Option, Some, None}
 use Rattle.off_defs.specs.declared.tables.Row.{Row}
 use Rattle.off_defs.specs.declared.tables.Row.TheVariants as row
@@ -16,3 +16,5 @@ shown_row (row.Pool pool) = Some (seen.Pool pool)
 shown_row (row.Lease lease) = Some (seen.Lease lease)
 shown_row (row.Held address) = None
 shown_row (row.Batch batch) = None
+shown_row (row.PoolHub hub) = None
+shown_row (row.Device lease) = None

@@ -18,6 +18,8 @@ pub fn copy_row(_alloc: Global, r: &Row) -> Result<Row, NoMemory>
         Row::Lease(lease) => Ok(Row::Lease(*lease)),
         Row::Held(address) => Ok(Row::Held(*address)),
         Row::Batch(batch) => Ok(Row::Batch(*batch)),
+        Row::PoolHub(hub) => Ok(Row::PoolHub(*hub)),
+        Row::Device(lease) => Ok(Row::Device(*lease)),
     }
 }
 

@@ -22,4 +22,12 @@ pub enum Key {
     Held(Mac),
     /// An import of many rows, by number.
     Batch(u64),
+    /// A hub, by number.
+    Hub(u32),
+    /// The hub of a pool of addresses, by the pool's number.
+    PoolHub(u32),
+    /// A pool of addresses for devices behind modems, by number.
+    DevicePool(u32),
+    /// The lease of a device's address.
+    Device(Ip4),
 }

@@ -45,6 +45,10 @@ pub fn key_text(k: &Key) -> KeyText
         Key::Lease(address) => worded("lease ", ip_text(address).as_slice()),
         Key::Held(mac) => worded("held ", &mac_text(mac)),
         Key::Batch(number) => numbered("batch ", number),
+        Key::Hub(number) => numbered("hub ", u64::from(number)),
+        Key::PoolHub(pool) => numbered("pool-hub ", u64::from(pool)),
+        Key::DevicePool(number) => numbered("device-pool ", u64::from(number)),
+        Key::Device(address) => worded("device ", ip_text(address).as_slice()),
     }
 }
 

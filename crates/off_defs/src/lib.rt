@@ -27,4 +27,7 @@ pub use orders::{Command, ImportRow, ImportRows, Kind, Reply, Write, Writes};
 pub use results::{Outcome, Sent};
 pub use rules::Rule;
 pub use shown::ShownRow;
-pub use tables::{Batch, Class, Hold, ImportKind, Lease, Modem, Pool, Row, Site, Subscriber};
+pub use tables::{
+    Batch, Class, DeviceHold, DeviceLease, Hold, ImportKind, Lease, Modem, Pool, Row, Site,
+    Subscriber,
+};

@@ -33,4 +33,11 @@ pub enum Rule {
     /// bytes; 3, the time of a lease isn't 60 to 604,800 seconds; 4, the time zone isn't -86,400 to
     /// 86,400 seconds.
     Site(u8),
+    /// There is no such hub.
+    NoHub,
+    /// The hub is a pool's, and this is the least such pool's number.
+    HubInUse(u32),
+    /// The pool has an address of another pool for devices, and this is the least such pool's
+    /// number.
+    DeviceOverlap(u32),
 }

@@ -4,7 +4,8 @@ ghost use Rattle.off_defs.specs.Shown.{shown_row};
 use crate::tables::{Class, Lease, Modem, Pool, Row, Site, Subscriber};
 use off_base::Settings;
 
-/// A row as a clerk is shown it. What a modem holds and the batches are the office's own.
+/// A row as a clerk is shown it. What a modem holds, the batches, the hubs of pools and the leases
+/// of devices are the office's own.
 #[derive(Drop)]
 pub enum ShownRow {
     Site(Site),
@@ -32,6 +33,8 @@ impl ShownRow {
             Row::Lease(lease) => Some(ShownRow::Lease(lease)),
             Row::Held(_) => None,
             Row::Batch(_) => None,
+            Row::PoolHub(_) => None,
+            Row::Device(_) => None,
         }
     }
 }

@@ -73,6 +73,24 @@ pub struct Lease {
     pub expiry: Moment,
 }
 
+/// Which device behind which modem holds an address.
+#[derive(Clone, Copy, Debug, PartialEq, Eq)]
+pub enum DeviceHold {
+    /// It was offered to a modem's device: the modem, and the device.
+    Offered(Mac, Mac),
+    /// A modem's device has it: the modem, and the device.
+    Bound(Mac, Mac),
+    /// A device found it in use, and declined it.
+    Declined,
+}
+
+/// The lease of a device's address (RFC 2131).
+#[derive(Clone, Copy, Debug, PartialEq, Eq)]
+pub struct DeviceLease {
+    pub hold: DeviceHold,
+    pub expiry: Moment,
+}
+
 /// Which rows an import has.
 #[derive(Clone, Copy, Debug, PartialEq, Eq)]
 pub enum ImportKind {
@@ -90,7 +108,8 @@ pub struct Batch {
     pub rows: u32,
 }
 
-/// A row of the office's tables. The keys of each kind have rows of that kind.
+/// A row of the office's tables. The keys of each kind have rows of that kind: a hub has a site's
+/// row, and a pool for devices a pool's.
 #[derive(Drop)]
 pub enum Row {
     Site(Site),
@@ -102,4 +121,7 @@ pub enum Row {
     Lease(Lease),
     Held(Ip4),
     Batch(Batch),
+    /// The number of a pool's hub.
+    PoolHub(u32),
+    Device(DeviceLease),
 }

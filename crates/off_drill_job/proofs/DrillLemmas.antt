@@ -23,7 +23,7 @@ use Rattle.off_outside.specs.LinkSeen.{LinkSeen}
 use Rattle.off_outside.specs.Streams.{SinkSeen}
 use Rattle.off_outside.proofs.KeeperLemmas.{reads_as, reads_then, still_then, stays_up_then, tallied_behind}
 use Rattle.off_jobs.specs.Jobs.{Tells}
-use Rattle.off_office.specs.Conditions.{Fits}
+use Rattle.off_office.specs.Conditions.{Fits, Opened}
 use Rattle.off_office.specs.Desk.{Desk}
 use Rattle.off_office.specs.declared.office.StartErr.TheVariants as start_err
 use Rattle.off_office.proofs.UpLemmas.{up_chain}
@@ -167,10 +167,10 @@ broken_before n few err d i j l halts = record {
 
 -- ---- the tables were opened
 
-pub ends_with_rows : (n : ℕ) (d : Desk) (i j k : KeeperSeen) (l : LinkSeen) → Reads (Fits d) i j → FindsRows true j k → Ends NotEmpty n i k l l
-ends_with_rows n d i j k l opened finds = (reads_then opened finds (λ t fit differs. (fit.good, differs)), link_unasked l)
+pub ends_with_rows : (n : ℕ) (d : Desk) (i j k : KeeperSeen) (l : LinkSeen) → Opened d i j → FindsRows true j k → Ends NotEmpty n i k l l
+ends_with_rows n d i j k l opened finds = (reads_then opened.reads finds (λ t fit differs. (fit.good, differs)), link_unasked l)
 
-pub ends_unread : (n : ℕ) → n ≤ 4000 → (err : KeepErr) (d : Desk) (i j k : KeeperSeen) (l : LinkSeen) → Rests i → Reads (Fits d) i j → NotDone err j k → Ends (Broken err) n i k l l
+pub ends_unread : (n : ℕ) → n ≤ 4000 → (err : KeepErr) (d : Desk) (i j k : KeeperSeen) (l : LinkSeen) → Rests i → Opened d i j → NotDone err j k → Ends (Broken err) n i k l l
 ends_unread n few err d i j k l rests opened not = record {
   given = [];
   lost = [];
@@ -179,19 +179,19 @@ ends_unread n few err d i j k l rests opened not = record {
   came = record { gave = gave_none (founding n); did = All-nil (λ (t : Turn). t.outcome ≡ Did); one = tried_none; order = inl refl };
   tables = record {
     each = λ t told.
-        let before = opened.tables t told in
+        let before = opened.reads.tables t told in
         record { value = t; told = not.tables t before.0; fits = (before.1.good, front_none n few) };
   };
-  up = stays_up_then i j k opened.quiet not.up;
-  faults = tallied_behind opened.quiet.faults not.faults;
+  up = stays_up_then i j k opened.reads.quiet not.up;
+  faults = tallied_behind opened.reads.quiet.faults not.faults;
   keeper = record {
-    commits = not.commits ∙ opened.quiet.commits;
+    commits = not.commits ∙ opened.reads.quiet.commits;
     crash = record {
       each = λ t told.
-          let still = still_then opened.quiet.still not.still in
+          let still = still_then opened.reads.quiet.still not.still in
           record {
             value = t;
-            told = not.tables t (opened.tables t told).0;
+            told = not.tables t (opened.reads.tables t told).0;
             fits = (held_at_start, (refl, (still.later, (still.doubts, λ m u early upto shown. rests t told u (still.within m u early upto shown)))));
           };
     };
@@ -199,12 +199,12 @@ ends_unread n few err d i j k l rests opened not = record {
   sent = sent_nothing l;
 }
 
-pub ends_going : (ended : Ended) (n : ℕ) (d : Desk) (i j k o : KeeperSeen) (l m : LinkSeen) → Rests i → d.held ≡ held_at_start → Reads (Fits d) i j → FindsRows false j k
+pub ends_going : (ended : Ended) (n : ℕ) (d : Desk) (i j k o : KeeperSeen) (l m : LinkSeen) → Rests i → d.held ≡ held_at_start → Opened d i j → FindsRows false j k
     → GoesOn ended n d k o l m → Ends ended n i o l m
 ends_going (Closed err) n d i j k o l m rests begins opened finds goes = absurd goes
 ends_going NotEmpty n d i j k o l m rests begins opened finds goes = absurd goes
 ends_going (Broken err) n d i j k o l m rests begins opened finds goes =
-    let both = reads_then {R = λ t. Fits d t × (t ≡ map.empty)} opened finds (λ t fit is. (fit, is)) in
+    let both = reads_then {R = λ t. Fits d t × (t ≡ map.empty)} opened.reads finds (λ t fit is. (fit, is)) in
     record {
       given = goes.given;
       lost = goes.lost;
@@ -224,7 +224,7 @@ ends_going (Broken err) n d i j k o l m rests begins opened finds goes =
       sent = goes.sent;
     }
 ends_going (Done tally) n d i j k o l m rests begins opened finds goes =
-    let both = reads_then {R = λ t. Fits d t × (t ≡ map.empty)} opened finds (λ t fit is. (fit, is)) in
+    let both = reads_then {R = λ t. Fits d t × (t ≡ map.empty)} opened.reads finds (λ t fit is. (fit, is)) in
     record {
       given = goes.given;
       gave = goes.gave;

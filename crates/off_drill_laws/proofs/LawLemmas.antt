@@ -10,6 +10,8 @@ use Rattle.off_defs.specs.declared.results.Outcome.{Outcome}
 use Rattle.off_defs.specs.declared.results.Outcome.TheVariants.{Did}
 use Rattle.off_defs.specs.State.{State, Effect, at_moment}
 use Rattle.off_transfer_laws.proofs.StepLaws.{step_is_there}
+use Rattle.off_query_rules.specs.Asked.{query_of}
+use Rattle.off_laws.proofs.Existence.{datagram_some}
 use Rattle.off_book.specs.Step.{Step}
 use Rattle.off_book.specs.Tftp.{transfers_effect, tftp_said}
 use Rattle.off_book.specs.Run.{Turn, Run, effect_of, events_of}
@@ -27,7 +29,7 @@ use Rattle.off_drill_laws.proofs.StageLemmas.{same_tally, waits_moves, offer_mov
 -- the office does something with a modem's message, and with its packet
 some_dhcp : (s : State) (at : ℕ) (from : Peer) (bytes : List ℕ) → (effect : Effect) × Step s (record { at = record { 0 = at }; what = Datagram Dhcp from bytes }) Did effect
 unfolding Step
-some_dhcp s at from bytes = (_, refl)
+some_dhcp s at from bytes = datagram_some (at_moment s at) bytes (query_of bytes)
 
 some_tftp : (s : State) (at : ℕ) (from : Peer) (bytes : List ℕ) → (effect : Effect) × Step s (record { at = record { 0 = at }; what = Datagram Tftp from bytes }) Did effect
 unfolding Step

@@ -19,7 +19,8 @@ use std::time::{Duration, Instant, SystemTime};
 const LONGEST_SLEEP: u64 = 1_000;
 
 // How many times sockets that may have something are asked before the system is asked for the
-// others.
+// others. Where what they had takes longer to serve than a millisecond, it is asked sooner, so that
+// costly datagrams at one port don't keep the others waiting.
 const MOST_ASKED: u32 = 32;
 
 // How many rounds without an event there are at most before a Tick.
@@ -154,8 +155,7 @@ struct Asking {
     turn: Turn,
     // How many times sockets were asked since the system was.
     asked: u32,
-    // When the system was asked last, in milliseconds since the link was opened. To ask the clock
-    // each time would cost more than it tells.
+    // When the system was asked last, in milliseconds since the link was opened.
     looked: u64,
     // The second of the last Tick.
     last_tick: u64,
@@ -217,7 +217,7 @@ impl Asking {
             self.look(left.min(LONGEST_SLEEP))?;
             return Ok(None);
         }
-        if self.asked >= MOST_ASKED {
+        if self.asked >= MOST_ASKED || self.uptime()? != self.looked {
             self.look(0)?;
         }
         self.asked = self.asked.saturating_add(1);

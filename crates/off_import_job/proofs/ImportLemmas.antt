@@ -37,7 +37,7 @@ use Rattle.off_jobs.specs.Jobs.{Tells, NoFault}
 use Rattle.off_jobs.specs.declared.input.InputErr.TheVariants as input_err
 use Rattle.off_jobs.proofs.JobLemmas.{told_whole, source_held, sink_kept, told_file, too_many_of}
 use Rattle.off_office.specs.Answering.{CommandBegins, Commanded, NotCommanded, CountsRows}
-use Rattle.off_office.specs.Conditions.{Fits}
+use Rattle.off_office.specs.Conditions.{Opened}
 use Rattle.off_office.specs.Desk.{Desk}
 use Rattle.off_office.specs.declared.office.StartErr.TheVariants as start_err
 use Rattle.off_import_job.specs.Telling.{ended_text, ended_status}
@@ -100,30 +100,30 @@ told_rows kind batch rows bytes command reply is counts are =
     found.1 ∙ ap (λ (n : ℕ). let r : Reply = Rows n in r) (sym (are found.0 found.1))
 
 -- what a command of an office that has just begun would leave, over the tables that it opened
-begins_on : {err : KeepErr} (desk : Desk) (command : Command) {k l m : KeeperSeen} → Rests k → Reads (Fits desk) k l
+begins_on : {err : KeepErr} (desk : Desk) (command : Command) {k l m : KeeperSeen} → Rests k → Opened desk k l
     → NotCommitted (CommandBegins command 0 desk) err l m → NotCommitted (ImportBegins command) err k m
 begins_on desk command rests opened not =
-    not_committed_as (not_begun_then rests opened not) (λ t told u begins. begins ((opened.tables t told).1.mirrors))
+    not_committed_as (not_begun_then rests opened.reads not) (λ t told u begins. begins ((opened.reads.tables t told).1.mirrors))
 
-left_undone : (err : AccountErr) (desk : Desk) (command : Command) (k l m : KeeperSeen) → Rests k → Reads (Fits desk) k l
+left_undone : (err : AccountErr) (desk : Desk) (command : Command) (k l m : KeeperSeen) → Rests k → Opened desk k l
     → NotCommanded command err 0 desk l m → LeftUndone err command k m
-left_undone (account_err.Refused row broken) desk command k l m rests opened not = reads_then opened not (λ t fits says. says fits.mirrors)
+left_undone (account_err.Refused row broken) desk command k l m rests opened not = reads_then opened.reads not (λ t fits says. says fits.mirrors)
 left_undone account_err.Failed desk command k l m rests opened not = begins_on desk command rests opened not
 left_undone account_err.Memory desk command k l m rests opened not = begins_on desk command rests opened not
 
-pub opened_good : {desk : Desk} {k l : KeeperSeen} → Reads (Fits desk) k l → Reads Good k l
-opened_good opened = reads_as opened (λ t fits. fits.good)
+pub opened_good : {desk : Desk} {k l : KeeperSeen} → Opened desk k l → Reads Good k l
+opened_good opened = reads_as opened.reads (λ t fits. fits.good)
 
 -- the office opened, the import was read, and the command was given to the office
 pub ends_given : (ended : Ended) (kind : ImportKind) (batch : ℕ) (command : Command) (desk : Desk) (k l m : KeeperSeen) (s s' : SourceSeen) → Rests k
-    → Reads (Fits desk) k l → ReadAs kind batch command s s' → IsTrue (is_sound command) → CarriesOut ended command desk l m → Ends ended kind batch k m s s'
+    → Opened desk k l → ReadAs kind batch command s s' → IsTrue (is_sound command) → CarriesOut ended command desk l m → Ends ended kind batch k m s s'
 ends_given (Closed err) kind batch command desk k l m s s' rests opened read sound did = absurd did
 ends_given (Unread err) kind batch command desk k l m s s' rests opened read sound did = absurd did
 ends_given (NoImport err) kind batch command desk k l m s s' rests opened read sound did = absurd did
 ends_given (NotDone err) kind batch command desk k l m s s' rests opened read sound did = record {
   command = command;
   read = read;
-  good = λ t told. (opened.tables t told).1.good;
+  good = λ t told. (opened.reads.tables t told).1.good;
   undone = left_undone err desk command k l m rests opened did;
 }
 ends_given (Done rows) kind batch command desk k l m s s' rests opened read sound did =
@@ -131,11 +131,11 @@ ends_given (Done rows) kind batch command desk k l m s s' rests opened read soun
     record {
       command = command;
       read = read;
-      good = λ t told. (opened.tables t told).1.good;
+      good = λ t told. (opened.reads.tables t told).1.good;
       writes = did.done.writes;
       tables = record {
         each = λ t told.
-            let before = opened.tables t told in
+            let before = opened.reads.tables t told in
             let g = did.done.tables.each t before.0 in
             let p = g.fits.holds before.1.mirrors in
             record {
@@ -144,10 +144,10 @@ ends_given (Done rows) kind batch command desk k l m s s' rests opened read soun
               fits = (subst (λ (r : Reply). clerk_step t 0 command ≡ step_done t did.done.writes r) is p.0, p.1);
             };
       };
-      settled = settled_then rests opened did.done.settled;
+      settled = settled_then rests opened.reads did.done.settled;
       stays_good = record {
         each = λ t told.
-            let before = opened.tables t told in
+            let before = opened.reads.tables t told in
             let g = did.done.tables.each t before.0 in
             let p = g.fits.holds before.1.mirrors in
             record {
@@ -160,7 +160,7 @@ ends_given (Done rows) kind batch command desk k l m s s' rests opened read soun
 
 -- the office opened, and no import was taken from the source
 pub ends_unread : (ended : Ended) (kind : ImportKind) (batch : ℕ) (desk : Desk) (k l : KeeperSeen) (s s' : SourceSeen)
-    → Reads (Fits desk) k l → NotTaken ended kind batch s s' → Ends ended kind batch k l s s'
+    → Opened desk k l → NotTaken ended kind batch s s' → Ends ended kind batch k l s s'
 ends_unread (Closed err) kind batch desk k l s s' opened not = absurd not
 ends_unread (Unread err) kind batch desk k l s s' opened not = (opened_good opened, not)
 ends_unread (NoImport err) kind batch desk k l s s' opened not = (opened_good opened, not)

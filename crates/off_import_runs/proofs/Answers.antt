@@ -107,6 +107,9 @@ fault_byte at rule.PoolSize = refl
 fault_byte at (rule.Tree f) = refl
 fault_byte at (rule.Limit kind most) = refl
 fault_byte at (rule.Site field) = refl
+fault_byte at rule.NoHub = refl
+fault_byte at (rule.HubInUse pool) = refl
+fault_byte at (rule.DeviceOverlap pool) = refl
 
 fault_apart : (at : ℕ) (broken : Rule) → fault_line at broken ≡ codes "http 200" → ⊥
 fault_apart at broken same = other_byte (fault_line at broken) (codes "http 200") (fault_byte at broken) same

@@ -44,6 +44,10 @@ one_stays all n (Put (key.Pool m) held) aside = refl
 one_stays all n (Put (key.Lease address) held) aside = refl
 one_stays all n (Put (key.Held mac) held) aside = refl
 one_stays all n (Put (key.Batch m) held) aside = cc
+one_stays all n (Put (key.Hub m) held) aside = refl
+one_stays all n (Put (key.PoolHub m) held) aside = refl
+one_stays all n (Put (key.DevicePool m) held) aside = refl
+one_stays all n (Put (key.Device address) held) aside = refl
 one_stays all n (Drop key.Site) aside = refl
 one_stays all n (Drop (key.Subscriber m)) aside = refl
 one_stays all n (Drop (key.AddOn m k)) aside = refl
@@ -53,6 +57,10 @@ one_stays all n (Drop (key.Pool m)) aside = refl
 one_stays all n (Drop (key.Lease address)) aside = refl
 one_stays all n (Drop (key.Held mac)) aside = refl
 one_stays all n (Drop (key.Batch m)) aside = cc
+one_stays all n (Drop (key.Hub m)) aside = refl
+one_stays all n (Drop (key.PoolHub m)) aside = refl
+one_stays all n (Drop (key.DevicePool m)) aside = refl
+one_stays all n (Drop (key.Device address)) aside = refl
 
 one_unput : (n : ℕ) (write : Write) → is_aside write ≡ true → puts_of n write ≡ 0
 unfolding is_aside

@@ -12,6 +12,7 @@ use Rattle.off_defs.specs.declared.events.What.TheVariants.{Datagram, Piece, Clo
 use Rattle.off_defs.specs.declared.results.Outcome.{Outcome}
 use Rattle.off_defs.specs.declared.results.Outcome.TheVariants.{Did, Memory, Keeper}
 use Rattle.off_defs.specs.declared.results.Sent.{Sent}
+use Rattle.off_defs.specs.declared.results.Sent.TheVariants as sent
 use Rattle.off_defs.specs.declared.tables.Lease.{Lease}
 use Rattle.off_defs.specs.declared.tables.Modem.{Modem}
 use Rattle.off_defs.specs.declared.tables.Pool.{Pool}
@@ -39,10 +40,13 @@ use Rattle.off_packets.specs.declared.faults.PacketFault.TheVariants as fault
 use Rattle.off_transfer_laws.specs.Laws.{IsAnswerTo}
 use Rattle.off_transfer_laws.proofs.StepLaws.{answers_go_back}
 use Rattle.off_book.specs.Http.{heard_of, by_meaning, is_full, TakesPiece}
-use Rattle.off_book.specs.Dhcp.{replies_of}
+use Rattle.off_query_rules.specs.Asked.{query_of}
+use Rattle.off_query_rules.specs.Answers.{query_step}
+use Rattle.off_book.specs.Dhcp.{DatagramDid, replies_of}
 use Rattle.off_book.specs.Tftp.{TftpDid}
 use Rattle.off_book.specs.Step.{Step, Does}
 use Rattle.off_book.specs.Run.{effect_of}
+use Rattle.off_laws.proofs.Queries.{IsOfDhcp, reply_goes}
 use Rattle.off_isolation.specs.Own.{is_at, Came, says_full, happening_by}
 use Rattle.off_isolation.specs.Others.{goes_by_tftp, IsTurnedAway, NothingElseGoes}
 
@@ -84,6 +88,15 @@ message_quiet : (ip : Ip4) (t : Tables) (now : ℕ) (read : Result Received Dhcp
 unfolding lease_step
 message_quiet ip t now (Ok m) = settled_quiet ip m (case_of t m) now _ _
 message_quiet ip t now (Err f) = refl
+
+-- nor does an answer to a query go from it
+reply_quiet : (ip : Ip4) (reply : Option Sent) → IsOfDhcp reply → Quiet ip (replies_of reply)
+reply_quiet ip None goes = refl
+reply_quiet ip (Some (sent.Datagram Dhcp to bytes)) goes = refl
+reply_quiet ip (Some (sent.Datagram Time to bytes)) goes = absurd goes
+reply_quiet ip (Some (sent.Datagram Tftp to bytes)) goes = absurd goes
+reply_quiet ip (Some (sent.Answer conn bytes)) goes = absurd goes
+reply_quiet ip (Some (sent.Close conn)) goes = absurd goes
 
 dhcp_quiet : (ip : Ip4) (t : Tables) (now : ℕ) (bytes : List ℕ) → Quiet ip (replies_of (dhcp_step t now bytes).reply)
 unfolding dhcp_step
@@ -223,9 +236,15 @@ piece_else ip s conn piece effect true takes = quietly ip s (Piece conn piece) e
 piece_else ip s conn piece effect false takes =
     quietly ip s (Piece conn piece) effect _ takes.does (meaning_quiet ip s conn (heard_of s.held conn ++ piece) takes.meaning)
 
+datagram_else : (ip : Ip4) (s : State) (from : Peer) (bytes : List ℕ) (effect : Effect) (query : Option (List ℕ)) → DatagramDid s bytes effect query
+    → Else ip s (Datagram Dhcp from bytes) effect
+datagram_else ip s from bytes effect (Some q) did =
+    quietly ip s (Datagram Dhcp from bytes) effect _ did (reply_quiet ip (query_step s.tables s.held.now q).reply (reply_goes s.tables s.held.now q))
+datagram_else ip s from bytes effect None did = quietly ip s (Datagram Dhcp from bytes) effect _ did (dhcp_quiet ip s.tables s.held.now bytes)
+
 does_else : (ip : Ip4) (s : State) (what : What) (outcome : Outcome) (effect : Effect) → Does s what outcome effect
     → happening_by ip what outcome effect.said.line ≡ None → Else ip s what effect
-does_else ip s (Datagram Dhcp from bytes) Did effect p none = quietly ip s (Datagram Dhcp from bytes) effect _ p (dhcp_quiet ip s.tables s.held.now bytes)
+does_else ip s (Datagram Dhcp from bytes) Did effect p none = datagram_else ip s from bytes effect (query_of bytes) p
 does_else ip s (Datagram Dhcp from bytes) Memory effect p none = quietly ip s (Datagram Dhcp from bytes) effect _ p refl
 does_else ip s (Datagram Dhcp from bytes) Keeper effect p none = quietly ip s (Datagram Dhcp from bytes) effect _ p refl
 does_else ip s (Datagram Time from bytes) Did effect p none = quietly ip s (Datagram Time from bytes) effect _ p refl

@@ -5,16 +5,18 @@ use Rattle.std.specs.Int.{to_be_bytes, cast_unsigned, w16, w32, w64}
 use Rattle.off_base.proofs.TreeLemmas.{taken}
 use Rattle.off_base.specs.Tree.{spelling}
 use Rattle.off_defs.specs.declared.tables.Row.{Row}
-use Rattle.off_defs.specs.declared.tables.Row.TheVariants.{Site, Subscriber, AddOn, Modem, Class, Pool, Lease, Held, Batch}
+use Rattle.off_defs.specs.declared.tables.Row.TheVariants.{Site, Subscriber, AddOn, Modem, Class, Pool, Lease, Held, Batch, PoolHub, Device}
 use Rattle.off_defs.specs.declared.tables.Site.{Site as SiteRow}
 use Rattle.off_defs.specs.declared.tables.Subscriber.{Subscriber as SubscriberRow}
 use Rattle.off_defs.specs.declared.tables.Batch.{Batch as BatchRow}
 use Rattle.off_defs.specs.declared.tables.Hold.{Hold}
 use Rattle.off_defs.specs.declared.tables.Hold.TheVariants.{Offered, Bound, Declined}
+use Rattle.off_defs.specs.declared.tables.DeviceHold.{DeviceHold}
+use Rattle.off_defs.specs.declared.tables.DeviceHold.TheVariants as device
 use Rattle.off_defs.specs.declared.tables.ImportKind.{ImportKind}
 use Rattle.off_defs.specs.declared.tables.ImportKind.TheVariants.{Subscribers, Modems}
 use Rattle.off_defs.specs.declared.orders.Write.{Write}
-use Rattle.off_rows.specs.RowBytes.{row_bytes, counted, flag_bytes, hold_bytes, import_kind_bytes, RowRanged, SettingsStand, OwnerIsMac}
+use Rattle.off_rows.specs.RowBytes.{row_bytes, counted, flag_bytes, hold_bytes, device_hold_bytes, import_kind_bytes, RowRanged, SettingsStand, OwnerIsMac, OwnersAreMacs}
 use Rattle.off_defs.specs.Counts.{one_more}
 use Rattle.off_outside.specs.declared.keeper.KeepErr.{KeepErr}
 use Rattle.off_outside.specs.declared.keeper.KeepErr.TheVariants.{Memory, Failed}
@@ -38,6 +40,11 @@ hold_small : (h : Hold) → OwnerIsMac h → length (hold_bytes h) ≤ 7
 hold_small (Offered owner) m = omega (arith, m)
 hold_small (Bound owner) m = omega (arith, m)
 hold_small Declined m = omega arith
+
+device_hold_small : (h : DeviceHold) → OwnersAreMacs h → length (device_hold_bytes h) ≤ 16
+device_hold_small (device.Offered modem owner) m = omega (arith, m.0, m.1, length-append modem.0 owner.0)
+device_hold_small (device.Bound modem owner) m = omega (arith, m.0, m.1, length-append modem.0 owner.0)
+device_hold_small device.Declined m = omega arith
 
 flag_small : (b : Bool) → length (flag_bytes b) ≡ 1
 flag_small true = refl
@@ -92,6 +99,8 @@ row_small (Class c) r t = class_small c.name (to_be_bytes w16 (length (spelling 
 row_small (Pool p) r t = omega arith
 row_small (Lease l) r t = two_small (hold_bytes l.hold) (to_be_bytes w64 l.expiry.0) (hold_few l.hold r.0) (omega arith)
 row_small (Held a) r t = omega arith
+row_small (PoolHub h) r t = omega arith
+row_small (Device l) r t = two_small (device_hold_bytes l.hold) (to_be_bytes w64 l.expiry.0) (device_hold_small l.hold r.0) (omega arith)
 row_small (Batch b) r t =
     subst (λ (l : List ℕ). length l < 2 ^ 32) (sym (batch_joined b)) (three_small (import_kind_bytes b.kind) b.digest (to_be_bytes w32 b.rows) (omega (arith, kind_small b.kind)) (omega (arith, r.0)) (omega arith))
 

@@ -1,7 +1,7 @@
 -- Writes that change no row of a file leave all that is kept.
 use Rattle.std.proofs.Common.{◌≡◌, Bool, true, false, cond, not, ◌||◌, List, [], ◌∷◌, refl, ap, ◌∙◌}
 use Rattle.off_defs.specs.declared.keys.Key.{Key}
-use Rattle.off_defs.specs.declared.keys.Key.TheVariants.{Site, Subscriber, AddOn, Modem, Class, Pool, Lease, Held, Batch}
+use Rattle.off_defs.specs.declared.keys.Key.TheVariants.{Site, Subscriber, AddOn, Modem, Class, Pool, Lease, Held, Batch, Hub, PoolHub, DevicePool, Device}
 use Rattle.off_defs.specs.declared.orders.Write.{Write}
 use Rattle.off_kept.specs.Entries.{Entry, Entries, stands_in, is_of_files, key_of, changes_files, is_written, without_written}
 
@@ -19,6 +19,10 @@ in_none (Pool number) e none = refl
 in_none (Lease address) e none = refl
 in_none (Held mac) e none = refl
 in_none (Batch number) e none = refl
+in_none (Hub number) e none = refl
+in_none (PoolHub pool) e none = refl
+in_none (DevicePool number) e none = refl
+in_none (Device address) e none = refl
 
 none_written : (writes : List Write) (e : Entry) → changes_files writes ≡ false → is_written writes e ≡ false
 none_written [] e none = refl

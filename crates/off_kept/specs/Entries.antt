@@ -8,6 +8,7 @@ use Rattle.off_base.specs.declared.macs.Mac.{Mac}
 use Rattle.off_defs.specs.declared.keys.Key.{Key}
 use Rattle.off_defs.specs.declared.keys.Key.TheVariants.{Site, Subscriber, AddOn, Modem, Class}
 use Rattle.off_defs.specs.declared.keys.Key.TheVariants.{Pool, Lease, Held, Batch}
+use Rattle.off_defs.specs.declared.keys.Key.TheVariants.{Hub, PoolHub, DevicePool, Device}
 use Rattle.off_defs.specs.declared.orders.Write.{Write}
 use Rattle.off_defs.specs.declared.orders.Write.TheVariants.{Put, Drop}
 use Rattle.off_kept.specs.declared.bodies.KeptBody.{KeptBody}
@@ -45,6 +46,10 @@ stands_in (Pool number) entry = false
 stands_in (Lease address) entry = false
 stands_in (Held mac) entry = false
 stands_in (Batch number) entry = false
+stands_in (Hub number) entry = false
+stands_in (PoolHub pool) entry = false
+stands_in (DevicePool number) entry = false
+stands_in (Device address) entry = false
 
 -- rows of this key stand in some files
 abbrev pub is_of_files : Key → Bool
@@ -57,6 +62,10 @@ is_of_files (Pool number) = false
 is_of_files (Lease address) = false
 is_of_files (Held mac) = false
 is_of_files (Batch number) = false
+is_of_files (Hub number) = false
+is_of_files (PoolHub pool) = false
+is_of_files (DevicePool number) = false
+is_of_files (Device address) = false
 
 -- the key that a write changes
 abbrev pub key_of : Write → Key

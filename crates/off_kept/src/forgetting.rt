@@ -43,6 +43,7 @@ fn is_of_files(key: Key) -> bool
     match key {
         Key::Modem(_) | Key::Subscriber(_) | Key::AddOn(_, _) | Key::Class(_) => true,
         Key::Site | Key::Pool(_) | Key::Lease(_) | Key::Held(_) | Key::Batch(_) => false,
+        Key::Hub(_) | Key::PoolHub(_) | Key::DevicePool(_) | Key::Device(_) => false,
     }
 }
 
@@ -104,5 +105,6 @@ fn stands_in(key: Key, modem: Mac, kept: &KeptBody) -> bool
         Key::Subscriber(number) | Key::AddOn(number, _) => number == kept.subscriber,
         Key::Class(number) => number == kept.class,
         Key::Site | Key::Pool(_) | Key::Lease(_) | Key::Held(_) | Key::Batch(_) => false,
+        Key::Hub(_) | Key::PoolHub(_) | Key::DevicePool(_) | Key::Device(_) => false,
     }
 }

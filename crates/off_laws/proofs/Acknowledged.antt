@@ -1,5 +1,5 @@
 -- What a turn acknowledges is the client's from then on.
-use Rattle.std.proofs.Common.{◌≡◌, ℕ, List, [], ◌∷◌, Option, Some, Ok, codes, refl, sym, ap, subst, ◌∙◌}
+use Rattle.std.proofs.Common.{◌≡◌, ℕ, List, [], ◌∷◌, ◌++◌, Option, Some, None, Ok, codes, refl, sym, ap, subst, ◌∙◌}
 use Rattle.std.specs.Prelude.{bytes_eq}
 use Rattle.std.specs.List.{find}
 use Rattle.off_base.specs.declared.addresses.Peer.{Peer}
@@ -18,10 +18,14 @@ use Rattle.off_lease_rules.specs.declared.words.DhcpWord.TheVariants as word
 use Rattle.off_lease_laws.specs.Effects.{IsBoundBy}
 use Rattle.off_lease_laws.proofs.LawLemmas.{messages_do}
 use Rattle.off_lease_laws.proofs.EffectLemmas.{acks_bind}
-use Rattle.off_book.specs.Dhcp.{replies_of, dhcp_line, dhcp_effect}
+use Rattle.off_query_rules.specs.Asked.{query_of}
+use Rattle.off_query_rules.specs.Answers.{query_step}
+use Rattle.off_query_rules.specs.declared.words.QueryWord.{QueryWord}
+use Rattle.off_query_rules.specs.declared.words.QueryWord.TheVariants as query
+use Rattle.off_book.specs.Dhcp.{DatagramDid, replies_of, dhcp_line, dhcp_effect, query_line}
 use Rattle.off_book.specs.Step.{Step, Does}
 use Rattle.off_book.specs.Run.{Turn, effect_of}
-use Rattle.off_laws.specs.Leases.{LinesTellWords, AcknowledgedIsGiven, moment_of}
+use Rattle.off_laws.specs.Leases.{LinesTellWords, QueriesSayNone, AcknowledgedIsGiven, moment_of}
 use Rattle.off_laws.proofs.Lines.{other_byte, line_is}
 use Rattle.off_laws.proofs.StepLaws.{step_good}
 use Rattle.off_laws.proofs.Outlasting.{bindings_outlast}
@@ -92,10 +96,30 @@ lines_tell_words one other same =
     let both : ◌≡◌ {A = Option DhcpWord} (Some one) (Some other) = sym (found one) ∙ ap word_with same ∙ found other in
     cc
 
+-- no line of a query is a message's: found by that line is no word
+no_words : (said : QueryWord) → word_with (query_line said) ≡ None
+unfolding word_with words
+no_words query.Relay = refl
+no_words query.Form = refl
+no_words query.Active = refl
+no_words query.Unassigned = refl
+no_words query.Unknown = refl
+
+pub queries_say_none : QueriesSayNone
+queries_say_none said other same =
+    let both : ◌≡◌ {A = Option DhcpWord} None (Some other) = sym (no_words said) ∙ ap word_with same ∙ found other in
+    cc
+
+-- a datagram whose line has a message's word was taken as a message
+pub message_acted : (s : State) (bytes : List ℕ) (effect : Effect) (said : DhcpWord) (asked : Option (List ℕ)) → DatagramDid s bytes effect asked → effect.said.line ≡ dhcp_line said
+    → effect ≡ dhcp_effect s (dhcp_step s.tables s.held.now bytes)
+message_acted s bytes effect said (Some q) does line = absurd (queries_say_none (query_step s.tables s.held.now q).word said (sym (line_is effect _ does) ∙ line))
+message_acted s bytes effect said None does line = does
+
 -- a turn that acknowledges was acted on
 acted_on : (s : State) (from : Peer) (bytes : List ℕ) (outcome : Outcome) (effect : Effect) → Does s (Datagram Dhcp from bytes) outcome effect
     → effect.said.line ≡ codes "dhcp ack" → effect ≡ dhcp_effect s (dhcp_step s.tables s.held.now bytes)
-acted_on s from bytes Did effect does line = does
+acted_on s from bytes Did effect does line = message_acted s bytes effect word.Ack (query_of bytes) does line
 acted_on s from bytes Memory effect does line = absurd (other_byte (codes "dhcp memory") (codes "dhcp ack") refl (sym (line_is effect _ does) ∙ line))
 acted_on s from bytes Keeper effect does line = absurd (other_byte (codes "dhcp keeper") (codes "dhcp ack") refl (sym (line_is effect _ does) ∙ line))
 

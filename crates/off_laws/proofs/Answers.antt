@@ -60,6 +60,9 @@ rule_small rule.PoolSize = omega arith
 rule_small (rule.Tree f) = omega arith
 rule_small (rule.Limit kind most) = omega arith
 rule_small (rule.Site field) = omega arith
+rule_small rule.NoHub = omega arith
+rule_small (rule.HubInUse pool) = omega arith
+rule_small (rule.DeviceOverlap pool) = omega arith
 
 status_small : (f : Fault) → status_of f < 1000
 status_small (fault.Clerk err) = clerk_small err

@@ -1,11 +1,15 @@
 -- The office does something with each event.
-use Rattle.std.proofs.Common.{◌≡◌, ℕ, Bool, true, false, List, ◌++◌, refl, subst}
+use Rattle.std.proofs.Common.{◌≡◌, ℕ, Bool, true, false, List, ◌++◌, Option, Some, None, refl, subst}
 use Rattle.off_defs.specs.declared.events.Service.TheVariants.{Dhcp, Time, Tftp}
 use Rattle.off_defs.specs.declared.events.What.{What}
 use Rattle.off_defs.specs.declared.events.What.TheVariants.{Datagram, Piece, Closed, Tick, End}
 use Rattle.off_defs.specs.declared.results.Outcome.TheVariants.{Did}
 use Rattle.off_defs.specs.State.{State, Effect, at_moment}
 use Rattle.off_http.specs.Request.{Meaning, RequestIs}
+use Rattle.off_book.specs.Dhcp.{DatagramDid, query_effect, dhcp_effect}
+use Rattle.off_lease_rules.specs.Steps.{dhcp_step}
+use Rattle.off_query_rules.specs.Asked.{query_of}
+use Rattle.off_query_rules.specs.Answers.{query_step}
 use Rattle.off_book.specs.Http.{heard_of, by_meaning, closed_as_busy, is_full, TakesPiece}
 use Rattle.off_book.specs.Step.{Step, Does}
 use Rattle.off_book.specs.Tftp.{transfers_effect, tftp_said, tick_said}
@@ -23,8 +27,12 @@ piece_some false s conn piece heard same says = (
   record { meaning = says.0; says = subst (λ (x : List ℕ). RequestIs x says.0) same says.1; does = refl },
 )
 
+pub datagram_some : (s : State) (bytes : List ℕ) (query : Option (List ℕ)) → (effect : Effect) × DatagramDid s bytes effect query
+datagram_some s bytes (Some q) = (query_effect s (query_step s.tables s.held.now q), refl)
+datagram_some s bytes None = (dhcp_effect s (dhcp_step s.tables s.held.now bytes), refl)
+
 does_some : (s : State) (what : What) (heard : List ℕ) → Brings s what heard → Says heard → (effect : Effect) × Does s what Did effect
-does_some s (Datagram Dhcp from bytes) heard brings says = (_, refl)
+does_some s (Datagram Dhcp from bytes) heard brings says = datagram_some s bytes (query_of bytes)
 does_some s (Datagram Time from bytes) heard brings says = (_, refl)
 does_some s (Datagram Tftp from bytes) heard brings says =
     let there = step_is_there s.tables s.held.now s.held.transfers from bytes in (

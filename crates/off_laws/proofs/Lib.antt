@@ -4,6 +4,7 @@ pub mod Imports
 pub mod Requests
 pub mod Answers
 pub mod Messages
+pub mod Queries
 pub mod Ways
 pub mod StepLaws
 pub mod Lines

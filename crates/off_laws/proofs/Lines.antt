@@ -1,5 +1,5 @@
 -- What the line of an event says of its outcome.
-use Rattle.std.proofs.Common.{◌≡◌, ℕ, ◌<◌, ◌==◌, ◌&&◌, Bool, true, false, if◌then◌else◌, decimal, List, [], ◌++◌, codes, nat_eq, refl, sym, ap, ◌∙◌, subst, arith}
+use Rattle.std.proofs.Common.{◌≡◌, ℕ, ◌<◌, ◌==◌, ◌&&◌, Bool, true, false, if◌then◌else◌, decimal, List, [], ◌++◌, Option, Some, None, codes, nat_eq, refl, sym, ap, ◌∙◌, subst, arith}
 use Rattle.std.proofs.lemmas.Bool.Decides.{nat_tests}
 use Rattle.std.specs.Prelude.{slice_index}
 use Rattle.std.specs.Char.{digit_value}
@@ -21,6 +21,11 @@ use Rattle.off_transfer_rules.specs.declared.words.TftpWord.TheVariants as packe
 use Rattle.off_transfer_rules.specs.declared.ticks.Ticked.{Ticked}
 use Rattle.off_transfer_rules.specs.Words.{tftp_line}
 use Rattle.off_lease_rules.specs.Steps.{dhcp_step}
+use Rattle.off_book.specs.Dhcp.{DatagramDid, query_line}
+use Rattle.off_query_rules.specs.Asked.{query_of}
+use Rattle.off_query_rules.specs.Answers.{query_step}
+use Rattle.off_query_rules.specs.declared.words.QueryWord.{QueryWord}
+use Rattle.off_query_rules.specs.declared.words.QueryWord.TheVariants as query
 use Rattle.off_book.specs.Http.{by_meaning, is_full, TakesPiece}
 use Rattle.off_book.specs.Step.{Step, Does, TellsOutcome, service_word}
 use Rattle.off_book.proofs.StepLemmas.{failure_tells}
@@ -103,6 +108,14 @@ word_says word.PoolFull = (refl, refl)
 word_says word.NoRecord = (refl, refl)
 word_says word.NotYourAddress = (refl, refl)
 
+-- nor does one of a query
+query_says : (w : QueryWord) → (nat_eq (slice_index (query_line w) 5) 109 ≡ false) × (nat_eq (slice_index (query_line w) 5) 107 ≡ false)
+query_says query.Relay = (refl, refl)
+query_says query.Form = (refl, refl)
+query_says query.Active = (refl, refl)
+query_says query.Unassigned = (refl, refl)
+query_says query.Unknown = (refl, refl)
+
 -- nor is the line of a TFTP datagram either of them: it differs from them in its sixth byte or in the seventh
 tftp_apart : (w : TftpWord) → (tftp_line w ≡ codes "tftp memory" → ⊥) × (tftp_line w ≡ codes "tftp keeper" → ⊥)
 tftp_apart packet.Form = (apart_at 5 (codes "tftp form") (codes "tftp memory") refl, apart_at 5 (codes "tftp form") (codes "tftp keeper") refl)
@@ -123,6 +136,9 @@ tftp_apart packet.PeerError = (apart_at 5 (codes "tftp peer-error") (codes "tftp
 pub message_tells : (from : Peer) (bytes : List ℕ) (w : DhcpWord) (line : List ℕ) → line ≡ codes "dhcp " ++ word_text w → TellsOutcome (Datagram Dhcp from bytes) Did line
 message_tells from bytes w line is = says_line (Datagram Dhcp from bytes) line (codes "dhcp " ++ word_text w) (word_says w).0 (word_says w).1 is
 
+pub query_tells : (from : Peer) (bytes : List ℕ) (w : QueryWord) (line : List ℕ) → line ≡ query_line w → TellsOutcome (Datagram Dhcp from bytes) Did line
+query_tells from bytes w line is = says_line (Datagram Dhcp from bytes) line (query_line w) (query_says w).0 (query_says w).1 is
+
 pub packet_tells : (from : Peer) (bytes : List ℕ) (w : TftpWord) (line : List ℕ) → line ≡ tftp_line w → TellsOutcome (Datagram Tftp from bytes) Did line
 packet_tells from bytes w line is = (λ same. (tftp_apart w).0 (sym is ∙ same), λ same. (tftp_apart w).1 (sym is ∙ same))
 
@@ -133,10 +149,13 @@ tick_says : (effect : Effect) (ticked : Ticked) (silent : Bool) → effect.said.
 tick_says effect ticked true is = says Tick effect [] refl refl is
 tick_says effect ticked false is = says Tick effect (tick_text false ticked) refl refl is
 
+datagram_line : (s : State) (from : Peer) (bytes : List ℕ) (effect : Effect) (asked : Option (List ℕ)) → DatagramDid s bytes effect asked
+    → NoFailure effect.said.line (Datagram Dhcp from bytes)
+datagram_line s from bytes effect (Some q) p = query_tells from bytes (query_step s.tables s.held.now q).word effect.said.line (line_is effect _ p)
+datagram_line s from bytes effect None p = message_tells from bytes (dhcp_step s.tables s.held.now bytes).word effect.said.line (line_is effect _ p)
+
 pub does_line : (s : State) (what : What) (effect : Effect) → Does s what Did effect → NoFailure effect.said.line what
-does_line s (Datagram Dhcp from bytes) effect p =
-    let said = (dhcp_step s.tables s.held.now bytes).word in
-    message_tells from bytes said effect.said.line (line_is effect _ p)
+does_line s (Datagram Dhcp from bytes) effect p = datagram_line s from bytes effect (query_of bytes) p
 does_line s (Datagram Time from bytes) effect p = says (Datagram Time from bytes) effect (codes "time sent") refl refl (line_is effect _ p)
 does_line s (Datagram Tftp from bytes) effect p = packet_tells from bytes p.given.word effect.said.line (line_is effect _ p.does)
 does_line s (Piece conn piece) effect p = piece_line (is_full s.held.connections conn) s conn piece effect p

@@ -1,12 +1,14 @@
 -- What becomes of a datagram to the DHCP port.
-use Rattle.std.proofs.Common.{◌≡◌, ℕ, false, List, [], Result, Ok, Err, refl}
+use Rattle.std.proofs.Common.{◌≡◌, ◌==◌, ℕ, false, List, [], Result, Ok, Err, refl, subst}
 use Rattle.off_defs.specs.Tables.{write_all}
 use Rattle.off_account_rules.specs.Good.{Good}
-use Rattle.off_defs.specs.State.{Tables}
+use Rattle.off_defs.specs.State.{Tables, State, Effect}
 use Rattle.off_dhcp.specs.declared.faults.DhcpFault.{DhcpFault}
 use Rattle.off_dhcp.specs.Datagram.{Received, message_of}
 use Rattle.off_lease_rules.specs.Words.{acts}
 use Rattle.off_lease_rules.specs.Steps.{step_of, dhcp_step}
+use Rattle.off_query_laws.proofs.KindLemmas.{no_query}
+use Rattle.off_book.specs.Dhcp.{LeaseDid, DatagramDid, DhcpDid}
 use Rattle.off_lease_laws.proofs.LawLemmas.{refusals_change_nothing, datagrams_leave_fit}
 
 read_refused : (t : Tables) (now : ℕ) (read : Result Received DhcpFault) → acts (step_of t now read).word ≡ false → (step_of t now read).writes ≡ []
@@ -21,3 +23,7 @@ datagram_refused t now bytes refused = read_refused t now (message_of bytes) ref
 -- good tables stay good
 pub datagram_good : (t : Tables) (now : ℕ) (bytes : List ℕ) → Good t → Good (write_all t (dhcp_step t now bytes).writes)
 datagram_good t now bytes good = (datagrams_leave_fit t now bytes _ _ _ (record { tables_after = refl; sent = refl; said = refl })).good good
+
+-- a message of another kind than a query's is taken as a message
+pub message_did : (s : State) (bytes : List ℕ) (effect : Effect) (m : Received) → message_of bytes ≡ Ok m → (m.kind == 10) ≡ false → DhcpDid s bytes effect → LeaseDid s bytes effect
+message_did s bytes effect m read other did = subst (DatagramDid s bytes effect) (no_query bytes m read other) did

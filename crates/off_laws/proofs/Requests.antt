@@ -51,6 +51,10 @@ put_may (key.Pool n) body shown = put_made (object_in body) pool_in _ (PutPool n
 put_may (key.Lease address) body shown = tt
 put_may (key.Held mac) body shown = tt
 put_may (key.Batch n) body shown = tt
+put_may (key.Hub n) body shown = tt
+put_may (key.PoolHub n) body shown = tt
+put_may (key.DevicePool n) body shown = tt
+put_may (key.Device address) body shown = tt
 
 delete_may : (row : Key) (deletes named : Bool) → (deletes ≡ true → is_removable row ≡ true)
     → IfOk (cond (named && deletes) (Ok (Remove row)) (Err NoMethod)) MayBe

@@ -1,5 +1,5 @@
 -- The laws of one event: what it gives, the moment and the tables.
-use Rattle.std.proofs.Common.{◌≡◌, ◌≢◌, ℕ, ◌⊎◌, inl, inr, Bool, true, false, cond, Some, None, List, [], ◌++◌, codes, refl, sym, ap, ◌∙◌, subst}
+use Rattle.std.proofs.Common.{◌≡◌, ◌≢◌, ℕ, ◌⊎◌, inl, inr, Bool, true, false, cond, Option, Some, None, List, [], ◌++◌, codes, refl, sym, ap, ◌∙◌, subst}
 use Rattle.std.specs.Ordering.{nat_cmp, eq_by_cmp}
 use Rattle.std.specs.Cmp.{nat_cmp_total}
 use Rattle.off_defs.proofs.EntryLemmas.{is_equal}
@@ -29,9 +29,10 @@ use Rattle.off_transfer_rules.specs.declared.ticks.Ticked.{Ticked}
 use Rattle.off_transfer_laws.proofs.StepLaws.{step_is_one, others_stay}
 use Rattle.off_transfer_laws.proofs.TickLaws.{tick_is_one}
 use Rattle.off_book.specs.Tftp.{TftpDid, TickDid, transfers_effect, tftp_said, tick_said}
-use Rattle.off_book.specs.Dhcp.{DhcpDid}
+use Rattle.off_book.specs.Dhcp.{DatagramDid}
+use Rattle.off_query_rules.specs.Asked.{query_of}
 use Rattle.off_defs.specs.declared.orders.Write.{Write}
-use Rattle.off_laws.specs.Laws.{OneResult, MomentIsGreatest, TablesByCommit, ChangesItsPart}
+use Rattle.off_laws.specs.Laws.{OneResult, MomentIsGreatest, TablesByCommit, ChangesItsPart, QueriesChangeNothing}
 use Rattle.off_laws.proofs.Answers.{WritesNothingOrDone, request_writes, request_good}
 use Rattle.off_laws.proofs.Ways.{Way, stays, serves, forgets, hears, answers, messages, way}
 
@@ -55,8 +56,12 @@ tick_one s one other p q =
     ∙ (ap (λ (x : List Sent). transfers_effect s q.transfers (tick_said x p.ticked)) same.items_sent
     ∙ (ap (λ (x : Ticked). transfers_effect s q.transfers (tick_said q.items x)) same.counts ∙ sym q.does)))
 
+datagram_one : (s : State) (bytes : List ℕ) (one other : Effect) (query : Option (List ℕ)) → DatagramDid s bytes one query → DatagramDid s bytes other query → one ≡ other
+datagram_one s bytes one other (Some q) p r = p ∙ sym r
+datagram_one s bytes one other None p r = p ∙ sym r
+
 does_one : (s : State) (what : What) (outcome : Outcome) (one other : Effect) → Does s what outcome one → Does s what outcome other → one ≡ other
-does_one s (Datagram Dhcp from bytes) Did one other p q = p ∙ sym q
+does_one s (Datagram Dhcp from bytes) Did one other p q = datagram_one s bytes one other (query_of bytes) p q
 does_one s (Datagram Dhcp from bytes) Memory one other p q = p ∙ sym q
 does_one s (Datagram Dhcp from bytes) Keeper one other p q = p ∙ sym q
 does_one s (Datagram Time from bytes) Did one other p q = p ∙ sym q
@@ -165,8 +170,10 @@ acting_writes : (acting : Bool) (w : List Write) → (acting ≡ false → w ≡
 acting_writes true w none = inr refl
 acting_writes false w none = inl (none refl)
 
-message_part : (s : State) (bytes : List ℕ) (effect : Effect) → DhcpDid s bytes effect → Changes (by_message bytes) s effect
-message_part s bytes effect did = subst (λ (e : Effect). Changes (by_message bytes) s e) (sym did) (record {
+message_part : (s : State) (bytes : List ℕ) (effect : Effect) (query : Option (List ℕ)) → DatagramDid s bytes effect query → Changes (by_message bytes) s effect
+message_part s bytes effect (Some q) did =
+    subst (λ (e : Effect). Changes (by_message bytes) s e) (sym did) (record { commit = inl refl; connections = refl; transfers = refl })
+message_part s bytes effect None did = subst (λ (e : Effect). Changes (by_message bytes) s e) (sym did) (record {
   commit = acting_writes (acts (dhcp_step s.tables s.held.now bytes).word) (dhcp_step s.tables s.held.now bytes).writes (datagram_refused s.tables s.held.now bytes);
   connections = refl;
   transfers = refl;
@@ -195,7 +202,7 @@ tick_part s effect did = record {
 }
 
 does_part : (s : State) (what : What) (outcome : Outcome) (effect : Effect) → Does s what outcome effect → Changes (part_of what outcome) s effect
-does_part s (Datagram Dhcp from bytes) Did effect p = message_part s bytes effect p
+does_part s (Datagram Dhcp from bytes) Did effect p = message_part s bytes effect (query_of bytes) p
 does_part s (Datagram Dhcp from bytes) Memory effect p = quiet_part s effect (after_of effect _ p) (commit_of effect _ p)
 does_part s (Datagram Dhcp from bytes) Keeper effect p = quiet_part s effect (after_of effect _ p) (commit_of effect _ p)
 does_part s (Datagram Time from bytes) Did effect p = quiet_part s effect (after_of effect _ p) (commit_of effect _ p)
@@ -220,6 +227,20 @@ does_part s End Keeper effect p = absurd p
 pub changes_its_part : ChangesItsPart
 unfolding Step
 changes_its_part s event outcome effect p = does_part (at_moment s event.at.0) event.what outcome effect p
+
+-- a query changes nothing
+does_nothing : (s : State) (from : Peer) (bytes query : List ℕ) (outcome : Outcome) (effect : Effect) → Does s (Datagram Dhcp from bytes) outcome effect → query_of bytes ≡ Some query
+    → (effect.commit ≡ []) × (effect.after ≡ s)
+does_nothing s from bytes query Did effect p asks =
+    let did = subst (DatagramDid s bytes effect) asks p in
+    (commit_of effect _ did, after_of effect _ did)
+does_nothing s from bytes query Memory effect p asks = (commit_of effect _ p, after_of effect _ p)
+does_nothing s from bytes query Keeper effect p asks = (commit_of effect _ p, after_of effect _ p)
+
+pub queries_change_nothing : QueriesChangeNothing
+unfolding Step
+queries_change_nothing s event outcome effect from bytes query p came asks =
+    does_nothing (at_moment s event.at.0) from bytes query outcome effect (subst (λ (what : What). Does (at_moment s event.at.0) what outcome effect) came p) asks
 
 -- good tables stay good
 way_good : (s : State) (what : What) (outcome : Outcome) (effect : Effect) → Way s what outcome effect → Good s.tables → Good effect.after.tables

@@ -1,7 +1,7 @@
 -- What an event makes of the state, in six ways: it stays, its transfers change, it forgets a connection, it hears more of one, it does what a
 -- clerk asked, or what a client's message asks. What a law says of the states alone goes by these six. A service that is built changes lines of `way`, and of the two laws that go
 -- through the cases of a step themselves: that an event gives one thing, and what its line says.
-use Rattle.std.proofs.Common.{◌≡◌, ℕ, Bool, true, false, List, [], ◌++◌, refl, ap}
+use Rattle.std.proofs.Common.{◌≡◌, ℕ, Bool, true, false, List, [], ◌++◌, Option, Some, None, refl, ap}
 use Rattle.off_defs.specs.declared.events.Service.TheVariants.{Dhcp, Time, Tftp}
 use Rattle.off_defs.specs.declared.events.What.{What}
 use Rattle.off_defs.specs.declared.events.What.TheVariants.{Datagram, Piece, Closed, Tick, End}
@@ -11,7 +11,8 @@ use Rattle.off_base.specs.declared.addresses.Peer.{Peer}
 use Rattle.off_defs.specs.State.{State, Effect}
 use Rattle.off_http.specs.Request.{Meaning, Waits, Refused, Asked}
 use Rattle.off_book.specs.Http.{heard_of, with_connection, close_connection, answer_request, answered, by_meaning, is_full, TakesPiece}
-use Rattle.off_book.specs.Dhcp.{DhcpDid}
+use Rattle.off_book.specs.Dhcp.{LeaseDid, DatagramDid}
+use Rattle.off_query_rules.specs.Asked.{query_of}
 use Rattle.off_transfer_rules.specs.Transfers.{Transfers}
 use Rattle.off_book.specs.Tftp.{with_transfers}
 use Rattle.off_book.specs.Step.{Does}
@@ -26,7 +27,7 @@ pub data Way (s : State) (what : What) (outcome : Outcome) (effect : Effect) : T
   hears : (conn : ℕ) (bytes : List ℕ) → is_full s.held.connections conn ≡ false → effect.after ≡ hear s conn bytes → effect.commit ≡ [] → Way s what outcome effect
   answers : (conn : ℕ) (piece method target body : List ℕ) → what ≡ Piece conn piece → outcome ≡ Did
       → effect ≡ answered s conn (answer_request s.tables s.held.now method target body) → Way s what outcome effect
-  messages : (from : Peer) (bytes : List ℕ) → what ≡ Datagram Dhcp from bytes → outcome ≡ Did → DhcpDid s bytes effect → Way s what outcome effect
+  messages : (from : Peer) (bytes : List ℕ) → what ≡ Datagram Dhcp from bytes → outcome ≡ Did → LeaseDid s bytes effect → Way s what outcome effect
 
 after_is : (one other : Effect) → one ≡ other → one.after ≡ other.after
 after_is one other is = ap (λ (e : Effect). e.after) is
@@ -45,8 +46,12 @@ piece_way : (s : State) (conn : ℕ) (piece : List ℕ) (effect : Effect) (full 
 piece_way s conn piece effect true full takes = stays (after_is effect _ takes) (commit_is effect _ takes)
 piece_way s conn piece effect false room takes = meaning_way s conn piece (heard_of s.held conn ++ piece) effect takes.meaning room takes.does
 
+datagram_way : (s : State) (from : Peer) (bytes : List ℕ) (effect : Effect) (query : Option (List ℕ)) → DatagramDid s bytes effect query → Way s (Datagram Dhcp from bytes) Did effect
+datagram_way s from bytes effect (Some q) p = stays (after_is effect _ p) (commit_is effect _ p)
+datagram_way s from bytes effect None p = messages from bytes refl refl p
+
 pub way : (s : State) (what : What) (outcome : Outcome) (effect : Effect) → Does s what outcome effect → Way s what outcome effect
-way s (Datagram Dhcp from bytes) Did effect p = messages from bytes refl refl p
+way s (Datagram Dhcp from bytes) Did effect p = datagram_way s from bytes effect (query_of bytes) p
 way s (Datagram Dhcp from bytes) Memory effect p = stays (after_is effect _ p) (commit_is effect _ p)
 way s (Datagram Dhcp from bytes) Keeper effect p = stays (after_is effect _ p) (commit_is effect _ p)
 way s (Datagram Time from bytes) Did effect p = stays (after_is effect _ p) (commit_is effect _ p)

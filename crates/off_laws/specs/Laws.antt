@@ -1,8 +1,10 @@
 -- Laws of events and of runs.
-use Rattle.std.specs.Prelude.{◌≡◌, ◌≤◌, max, ℕ, Bool, true, false, IsTrue, List, [], ◌++◌, ◌+◌, length, All, codes, ◌↔◌, count_by, None}
+use Rattle.std.specs.Prelude.{◌≡◌, ◌≤◌, max, ℕ, Bool, true, false, IsTrue, List, [], ◌++◌, ◌+◌, length, All, codes, ◌↔◌, count_by, Some, None}
 use Rattle.std.specs.List.{list_any}
 use Rattle.std.specs.FinMap as map
+use Rattle.off_base.specs.declared.addresses.Peer.{Peer}
 use Rattle.off_defs.specs.declared.events.Event.{Event}
+use Rattle.off_defs.specs.declared.events.Service.TheVariants.{Dhcp}
 use Rattle.off_defs.specs.declared.events.What.{What}
 use Rattle.off_defs.specs.declared.events.What.TheVariants.{Datagram as Came, Piece, Closed, Tick, End}
 use Rattle.off_defs.specs.declared.results.Outcome.{Outcome}
@@ -12,6 +14,7 @@ use Rattle.off_defs.specs.declared.results.Sent.TheVariants.{Datagram, Answer, C
 use Rattle.off_defs.specs.State.{Tables, State, Effect, start, at_moment}
 use Rattle.off_defs.specs.Tables.{write_all}
 use Rattle.off_account_rules.specs.Good.{Good}
+use Rattle.off_query_rules.specs.Asked.{query_of}
 use Rattle.off_book.specs.Http.{most_connections, heard_of}
 use Rattle.off_book.specs.Step.{Step, service_word}
 use Rattle.off_book.specs.Run.{Turn, Run, tables_after, moment_after, commits_by}
@@ -94,6 +97,14 @@ abbrev pub ChangesItsPart : Type 0
 ChangesItsPart =
     (s : State) (event : Event) (outcome : Outcome) (effect : Effect) → Step s event outcome effect
     → Changes (part_of event.what outcome) (at_moment s event.at.0) effect
+
+-- A relay's query changes nothing of the office: its turn commits nothing, and leaves all as it was.
+abbrev pub QueriesChangeNothing : Type 0
+QueriesChangeNothing =
+    (s : State) (event : Event) (outcome : Outcome) (effect : Effect) (from : Peer)
+    (bytes query : List ℕ) → Step s event outcome effect
+    → event.what ≡ Came Dhcp from bytes → query_of bytes ≡ Some query
+    → (effect.commit ≡ []) × (effect.after ≡ at_moment s event.at.0)
 
 -- an answer; and what ends a connection, an answer or a close
 abbrev pub is_answer : Sent → Bool

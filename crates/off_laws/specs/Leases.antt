@@ -1,6 +1,6 @@
 -- Laws of leases over whole runs. The states of a run are those at its places, and up to each place
 -- a run is a run: so what holds at the end of every run holds in every state of a run.
-use Rattle.std.specs.Prelude.{◌≡◌, ◌⊎◌, ◌↔◌, ℕ, ◌<◌, max, true, IsTrue, List, [], ◌∷◌, ◌++◌, All, Option, Some, None, Ok, codes}
+use Rattle.std.specs.Prelude.{◌≡◌, ◌≢◌, ◌⊎◌, ◌↔◌, ℕ, ◌<◌, max, true, IsTrue, List, [], ◌∷◌, ◌++◌, All, Option, Some, None, Ok, codes}
 use Rattle.off_base.specs.declared.addresses.Ip4.{Ip4}
 use Rattle.off_base.specs.declared.addresses.Peer.{Peer}
 use Rattle.off_base.specs.declared.macs.Mac.{Mac}
@@ -31,7 +31,8 @@ use Rattle.off_lease_rules.specs.declared.words.DhcpWord.{DhcpWord}
 use Rattle.off_lease_laws.specs.Moves.{HoldersAgree}
 use Rattle.off_lease_laws.specs.Effects.{lease_until, bound_until}
 use Rattle.off_lease_laws.specs.Laws.{Standing, free, offered_to, bound_to, resting, standing}
-use Rattle.off_book.specs.Dhcp.{dhcp_line}
+use Rattle.off_query_rules.specs.declared.words.QueryWord.{QueryWord}
+use Rattle.off_book.specs.Dhcp.{dhcp_line, query_line}
 use Rattle.off_book.specs.Run.{Turn, Run}
 
 -- ---- in every state
@@ -117,6 +118,10 @@ ImportsKeepLeases = (tables : Tables) (now : ℕ) (kind : ImportKind) (batch : �
 -- a line of a DHCP datagram has one word
 abbrev pub LinesTellWords : Type 0
 LinesTellWords = (one other : DhcpWord) → dhcp_line one ≡ dhcp_line other → one ≡ other
+
+-- and no word of a query has a line of a message
+abbrev pub QueriesSayNone : Type 0
+QueriesSayNone = (word : QueryWord) (other : DhcpWord) → query_line word ≢ dhcp_line other
 
 -- ---- what is offered or bound stays so
 

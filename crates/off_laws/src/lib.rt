@@ -7,13 +7,14 @@ mod leases;
 ghost use Rattle.off_laws.specs.Laws.{OneResult, SomeResult, OneEnd, LineTellsOutcome};
 ghost use Rattle.off_laws.specs.Laws.{MomentIsGreatest};
 ghost use Rattle.off_laws.specs.Laws.{MomentNeverFalls, RunKeepsGood, TablesByCommit, RunTells};
-ghost use Rattle.off_laws.specs.Laws.{OneCommit, ChangesItsPart, AnsweredOnce, FewAreLive};
+ghost use Rattle.off_laws.specs.Laws.{OneCommit, ChangesItsPart, QueriesChangeNothing};
+ghost use Rattle.off_laws.specs.Laws.{AnsweredOnce, FewAreLive};
 
 pub use leases::{
     a_command_drops_only_ended_leases, a_command_keeps_live_leases, a_line_tells_its_word,
-    a_run_has_a_state_at_each_place, an_acknowledged_address_is_the_clients,
-    an_import_keeps_all_leases, leases_stay_right, what_is_bound_stays_bound,
-    what_is_offered_or_bound_stays_so,
+    a_querys_line_is_no_messages, a_run_has_a_state_at_each_place,
+    an_acknowledged_address_is_the_clients, an_import_keeps_all_leases, leases_stay_right,
+    what_is_bound_stays_bound, what_is_offered_or_bound_stays_so,
 };
 use off_http::some_answer;
 
@@ -77,6 +78,12 @@ pub fn a_turn_makes_one_commit_at_most()
 /// message whose word is one of those that act.
 pub fn an_event_changes_its_part()
     ensures { ChangesItsPart }
+{}
+
+/// A relay's query changes nothing: its turn commits nothing, and the state behind it is the one
+/// before it, but for the moment.
+pub fn a_query_changes_nothing()
+    ensures { QueriesChangeNothing }
 {}
 
 /// A piece of a clerk's connection is answered once at most, and once it is answered, or its

@@ -1,5 +1,5 @@
 -- A datagram to the DHCP port, from what its message does to the step of the book.
-use Rattle.std.proofs.Common.{◌≡◌, ℕ, arith, inl, true, false, List, [], codes, Result, Ok, Err, OnOk, MatchResult, refl, sym, ap, ◌∙◌, subst, append-nil}
+use Rattle.std.proofs.Common.{◌≡◌, ℕ, arith, inl, true, false, List, [], codes, Option, None, Result, Ok, Err, OnOk, MatchResult, refl, sym, ap, ◌∙◌, subst, append-nil}
 use Rattle.off_base.specs.declared.addresses.Peer.{Peer}
 use Rattle.off_dhcp.specs.Datagram.{Received, message_of}
 use Rattle.off_dhcp.specs.declared.faults.DhcpFault.{DhcpFault}
@@ -9,7 +9,7 @@ use Rattle.off_defs.specs.declared.events.What.TheVariants.{Datagram}
 use Rattle.off_defs.specs.declared.orders.Write.{Write}
 use Rattle.off_defs.specs.declared.results.Outcome.{Outcome}
 use Rattle.off_defs.specs.declared.results.Outcome.TheVariants.{Did, Memory, Keeper}
-use Rattle.off_defs.specs.State.{Tables, Said, Held, state_of}
+use Rattle.off_defs.specs.State.{Tables, State, Said, Held, Effect, state_of}
 use Rattle.off_account_rules.specs.declared.counts.Counts.{Counts}
 use Rattle.off_account_rules.specs.Rows.{counts_of}
 use Rattle.off_defs.specs.Tables.{write_all}
@@ -18,7 +18,8 @@ use Rattle.off_lease_rules.specs.declared.results.LeaseStep.{LeaseStep}
 use Rattle.off_lease_rules.specs.Words.{unread}
 use Rattle.off_lease_rules.specs.Steps.{lease_step, step_of, dhcp_step}
 use Rattle.off_lease_laws.proofs.LawLemmas.{datagrams_leave_fit}
-use Rattle.off_book.specs.Dhcp.{dhcp_line, dhcp_said, dhcp_effect}
+use Rattle.off_query_rules.specs.Asked.{query_of}
+use Rattle.off_book.specs.Dhcp.{LeaseDid, DatagramDid, DhcpDid, dhcp_line, dhcp_said, dhcp_effect}
 use Rattle.off_book.specs.Step.{completed}
 use Rattle.off_laws.proofs.Lines.{message_tells}
 use Rattle.off_outside.specs.declared.keeper.KeepErr.{KeepErr}
@@ -31,7 +32,7 @@ use Rattle.off_office.specs.Desk.{Desk}
 use Rattle.off_office.specs.Conditions.{Mirrors, Follows}
 use Rattle.off_office.proofs.MirrorLemmas.{follows_mirrors}
 use Rattle.off_office.specs.Acting.{Handled, DoingBegins, effect_of}
-use Rattle.off_office.specs.Asking.{commit_calls, message_asks}
+use Rattle.off_office.specs.Asking.{commit_calls, dhcp_asks, message_asks}
 use Rattle.off_kept.proofs.RightLemmas.{nothing_written}
 use Rattle.off_office.specs.Answering.{failed_said}
 use Rattle.off_office.specs.Leasing.{DidMessage, MessageBegins, ServesMessage, DidStep, FailsMessage}
@@ -116,7 +117,7 @@ counts_stay : (desk : Desk) (bytes : List ℕ) (now : ℕ) (commit : List Write)
 counts_stay desk bytes now commit t is mirrors =
     mirrors.counts ∙ sym (datagrams_leave_fit t now bytes (write_all t commit) _ _ (record { tables_after = is; sent = refl; said = refl })).counts
 
-said_nothing_more : (from : Peer) (bytes : List ℕ) (said : Said) → completed (Datagram Dhcp from bytes) Did said ≡ said
+pub said_nothing_more : (from : Peer) (bytes : List ℕ) (said : Said) → completed (Datagram Dhcp from bytes) Did said ≡ said
 said_nothing_more from bytes said = ap (λ items. record said { items = items }) (append-nil said.items)
 
 -- the parts of what a datagram did, as one effect
@@ -133,17 +134,25 @@ held_effect : (from : Peer) (bytes : List ℕ) (said : Said) (commit : List Writ
     → effect_of (Datagram Dhcp from bytes) Did said commit (state_of u after.held) ≡ effect_of (Datagram Dhcp from bytes) Did said commit (state_of u desk.held)
 held_effect from bytes said commit desk after u same = ap (λ (h : Held). effect_of (Datagram Dhcp from bytes) Did said commit (state_of u h)) same
 
-pub message_handled : (from : Peer) (bytes : List ℕ) (said : Said) (before after : Desk) (a b : KeeperSeen)
+-- a datagram that is no query is taken as a message
+as_message : (s : State) (bytes : List ℕ) (effect : Effect) → query_of bytes ≡ None → LeaseDid s bytes effect → DhcpDid s bytes effect
+as_message s bytes effect none did = subst (DatagramDid s bytes effect) (sym none) did
+
+asks_as_message : (bytes : List ℕ) (a b : KeeperSeen) → query_of bytes ≡ None → Spent (message_asks (message_of bytes)) a b → Spent (dhcp_asks (query_of bytes) (message_of bytes)) a b
+asks_as_message bytes a b none spent = subst (λ (asked : Option (List ℕ)). Spent (dhcp_asks asked (message_of bytes)) a b) (sym none) spent
+
+pub message_handled : (from : Peer) (bytes : List ℕ) (said : Said) (before after : Desk) (a b : KeeperSeen) → query_of bytes ≡ None
     → DidMessage (message_of bytes) before after said a b → Spent (message_asks (message_of bytes)) a b
     → Handled (Datagram Dhcp from bytes) Did said before after a b
 unfolding dhcp_step
-message_handled from bytes said before after a b did spent = record {
+message_handled from bytes said before after a b none did spent = record {
   commit = did.commit;
   tables = told_weaker did.tables (λ t u f. record {
     holds = λ mirrors.
         let is = f.1 mirrors in
-        held_effect from bytes said did.commit before after u did.follows.held
-        ∙ did_effect from bytes said did.commit before t u (step_of t before.held.now (message_of bytes)) is.0 is.1 f.0;
+        as_message (state_of t before.held) bytes _ none
+        (held_effect from bytes said did.commit before after u did.follows.held
+        ∙ did_effect from bytes said did.commit before t u (step_of t before.held.now (message_of bytes)) is.0 is.1 f.0);
     stays = λ fits.
         let is = f.1 fits.mirrors in
         follows_mirrors before after before.counts did.commit t u did.follows
@@ -155,7 +164,7 @@ message_handled from bytes said before after a b did spent = record {
   up = λ up. inl (did.settled.up up);
   faults = did.settled.faults;
   commits = did.settled.commits;
-  asks = spent;
+  asks = asks_as_message bytes a b none spent;
   crash = did.settled.crash;
   doubts = did.settled.doubts;
   tells = message_tells from bytes did.word said.line did.says;
@@ -166,33 +175,44 @@ message_handled from bytes said before after a b did spent = record {
 }
 
 -- the tables that a datagram would leave are those of its step
-message_begins : (from : Peer) (bytes : List ℕ) (desk : Desk) (t u : Tables) → MessageBegins (message_of bytes) desk t u
+message_begins : (from : Peer) (bytes : List ℕ) (desk : Desk) (t u : Tables) → query_of bytes ≡ None → MessageBegins (message_of bytes) desk t u
     → DoingBegins (Datagram Dhcp from bytes) desk t u
 unfolding dhcp_step
-message_begins from bytes desk t u is mirrors =
-    (dhcp_effect (state_of t desk.held) (step_of t desk.held.now (message_of bytes)), (refl, is mirrors))
+message_begins from bytes desk t u none is mirrors =
+    let effect = dhcp_effect (state_of t desk.held) (step_of t desk.held.now (message_of bytes)) in
+    (effect, (as_message (state_of t desk.held) bytes effect none refl, is mirrors))
 
 memory_told : (from : Peer) (bytes : List ℕ) (said : Said) (desk : Desk) (a b : KeeperSeen)
-    → NotCommitted (DoingBegins (Datagram Dhcp from bytes) desk) keep.Memory a b → Spent (message_asks (message_of bytes)) a b
+    → NotCommitted (DoingBegins (Datagram Dhcp from bytes) desk) keep.Memory a b → Spent (dhcp_asks (query_of bytes) (message_of bytes)) a b
     → said ≡ failed_said (codes "dhcp memory") → Handled (Datagram Dhcp from bytes) Memory said desk desk a b
 memory_told from bytes said desk a b not spent is =
     memory_leaves (Datagram Dhcp from bytes) (codes "dhcp memory") said desk a b refl refl refl (λ t. refl) not spent tt is
 
 keeper_told : (from : Peer) (bytes : List ℕ) (said : Said) (desk : Desk) (a b : KeeperSeen)
-    → NotCommitted (DoingBegins (Datagram Dhcp from bytes) desk) keep.Failed a b → Spent (message_asks (message_of bytes)) a b
+    → NotCommitted (DoingBegins (Datagram Dhcp from bytes) desk) keep.Failed a b → Spent (dhcp_asks (query_of bytes) (message_of bytes)) a b
     → said ≡ failed_said (codes "dhcp keeper") → Handled (Datagram Dhcp from bytes) Keeper said desk desk a b
 keeper_told from bytes said desk a b not spent is =
     keeper_leaves (Datagram Dhcp from bytes) (codes "dhcp keeper") said desk a b refl refl refl (λ t. refl) not spent tt is
 
-pub message_failed : (from : Peer) (bytes : List ℕ) (err : KeepErr) (outcome : Outcome) (said : Said) (desk : Desk) (a b : KeeperSeen)
+pub undone_told : (from : Peer) (bytes : List ℕ) (err : KeepErr) (outcome : Outcome) (said : Said) (desk : Desk) (a b : KeeperSeen)
+    → NotCommitted (DoingBegins (Datagram Dhcp from bytes) desk) err a b → Spent (dhcp_asks (query_of bytes) (message_of bytes)) a b
+    → FailsMessage err outcome said → Handled (Datagram Dhcp from bytes) outcome said desk desk a b
+undone_told from bytes keep.Memory outcome said desk a b not spent is =
+    subst (λ (o : Outcome). Handled (Datagram Dhcp from bytes) o said desk desk a b) (sym is.0) (memory_told from bytes said desk a b not spent is.1)
+undone_told from bytes keep.Failed outcome said desk a b not spent is =
+    subst (λ (o : Outcome). Handled (Datagram Dhcp from bytes) o said desk desk a b) (sym is.0) (keeper_told from bytes said desk a b not spent is.1)
+
+begun_as : (err : KeepErr) (P Q : Tables → Tables → Type 0) (a b : KeeperSeen) → ((t u : Tables) → P t u → Q t u) → NotCommitted P err a b → NotCommitted Q err a b
+begun_as keep.Memory P Q a b more not = not_committed_as not (λ t told u begun. begun)
+begun_as keep.Failed P Q a b more not = not_committed_as not (λ t told u begun. more t u begun)
+
+pub message_failed : (from : Peer) (bytes : List ℕ) (err : KeepErr) (outcome : Outcome) (said : Said) (desk : Desk) (a b : KeeperSeen) → query_of bytes ≡ None
     → NotCommitted (MessageBegins (message_of bytes) desk) err a b → Spent (message_asks (message_of bytes)) a b
     → FailsMessage err outcome said → Handled (Datagram Dhcp from bytes) outcome said desk desk a b
-message_failed from bytes keep.Memory outcome said desk a b not spent is =
-    subst (λ (o : Outcome). Handled (Datagram Dhcp from bytes) o said desk desk a b) (sym is.0)
-    (memory_told from bytes said desk a b (not_committed_as not (λ t told u begun. message_begins from bytes desk t u begun)) spent is.1)
-message_failed from bytes keep.Failed outcome said desk a b not spent is =
-    subst (λ (o : Outcome). Handled (Datagram Dhcp from bytes) o said desk desk a b) (sym is.0)
-    (keeper_told from bytes said desk a b (not_committed_as not (λ t told u begun. message_begins from bytes desk t u begun)) spent is.1)
+message_failed from bytes err outcome said desk a b none not spent is =
+    undone_told from bytes err outcome said desk a b
+    (begun_as err (MessageBegins (message_of bytes) desk) (DoingBegins (Datagram Dhcp from bytes) desk) a b (λ t u begun. message_begins from bytes desk t u none begun) not)
+    (asks_as_message bytes a b none spent) is
 
 -- where it couldn't be acted on the office is as before
 pub same_desk : (from : Peer) (bytes : List ℕ) (outcome : Outcome) (said : Said) (before after : Desk) (a b : KeeperSeen) → after ≡ before

@@ -1,5 +1,6 @@
 pub mod StepLemmas
 pub mod LeaseLemmas
+pub mod QueryLemmas
 pub mod TransferLemmas
 pub mod ConnectionLemmas
 pub mod CommandLemmas

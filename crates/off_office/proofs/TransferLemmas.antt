@@ -36,7 +36,7 @@ use Rattle.off_users.proofs.KeptLemmas.{stands_known}
 use Rattle.off_opening.specs.Standing.{Opens}
 use Rattle.off_opening.specs.declared.opening.Opening.TheVariants as Opening
 use Rattle.off_office.specs.Desk.{Desk}
-use Rattle.off_office.specs.Conditions.{Fits, Begun}
+use Rattle.off_office.specs.Conditions.{Opened, Begun}
 use Rattle.off_office.specs.Acting.{Handled, DoesOn, NotStarted, effect_of}
 use Rattle.off_office.specs.Answering.{failed_said}
 use Rattle.off_office.specs.Transferring.{moved, moved_with, MovesTransfers, DidPacket, SaysPacket, FailsPacket, DidTick, MissedTick, TakesTick}
@@ -69,12 +69,14 @@ started_empty (Err err) counts users pools is = tt
 -- good tables that were counted, and then read for what is kept of them
 pub opened : (q : Result Desk StartErr) (counts : Counts) (users : UsersHeld) (a b c : KeeperSeen) → Reads (λ t. Opens t (Opening.Good counts users)) a b
     → MatchResult q (λ (office : Desk). Reads (Begun office counts users) b c) (λ (err : StartErr). NotStarted err b c)
-    → MatchResult q (λ (office : Desk). Reads (Fits office) a c) (λ (err : StartErr). NotStarted err a c)
+    → MatchResult q (λ (office : Desk). Opened office a c) (λ (err : StartErr). NotStarted err a c)
 opened (Ok office) counts users a b c good begun =
-    reads_then good begun (λ t opens is. record {
-      good = opens.0;
-      mirrors = record { counts = is.counts_are ∙ opens.1; kept = is.kept; pools = is.pools; users = is.users opens.2 };
-    })
+    record {
+      reads = reads_then good begun (λ t opens is. record {
+        good = opens.0;
+        mirrors = record { counts = is.counts_are ∙ opens.1; kept = is.kept; pools = is.pools; users = is.users opens.2 };
+      });
+    }
 opened (Err (start.Bad key)) counts users a b c good not = reads_then good not (λ t opens bad. bad)
 opened (Err start.Failed) counts users a b c good not = failed_then good not
 opened (Err start.Memory) counts users a b c good not = failed_then good not

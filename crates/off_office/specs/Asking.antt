@@ -1,5 +1,5 @@
 -- How many calls of the keeper an event asks at most.
-use Rattle.std.specs.Prelude.{ℕ, ◌+◌, Bool, true, false, List, [], ◌∷◌, ◌++◌, Option, Some, option_map, IfSome, Result, Ok, Err}
+use Rattle.std.specs.Prelude.{ℕ, ◌+◌, Bool, true, false, List, [], ◌∷◌, ◌++◌, Option, Some, None, option_map, IfSome, Result, Ok, Err}
 use Rattle.off_base.specs.declared.addresses.Peer.{Peer}
 use Rattle.off_http.specs.Request.{Meaning, Waits, Refused, Asked, RequestIs}
 use Rattle.off_defs.specs.declared.orders.Command.{Command}
@@ -11,7 +11,9 @@ use Rattle.off_defs.specs.declared.events.What.TheVariants.{Datagram, Piece, Clo
 use Rattle.off_defs.specs.State.{Held}
 use Rattle.off_dhcp.specs.Datagram.{Received, message_of}
 use Rattle.off_dhcp.specs.declared.faults.DhcpFault.{DhcpFault}
+use Rattle.off_query_rules.specs.Asked.{query_of}
 use Rattle.off_lease.specs.Calls.{message_calls}
+use Rattle.off_query.specs.Calls.{query_calls}
 use Rattle.off_tftp.specs.Calls.{datagram_calls}
 use Rattle.off_clerk_rules.specs.declared.faults.ClerkErr.{ClerkErr}
 use Rattle.off_clerk_rules.specs.Commands.{command_read}
@@ -70,8 +72,14 @@ abbrev pub message_asks : Result Received DhcpFault → ℕ
 message_asks (Ok m) = message_calls m + 1
 message_asks (Err fault) = 0
 
+-- a query asks what answering it does
+abbrev pub dhcp_asks : Option (List ℕ) → Result Received DhcpFault → ℕ
+dhcp_asks (Some query) read = query_calls query
+dhcp_asks None read = message_asks read
+
 abbrev pub Asks : What → Held → KeeperSeen → KeeperSeen → Type 0
-Asks (Datagram Dhcp from bytes) held old new = Spent (message_asks (message_of bytes)) old new
+Asks (Datagram Dhcp from bytes) held old new =
+    Spent (dhcp_asks (query_of bytes) (message_of bytes)) old new
 Asks (Datagram Time from bytes) held old new = Spent 0 old new
 Asks (Datagram Tftp from bytes) held old new =
     Spent (datagram_calls held.transfers from bytes) old new

@@ -13,6 +13,8 @@ use Rattle.off_runs.specs.Held.{PoolHeld, KeepsPools}
 use Rattle.off_runs.specs.Leases.{ground}
 use Rattle.off_users.specs.Users.{UsersHeld, StandsFor}
 use Rattle.off_users.specs.Kept.{NamedMap, Knows}
+use Rattle.off_outside.specs.KeeperSeen.{KeeperSeen}
+use Rattle.off_outside.specs.KeeperCalls.{Reads}
 use Rattle.off_office.specs.Desk.{Desk}
 
 -- what an office keeps of the tables is what stands there: how many rows there are of each kind,
@@ -38,6 +40,11 @@ pub record Under (before after : Desk) (P : Tables → Tables → Type 0) (t u :
 pub record WhereFit (before after : Desk) (P : Tables → Tables → Type 0) (t u : Tables) : Type 0
   where
     pub holds : Fits before t → P t u × Fits after u
+
+-- An office that opened: the tables were read and stay as they were, and it fits them. What an
+-- opening comes to write is one more field here.
+pub record Opened (desk : Desk) (old new : KeeperSeen) : Type 0 where
+  pub reads : Reads (Fits desk) old new
 
 -- an office that begins over tables whose rows were counted, and whose modems name what is given
 pub record Begun (desk : Desk) (counts : Counts) (named : UsersHeld) (tables : Tables) : Type 0

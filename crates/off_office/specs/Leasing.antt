@@ -1,5 +1,5 @@
 -- What comes of a datagram to the DHCP port.
-use Rattle.std.specs.Prelude.{◌≡◌, List, codes, Result, MatchResult}
+use Rattle.std.specs.Prelude.{◌≡◌, ℕ, List, codes, Option, Some, None, Result, MatchResult}
 use Rattle.off_dhcp.specs.Datagram.{Received}
 use Rattle.off_dhcp.specs.declared.faults.DhcpFault.{DhcpFault}
 use Rattle.off_defs.specs.declared.orders.Write.{Write}
@@ -19,6 +19,7 @@ use Rattle.off_outside.specs.KeeperCalls.{IsWritten, Settled, NotCommitted}
 use Rattle.off_office.specs.Desk.{Desk}
 use Rattle.off_office.specs.Conditions.{Mirrors, Follows}
 use Rattle.off_office.specs.Answering.{failed_said}
+use Rattle.off_office.specs.Querying.{ServesQuery}
 
 -- what was read of it is done and said at a moment, as the book has it where the office mirrors the
 -- tables
@@ -46,6 +47,14 @@ abbrev pub ServesMessage : Result (Unit {0}) KeepErr → Result Received DhcpFau
 ServesMessage result read before after said old new =
     MatchResult result (λ _. DidMessage read before after said old new)
     (λ err. NotCommitted (MessageBegins read before) err old new)
+
+-- a datagram is a relay's query, or it's taken as a client's message
+abbrev pub ServesDatagram : Option (List ℕ) → Result (Unit {0}) KeepErr → Result Received DhcpFault
+    → Desk → Desk → Said → KeeperSeen → KeeperSeen → Type 0
+ServesDatagram (Some query) result read before after said old new =
+    ServesQuery result query before after said old new
+ServesDatagram None result read before after said old new =
+    ServesMessage result read before after said old new
 
 -- what a step says is in hand, and what it writes is committed
 pub record DidStep (step : LeaseStep) (before after : Desk) (said : Said) (old new : KeeperSeen)

@@ -4,6 +4,7 @@ pub mod Answering
 pub mod Connections
 pub mod Asking
 pub mod Saying
+pub mod Querying
 pub mod Leasing
 pub mod Transferring
 pub mod Acting

@@ -9,6 +9,7 @@ mod connections;
 mod messages;
 mod office;
 mod pieces;
+mod queries;
 mod sending;
 mod transfers;
 

@@ -1,12 +1,14 @@
-ghost use Rattle.std.specs.Prelude.{◌≡◌, OnOk, OnErr, Ok, MatchResult};
+ghost use Rattle.std.specs.Prelude.{◌≡◌, ◌≤◌, ◌++◌, codes, length, OnOk, OnErr, Ok};
+ghost use Rattle.std.specs.Prelude.{MatchResult};
 ghost use Rattle.off_defs.specs.State.{says_nothing};
 ghost use Rattle.off_dhcp.specs.Datagram.{message_of};
 ghost use Rattle.off_lease_rules.specs.Words.{unread};
+ghost use Rattle.off_query_rules.specs.Asked.{query_of};
 ghost use Rattle.off_book.specs.Dhcp.{dhcp_line, replies_of};
 ghost use Rattle.off_outside.specs.KeeperCalls.{IsWritten, NotCommitted, Spent};
 ghost use Rattle.off_office.specs.Acting.{Handled};
-ghost use Rattle.off_office.specs.Asking.{message_asks, commit_calls};
-ghost use Rattle.off_office.specs.Leasing.{ServesMessage, DidStep, FailsMessage};
+ghost use Rattle.off_office.specs.Asking.{dhcp_asks, message_asks, commit_calls};
+ghost use Rattle.off_office.specs.Leasing.{ServesDatagram, ServesMessage, DidStep, FailsMessage};
 
 use crate::office::Office;
 use arrayvec::ArrayVec;
@@ -14,6 +16,7 @@ use off_base::{NoMemory, Peer};
 use off_dhcp::{DhcpFault, Message};
 use off_lease::{DhcpWord, LeaseStep, answer};
 use off_outside::{KeepErr, Keeper, Outcome, Replies, Sent, Service, What};
+use off_query::Query;
 
 impl Office {
     // Takes a datagram to the DHCP port.
@@ -34,8 +37,28 @@ impl Office {
         }
     }
 
-    // Reads a datagram, does what its message asks, and says so; or says why it's no message.
+    // Answers a datagram that is a relay's query, and takes each other one as a client's message.
     fn serve_datagram<K: Keeper>(
+        &mut self,
+        keeper: &mut K,
+        bytes: &[u8],
+        out: &mut Replies,
+    ) -> Result<(), KeepErr>
+        requires { out.old ≡ says_nothing }
+        ensures told { ServesDatagram (query_of bytes.now) result (message_of bytes.now)
+            self.old self.new out.new (K.seen keeper.old) (K.seen keeper.new) }
+        ensures same { OnErr result (self.new ≡ self.old) }
+        ensures spent { Spent (dhcp_asks (query_of bytes.now) (message_of bytes.now))
+            (K.seen keeper.old) (K.seen keeper.new) }
+    {
+        match Query::read(bytes) {
+            Some(query) => self.serve_query(keeper, &query, out),
+            None => self.read_message(keeper, bytes, out),
+        }
+    }
+
+    // Reads a message, does what it asks, and says so; or says why it's no message.
+    fn read_message<K: Keeper>(
         &mut self,
         keeper: &mut K,
         bytes: &[u8],
@@ -104,16 +127,29 @@ impl Office {
     }
 }
 
-// Says a reply, where there is one, and the line.
+// Says what a step says.
 fn say_step(reply: Option<Sent>, word: DhcpWord, out: &mut Replies) -> Result<(), NoMemory>
     requires { out.old ≡ says_nothing }
     ensures { OnOk result (out.new
         ≡ record { items = replies_of reply; line = dhcp_line word }) }
 {
+    say_reply(reply, line_of(word).as_slice(), out)
+}
+
+// Says a reply, where there is one, and the line.
+pub(crate) fn say_reply(
+    reply: Option<Sent>,
+    line: &[u8],
+    out: &mut Replies,
+) -> Result<(), NoMemory>
+    requires silent { out.old ≡ says_nothing }
+    requires short { length line.now ≤ 80 }
+    ensures { OnOk result (out.new ≡ record { items = replies_of reply; line = line.now }) }
+{
     if let Some(reply) = reply {
         out.push(reply)?;
     }
-    out.set_line(line_of(word).as_slice());
+    out.set_line(line);
     Ok(())
 }
 
@@ -150,12 +186,20 @@ fn word_of(fault: DhcpFault) -> DhcpWord
     }
 }
 
-// The line of the log: the service and the word.
+// The line of a message.
 fn line_of(word: DhcpWord) -> ArrayVec<u8, 80>
     ensures { result.items ≡ dhcp_line word }
 {
+    line_with(word.text())
+}
+
+// The line of the log: the service and the word.
+pub(crate) fn line_with(word: &[u8]) -> ArrayVec<u8, 80>
+    requires { length word.now ≤ 16 }
+    ensures { result.items ≡ codes "dhcp " ++ word.now }
+{
     let mut line = ArrayVec::new();
     let _service = line.try_extend_from_slice(b"dhcp ");
-    let _word = line.try_extend_from_slice(word.text());
+    let _word = line.try_extend_from_slice(word);
     line
 }

@@ -5,7 +5,7 @@ ghost use Rattle.off_book.specs.Time.{time_answer};
 ghost use Rattle.off_outside.specs.KeeperCalls.{Reads};
 ghost use Rattle.off_office.specs.Acting.{Acts, Handled, NotStarted, desk_at};
 ghost use Rattle.off_office.specs.Acting.{forgets};
-ghost use Rattle.off_office.specs.Conditions.{Fits, Begun};
+ghost use Rattle.off_office.specs.Conditions.{Opened, Begun};
 ghost use Rattle.off_runs.specs.Reading.{Walks};
 ghost use Rattle.off_users.specs.Kept.{map_of};
 ghost use Rattle.off_office.specs.Saying.{SaysTime};
@@ -93,7 +93,7 @@ impl Office {
     /// They are walked once, and their pools and leases once more.
     pub fn start<K: Keeper>(alloc: Global, keeper: &mut K) -> Result<Office, StartErr>
         ensures told { MatchResult result
-            (λ office. Reads (Fits office) (K.seen keeper.old) (K.seen keeper.new))
+            (λ office. Opened office (K.seen keeper.old) (K.seen keeper.new))
             (λ err. NotStarted err (K.seen keeper.old) (K.seen keeper.new)) }
         ensures held { IfOk result (λ office. office.held ≡ held_at_start) }
         ensures kept { IfOk result (λ office. office.kept ≡ []) }

@@ -32,6 +32,8 @@ tied (key.Modem m) (row.Pool pool) = refl
 tied (key.Modem m) (row.Lease lease) = refl
 tied (key.Modem m) (row.Held address) = refl
 tied (key.Modem m) (row.Batch batch) = refl
+tied (key.Modem m) (row.PoolHub hub) = refl
+tied (key.Modem m) (row.Device lease) = refl
 tied _ r = refl
 
 all_tied : (es : List (Key × Row)) → filter_map named_mark (map mark_of es) ≡ named_in es

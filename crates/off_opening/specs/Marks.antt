@@ -28,6 +28,8 @@ tie_of (row.Pool pool) = tie.Pool pool
 tie_of (row.Lease lease) = tie.Lease (owner_of lease.hold)
 tie_of (row.Held address) = tie.Held address
 tie_of (row.Batch batch) = tie.Free
+tie_of (row.PoolHub hub) = tie.Free
+tie_of (row.Device lease) = tie.Free
 
 abbrev pub mark_of : Key × Row → Mark
 mark_of entry = record { key = entry.0; fits = is_possible entry.0 entry.1; tie = tie_of entry.1 }

@@ -41,6 +41,10 @@ tie_stands tables (key.Lease address) held = false
 tie_stands tables (key.Held mac) (tie.Held address) = owns tables mac address
 tie_stands tables (key.Held mac) held = false
 tie_stands tables (key.Batch n) held = true
+tie_stands tables (key.Hub n) held = false
+tie_stands tables (key.PoolHub n) held = false
+tie_stands tables (key.DevicePool n) held = false
+tie_stands tables (key.Device address) held = false
 
 -- the row of a mark keeps its line
 abbrev pub is_kept : Tables → Mark → Bool

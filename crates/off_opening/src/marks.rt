@@ -103,6 +103,7 @@ fn tie_of(row: &Row) -> Tie
         Row::Site(_) | Row::Subscriber(_) | Row::AddOn(_) | Row::Class(_) | Row::Batch(_) => {
             Tie::Free
         }
+        Row::PoolHub(_) | Row::Device(_) => Tie::Free,
     }
 }
 

@@ -46,6 +46,7 @@ fn stands_right(marks: &[Mark], pools: &[NumberedPool], mark: &Mark) -> bool
             Tie::Held(address) => owns(marks, mac, address),
             _ => false,
         },
+        Key::Hub(_) | Key::PoolHub(_) | Key::DevicePool(_) | Key::Device(_) => false,
     }
 }
 

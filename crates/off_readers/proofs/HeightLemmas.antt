@@ -11,7 +11,7 @@ use Rattle.std.specs.Cmp.Lexicographic.{slice_cmp}
 use Rattle.std.specs.declared.cmp.Ordering.{Ordering}
 use Rattle.std.specs.declared.cmp.Ordering.TheVariants.{Less, Equal, Greater}
 use Rattle.off_defs.specs.declared.keys.Key.{Key}
-use Rattle.off_defs.specs.declared.keys.Key.TheVariants.{Site, Subscriber, AddOn, Modem, Class, Pool, Lease, Held, Batch}
+use Rattle.off_defs.specs.declared.keys.Key.TheVariants.{Site, Subscriber, AddOn, Modem, Class, Pool, Lease, Held, Batch, Hub, PoolHub, DevicePool, Device}
 use Rattle.off_defs.specs.declared.tables.Row.{Row}
 use Rattle.off_defs.specs.Keys.{key_cmp}
 use Rattle.off_defs.specs.Tables.{is_after}
@@ -64,6 +64,10 @@ key_length (Pool n) r = omega arith
 key_length (Lease a) r = omega arith
 key_length (Held mac) r = omega arith
 key_length (Batch n) r = omega arith
+key_length (Hub n) r = omega arith
+key_length (PoolHub n) r = omega arith
+key_length (DevicePool n) r = omega arith
+key_length (Device a) r = omega arith
 
 -- the bytes of a number, and those of a hardware address
 number_bytes : (k n : ℕ) → All (λ byte. byte < 256) (bytes_high_first k n)
@@ -89,6 +93,10 @@ all_bytes (Pool n) p = kind_first 6 (to_be_bytes w32 n) (omega arith) (number_by
 all_bytes (Lease a) p = kind_first 7 (to_be_bytes w32 a.0) (omega arith) (number_bytes 4 a.0)
 all_bytes (Held mac) p = kind_first 8 mac.0 (omega arith) (mac_bytes mac.0 p.1)
 all_bytes (Batch n) p = kind_first 9 (to_be_bytes w64 n) (omega arith) (number_bytes 8 n)
+all_bytes (Hub n) p = kind_first 10 (to_be_bytes w32 n) (omega arith) (number_bytes 4 n)
+all_bytes (PoolHub n) p = kind_first 11 (to_be_bytes w32 n) (omega arith) (number_bytes 4 n)
+all_bytes (DevicePool n) p = kind_first 12 (to_be_bytes w32 n) (omega arith) (number_bytes 4 n)
+all_bytes (Device a) p = kind_first 13 (to_be_bytes w32 a.0) (omega arith) (number_bytes 4 a.0)
 
 key_rises : (a b : Key) → IsAKey a → IsAKey b → key_cmp a b ≡ Less → height 9 (key_bytes a) < height 9 (key_bytes b)
 key_rises a b p q e = height_rises 9 (key_bytes a) (key_bytes b) (key_length b q.0) (all_bytes a p) (ordered_as_bytes a b p.0 q.0 ∙ e)

@@ -5,7 +5,7 @@ use Rattle.std.specs.List.{filter_map, cons_option}
 use Rattle.std.specs.Ordering.{is_lt}
 use Rattle.std.specs.FinMap as map
 use Rattle.off_defs.specs.declared.keys.Key.{Key}
-use Rattle.off_defs.specs.declared.keys.Key.TheVariants.{Site, Subscriber, AddOn, Modem, Class, Pool, Lease, Held, Batch}
+use Rattle.off_defs.specs.declared.keys.Key.TheVariants.{Site, Subscriber, AddOn, Modem, Class, Pool, Lease, Held, Batch, Hub, PoolHub, DevicePool, Device}
 use Rattle.off_defs.specs.declared.tables.Row.{Row}
 use Rattle.off_defs.specs.Keys.{key_cmp}
 use Rattle.off_defs.specs.State.{Tables}
@@ -64,6 +64,10 @@ kinds_rise (Pool a) (Pool b) e = omega arith
 kinds_rise (Lease a) (Lease b) e = omega arith
 kinds_rise (Held a) (Held b) e = omega arith
 kinds_rise (Batch a) (Batch b) e = omega arith
+kinds_rise (Hub a) (Hub b) e = omega arith
+kinds_rise (PoolHub a) (PoolHub b) e = omega arith
+kinds_rise (DevicePool a) (DevicePool b) e = omega arith
+kinds_rise (Device a) (Device b) e = omega arith
 kinds_rise _ _ e = first_of (omega arith, cc)
 
 pub kinds_fall : (a b : Key) → is_lt (key_cmp a b) ≡ false → kind_of b ≤ kind_of a
@@ -76,6 +80,10 @@ kinds_fall (Pool a) (Pool b) e = omega arith
 kinds_fall (Lease a) (Lease b) e = omega arith
 kinds_fall (Held a) (Held b) e = omega arith
 kinds_fall (Batch a) (Batch b) e = omega arith
+kinds_fall (Hub a) (Hub b) e = omega arith
+kinds_fall (PoolHub a) (PoolHub b) e = omega arith
+kinds_fall (DevicePool a) (DevicePool b) e = omega arith
+kinds_fall (Device a) (Device b) e = omega arith
 kinds_fall _ _ e = first_of (omega arith, cc)
 
 -- what gives something at keys of one kind alone

@@ -17,7 +17,7 @@ mod rows;
 mod walking;
 
 pub use addresses::{has_address, overlaps, owner_of};
-pub use kinds::{is_past_modems, is_past_pools};
+pub use kinds::is_past_pools;
 pub use possible::{has_pool_size, is_lease_time, is_offset, is_possible};
 pub use reading::{has_row, read_row};
 pub use rows::{

@@ -37,6 +37,7 @@ pub fn is_possible(key: &Key, row: &Row) -> bool
         Key::Lease(_) => matches!(row, Row::Lease(_)),
         Key::Held(_) => matches!(row, Row::Held(_)),
         Key::Batch(_) => matches!(row, Row::Batch(_)),
+        Key::Hub(_) | Key::PoolHub(_) | Key::DevicePool(_) | Key::Device(_) => false,
     }
 }
 

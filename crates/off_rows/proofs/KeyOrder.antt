@@ -9,7 +9,7 @@ use Rattle.std.specs.declared.cmp.Ordering.TheVariants.{Less, Equal, Greater}
 use Rattle.std.proofs.Math.Nat.{pow-succ'}
 use Rattle.std.proofs.Math.Arith.{mod-mul}
 use Rattle.std.proofs.lemmas.Nat.{mul-add-lt, mod_below}
-use Rattle.off_defs.specs.declared.keys.Key.TheVariants.{Site, Subscriber, AddOn, Modem, Class, Pool, Lease, Held, Batch}
+use Rattle.off_defs.specs.declared.keys.Key.TheVariants.{Site, Subscriber, AddOn, Modem, Class, Pool, Lease, Held, Batch, Hub, PoolHub, DevicePool, Device}
 use Rattle.off_defs.specs.declared.keys.Key.{Key}
 use Rattle.off_rows.specs.KeyBytes.{key_bytes, IsRanged}
 use Rattle.off_rows.specs.Laws.{OrderedAsBytes, OneKey}
@@ -88,6 +88,10 @@ ordered_as_bytes (Pool a) (Pool b) p q = word_cmp a b p q
 ordered_as_bytes (Lease a) (Lease b) p q = word_cmp a.0 b.0 p q
 ordered_as_bytes (Held a) (Held b) p q = refl
 ordered_as_bytes (Batch a) (Batch b) p q = long_cmp a b p q
+ordered_as_bytes (Hub a) (Hub b) p q = word_cmp a b p q
+ordered_as_bytes (PoolHub a) (PoolHub b) p q = word_cmp a b p q
+ordered_as_bytes (DevicePool a) (DevicePool b) p q = word_cmp a b p q
+ordered_as_bytes (Device a) (Device b) p q = word_cmp a.0 b.0 p q
 ordered_as_bytes _ _ p q = refl
 
 -- ---- a key's bytes are its own

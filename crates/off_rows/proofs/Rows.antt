@@ -14,10 +14,12 @@ use Rattle.off_defs.specs.declared.tables.ImportKind.{ImportKind}
 use Rattle.off_defs.specs.declared.tables.ImportKind.TheVariants.{Subscribers, Modems}
 use Rattle.off_defs.specs.declared.tables.Hold.{Hold}
 use Rattle.off_defs.specs.declared.tables.Hold.TheVariants.{Offered, Bound, Declined}
+use Rattle.off_defs.specs.declared.tables.DeviceHold.{DeviceHold}
+use Rattle.off_defs.specs.declared.tables.DeviceHold.TheVariants as device
 use Rattle.off_defs.specs.declared.tables.Row.{Row}
-use Rattle.off_defs.specs.declared.tables.Row.TheVariants.{Site, Subscriber, AddOn, Modem, Class, Pool, Lease, Held, Batch}
-use Rattle.off_rows.specs.RowBytes.{counted, settings_bytes, flag_bytes, hold_bytes, import_kind_bytes, row_bytes, IsOfKind, RowRanged, SettingsStand, CanSpell, OwnerIsMac, IsText, IsRowOf, IsShortSpelling}
-use Rattle.off_rows.specs.BadRow.{bytes_of, one_of, text, settings, IsField, IsBadAt, fields_of, hold_fields}
+use Rattle.off_defs.specs.declared.tables.Row.TheVariants.{Site, Subscriber, AddOn, Modem, Class, Pool, Lease, Held, Batch, PoolHub, Device}
+use Rattle.off_rows.specs.RowBytes.{counted, settings_bytes, flag_bytes, hold_bytes, device_hold_bytes, import_kind_bytes, row_bytes, IsOfKind, RowRanged, SettingsStand, CanSpell, OwnerIsMac, OwnersAreMacs, IsText, IsRowOf, IsShortSpelling}
+use Rattle.off_rows.specs.BadRow.{bytes_of, one_of, text, settings, IsField, IsBadAt, fields_of, hold_fields, device_hold_fields}
 use Rattle.off_rows.specs.Reading.{WhyNoRow, GivesRow, BadIn, WhyNoAddOn, WhyNoClass, from_start}
 use Rattle.off_rows.specs.Laws.{RowsReadBack, OneBadPlace}
 use Rattle.off_rows.specs.declared.faults.RowErr.{RowErr}
@@ -30,6 +32,11 @@ hold_values (Offered owner) = (1 ∷ []) ∷ owner.0 ∷ []
 hold_values (Bound owner) = (2 ∷ []) ∷ owner.0 ∷ []
 hold_values Declined = (3 ∷ []) ∷ []
 
+abbrev device_hold_values : DeviceHold → List (List ℕ)
+device_hold_values (device.Offered modem owner) = (1 ∷ []) ∷ modem.0 ∷ owner.0 ∷ []
+device_hold_values (device.Bound modem owner) = (2 ∷ []) ∷ modem.0 ∷ owner.0 ∷ []
+device_hold_values device.Declined = (3 ∷ []) ∷ []
+
 abbrev values_of : Row → List (List ℕ)
 values_of (Site s) = to_be_bytes w32 s.server.0 ∷ counted s.secret ∷ to_be_bytes w32 (cast_unsigned w32 s.offset) ∷ to_be_bytes w32 s.lease ∷ to_be_bytes w32 s.log.0 ∷ []
 values_of (Subscriber s) = flag_bytes s.active ∷ (s.cpes ∷ []) ∷ counted s.name ∷ []
@@ -40,6 +47,8 @@ values_of (Pool p) = to_be_bytes w32 p.first.0 ∷ to_be_bytes w32 p.last.0 ∷ 
 values_of (Lease l) = hold_values l.hold ++ to_be_bytes w64 l.expiry.0 ∷ []
 values_of (Held a) = to_be_bytes w32 a.0 ∷ []
 values_of (Batch b) = import_kind_bytes b.kind ∷ b.digest ∷ to_be_bytes w32 b.rows ∷ []
+values_of (PoolHub h) = to_be_bytes w32 h ∷ []
+values_of (Device l) = device_hold_values l.hold ++ to_be_bytes w64 l.expiry.0 ∷ []
 
 flag_is : (b : Bool) → IsField (one_of (0 ∷ 1 ∷ [])) (flag_bytes b)
 flag_is false = (0, (0, omega arith, refl), refl)
@@ -53,6 +62,11 @@ hold_are : (h : Hold) (expiry : ℕ) → OwnerIsMac h → AllFields (hold_fields
 hold_are (Offered owner) expiry m = ((1, (0, omega arith, refl), refl), (m, (refl, tt)))
 hold_are (Bound owner) expiry m = ((2, (1, omega arith, refl), refl), (m, (refl, tt)))
 hold_are Declined expiry m = ((3, (2, omega arith, refl), refl), (refl, tt))
+
+device_hold_are : (h : DeviceHold) (expiry : ℕ) → OwnersAreMacs h → AllFields (device_hold_fields (device_hold_bytes h ++ to_be_bytes w64 expiry) ++ bytes_of 8 ∷ []) (device_hold_values h ++ to_be_bytes w64 expiry ∷ [])
+device_hold_are (device.Offered modem owner) expiry m = ((1, (0, omega arith, refl), refl), (m.0, (m.1, (refl, tt))))
+device_hold_are (device.Bound modem owner) expiry m = ((2, (1, omega arith, refl), refl), (m.0, (m.1, (refl, tt))))
+device_hold_are device.Declined expiry m = ((3, (2, omega arith, refl), refl), (refl, tt))
 
 text_is : (t : List ℕ) → IsText t → IsField text (counted t)
 text_is t p = (t, p, refl)
@@ -71,6 +85,10 @@ values_are (key.Pool n) (Pool p) e r t = (refl, (refl, (refl, (refl, (refl, tt))
 values_are (key.Lease a) (Lease l) e r t = hold_are l.hold l.expiry.0 r.0
 values_are (key.Held m) (Held a) e r t = (refl, tt)
 values_are (key.Batch n) (Batch b) e r t = (kind_is b.kind, (r.0, (refl, tt)))
+values_are (key.Hub n) (Site s) e r t = (refl, ((s.secret, r.1, refl), (refl, (refl, (refl, tt)))))
+values_are (key.PoolHub n) (PoolHub h) e r t = (refl, tt)
+values_are (key.DevicePool n) (Pool p) e r t = (refl, (refl, (refl, (refl, (refl, tt)))))
+values_are (key.Device a) (Device l) e r t = device_hold_are l.hold l.expiry.0 r.0
 values_are _ _ e r t = absurd e
 
 -- and its bytes are these values joined
@@ -78,6 +96,11 @@ hold_joined : (h : Hold) (x : List ℕ) → joined (hold_values h ++ x ∷ []) �
 hold_joined (Offered owner) x = simp append-nil
 hold_joined (Bound owner) x = simp append-nil
 hold_joined Declined x = simp append-nil
+
+device_hold_joined : (h : DeviceHold) (x : List ℕ) → joined (device_hold_values h ++ x ∷ []) ≡ device_hold_bytes h ++ x
+device_hold_joined (device.Offered modem owner) x = simp (append_assoc, append-nil)
+device_hold_joined (device.Bound modem owner) x = simp (append_assoc, append-nil)
+device_hold_joined device.Declined x = simp append-nil
 
 values_joined : (row : Row) → joined (values_of row) ≡ row_bytes row
 values_joined (Site s) = simp (append_assoc, append-nil)
@@ -89,6 +112,8 @@ values_joined (Pool p) = simp (append_assoc, append-nil)
 values_joined (Lease l) = hold_joined l.hold (to_be_bytes w64 l.expiry.0)
 values_joined (Held a) = refl
 values_joined (Batch b) = simp (append_assoc, append-nil)
+values_joined (PoolHub h) = simp append-nil
+values_joined (Device l) = device_hold_joined l.hold (to_be_bytes w64 l.expiry.0)
 
 -- ---- rows with the same values
 
@@ -130,6 +155,27 @@ hold_same (Bound a) Declined x y e = cc
 hold_same Declined (Offered b) x y e = cc
 hold_same Declined (Bound b) x y e = cc
 
+device_hold_same : (h g : DeviceHold) (x y : List ℕ) → device_hold_values h ++ x ∷ [] ≡ device_hold_values g ++ y ∷ [] → (h ≡ g) × (x ≡ y)
+device_hold_same (device.Offered a c) (device.Offered b d) x y e =
+    let m : a.0 ≡ b.0 = cc in
+    let o : c.0 ≡ d.0 = cc in
+    let one = mac_same a b m in
+    let two = mac_same c d o in
+    (λ i. device.Offered (one i) (two i), cc)
+device_hold_same (device.Bound a c) (device.Bound b d) x y e =
+    let m : a.0 ≡ b.0 = cc in
+    let o : c.0 ≡ d.0 = cc in
+    let one = mac_same a b m in
+    let two = mac_same c d o in
+    (λ i. device.Bound (one i) (two i), cc)
+device_hold_same device.Declined device.Declined x y e = (refl, cc)
+device_hold_same (device.Offered a c) (device.Bound b d) x y e = cc
+device_hold_same (device.Offered a c) device.Declined x y e = cc
+device_hold_same (device.Bound a c) (device.Offered b d) x y e = cc
+device_hold_same (device.Bound a c) device.Declined x y e = cc
+device_hold_same device.Declined (device.Offered b d) x y e = cc
+device_hold_same device.Declined (device.Bound b d) x y e = cc
+
 settings_same : (s t : List Tree) → AllStand in_file s → AllStand in_file t → settings_bytes s ≡ settings_bytes t → s ≡ t
 settings_same s t p q e =
     let both = same_parts (to_be_bytes w16 (length (spelling s))) (to_be_bytes w16 (length (spelling t))) (spelling s) (spelling t) refl e in
@@ -156,6 +202,8 @@ row_kind (Pool x) = 6
 row_kind (Lease x) = 7
 row_kind (Held x) = 8
 row_kind (Batch x) = 9
+row_kind (PoolHub x) = 10
+row_kind (Device x) = 11
 
 one_kind : (k : Key) (a b : Row) → IsOfKind k a → IsOfKind k b → row_kind a ≡ row_kind b
 one_kind key.Site (Site a) (Site b) p q = refl
@@ -167,6 +215,10 @@ one_kind (key.Pool n) (Pool a) (Pool b) p q = refl
 one_kind (key.Lease i) (Lease a) (Lease b) p q = refl
 one_kind (key.Held m) (Held a) (Held b) p q = refl
 one_kind (key.Batch n) (Batch a) (Batch b) p q = refl
+one_kind (key.Hub n) (Site a) (Site b) p q = refl
+one_kind (key.PoolHub n) (PoolHub a) (PoolHub b) p q = refl
+one_kind (key.DevicePool n) (Pool a) (Pool b) p q = refl
+one_kind (key.Device i) (Device a) (Device b) p q = refl
 one_kind key.Site (Site a) _ p q = absurd q
 one_kind (key.Subscriber n) (Subscriber a) _ p q = absurd q
 one_kind (key.AddOn n i) (AddOn a) _ p q = absurd q
@@ -176,6 +228,10 @@ one_kind (key.Pool n) (Pool a) _ p q = absurd q
 one_kind (key.Lease i) (Lease a) _ p q = absurd q
 one_kind (key.Held m) (Held a) _ p q = absurd q
 one_kind (key.Batch n) (Batch a) _ p q = absurd q
+one_kind (key.Hub n) (Site a) _ p q = absurd q
+one_kind (key.PoolHub n) (PoolHub a) _ p q = absurd q
+one_kind (key.DevicePool n) (Pool a) _ p q = absurd q
+one_kind (key.Device i) (Device a) _ p q = absurd q
 one_kind _ _ _ p q = absurd p
 
 pub rows_same : (a b : Row) → row_kind a ≡ row_kind b → RowRanged a → RowRanged b → SettingsStand a → SettingsStand b → values_of a ≡ values_of b → a ≡ b
@@ -239,6 +295,13 @@ rows_same (Batch a) (Batch b) k p q s t e =
     let one = kind_same a.kind b.kind kind in
     let three = word_same a.rows b.rows p.1 q.1 rows in
     λ i. Batch (record { kind = one i; digest = digest i; rows = three i })
+rows_same (PoolHub a) (PoolHub b) k p q s t e =
+    let whole : to_be_bytes w32 a ≡ to_be_bytes w32 b = cc in ap PoolHub (word_same a b p q whole)
+rows_same (Device a) (Device b) k p q s t e =
+    let both = device_hold_same a.hold b.hold (to_be_bytes w64 a.expiry.0) (to_be_bytes w64 b.expiry.0) e in
+    let hold = both.0 in
+    let expiry = long_same a.expiry.0 b.expiry.0 p.1 q.1 both.1 in
+    λ i. Device (record { hold = hold i; expiry = record { 0 = expiry i } })
 rows_same _ _ k p q s t e = absurd (omega arith)
 
 -- rows of one key with the same bytes are one
@@ -295,6 +358,8 @@ can_spell (Pool p) q = tt
 can_spell (Lease l) p = tt
 can_spell (Held a) p = tt
 can_spell (Batch b) p = tt
+can_spell (PoolHub h) p = tt
+can_spell (Device l) p = tt
 
 pub rows_read_back : RowsReadBack
 rows_read_back k row result is found = only_row k (row_bytes row) result found row is refl

@@ -1,11 +1,13 @@
 -- Which byte of a row can't be read: the first byte of the first field that no value of the field
--- begins with. A row's fields are told by its key's kind alone, but for a lease's owner, which is
+-- begins with. A row's fields are told by its key's kind alone, but for a lease's owners, which are
 -- absent where the address was declined.
 use Rattle.std.specs.Prelude.{◌≡◌, ◌≢◌, ℕ, ◌+◌, ◌≤◌, ◌==◌, List, [], ◌∷◌, ◌++◌, length, slice_index, Contains, if◌then◌else◌}
 use Rattle.off_base.specs.Tree.{Tree}
 use Rattle.off_tlv.specs.Grammar.{in_file, AllStand}
 use Rattle.off_defs.specs.declared.keys.Key.{Key}
-use Rattle.off_defs.specs.declared.keys.Key.TheVariants.{Site, Subscriber, AddOn, Modem, Class, Pool, Lease, Held, Batch}
+use Rattle.off_defs.specs.declared.keys.Key.TheVariants.{Site, Subscriber, AddOn, Modem, Class}
+use Rattle.off_defs.specs.declared.keys.Key.TheVariants.{Pool, Lease, Held, Batch}
+use Rattle.off_defs.specs.declared.keys.Key.TheVariants.{Hub, PoolHub, DevicePool, Device}
 use Rattle.off_rows.specs.RowBytes.{counted, settings_bytes, IsText, IsShortSpelling}
 
 -- a field: so many bytes, one byte of a few, a text, a secret, or settings
@@ -26,11 +28,19 @@ IsField settings bytes =
     (trees : List Tree) × AllStand in_file trees × IsShortSpelling trees
     × (bytes ≡ settings_bytes trees)
 
--- how an address is held: offered, bound or declined, and its owner, whom a declined address hasn't
-abbrev pub hold_fields : List ℕ → List Field
-hold_fields bytes =
+-- how an address is held: offered, bound or declined, and its owners, whom a declined address hasn't
+abbrev pub marked_fields : List Field → List ℕ → List Field
+marked_fields owners bytes =
     if slice_index bytes 0 == 3 then one_of (1 ∷ 2 ∷ 3 ∷ []) ∷ []
-    else one_of (1 ∷ 2 ∷ 3 ∷ []) ∷ bytes_of 6 ∷ []
+    else one_of (1 ∷ 2 ∷ 3 ∷ []) ∷ owners
+
+-- a modem's address has one owner
+abbrev pub hold_fields : List ℕ → List Field
+hold_fields bytes = marked_fields (bytes_of 6 ∷ []) bytes
+
+-- a device's has two: the modem, and the device behind it
+abbrev pub device_hold_fields : List ℕ → List Field
+device_hold_fields bytes = marked_fields (bytes_of 6 ∷ bytes_of 6 ∷ []) bytes
 
 -- the fields of each kind of rows, in their order
 abbrev pub site_fields : List Field
@@ -57,6 +67,9 @@ held_fields = bytes_of 4 ∷ []
 abbrev pub batch_fields : List Field
 batch_fields = one_of (1 ∷ 2 ∷ []) ∷ bytes_of 16 ∷ bytes_of 4 ∷ []
 
+abbrev pub pool_hub_fields : List Field
+pool_hub_fields = bytes_of 4 ∷ []
+
 -- the fields of a row that is to have these bytes
 abbrev pub fields_of : Key → List ℕ → List Field
 fields_of Site bytes = site_fields
@@ -68,6 +81,10 @@ fields_of (Pool number) bytes = pool_fields
 fields_of (Lease address) bytes = hold_fields bytes ++ bytes_of 8 ∷ []
 fields_of (Held mac) bytes = held_fields
 fields_of (Batch number) bytes = batch_fields
+fields_of (Hub number) bytes = site_fields
+fields_of (PoolHub pool) bytes = pool_hub_fields
+fields_of (DevicePool number) bytes = pool_fields
+fields_of (Device address) bytes = device_hold_fields bytes ++ bytes_of 8 ∷ []
 
 -- no value of the field stands at the front of the bytes
 abbrev pub CannotRead : Field → List ℕ → Type 0

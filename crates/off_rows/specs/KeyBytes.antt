@@ -3,7 +3,9 @@
 use Rattle.std.specs.Prelude.{◌≡◌, ℕ, ◌<◌, ◌^◌, List, [], ◌∷◌, ◌++◌, length}
 use Rattle.std.specs.Int.{to_be_bytes, w32, w64}
 use Rattle.off_defs.specs.declared.keys.Key.{Key}
-use Rattle.off_defs.specs.declared.keys.Key.TheVariants.{Site, Subscriber, AddOn, Modem, Class, Pool, Lease, Held, Batch}
+use Rattle.off_defs.specs.declared.keys.Key.TheVariants.{Site, Subscriber, AddOn, Modem, Class}
+use Rattle.off_defs.specs.declared.keys.Key.TheVariants.{Pool, Lease, Held, Batch}
+use Rattle.off_defs.specs.declared.keys.Key.TheVariants.{Hub, PoolHub, DevicePool, Device}
 pub use Rattle.off_defs.specs.Kinds.{kind_of}
 
 -- the bytes of a key's numbers
@@ -17,6 +19,10 @@ numbers_of (Pool number) = to_be_bytes w32 number
 numbers_of (Lease address) = to_be_bytes w32 address.0
 numbers_of (Held mac) = mac.0
 numbers_of (Batch number) = to_be_bytes w64 number
+numbers_of (Hub number) = to_be_bytes w32 number
+numbers_of (PoolHub pool) = to_be_bytes w32 pool
+numbers_of (DevicePool number) = to_be_bytes w32 number
+numbers_of (Device address) = to_be_bytes w32 address.0
 
 abbrev pub key_bytes : Key → List ℕ
 key_bytes key = kind_of key ∷ numbers_of key
@@ -33,3 +39,7 @@ IsRanged (Pool number) = number < 2 ^ 32
 IsRanged (Lease address) = address.0 < 2 ^ 32
 IsRanged (Held mac) = length mac.0 ≡ 6
 IsRanged (Batch number) = number < 2 ^ 64
+IsRanged (Hub number) = number < 2 ^ 32
+IsRanged (PoolHub pool) = pool < 2 ^ 32
+IsRanged (DevicePool number) = number < 2 ^ 32
+IsRanged (Device address) = address.0 < 2 ^ 32

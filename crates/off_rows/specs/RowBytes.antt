@@ -10,8 +10,12 @@ use Rattle.off_defs.specs.declared.tables.ImportKind.{ImportKind}
 use Rattle.off_defs.specs.declared.tables.ImportKind.TheVariants.{Subscribers, Modems}
 use Rattle.off_defs.specs.declared.tables.Hold.{Hold}
 use Rattle.off_defs.specs.declared.tables.Hold.TheVariants.{Offered, Bound, Declined}
+use Rattle.off_defs.specs.declared.tables.DeviceHold.{DeviceHold}
+use Rattle.off_defs.specs.declared.tables.DeviceHold.TheVariants as device
 use Rattle.off_defs.specs.declared.tables.Row.{Row}
-use Rattle.off_defs.specs.declared.tables.Row.TheVariants.{Site, Subscriber, AddOn, Modem, Class, Pool, Lease, Held, Batch}
+use Rattle.off_defs.specs.declared.tables.Row.TheVariants.{Site, Subscriber, AddOn, Modem, Class}
+use Rattle.off_defs.specs.declared.tables.Row.TheVariants.{Pool, Lease, Held, Batch}
+use Rattle.off_defs.specs.declared.tables.Row.TheVariants.{PoolHub, Device}
 
 -- a text or a secret: its length in one byte, and its bytes
 abbrev pub counted : List ℕ → List ℕ
@@ -31,6 +35,12 @@ abbrev pub hold_bytes : Hold → List ℕ
 hold_bytes (Offered owner) = 1 ∷ owner.0
 hold_bytes (Bound owner) = 2 ∷ owner.0
 hold_bytes Declined = 3 ∷ []
+
+-- the same of a device's address, whose owner is a modem and the device behind it
+abbrev pub device_hold_bytes : DeviceHold → List ℕ
+device_hold_bytes (device.Offered modem owner) = 1 ∷ (modem.0 ++ owner.0)
+device_hold_bytes (device.Bound modem owner) = 2 ∷ (modem.0 ++ owner.0)
+device_hold_bytes device.Declined = 3 ∷ []
 
 abbrev pub import_kind_bytes : ImportKind → List ℕ
 import_kind_bytes Subscribers = 1 ∷ []
@@ -54,8 +64,10 @@ row_bytes (Pool pool) =
 row_bytes (Lease lease) = hold_bytes lease.hold ++ to_be_bytes w64 lease.expiry.0
 row_bytes (Held address) = to_be_bytes w32 address.0
 row_bytes (Batch batch) = import_kind_bytes batch.kind ++ batch.digest ++ to_be_bytes w32 batch.rows
+row_bytes (PoolHub hub) = to_be_bytes w32 hub
+row_bytes (Device lease) = device_hold_bytes lease.hold ++ to_be_bytes w64 lease.expiry.0
 
--- a row of the key's kind
+-- a row of the key's kind; a hub has a site's row, and a pool for devices a pool's
 abbrev pub IsOfKind : Key → Row → Type 0
 IsOfKind key.Site (Site site) = Unit {0}
 IsOfKind (key.Subscriber number) (Subscriber subscriber) = Unit {0}
@@ -66,6 +78,10 @@ IsOfKind (key.Pool number) (Pool pool) = Unit {0}
 IsOfKind (key.Lease address) (Lease lease) = Unit {0}
 IsOfKind (key.Held mac) (Held address) = Unit {0}
 IsOfKind (key.Batch number) (Batch batch) = Unit {0}
+IsOfKind (key.Hub number) (Site site) = Unit {0}
+IsOfKind (key.PoolHub pool) (PoolHub hub) = Unit {0}
+IsOfKind (key.DevicePool number) (Pool pool) = Unit {0}
+IsOfKind (key.Device address) (Device lease) = Unit {0}
 IsOfKind key row = ⊥
 
 -- a text of at most 64 bytes (UTF-8, RFC 3629)
@@ -76,6 +92,11 @@ abbrev pub OwnerIsMac : Hold → Type 0
 OwnerIsMac (Offered owner) = length owner.0 ≡ 6
 OwnerIsMac (Bound owner) = length owner.0 ≡ 6
 OwnerIsMac Declined = Unit {0}
+
+abbrev pub OwnersAreMacs : DeviceHold → Type 0
+OwnersAreMacs (device.Offered modem owner) = (length modem.0 ≡ 6) × (length owner.0 ≡ 6)
+OwnersAreMacs (device.Bound modem owner) = (length modem.0 ≡ 6) × (length owner.0 ≡ 6)
+OwnersAreMacs device.Declined = Unit {0}
 
 -- The row's numbers and texts are in the ranges of their types. Each row of the program is so.
 abbrev pub RowRanged : Row → Type 0
@@ -92,6 +113,8 @@ RowRanged (Pool pool) =
 RowRanged (Lease lease) = OwnerIsMac lease.hold × (lease.expiry.0 < 2 ^ 64)
 RowRanged (Held address) = address.0 < 2 ^ 32
 RowRanged (Batch batch) = (length batch.digest ≡ 16) × (batch.rows < 2 ^ 32)
+RowRanged (PoolHub hub) = hub < 2 ^ 32
+RowRanged (Device lease) = OwnersAreMacs lease.hold × (lease.expiry.0 < 2 ^ 64)
 
 -- two bytes can say the length of the spelling
 abbrev pub IsShortSpelling : List Tree → Type 0
@@ -108,6 +131,8 @@ CanSpell (Pool pool) = Unit {0}
 CanSpell (Lease lease) = Unit {0}
 CanSpell (Held address) = Unit {0}
 CanSpell (Batch batch) = Unit {0}
+CanSpell (PoolHub hub) = Unit {0}
+CanSpell (Device lease) = Unit {0}
 
 -- the row's settings are as the grammar of a configuration file wants them, and two bytes can say
 -- the length of their spelling
@@ -121,6 +146,8 @@ SettingsStand (Pool pool) = Unit {0}
 SettingsStand (Lease lease) = Unit {0}
 SettingsStand (Held address) = Unit {0}
 SettingsStand (Batch batch) = Unit {0}
+SettingsStand (PoolHub hub) = Unit {0}
+SettingsStand (Device lease) = Unit {0}
 
 -- a row of the key's kind, whose values are in range and whose settings stand
 pub record IsRowOf (key : Key) (row : Row) : Type 0 where

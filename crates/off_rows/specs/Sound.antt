@@ -38,6 +38,10 @@ is_removable key.Site = false
 is_removable (key.Lease address) = false
 is_removable (key.Held mac) = false
 is_removable (key.Batch number) = false
+is_removable (key.Hub number) = false
+is_removable (key.PoolHub pool) = false
+is_removable (key.DevicePool number) = false
+is_removable (key.Device address) = false
 
 -- the rows that a clerk is shown: these, the site and the leases
 abbrev pub is_shown : Key → Bool
@@ -50,6 +54,10 @@ is_shown (key.Class number) = is_removable (key.Class number)
 is_shown (key.Pool number) = is_removable (key.Pool number)
 is_shown (key.Held mac) = false
 is_shown (key.Batch number) = false
+is_shown (key.Hub number) = false
+is_shown (key.PoolHub pool) = false
+is_shown (key.DevicePool number) = false
+is_shown (key.Device address) = false
 
 -- a row that an import of the kind has
 abbrev pub is_row_of : ImportKind → ImportRow → Bool

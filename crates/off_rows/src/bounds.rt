@@ -61,6 +61,10 @@ fn can_remove(key: &Key) -> bool
         Key::Lease(_) => false,
         Key::Held(_) => false,
         Key::Batch(_) => false,
+        Key::Hub(_) => false,
+        Key::PoolHub(_) => false,
+        Key::DevicePool(_) => false,
+        Key::Device(_) => false,
     }
 }
 

@@ -70,6 +70,10 @@ fn spelled(key: Key) -> KeyBytes
         Key::Lease(address) => joined(7, &address.0.to_be_bytes()),
         Key::Held(mac) => joined(8, &mac.0),
         Key::Batch(number) => joined(9, &number.to_be_bytes()),
+        Key::Hub(number) => joined(10, &number.to_be_bytes()),
+        Key::PoolHub(pool) => joined(11, &pool.to_be_bytes()),
+        Key::DevicePool(number) => joined(12, &number.to_be_bytes()),
+        Key::Device(address) => joined(13, &address.0.to_be_bytes()),
     }
 }
 
@@ -126,6 +130,10 @@ fn key_of(kind: u8, numbers: &[u8]) -> Option<Key>
         7 => word_of(numbers).map(|number| Key::Lease(Ip4(number))),
         8 => mac_of(numbers).map(Key::Held),
         9 => long_of(numbers).map(Key::Batch),
+        10 => word_of(numbers).map(Key::Hub),
+        11 => word_of(numbers).map(Key::PoolHub),
+        12 => word_of(numbers).map(Key::DevicePool),
+        13 => word_of(numbers).map(|number| Key::Device(Ip4(number))),
         _ => None,
     }
 }

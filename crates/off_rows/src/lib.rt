@@ -6,6 +6,7 @@
 #![tactic(auto)]
 
 mod bounds;
+mod devices;
 mod faults;
 mod fields;
 mod keys;
@@ -22,8 +23,9 @@ pub use laws::{
 };
 pub use off_base::Secret;
 pub use off_defs::{
-    Batch, Class, Command, Hold, ImportKind, ImportRow, ImportRows, Key, KeyText, Kind, Lease,
-    Modem, Pool, Reply, Row, Rule, Site, Subscriber, Write, Writes, copy_row, key_text,
+    Batch, Class, Command, DeviceHold, DeviceLease, Hold, ImportKind, ImportRow, ImportRows, Key,
+    KeyText, Kind, Lease, Modem, Pool, Reply, Row, Rule, Site, Subscriber, Write, Writes, copy_row,
+    key_text,
 };
 pub use reading::decode;
 pub use writing::encode;

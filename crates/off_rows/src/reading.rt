@@ -8,11 +8,12 @@ ghost use Rattle.off_rows.specs.RowBytes.{row_bytes, hold_bytes, RowRanged, Sett
 ghost use Rattle.off_rows.specs.RowBytes.{OwnerIsMac, IsRowOf};
 ghost use Rattle.off_rows.specs.BadRow.{Field, IsBadAt, bytes_of, hold_fields, site_fields};
 ghost use Rattle.off_rows.specs.BadRow.{subscriber_fields, modem_fields};
-ghost use Rattle.off_rows.specs.BadRow.{pool_fields, held_fields, batch_fields};
+ghost use Rattle.off_rows.specs.BadRow.{pool_fields, held_fields, batch_fields, pool_hub_fields};
 ghost use Rattle.off_rows.specs.Reading.{WhyNoRow, GivesRow, BadIn, Passes, WhyNoAddOn, WhyNoClass};
 ghost use Rattle.off_rows.specs.Reading.{IsSettings, from_start};
 ghost use Rattle.off_rows.specs.declared.faults.RowErr.TheVariants.{BadRow};
 
+use crate::devices::device;
 use crate::faults::RowErr;
 use crate::fields::Fields;
 use off_base::{Bytes, Ip4, Moment, NoMemory, Settings};
@@ -48,6 +49,10 @@ fn found_row(alloc: Global, key: Key, bytes: &[u8]) -> Result<Row, RowErr>
         Key::Lease(_) => Ok(Row::Lease(lease(bytes)?)),
         Key::Held(_) => Ok(Row::Held(held(bytes)?)),
         Key::Batch(_) => Ok(Row::Batch(batch(bytes)?)),
+        Key::Hub(_) => Ok(Row::Site(site(bytes)?)),
+        Key::PoolHub(_) => Ok(Row::PoolHub(pool_hub(bytes)?)),
+        Key::DevicePool(_) => Ok(Row::Pool(pool(bytes)?)),
+        Key::Device(_) => Ok(Row::Device(device(bytes)?)),
     }
 }
 
@@ -146,6 +151,17 @@ fn batch(bytes: &[u8]) -> Result<Batch, RowErr>
     let rows = fields.number()?;
     fields.end()?;
     Ok(Batch { kind, digest, rows })
+}
+
+fn pool_hub(bytes: &[u8]) -> Result<u32, RowErr>
+    ensures { MatchResult result
+        (λ hub. RowRanged (row.PoolHub hub) × (row_bytes (row.PoolHub hub) ≡ bytes.now))
+        (BadIn pool_hub_fields (from_start bytes.now)) }
+{
+    let mut fields = Fields::over(bytes);
+    let hub = fields.number()?;
+    fields.end()?;
+    Ok(hub)
 }
 
 fn lease(bytes: &[u8]) -> Result<Lease, RowErr>

@@ -7,6 +7,7 @@ ghost use Rattle.off_rows.specs.RowBytes.{row_bytes, counted, settings_bytes, fl
 ghost use Rattle.off_rows.specs.RowBytes.{hold_bytes, import_kind_bytes, RowRanged, CanSpell};
 ghost use Rattle.off_rows.specs.RowBytes.{IsShortSpelling, OwnerIsMac, IsText};
 
+use crate::devices::device_bytes;
 use off_base::{Bytes, Ip4, NoMemory, Secret, Settings, Short};
 use off_defs::{Batch, Class, Hold, ImportKind, Lease, Modem, Pool, Row, Site, Subscriber};
 use off_tlv::{spelled_len, write_settings};
@@ -28,6 +29,8 @@ pub fn encode(alloc: Global, r: &Row) -> Result<Bytes, NoMemory>
         Row::Lease(lease) => lease_bytes(alloc, *lease),
         Row::Held(address) => held_bytes(alloc, *address),
         Row::Batch(batch) => batch_bytes(alloc, *batch),
+        Row::PoolHub(hub) => pool_hub_bytes(alloc, *hub),
+        Row::Device(lease) => device_bytes(alloc, *lease),
     }
 }
 
@@ -131,6 +134,15 @@ fn batch_bytes(alloc: Global, batch: Batch) -> Result<Bytes, NoMemory>
     Ok(out)
 }
 
+fn pool_hub_bytes(alloc: Global, hub: u32) -> Result<Bytes, NoMemory>
+    ensures bytes { IfOk result (λ bytes. bytes ≡ row_bytes (row.PoolHub hub)) }
+    ensures ranged { OnOk result (RowRanged (row.PoolHub hub)) }
+{
+    let mut out = Bytes::new(alloc);
+    push_number(&mut out, hub)?;
+    Ok(out)
+}
+
 fn push_flag(out: &mut Bytes, flag: bool) -> Result<(), NoMemory>
     ensures { OnOk result (out.new ≡ out.old ++ flag_bytes flag) }
 {
@@ -155,7 +167,7 @@ fn push_number(out: &mut Bytes, number: u32) -> Result<(), NoMemory>
     out.push_all(&number.to_be_bytes())
 }
 
-fn push_long(out: &mut Bytes, number: u64) -> Result<(), NoMemory>
+pub(crate) fn push_long(out: &mut Bytes, number: u64) -> Result<(), NoMemory>
     ensures bytes { OnOk result (out.new ≡ out.old ++ to_be_bytes w64 number) }
     ensures ranged { number < 2 ^ 64 }
 {
@@ -214,7 +226,7 @@ fn push_secret(out: &mut Bytes, secret: &Secret) -> Result<(), NoMemory>
 }
 
 // One byte, and bytes behind it.
-fn push_marked(out: &mut Bytes, mark: u8, bytes: &[u8]) -> Result<(), NoMemory>
+pub(crate) fn push_marked(out: &mut Bytes, mark: u8, bytes: &[u8]) -> Result<(), NoMemory>
     ensures { OnOk result (out.new ≡ out.old ++ mark ∷ bytes.now) }
 {
     out.push_all(&[mark])?;

@@ -70,6 +70,10 @@ lease_first (key.Class n) held expiry es a h rest = rest expiry
 lease_first (key.Pool n) held expiry es a h rest = rest expiry
 lease_first (key.Held mac) held expiry es a h rest = rest expiry
 lease_first (key.Batch n) held expiry es a h rest = rest expiry
+lease_first (key.Hub n) held expiry es a h rest = rest expiry
+lease_first (key.PoolHub n) held expiry es a h rest = rest expiry
+lease_first (key.DevicePool n) held expiry es a h rest = rest expiry
+lease_first (key.Device n) held expiry es a h rest = rest expiry
 
 by_leases : (expiry : ℕ → ℕ) (es : List (Key × Row)) → T (list.is_sorted key_cmp es) → (a : ℕ) → expiries_after expiry (filter_map lease_put es) a ≡ expiry_kept (lease_row es a) (expiry a)
 by_leases expiry [] s a = refl
@@ -116,6 +120,10 @@ pool_first (key.Class m) held by es n h rest = rest by
 pool_first (key.Lease m) held by es n h rest = rest by
 pool_first (key.Held mac) held by es n h rest = rest by
 pool_first (key.Batch m) held by es n h rest = rest by
+pool_first (key.Hub m) held by es n h rest = rest by
+pool_first (key.PoolHub m) held by es n h rest = rest by
+pool_first (key.DevicePool m) held by es n h rest = rest by
+pool_first (key.Device m) held by es n h rest = rest by
 
 by_pools : (by : ℕ → Option Pool) (es : List (Key × Row)) → T (list.is_sorted key_cmp es) → (n : ℕ) → pools_after by (filter_map pool_put es) n ≡ pool_kept (pool_row es n) (by n)
 by_pools by [] s n = refl
@@ -142,6 +150,10 @@ no_lease_first (key.Pool n) held expiry es rest = rest
 no_lease_first (key.Lease n) held expiry es rest = rest
 no_lease_first (key.Held mac) held expiry es rest = rest
 no_lease_first (key.Batch n) held expiry es rest = rest
+no_lease_first (key.Hub n) held expiry es rest = rest
+no_lease_first (key.PoolHub n) held expiry es rest = rest
+no_lease_first (key.DevicePool n) held expiry es rest = rest
+no_lease_first (key.Device n) held expiry es rest = rest
 
 no_leases : (expiry : ℕ → ℕ) (es : List (Key × Row)) → expiries_after expiry (filter_map pool_put es) ≡ expiry
 no_leases expiry [] = refl

@@ -67,7 +67,15 @@ pool_written t (Drop (key.Lease a)) n = ap (read_pool n) (row_without t (key.Lea
 pool_written t (Put (key.Held a) held) n = ap (read_pool n) (row_with t (key.Held a) held (key.Pool n))
 pool_written t (Drop (key.Held a)) n = ap (read_pool n) (row_without t (key.Held a) (key.Pool n))
 pool_written t (Put (key.Batch a) held) n = ap (read_pool n) (row_with t (key.Batch a) held (key.Pool n))
+pool_written t (Put (key.Hub a) held) n = ap (read_pool n) (row_with t (key.Hub a) held (key.Pool n))
+pool_written t (Put (key.PoolHub a) held) n = ap (read_pool n) (row_with t (key.PoolHub a) held (key.Pool n))
+pool_written t (Put (key.DevicePool a) held) n = ap (read_pool n) (row_with t (key.DevicePool a) held (key.Pool n))
+pool_written t (Put (key.Device a) held) n = ap (read_pool n) (row_with t (key.Device a) held (key.Pool n))
 pool_written t (Drop (key.Batch a)) n = ap (read_pool n) (row_without t (key.Batch a) (key.Pool n))
+pool_written t (Drop (key.Hub a)) n = ap (read_pool n) (row_without t (key.Hub a) (key.Pool n))
+pool_written t (Drop (key.PoolHub a)) n = ap (read_pool n) (row_without t (key.PoolHub a) (key.Pool n))
+pool_written t (Drop (key.DevicePool a)) n = ap (read_pool n) (row_without t (key.DevicePool a) (key.Pool n))
+pool_written t (Drop (key.Device a)) n = ap (read_pool n) (row_without t (key.Device a) (key.Pool n))
 
 pub pools_written : (t : Tables) (ws : List Write) (n : ℕ) → pools_after (pool_in t) ws n ≡ pool_in (write_all t ws) n
 pools_written t [] n = refl
@@ -110,7 +118,15 @@ expiry_written t (Drop (key.Pool a)) n = ap (read_expiry n) (row_without t (key.
 expiry_written t (Put (key.Held a) held) n = ap (read_expiry n) (row_with t (key.Held a) held (key.Lease (address n)))
 expiry_written t (Drop (key.Held a)) n = ap (read_expiry n) (row_without t (key.Held a) (key.Lease (address n)))
 expiry_written t (Put (key.Batch a) held) n = ap (read_expiry n) (row_with t (key.Batch a) held (key.Lease (address n)))
+expiry_written t (Put (key.Hub a) held) n = ap (read_expiry n) (row_with t (key.Hub a) held (key.Lease (address n)))
+expiry_written t (Put (key.PoolHub a) held) n = ap (read_expiry n) (row_with t (key.PoolHub a) held (key.Lease (address n)))
+expiry_written t (Put (key.DevicePool a) held) n = ap (read_expiry n) (row_with t (key.DevicePool a) held (key.Lease (address n)))
+expiry_written t (Put (key.Device a) held) n = ap (read_expiry n) (row_with t (key.Device a) held (key.Lease (address n)))
 expiry_written t (Drop (key.Batch a)) n = ap (read_expiry n) (row_without t (key.Batch a) (key.Lease (address n)))
+expiry_written t (Drop (key.Hub a)) n = ap (read_expiry n) (row_without t (key.Hub a) (key.Lease (address n)))
+expiry_written t (Drop (key.PoolHub a)) n = ap (read_expiry n) (row_without t (key.PoolHub a) (key.Lease (address n)))
+expiry_written t (Drop (key.DevicePool a)) n = ap (read_expiry n) (row_without t (key.DevicePool a) (key.Lease (address n)))
+expiry_written t (Drop (key.Device a)) n = ap (read_expiry n) (row_without t (key.Device a) (key.Lease (address n)))
 
 pub expiries_written : (t : Tables) (ws : List Write) (n : ℕ) → expiries_after (expiry_in t) ws n ≡ expiry_in (write_all t ws) n
 expiries_written t [] n = refl

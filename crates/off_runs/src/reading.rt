@@ -50,7 +50,7 @@ fn push_pool(writes: &mut Writes, key: Key, row: Row) -> Result<(), NoMemory>
 fn is_past_pools(key: &Key) -> bool
     ensures { result ≡ true → 6 < kind_of key.now }
 {
-    matches!(*key, Key::Lease(_) | Key::Held(_) | Key::Batch(_))
+    matches!(*key, Key::Lease(_)) || is_past_leases(key)
 }
 
 /// The pools take the leases of the tables.
@@ -95,5 +95,9 @@ fn take_row(pools: &mut Vec<PoolRuns>, key: Key, row: Row)
 fn is_past_leases(key: &Key) -> bool
     ensures { result ≡ true → 7 < kind_of key.now }
 {
-    matches!(*key, Key::Held(_) | Key::Batch(_))
+    match *key {
+        Key::Held(_) | Key::Batch(_) | Key::Hub(_) | Key::PoolHub(_) => true,
+        Key::DevicePool(_) | Key::Device(_) => true,
+        _ => false,
+    }
 }

@@ -12,7 +12,7 @@ use Rattle.off_account_rules.specs.Good.{Good}
 use Rattle.off_outside.specs.LinkSeen.{LinkSeen}
 use Rattle.off_outside.specs.KeeperSeen.{KeeperSeen, Rests}
 use Rattle.off_defs.specs.Counts.{Grew, one_more, most_count}
-use Rattle.off_outside.specs.KeeperCalls.{Reads, Quiet}
+use Rattle.off_outside.specs.KeeperCalls.{Quiet}
 use Rattle.off_outside.specs.LinkCalls.{LinkUnasked}
 use Rattle.off_laws.proofs.Stretches.{leases_hold_through}
 use Rattle.off_transfer_runs.proofs.Runs.{files_of_runs}
@@ -22,7 +22,7 @@ use Rattle.off_boot_laws.proofs.Went.{all_go_well}
 use Rattle.off_boot_laws.proofs.Keeping.{modems_are_served, all_are_served}
 use Rattle.off_isolation.proofs.RunLemmas as isolation
 use Rattle.off_import_runs.proofs.Runs.{imports_act_once_through}
-use Rattle.off_office.specs.Conditions.{Fits}
+use Rattle.off_office.specs.Conditions.{Opened}
 use Rattle.off_outside.specs.Streams.{SinkSeen}
 use Rattle.off_office.specs.Desk.{Desk}
 use Rattle.off_office.specs.Acting.{NotStarted}
@@ -100,20 +100,20 @@ keeper_opened turns a b c quiet ran = record {
 }
 
 -- what a crash leaves from the opening on
-lasts_opened : (turns : List Turn) (first last : Desk) (a b c : KeeperSeen) → Rests a → (opened : Reads (Fits first) a b) → first.held ≡ held_at_start → (ran : RanFrom turns first last b c)
+lasts_opened : (turns : List Turn) (first last : Desk) (a b c : KeeperSeen) → Rests a → (opened : Opened first a b) → first.held ≡ held_at_start → (ran : RanFrom turns first last b c)
     → (t u : Tables) → a.tables t → LastsIn b c (state_of t first.held) turns (state_of u last.held) → LastsIn a c (start t) turns (state_of u last.held)
 lasts_opened turns first last a b c rests opened fresh ran t u told lasts =
-    lasts_front c.opened c.doubt b.doubt a.doubt a.moment b.moment (start t) turns c.moment (state_of u last.held) opened.quiet.still.later opened.quiet.still.doubts
-    (λ m v early upto shown. rests t told v (opened.quiet.still.within m v early upto (ran.past m v upto shown)))
+    lasts_front c.opened c.doubt b.doubt a.doubt a.moment b.moment (start t) turns c.moment (state_of u last.held) opened.reads.quiet.still.later opened.reads.quiet.still.doubts
+    (λ m v early upto shown. rests t told v (opened.reads.quiet.still.within m v early upto (ran.past m v upto shown)))
     (subst (λ (h : Held). LastsIn b c (state_of t h) turns (state_of u last.held)) fresh lasts)
 
 -- an office that opened, and its turns
-ran_office : {turns : List Turn} {first last : Desk} {a b c : KeeperSeen} → Rests a → Reads (Fits first) a b → first.held ≡ held_at_start
+ran_office : {turns : List Turn} {first last : Desk} {a b c : KeeperSeen} → Rests a → Opened first a b → first.held ≡ held_at_start
     → RanFrom turns first last b c → RanOffice turns last.held a c
 ran_office {turns} {first} {last} {a} {b} {c} rests opened fresh ran = record {
   run = record {
     each = λ t told.
-        let before = opened.tables t told in
+        let before = opened.reads.tables t told in
         let g = ran.run.each t before.0 in
         record {
           value = g.value;
@@ -124,7 +124,7 @@ ran_office {turns} {first} {last} {a} {b} {c} rests opened fresh ran = record {
   };
   crash = record {
     each = λ t told.
-        let before = opened.tables t told in
+        let before = opened.reads.tables t told in
         let g = ran.run.each t before.0 in
         record {
           value = g.value;
@@ -132,15 +132,15 @@ ran_office {turns} {first} {last} {a} {b} {c} rests opened fresh ran = record {
           fits = lasts_opened turns first last a b c rests opened fresh ran t g.value told (g.fits.holds before.1).0;
         };
   };
-  keeper = keeper_opened turns a b c opened.quiet ran.keeper;
+  keeper = keeper_opened turns a b c opened.reads.quiet ran.keeper;
   tell = ran.tell;
 }
 
 -- good tables stay good over the turns
-good_again : {turns : List Turn} {first last : Desk} {a b c : KeeperSeen} → Reads (Fits first) a b → RanFrom turns first last b c → Told a.tables c.tables (λ t u. Good u)
+good_again : {turns : List Turn} {first last : Desk} {a b c : KeeperSeen} → Opened first a b → RanFrom turns first last b c → Told a.tables c.tables (λ t u. Good u)
 good_again opened ran = record {
   each = λ t told.
-      let before = opened.tables t told in
+      let before = opened.reads.tables t told in
       let g = ran.fits.each t before.0 in
       record { value = g.value; told = g.told; fits = (g.fits before.1).good };
 }
@@ -198,7 +198,7 @@ closed_kept why old new status same tables text none = record {
 }
 
 pub serves : (budget : ℕ) (link link' : LinkSeen) (k l m : KeeperSeen) (a b c : SinkSeen) (reason : Stop) (first last : Desk) (status : ℕ)
-    → Rests k → Reads (Fits first) k l → first.held ≡ held_at_start
+    → Rests k → Opened first k l → first.held ≡ held_at_start
     → Served reason budget first last (world_of link l a) (world_of link' m b) → Ended reason status b c → ServesAsOffice budget (world_of link k a) (world_of link' m c) status
 serves budget link link' k l m a b c reason first last status rests opened fresh served ended =
     let ends = ends_of reason budget served.turns link link' l k m a b c status served.stops ended in
@@ -209,22 +209,22 @@ serves budget link link' k l m a b c reason first last status rests opened fresh
       reason = reason;
       turns = served.turns;
       held = last.held;
-      good = λ t told. (opened.tables t told).1.good;
+      good = λ t told. (opened.reads.tables t told).1.good;
       within = served.within;
       ends_last = served.ends_last;
       ran = served.ran;
       office = office;
       stays_good = good_again opened served.office;
-      leases = λ t told. leases_hold_through (start t) served.turns (opened.tables t told).1.good;
+      leases = λ t told. leases_hold_through (start t) served.turns (opened.reads.tables t told).1.good;
       files = λ t told. files_of_runs (start t) _ served.turns (office.run.each t told).fits;
-      modems = λ t told. modems_are_served (start t) served.turns (opened.tables t told).1.good;
+      modems = λ t told. modems_are_served (start t) served.turns (opened.reads.tables t told).1.good;
       isolated = λ t told. isolation.isolated (start t) _ served.turns (office.run.each t told).fits refl;
       imports = λ t told. imports_act_once_through (start t) _ served.turns (office.run.each t told).fits;
       ends = ends;
       writes = ended_writes reason status b c ended ∙ ap (own_writes reason) served.writes;
       up = all_kept reason budget served.turns last.held (world_of link k a) (world_of link' m c) status served.ran office ends;
       complete = complete;
-      all_modems = λ t told. each_served served.turns (world_of link k a) (world_of link' m c) status t (opened.tables t told).1.good complete;
+      all_modems = λ t told. each_served served.turns (world_of link k a) (world_of link' m c) status t (opened.reads.tables t told).1.good complete;
     })
 
 closed_complete : (why : StartErr) (old new : World) (status : ℕ) → NotStarted why old.keeper new.keeper

@@ -7,11 +7,10 @@ use Rattle.off_tlv.specs.Grammar.{Level, AllShaped, AllStand}
 use Rattle.off_defs.specs.declared.keys.Key.{Key}
 use Rattle.off_defs.specs.declared.keys.Key.TheVariants as key
 use Rattle.off_defs.specs.declared.tables.Row.{Row}
-use Rattle.off_defs.specs.declared.tables.Row.TheVariants.{Site, Subscriber, AddOn, Modem, Class, Pool, Lease, Held, Batch}
+use Rattle.off_defs.specs.declared.tables.Row.TheVariants.{Site, Subscriber, AddOn, Modem, Class, Pool, Lease, Held, Batch, PoolHub, Device}
 use Rattle.off_defs.specs.declared.orders.Write.{Write}
-use Rattle.off_rows.specs.KeyBytes.{kind_of}
 use Rattle.off_rows.specs.RowBytes.{IsOfKind}
-use Rattle.off_spelled.specs.RowKinds.{row_kind}
+use Rattle.off_spelled.specs.RowKinds.{kind_at, row_kind}
 use Rattle.off_spelled.specs.Storable.{IsSpelled, AllSpelled}
 
 pub all_stand : (level : Level) (trees : List Tree) → AllShaped level trees → AllFit trees → AllStand level trees
@@ -29,7 +28,7 @@ all_fit level (t ∷ trees) stand = (stand.0.fits, all_fit level trees stand.1)
 pub ruleset stand_rules = (all_stand, all_shaped, all_fit)
 
 -- rows are of a key's kind exactly where the kinds have one number
-pub of_kind : (k : Key) (row : Row) → kind_of k ≡ row_kind row → IsOfKind k row
+pub of_kind : (k : Key) (row : Row) → kind_at k ≡ row_kind row → IsOfKind k row
 of_kind key.Site (Site x) e = tt
 of_kind (key.Subscriber n) (Subscriber x) e = tt
 of_kind (key.AddOn n i) (AddOn x) e = tt
@@ -39,9 +38,13 @@ of_kind (key.Pool n) (Pool x) e = tt
 of_kind (key.Lease a) (Lease x) e = tt
 of_kind (key.Held m) (Held x) e = tt
 of_kind (key.Batch n) (Batch x) e = tt
+of_kind (key.Hub n) (Site x) e = tt
+of_kind (key.PoolHub n) (PoolHub x) e = tt
+of_kind (key.DevicePool n) (Pool x) e = tt
+of_kind (key.Device a) (Device x) e = tt
 of_kind _ _ e = absurd (omega (arith, e))
 
-pub kind_is : (k : Key) (row : Row) → IsOfKind k row → kind_of k ≡ row_kind row
+pub kind_is : (k : Key) (row : Row) → IsOfKind k row → kind_at k ≡ row_kind row
 kind_is key.Site (Site x) e = refl
 kind_is (key.Subscriber n) (Subscriber x) e = refl
 kind_is (key.AddOn n i) (AddOn x) e = refl
@@ -51,6 +54,10 @@ kind_is (key.Pool n) (Pool x) e = refl
 kind_is (key.Lease a) (Lease x) e = refl
 kind_is (key.Held m) (Held x) e = refl
 kind_is (key.Batch n) (Batch x) e = refl
+kind_is (key.Hub n) (Site x) e = refl
+kind_is (key.PoolHub n) (PoolHub x) e = refl
+kind_is (key.DevicePool n) (Pool x) e = refl
+kind_is (key.Device a) (Device x) e = refl
 kind_is _ _ e = absurd e
 
 -- writes one behind another

@@ -1,9 +1,8 @@
 ghost use Rattle.std.specs.Prelude.{◌≡◌, ◌↔◌, IsTrue};
 ghost use Rattle.off_base.specs.Tree.{AllFit};
-ghost use Rattle.off_rows.specs.KeyBytes.{kind_of};
 ghost use Rattle.off_rows.specs.RowBytes.{IsOfKind, SettingsStand, IsShortSpelling};
 ghost use Rattle.off_tlv.specs.Grammar.{in_file, AllStand};
-ghost use Rattle.off_spelled.specs.RowKinds.{row_kind};
+ghost use Rattle.off_spelled.specs.RowKinds.{kind_at, row_kind};
 
 use off_base::Settings;
 use off_defs::{Key, Row};
@@ -17,11 +16,12 @@ const MOST_SPELLING: usize = 65_535;
 pub fn can_store(key: Key, row: &Row) -> bool
     ensures { IsTrue result ↔ (IsOfKind key row.now × SettingsStand row.now) }
 {
-    key_kind(key) == row_kind(row) && settings_stand(row)
+    kind_at(key) == row_kind(row) && settings_stand(row)
 }
 
-fn key_kind(key: Key) -> u8
-    ensures { result ≡ kind_of key }
+// The kind of the rows that a key may have.
+fn kind_at(key: Key) -> u8
+    ensures { result ≡ kind_at key }
 {
     match key {
         Key::Site => 1,
@@ -33,6 +33,10 @@ fn key_kind(key: Key) -> u8
         Key::Lease(_) => 7,
         Key::Held(_) => 8,
         Key::Batch(_) => 9,
+        Key::Hub(_) => 1,
+        Key::PoolHub(_) => 10,
+        Key::DevicePool(_) => 6,
+        Key::Device(_) => 11,
     }
 }
 
@@ -49,6 +53,8 @@ fn row_kind(row: &Row) -> u8
         Row::Lease(_) => 7,
         Row::Held(_) => 8,
         Row::Batch(_) => 9,
+        Row::PoolHub(_) => 10,
+        Row::Device(_) => 11,
     }
 }
 
@@ -65,6 +71,8 @@ fn settings_stand(row: &Row) -> bool
         Row::Lease(_) => true,
         Row::Held(_) => true,
         Row::Batch(_) => true,
+        Row::PoolHub(_) => true,
+        Row::Device(_) => true,
     }
 }
 

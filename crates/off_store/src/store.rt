@@ -10,12 +10,18 @@ use off_outside::{KeepErr, Keeper};
 use sqlite::{Connection, Error, ErrorCode, File, FileStore, Options, Unknown};
 use sqlite_disk::Disk;
 use sqlite_std_file::{OpenError, open};
+use std::fs::OpenOptions;
 use std::hash::{BuildHasher, RandomState};
 use std::io::ErrorKind;
+use std::os::unix::fs::OpenOptionsExt;
 
 // How many pages of 4,096 bytes are kept in memory. A file of 800,000 rows has 16,000, and opens a
 // third sooner with all of them than with 2,000.
 const CACHED_PAGES: usize = 20_000;
+
+// Only the owner reads and writes a file that is made here: it has the secret of the site. The log
+// beside it gets the file's mode.
+const MODE: u32 = 0o600;
 
 /// Why there is no store.
 #[derive(Clone, Copy, Debug, PartialEq, Eq)]
@@ -48,6 +54,7 @@ fn connect(rt: &HostRuntime, path: &str) -> Result<Connection<FileStore<File>>, 
     ensures { IfOk result (λ conn. HasCleanDisk (file_state conn) → IsOpened conn) }
 {
     let options = options(rt)?;
+    make_private(rt, path)?;
     let files = match open(rt, path, Unknown) {
         Ok(files) => files,
         Err(error) => return Err(not_opened(&error)),
@@ -55,6 +62,17 @@ fn connect(rt: &HostRuntime, path: &str) -> Result<Connection<FileStore<File>>, 
     match Connection::open_files(rt.alloc(), files, options) {
         Ok(conn) => Ok(conn),
         Err((error, _files)) => Err(not_read(error)),
+    }
+}
+
+// Makes an empty file at a path, for its owner alone, where there is none. The database would make
+// it for others to read.
+fn make_private(rt: &HostRuntime, path: &str) -> Result<(), StoreErr> {
+    let mut options = OpenOptions::new();
+    match options.write(true).create_new(true).mode(MODE).open(rt, path) {
+        Ok(_file) => Ok(()),
+        Err(fault) if fault.kind() == ErrorKind::AlreadyExists => Ok(()),
+        Err(fault) => Err(not_opened(&OpenError::Io(fault))),
     }
 }
 

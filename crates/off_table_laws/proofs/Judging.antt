@@ -157,3 +157,7 @@ good_tables t g q held e = and_from (is_possible q held) (stands_right t q held)
     right (key.Subscriber n) held e = refl
     right (key.Class n) held e = refl
     right (key.Batch n) held e = refl
+    right (key.Hub n) held e = let fits = g.possible (key.Hub n) held e in cc
+    right (key.PoolHub n) held e = let fits = g.possible (key.PoolHub n) held e in cc
+    right (key.DevicePool n) held e = let fits = g.possible (key.DevicePool n) held e in cc
+    right (key.Device a) held e = let fits = g.possible (key.Device a) held e in cc

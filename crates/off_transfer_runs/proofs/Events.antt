@@ -1,5 +1,5 @@
 -- What each event does to a peer's transfer, and so what each turn of a run does.
-use Rattle.std.proofs.Common.{◌≡◌, ◌≢◌, ℕ, suc, Bool, true, false, if◌then◌else◌, List, [], ◌∷◌, codes, Result, Ok, Err, true≢false, refl, sym, ap, subst, ◌∙◌}
+use Rattle.std.proofs.Common.{◌≡◌, ◌≢◌, ℕ, suc, Bool, true, false, if◌then◌else◌, List, [], ◌∷◌, codes, Option, Some, None, Result, Ok, Err, true≢false, refl, sym, ap, subst, ◌∙◌}
 use Rattle.std.specs.FinMap as map
 use Rattle.off_base.specs.declared.addresses.Peer.{Peer}
 use Rattle.off_defs.specs.declared.events.Service.TheVariants.{Dhcp, Time, Tftp}
@@ -17,13 +17,15 @@ use Rattle.off_transfer_rules.specs.Words.{tftp_line}
 use Rattle.off_packets.specs.declared.faults.PacketFault.{PacketFault}
 use Rattle.off_transfer_rules.proofs.PeerLemmas.{same_peer, own_peer}
 use Rattle.off_transfer_laws.proofs.StepLaws.{others_stay, answers_go_back}
+use Rattle.off_query_rules.specs.Asked.{query_of}
+use Rattle.off_book.specs.Dhcp.{DatagramDid}
 use Rattle.off_book.specs.Http.{is_full, TakesPiece, by_meaning}
 use Rattle.off_book.specs.Step.{Step, Does}
 use Rattle.off_book.specs.Tftp.{TftpDid}
 use Rattle.off_book.specs.Run.{Turn, Run, effect_of}
 use Rattle.off_transfer_runs.specs.Turns.{Fate, Remains, Moves, Ends, Breaks, is_peer, fate_of, fate_by, fate, packets_to}
 use Rattle.off_transfer_runs.specs.Served.{GoBy, BlocksGo}
-use Rattle.off_transfer_runs.proofs.Packets.{no_reply, not_to_others}
+use Rattle.off_transfer_runs.proofs.Packets.{no_reply, no_answer, not_to_others}
 use Rattle.off_transfer_runs.proofs.Turned.{Stands, After, after_as, nothing_new, packet_turned}
 use Rattle.off_transfer_runs.proofs.Ticked.{tick_turned}
 
@@ -94,9 +96,15 @@ module _ (peer : Peer) (file : List ℕ) (size k : ℕ) where
       ∙ others_stay s.tables s.held.now s.held.transfers from bytes did.given did.step peer apart)
       (nothing_new file size k (map.get s.held.transfers peer) st)
 
+  -- a datagram to the other port
+  datagram_quiet : (s : State) (from : Peer) (bytes : List ℕ) (effect : Effect) (query : Option (List ℕ)) → DatagramDid s bytes effect query
+      → Stands file size k (map.get s.held.transfers peer) → Turns s (Datagram Dhcp from bytes) effect
+  datagram_quiet s from bytes effect (Some q) did st = quiet s (Datagram Dhcp from bytes) effect _ did refl (no_answer peer s.tables s.held.now q) refl st
+  datagram_quiet s from bytes effect None did st = quiet s (Datagram Dhcp from bytes) effect _ did refl (no_reply peer s.tables s.held.now bytes) refl st
+
   does_turned : (s : State) (what : What) (outcome : Outcome) (effect : Effect) → Does s what outcome effect → Stands file size k (map.get s.held.transfers peer)
       → Turns s what effect
-  does_turned s (Datagram Dhcp from bytes) Did effect p st = quiet s (Datagram Dhcp from bytes) effect _ p refl (no_reply peer s.tables s.held.now bytes) refl st
+  does_turned s (Datagram Dhcp from bytes) Did effect p st = datagram_quiet s from bytes effect (query_of bytes) p st
   does_turned s (Datagram Dhcp from bytes) Memory effect p st = quiet s (Datagram Dhcp from bytes) effect _ p refl refl refl st
   does_turned s (Datagram Dhcp from bytes) Keeper effect p st = quiet s (Datagram Dhcp from bytes) effect _ p refl refl refl st
   does_turned s (Datagram Time from bytes) Did effect p st = quiet s (Datagram Time from bytes) effect _ p refl refl refl st

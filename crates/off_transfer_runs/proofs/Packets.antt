@@ -3,7 +3,9 @@ use Rattle.std.proofs.Common.{◌≡◌, ◌≢◌, ℕ, Bool, true, false, cond
 use Rattle.std.specs.List.{cons_option}
 use Rattle.off_base.specs.declared.addresses.Ip4.{Ip4}
 use Rattle.off_base.specs.declared.addresses.Peer.{Peer}
+use Rattle.off_defs.specs.declared.events.Service.TheVariants.{Dhcp, Time, Tftp}
 use Rattle.off_defs.specs.declared.results.Sent.{Sent}
+use Rattle.off_defs.specs.declared.results.Sent.TheVariants as sent
 use Rattle.off_defs.specs.declared.tables.Site.{Site}
 use Rattle.off_defs.specs.declared.tables.Pool.{Pool}
 use Rattle.off_defs.specs.declared.tables.Lease.{Lease}
@@ -21,7 +23,9 @@ use Rattle.off_account_rules.specs.Rows.{lease_in}
 use Rattle.off_transfer_rules.specs.Transfers.{packet_to}
 use Rattle.off_transfer_rules.proofs.PeerLemmas.{own_peer, other_peer}
 use Rattle.off_transfer_laws.specs.Laws.{IsAnswerTo}
+use Rattle.off_query_rules.specs.Answers.{query_step}
 use Rattle.off_book.specs.Dhcp.{replies_of}
+use Rattle.off_laws.proofs.Queries.{IsOfDhcp, reply_goes}
 use Rattle.off_transfer_runs.specs.Turns.{packets_to}
 
 -- ---- one packet
@@ -76,6 +80,18 @@ module _ (peer : Peer) where
   read_none : (t : Tables) (now : ℕ) (read : Result Received DhcpFault) → packets_to peer (replies_of (step_of t now read).reply) ≡ []
   read_none t now (Ok m) = lease_none t now m
   read_none t now (Err fault) = refl
+
+  -- an answer to a query neither
+  reply_none : (reply : Option Sent) → IsOfDhcp reply → packets_to peer (replies_of reply) ≡ []
+  reply_none None goes = refl
+  reply_none (Some (sent.Datagram Dhcp to bytes)) goes = refl
+  reply_none (Some (sent.Datagram Time to bytes)) goes = absurd goes
+  reply_none (Some (sent.Datagram Tftp to bytes)) goes = absurd goes
+  reply_none (Some (sent.Answer conn bytes)) goes = absurd goes
+  reply_none (Some (sent.Close conn)) goes = absurd goes
+
+  pub no_answer : (t : Tables) (now : ℕ) (q : List ℕ) → packets_to peer (replies_of (query_step t now q).reply) ≡ []
+  no_answer t now q = reply_none (query_step t now q).reply (reply_goes t now q)
 
   pub no_reply : (t : Tables) (now : ℕ) (bytes : List ℕ) → packets_to peer (replies_of (dhcp_step t now bytes).reply) ≡ []
   unfolding dhcp_step

@@ -59,6 +59,14 @@ named_written t (Put (key.Held a) held) q = ap (named_at q) (row_with t (key.Hel
 named_written t (Drop (key.Held a)) q = ap (named_at q) (row_without t (key.Held a) (key.Modem q))
 named_written t (Put (key.Batch a) held) q = ap (named_at q) (row_with t (key.Batch a) held (key.Modem q))
 named_written t (Drop (key.Batch a)) q = ap (named_at q) (row_without t (key.Batch a) (key.Modem q))
+named_written t (Put (key.Hub a) held) q = ap (named_at q) (row_with t (key.Hub a) held (key.Modem q))
+named_written t (Drop (key.Hub a)) q = ap (named_at q) (row_without t (key.Hub a) (key.Modem q))
+named_written t (Put (key.PoolHub a) held) q = ap (named_at q) (row_with t (key.PoolHub a) held (key.Modem q))
+named_written t (Drop (key.PoolHub a)) q = ap (named_at q) (row_without t (key.PoolHub a) (key.Modem q))
+named_written t (Put (key.DevicePool a) held) q = ap (named_at q) (row_with t (key.DevicePool a) held (key.Modem q))
+named_written t (Drop (key.DevicePool a)) q = ap (named_at q) (row_without t (key.DevicePool a) (key.Modem q))
+named_written t (Put (key.Device a) held) q = ap (named_at q) (row_with t (key.Device a) held (key.Modem q))
+named_written t (Drop (key.Device a)) q = ap (named_at q) (row_without t (key.Device a) (key.Modem q))
 
 -- a write was taken: what is kept stands for the tables behind it
 pub stands_written : (w : Write) (old new : UsersHeld) → ((q : Mac) → named_by q new ≡ named_after (named_write w) q (named_by q old))

@@ -1,7 +1,10 @@
 use crate::line::{Line, Unread};
 use crate::trees::read_settings_of;
 use off_base::{Bytes, Ip4, Secret};
-use off_defs::{Batch, Class, Hold, ImportKind, Key, Lease, Modem, Pool, Row, Site, Subscriber};
+use off_defs::{
+    Batch, Class, DeviceHold, DeviceLease, Hold, ImportKind, Key, Lease, Modem, Pool, Row, Site,
+    Subscriber,
+};
 use std::alloc::Global;
 
 /// Reads a key: the word of its kind, and then its numbers or its address.
@@ -16,6 +19,10 @@ pub fn read_key(line: &mut Line<'_>) -> Result<Key, Unread> {
         b"lease" => Ok(Key::Lease(line.address()?)),
         b"held" => Ok(Key::Held(line.mac()?)),
         b"batch" => Ok(Key::Batch(line.number(u64::MAX)?)),
+        b"hub" => Ok(Key::Hub(line.count()?)),
+        b"pool-hub" => Ok(Key::PoolHub(line.count()?)),
+        b"device-pool" => Ok(Key::DevicePool(line.count()?)),
+        b"device" => Ok(Key::Device(line.address()?)),
         _ => Err(Unread::Words),
     }
 }
@@ -32,6 +39,10 @@ pub fn read_row(alloc: Global, key: Key, line: &mut Line<'_>) -> Result<Row, Unr
         Key::Lease(_) => Ok(Row::Lease(lease(line)?)),
         Key::Held(_) => Ok(Row::Held(line.address()?)),
         Key::Batch(_) => Ok(Row::Batch(batch(alloc, line)?)),
+        Key::Hub(_) => Ok(Row::Site(site(alloc, line)?)),
+        Key::PoolHub(_) => Ok(Row::PoolHub(line.count()?)),
+        Key::DevicePool(_) => Ok(Row::Pool(pool(line)?)),
+        Key::Device(_) => Ok(Row::Device(device(line)?)),
     }
 }
 
@@ -102,6 +113,20 @@ fn lease(line: &mut Line<'_>) -> Result<Lease, Unread> {
         _ => return Err(Unread::Words),
     };
     Ok(Lease {
+        hold,
+        expiry: line.moment()?,
+    })
+}
+
+// `offered` or `bound`, the modem and the device, or `declined`, and the moment at which it ends.
+fn device(line: &mut Line<'_>) -> Result<DeviceLease, Unread> {
+    let hold = match line.word() {
+        b"offered" => DeviceHold::Offered(line.mac()?, line.mac()?),
+        b"bound" => DeviceHold::Bound(line.mac()?, line.mac()?),
+        b"declined" => DeviceHold::Declined,
+        _ => return Err(Unread::Words),
+    };
+    Ok(DeviceLease {
         hold,
         expiry: line.moment()?,
     })

@@ -2,8 +2,8 @@ use crate::page::Page;
 use crate::trees::show_settings;
 use off_base::NoMemory;
 use off_defs::{
-    Batch, Class, Hold, ImportKind, Key, Lease, Modem, Pool, Row, ShownRow, Site, Subscriber,
-    key_text,
+    Batch, Class, DeviceHold, DeviceLease, Hold, ImportKind, Key, Lease, Modem, Pool, Row,
+    ShownRow, Site, Subscriber, key_text,
 };
 
 /// Prints a key: its kind, and then its numbers or its address.
@@ -27,6 +27,8 @@ pub fn show_row(page: &mut Page, key: &Key, row: &Row) -> Result<(), NoMemory> {
             page.address(*address)
         }
         Row::Batch(batch) => show_batch(page, batch),
+        Row::PoolHub(hub) => spaced(page, u64::from(*hub)),
+        Row::Device(lease) => show_device(page, lease),
     }
 }
 
@@ -111,6 +113,25 @@ fn show_lease(page: &mut Page, lease: &Lease) -> Result<(), NoMemory> {
             page.mac(mac)?;
         }
         Hold::Declined => page.text(" declined")?,
+    }
+    spaced(page, lease.expiry.0)
+}
+
+fn show_device(page: &mut Page, lease: &DeviceLease) -> Result<(), NoMemory> {
+    match lease.hold {
+        DeviceHold::Offered(modem, owner) => {
+            page.text(" offered ")?;
+            page.mac(modem)?;
+            page.text(" ")?;
+            page.mac(owner)?;
+        }
+        DeviceHold::Bound(modem, owner) => {
+            page.text(" bound ")?;
+            page.mac(modem)?;
+            page.text(" ")?;
+            page.mac(owner)?;
+        }
+        DeviceHold::Declined => page.text(" declined")?,
     }
     spaced(page, lease.expiry.0)
 }

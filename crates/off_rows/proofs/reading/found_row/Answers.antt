@@ -47,3 +47,23 @@ pub returns-in_err-batch-in-Batch : goal.returns-in_err-batch-in-Batch
 returns-in_err-batch-in-Batch c =
     let p = err_from_is_err_and c.from_residual-in_err-batch-in-Batch.result c.from_residual-in_err-batch-in-Batch.ensures.1 in
     rw (p.1, p.2, c.in-Batch.is) (why_bad (key.Batch c.in-Batch.field-0) c.args.bytes.now c.in_err-batch-in-Batch.field-0.0 c.in_err-batch-in-Batch.ensures)
+
+pub returns-in_err-site-in-Hub : goal.returns-in_err-site-in-Hub
+returns-in_err-site-in-Hub c =
+    let p = err_from_is_err_and c.from_residual-in_err-site-in-Hub.result c.from_residual-in_err-site-in-Hub.ensures.1 in
+    rw (p.1, p.2, c.in-Hub.is) (why_bad (key.Hub c.in-Hub.field-0) c.args.bytes.now c.in_err-site-in-Hub.field-0.0 c.in_err-site-in-Hub.ensures)
+
+pub returns-in_err-pool_hub-in-PoolHub : goal.returns-in_err-pool_hub-in-PoolHub
+returns-in_err-pool_hub-in-PoolHub c =
+    let p = err_from_is_err_and c.from_residual-in_err-pool_hub-in-PoolHub.result c.from_residual-in_err-pool_hub-in-PoolHub.ensures.1 in
+    rw (p.1, p.2, c.in-PoolHub.is) (why_bad (key.PoolHub c.in-PoolHub.field-0) c.args.bytes.now c.in_err-pool_hub-in-PoolHub.field-0.0 c.in_err-pool_hub-in-PoolHub.ensures)
+
+pub returns-in_err-pool-in-DevicePool : goal.returns-in_err-pool-in-DevicePool
+returns-in_err-pool-in-DevicePool c =
+    let p = err_from_is_err_and c.from_residual-in_err-pool-in-DevicePool.result c.from_residual-in_err-pool-in-DevicePool.ensures.1 in
+    rw (p.1, p.2, c.in-DevicePool.is) (why_bad (key.DevicePool c.in-DevicePool.field-0) c.args.bytes.now c.in_err-pool-in-DevicePool.field-0.0 c.in_err-pool-in-DevicePool.ensures)
+
+pub returns-in_err-device-in-Device : goal.returns-in_err-device-in-Device
+returns-in_err-device-in-Device c =
+    let p = err_from_is_err_and c.from_residual-in_err-device-in-Device.result c.from_residual-in_err-device-in-Device.ensures.1 in
+    rw (p.1, p.2, c.in-Device.is) (why_bad (key.Device c.in-Device.field-0) c.args.bytes.now c.in_err-device-in-Device.field-0.0 c.in_err-device-in-Device.ensures)

@@ -1,35 +1,32 @@
-use Rattle.std.proofs.Common.{sym, ap, ◌∙◌, subst, Result, List, ℕ}
-use Rattle.off_dhcp.specs.Datagram.{Received, message_of}
-use Rattle.off_dhcp.specs.declared.faults.DhcpFault.{DhcpFault}
-use Rattle.off_defs.specs.State.{Said}
-use Rattle.off_lease_rules.specs.Words.{unread}
-use Rattle.off_book.specs.Dhcp.{dhcp_line}
+use Rattle.std.proofs.Common.{sym, refl, ◌∙◌, subst, Option, List, ℕ}
+use Rattle.off_dhcp.specs.Datagram.{message_of}
 use Rattle.off_outside.specs.KeeperCalls.{Spent}
-use Rattle.off_office.specs.Asking.{message_asks}
-use Rattle.off_office.specs.Leasing.{ServesMessage}
-use Rattle.off_office.proofs.LeaseLemmas.{fault_serves, fault_spent}
+use Rattle.off_office.specs.Asking.{dhcp_asks}
+use Rattle.off_office.specs.Leasing.{ServesDatagram}
 use Rattle.off_office.proofs.office.Office.serve_datagram.Goals as goal
 
-pub returns-in-Ok-clause-told : goal.returns-in-Ok-clause-told
-returns-in-Ok-clause-told g c =
+pub returns-in-Some-clause-told : goal.returns-in-Some-clause-told
+returns-in-Some-clause-told g c =
     subst
-    (λ (read : Result Received DhcpFault). ServesMessage c.serve_message.result read c.args.self.now c.serve_message.new.self c.serve_message.new.out
-    (g.K.Keeper.seen c.args.keeper.now) (g.K.Keeper.seen c.serve_message.new.keeper))
-    (sym c.in-Ok.is ∙ c.read.ensures.message) c.serve_message.ensures.told
+    (λ (asked : Option (List ℕ)). ServesDatagram asked c.serve_query.result (message_of c.args.bytes.now) c.args.self.now c.args.self.now c.serve_query.new.out
+    (g.K.Keeper.seen c.args.keeper.now) (g.K.Keeper.seen c.serve_query.new.keeper))
+    (sym c.in-Some.is ∙ c.read.ensures) (refl, c.serve_query.ensures.told)
 
-pub returns-in-Ok-clause-spent : goal.returns-in-Ok-clause-spent
-returns-in-Ok-clause-spent g c =
+pub returns-in-Some-clause-spent : goal.returns-in-Some-clause-spent
+returns-in-Some-clause-spent g c =
     subst
-    (λ (read : Result Received DhcpFault). Spent (message_asks read) (g.K.Keeper.seen c.args.keeper.now) (g.K.Keeper.seen c.serve_message.new.keeper))
-    (sym c.in-Ok.is ∙ c.read.ensures.message) c.serve_message.ensures.spent
+    (λ (asked : Option (List ℕ)). Spent (dhcp_asks asked (message_of c.args.bytes.now)) (g.K.Keeper.seen c.args.keeper.now) (g.K.Keeper.seen c.serve_query.new.keeper))
+    (sym c.in-Some.is ∙ c.read.ensures) c.serve_query.ensures.spent
 
-pub returns-in-Err-clause-told : goal.returns-in-Err-clause-told
-returns-in-Err-clause-told g c =
-    fault_serves (message_of c.args.bytes.now) c.in-Err.fault _ _ _ (sym c.read.ensures.message ∙ c.in-Err.is)
-    (c.set_line.ensures
-    ∙ (ap (λ (line : List ℕ). record { items = c.args.out.now.items; line = line }) (c.as_slice.ensures.value ∙ c.line_of.ensures ∙ ap dhcp_line c.word_of.ensures)
-    ∙ ap (λ (s : Said). record { items = s.items; line = dhcp_line (unread c.in-Err.fault) }) c.requires))
+pub returns-in-None-clause-told : goal.returns-in-None-clause-told
+returns-in-None-clause-told g c =
+    subst
+    (λ (asked : Option (List ℕ)). ServesDatagram asked c.read_message.result (message_of c.args.bytes.now) c.args.self.now c.read_message.new.self c.read_message.new.out
+    (g.K.Keeper.seen c.args.keeper.now) (g.K.Keeper.seen c.read_message.new.keeper))
+    (sym c.in-None.is ∙ c.read.ensures) c.read_message.ensures.told
 
-pub returns-in-Err-clause-spent : goal.returns-in-Err-clause-spent
-returns-in-Err-clause-spent g c =
-    fault_spent (message_of c.args.bytes.now) c.in-Err.fault (g.K.Keeper.seen c.args.keeper.now) (sym c.read.ensures.message ∙ c.in-Err.is)
+pub returns-in-None-clause-spent : goal.returns-in-None-clause-spent
+returns-in-None-clause-spent g c =
+    subst
+    (λ (asked : Option (List ℕ)). Spent (dhcp_asks asked (message_of c.args.bytes.now)) (g.K.Keeper.seen c.args.keeper.now) (g.K.Keeper.seen c.read_message.new.keeper))
+    (sym c.in-None.is ∙ c.read.ensures) c.read_message.ensures.spent

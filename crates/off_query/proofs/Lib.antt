@@ -1,0 +1,4 @@
+pub mod Chain
+pub mod ReadLemmas
+pub mod StageLemmas
+pub mod WalkLemmas
