@@ -56,10 +56,8 @@ impl Keeper for Watched {
     fn commit(&mut self, alloc: Global, writes: &Writes) -> Result<(), KeepErr> {
         self.calls = self.calls.saturating_add(1);
         let result = self.keeper.commit(alloc, writes);
-        let disk = self.keeper.disk();
-        if self.crashes.watch(alloc, disk, writes, result.is_ok()).is_err() {
-            self.crashes.lost = true;
-        }
+        let is_done = result.is_ok();
+        watch(alloc, &self.keeper, &mut self.crashes, writes, is_done);
         result
     }
 
@@ -68,9 +66,22 @@ impl Keeper for Watched {
     ghost rests = { λ s. ⟦<JournalKeeper<MemDisk> as Keeper>⟧.rests s.keeper };
 }
 
+// Takes a commit. Where memory is wanted for that, it's as if rows were lost.
+fn watch(
+    alloc: Global,
+    keeper: &JournalKeeper<MemDisk>,
+    crashes: &mut Crashes,
+    writes: &Writes,
+    is_done: bool,
+) {
+    if crashes.take(alloc, keeper.disk(), writes, is_done).is_err() {
+        crashes.lost = true;
+    }
+}
+
 impl Crashes {
     // Takes a commit, and opens what a crash may leave behind it.
-    fn watch(
+    fn take(
         &mut self,
         alloc: Global,
         disk: &MemDisk,
@@ -139,7 +150,10 @@ fn puts_of(alloc: Global, keeper: &mut MemKeeper) -> Result<Writes, Unread> {
     let mut writes = Writes::new(alloc);
     let mut last = None;
     for _ in 0..u64::MAX {
-        let Ok(Some((key, row))) = keeper.next(alloc, last.as_ref()) else {
+        let Ok(entry) = keeper.next(alloc, last.as_ref()) else {
+            return Err(Unread::Memory);
+        };
+        let Some((key, row)) = entry else {
             break;
         };
         writes.push(Write::Put(key, row))?;
@@ -153,7 +167,10 @@ fn rows_of<K: Keeper>(alloc: Global, keeper: &mut K) -> Result<Page, Unread> {
     let mut page = Page::new(alloc);
     let mut last = None;
     for _ in 0..u64::MAX {
-        let Ok(Some((key, row))) = keeper.next(alloc, last.as_ref()) else {
+        let Ok(entry) = keeper.next(alloc, last.as_ref()) else {
+            return Err(Unread::Memory);
+        };
+        let Some((key, row)) = entry else {
             break;
         };
         show_row(&mut page, &key, &row)?;
