@@ -2,6 +2,8 @@
 //! answer is the one that plain reading of the rows gives, and a DISCOVER is offered the address that
 //! plain reading chooses.
 
+ghost use Rattle.std.specs.Prelude.{◌≤◌};
+
 use crate::lease_rows::{AT, MODEM, discover_by, modem_row, site_row};
 use off_base::{Ip4, Mac, Moment, NoMemory};
 use off_defs::{Hold, Key, Lease, Pool, Row, Sent, Write, Writes};
@@ -24,6 +26,9 @@ struct World {
     now: Moment,
     homes: [u32; 3],
     seed: u64,
+    // How many DISCOVERs were offered an address, and how many none.
+    offered: u32,
+    silent: u32,
 }
 
 // The next of numbers that look random (Knuth's MMIX).
@@ -33,11 +38,13 @@ fn next_seed(seed: u64) -> u64 {
 }
 
 // A part of such a number, below `most`.
-fn part(seed: u64, most: u32) -> u32 {
+fn part(seed: u64, most: u32) -> u32
+    ensures { result ≤ most }
+{
     if most == 0 {
         return 0;
     }
-    ((seed >> 33) as u32) % most
+    ((seed >> 33) % u64::from(most)) as u32
 }
 
 fn address(stretch: u32, place: u32) -> Ip4 {
@@ -122,6 +129,8 @@ impl World {
             now: AT,
             homes: [0, 1, 2],
             seed: 1,
+            offered: 0,
+            silent: 0,
         })
     }
 
@@ -181,6 +190,14 @@ impl World {
             self.now.0.wrapping_add(on)
         });
         self.runs.pass(self.now);
+    }
+
+    fn count(&mut self, is_offered: bool) {
+        if is_offered {
+            self.offered = self.offered.saturating_add(1);
+        } else {
+            self.silent = self.silent.saturating_add(1);
+        }
     }
 
     fn commit(&mut self, alloc: Global) -> Result<(), KeepErr> {
@@ -363,12 +380,14 @@ fn offers(alloc: Global, world: &mut World) -> Result<bool, KeepErr> {
         if offered(alloc, world, number, asked)? != chosen {
             return Ok(false);
         }
+        world.count(chosen.is_some());
     }
     Ok(true)
 }
 
-// Behind how many of so many commits something is told that plain reading doesn't find.
-fn disagreeing(alloc: Global, commits: u32) -> Result<u32, KeepErr> {
+// Behind how many of so many commits something is told that plain reading doesn't find; and how many
+// DISCOVERs were offered an address, and how many none.
+fn disagreeing(alloc: Global, commits: u32) -> Result<(u32, u32, u32), KeepErr> {
     let mut world = World::new(alloc)?;
     let mut wrong: u32 = 0;
     for _commit in 0..commits {
@@ -379,11 +398,14 @@ fn disagreeing(alloc: Global, commits: u32) -> Result<u32, KeepErr> {
             wrong = wrong.wrapping_add(1);
         }
     }
-    Ok(wrong)
+    Ok((wrong, world.offered, world.silent))
 }
 
 #[test]
 fn kept_addresses_are_those_of_the_rows(rt: HostRuntime) -> Result<(), Fail> {
-    assert_eq!(rt; disagreeing(rt.alloc(), 400)?, 0);
+    let (wrong, offered, silent) = disagreeing(rt.alloc(), 400)?;
+    assert_eq!(rt; wrong, 0);
+    assert!(rt; 100 < offered);
+    assert!(rt; 10 < silent);
     Ok(())
 }
