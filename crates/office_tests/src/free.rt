@@ -1,6 +1,6 @@
 //! What is kept of free addresses, behind random writes and at moments that rise and fall: each
-//! answer is the one that plain reading of the rows gives, and a DISCOVER is offered the address that
-//! plain reading chooses.
+//! answer is the one that plain reading of the rows gives, and a DISCOVER is offered the address
+//! that plain reading chooses.
 
 ghost use Rattle.std.specs.Prelude.{◌≤◌};
 
@@ -148,8 +148,8 @@ impl World {
         }
     }
 
-    // One commit: a pool is put anew, two pools trade their stretches, one is removed, or removed and
-    // put again; or, mostly, leases change.
+    // One commit: a pool is put anew, two pools trade their stretches, one is removed, or removed
+    // and put again; or, mostly, leases change.
     fn writes(&mut self, alloc: Global) -> Result<Writes, NoMemory> {
         let mut writes = Writes::new(alloc);
         let number = self.some(3).wrapping_add(1);
@@ -385,8 +385,8 @@ fn offers(alloc: Global, world: &mut World) -> Result<bool, KeepErr> {
     Ok(true)
 }
 
-// Behind how many of so many commits something is told that plain reading doesn't find; and how many
-// DISCOVERs were offered an address, and how many none.
+// Behind how many of so many commits something is told that plain reading doesn't find; and how
+// many DISCOVERs were offered an address, and how many none.
 fn disagreeing(alloc: Global, commits: u32) -> Result<(u32, u32, u32), KeepErr> {
     let mut world = World::new(alloc)?;
     let mut wrong: u32 = 0;

@@ -9,9 +9,9 @@ use office_stage::Kept;
 use script_words::{Page, Unread, show_row};
 use std::alloc::Global;
 
-/// A journal over a disk in memory, of which a crash is tried behind each commit: all images that the
-/// disk picks are opened. Each has the rows of the commits that were done, and at most those of one
-/// more, which was refused behind them.
+/// A journal over a disk in memory, of which a crash is tried behind each commit: all images that
+/// the disk picks are opened. Each has the rows of the commits that were done, and at most those of
+/// one more, which was refused behind them.
 #[derive(Drop)]
 pub struct Watched {
     keeper: JournalKeeper<MemDisk>,
@@ -105,7 +105,13 @@ impl Crashes {
     }
 
     // Opens one image.
-    fn open(&mut self, alloc: Global, disk: &MemDisk, pick: u64, rows: &Page) -> Result<(), Unread> {
+    fn open(
+        &mut self,
+        alloc: Global,
+        disk: &MemDisk,
+        pick: u64,
+        rows: &Page,
+    ) -> Result<(), Unread> {
         let image = disk.crash(alloc, pick)?;
         let Ok(opened) = JournalKeeper::begin(alloc, image) else {
             self.lost = true;
