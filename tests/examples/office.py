@@ -192,6 +192,15 @@ def telling():
     both, first, second = (outcome(wrote=[f"1 time {one}", f"2 time {two}"], sent=[told(0)] * sent)
                            for one, two, sent in (("sent", "sent", 2), ("link", "sent", 1), ("sent", "link", 1)))
     run("each call of the link", [turns(5), time(0), time(0), "fails each link"], both, both, first, both, second, both)
+    section("memory that is wanted for an event ends the run", "It is no failure of the link, and isn't tried again: status 6, and what was done by then stays done.")
+    run("at the first event", [turns(5), time(0), "wants link 1"], outcome(6, ["memory refused"]))
+    run("at the second", [turns(5), time(0), time(0), "wants link 2"], outcome(6, ["1 time sent", "memory refused"], sent=[told(0)]))
+    run("behind the last turn nothing is asked for", [turns(1), time(0), "wants link 2"], outcome(wrote=["1 time sent"], sent=[told(0)]))
+    run("behind fifteen failures", [turns(5), time(0), f"fails link {in_a_row[:-3]}", "wants link 16"], outcome(6, ["memory refused"]))
+    run("the sink fails too", [turns(5), time(0), "wants link 1", "fails sink 1"], outcome(4))
+    run("its line is cut", [turns(5), time(0), "wants link 1", "room sink 6"], outcome(4, cut="memory"))
+    run("behind a command that was done", ["show tables", turns(5), ask(1, put_site(0x0A000002, 6, 3600, 86400)), "wants link 2"],
+        outcome(6, ["1 http 200", "memory refused"], sent=answered(1, 200, OK), tables=OFFICE[:1]))
 
 
 def job(command, secret, data, more=(), source=None):

@@ -15,6 +15,9 @@ pub trait Kept: Keeper + Sized {
 
     /// How many calls it has had.
     fn calls(&self) -> u64;
+
+    /// Whether it has seen that a crash would leave other rows than those that were committed.
+    fn has_lost(&self) -> bool;
 }
 
 impl Kept for MemKeeper {
@@ -29,5 +32,10 @@ impl Kept for MemKeeper {
 
     fn calls(&self) -> u64 {
         MemKeeper::calls(self)
+    }
+
+    // It isn't asked what a crash leaves.
+    fn has_lost(&self) -> bool {
+        false
     }
 }

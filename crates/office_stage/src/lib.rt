@@ -12,6 +12,7 @@ mod outside;
 mod results;
 mod scene;
 mod stage;
+mod wanting;
 
 pub use kept::Kept;
 pub use stage::Stage;

@@ -4,6 +4,7 @@ use crate::events::push_event;
 use crate::kept::Kept;
 use crate::outside::{Outside, runs};
 use crate::scene::{Part, Scene};
+use crate::wanting::WantingLink;
 use off_base::{Bytes, NoMemory, read_number};
 use off_defs::Writes;
 use off_outside::{Calls, Events, Keeper, Link, MemLink, MemSink, MemSource};
@@ -48,14 +49,15 @@ fn push_more(all: &mut Calls, more: More) -> Result<(), NoMemory> {
     Ok(())
 }
 
-fn link_of(alloc: Global, scene: &Scene<'_>, more: More) -> Result<MemLink, Unread>
-    ensures { IfOk result (λ link. (⟦<MemLink as Link>⟧.seen link).missed ≡ 0) }
+fn link_of(alloc: Global, scene: &Scene<'_>, more: More) -> Result<WantingLink, Unread>
+    ensures { IfOk result (λ link. (⟦<WantingLink as Link>⟧.seen link).missed ≡ 0) }
 {
     let fails = calls(alloc, scene.fails.link, Part::Link, more)?;
+    let wants = calls(alloc, scene.wants, Part::Link, NO_MORE)?;
     let events = events_of(alloc, scene.events.as_slice())?;
     let rooms = scene.rooms;
     match MemLink::new(alloc, events, rooms.items, rooms.octets, fails) {
-        Ok(link) => Ok(link),
+        Ok(link) => Ok(WantingLink::new(link, wants)),
         Err(NoMemory) => Err(Unread::Memory),
     }
 }
@@ -210,7 +212,7 @@ fn renew<K: Kept>(
     more: More,
     outside: &mut Outside<K>,
 ) -> Result<(), Unread>
-    ensures { OnOk result ((⟦<MemLink as Link>⟧.seen outside.new.link).missed ≡ 0) }
+    ensures { OnOk result ((⟦<WantingLink as Link>⟧.seen outside.new.link).missed ≡ 0) }
 {
     outside.source = source_of(alloc, scene, more)?;
     outside.out = sink_of(alloc, scene, more)?;

@@ -1,6 +1,7 @@
 ghost use Rattle.std.specs.Prelude.{◌≡◌};
 
 use crate::kept::Kept;
+use crate::wanting::WantingLink;
 use off_base::Bytes;
 use off_outside::{Calls, Events, Link, MemLink, MemSink, MemSource};
 use off_serve::run;
@@ -11,7 +12,7 @@ use std::alloc::Global;
 /// function in which much is live where it may return is slow to prove.
 #[derive(Drop)]
 pub struct Outside<K> {
-    pub link: MemLink,
+    pub link: WantingLink,
     pub keeper: K,
     pub source: MemSource,
     pub out: MemSink,
@@ -21,6 +22,7 @@ impl<K: Kept + Drop> Outside<K> {
     /// No events, no rows, no bytes and no room.
     pub fn new(alloc: Global) -> Result<Outside<K>, Unread> {
         let link = MemLink::new(alloc, Events::new(alloc), 0, 0, Calls::new(alloc))?;
+        let link = WantingLink::new(link, Calls::new(alloc));
         let out = MemSink::new(alloc, 0, Calls::new(alloc))?;
         Ok(Outside {
             link,
@@ -33,7 +35,7 @@ impl<K: Kept + Drop> Outside<K> {
 
 /// Runs the program.
 pub fn runs<K: Kept>(alloc: Global, words: &[String], outside: &mut Outside<K>) -> u8
-    requires { (⟦<MemLink as Link>⟧.seen outside.old.link).missed ≡ 0 }
+    requires { (⟦<WantingLink as Link>⟧.seen outside.old.link).missed ≡ 0 }
 {
     run(
         alloc,

@@ -19,7 +19,10 @@ pub fn show_run<K: Kept>(
     page.number(u64::from(status))?;
     page.end_line()?;
     show_written(page, outside.out.written())?;
-    show_sent(page, &outside.link)?;
+    show_sent(page, outside.link.held())?;
+    if outside.keeper.has_lost() {
+        page.text("a crash would leave other rows\n")?;
+    }
     if scene.shows_calls {
         show_calls(page, &outside.keeper)?;
     }

@@ -36,6 +36,8 @@ pub struct Scene<'a> {
     pub events: Vec<&'a [u8]>,
     pub source: &'a [u8],
     pub fails: Fails<'a>,
+    /// The numbers of the link's calls of `next` at which memory is wanted.
+    pub wants: &'a [u8],
     pub each: Option<Part>,
     pub rooms: Rooms,
     pub shows_tables: bool,
@@ -87,6 +89,7 @@ impl<'a> Scene<'a> {
             events: Vec::new(alloc),
             source: b"",
             fails: NO_FAILS,
+            wants: b"",
             each: None,
             rooms: ROOMS,
             shows_tables: false,
@@ -110,6 +113,7 @@ impl<'a> Scene<'a> {
             b"room" => self.take_room(line),
             b"cell" => push(&mut self.cells, line.rest()),
             b"fails" => self.take_fails(line),
+            b"wants" => self.take_wants(line),
             b"show" => self.take_show(line),
             _ => self.take_row(text),
         }
@@ -154,6 +158,16 @@ impl<'a> Scene<'a> {
             Part::Sink => self.fails.sink = line.rest(),
             Part::Keeper => self.fails.keeper = line.rest(),
         }
+        Ok(())
+    }
+
+    // `wants link 1 2`: an event, at whose taking memory is wanted.
+    fn take_wants(&mut self, line: Line<'a>) -> Result<(), Unread> {
+        let mut line = line;
+        if read_part(line.word())? != Part::Link {
+            return Err(Unread::Words);
+        }
+        self.wants = line.rest();
         Ok(())
     }
 

@@ -30,7 +30,8 @@ pub(crate) fn site_row() -> Option<Row> {
     }))
 }
 
-fn modem_row() -> Option<Row> {
+/// The modem.
+pub(crate) fn modem_row() -> Option<Row> {
     let Ok(serial) = Short::read(b"SN01") else {
         return None;
     };
@@ -54,16 +55,37 @@ pub(crate) fn office_rows(alloc: Global) -> Result<Writes, NoMemory> {
     Ok(writes)
 }
 
-/// A DISCOVER of the modem behind the relay: options 53, 60, 43 in two pieces with a pad between
-/// them, and 82.
+/// A DISCOVER of the modem behind the relay.
 pub(crate) fn discover(alloc: Global) -> Result<Bytes, NoMemory> {
+    let mut bytes = fixed_part(alloc, RELAY)?;
+    push_options(&mut bytes)?;
+    Ok(bytes)
+}
+
+/// One behind another relay, which asks for an address (option 50).
+pub(crate) fn discover_by(alloc: Global, relay: Ip4, asked: Ip4) -> Result<Bytes, NoMemory> {
+    let mut bytes = fixed_part(alloc, relay)?;
+    bytes.push_all(&[50, 4])?;
+    bytes.push_all(&asked.0.to_be_bytes())?;
+    push_options(&mut bytes)?;
+    Ok(bytes)
+}
+
+// Up to its options.
+fn fixed_part(alloc: Global, relay: Ip4) -> Result<Bytes, NoMemory> {
     let mut bytes = Bytes::new(alloc);
     bytes.push_all(&[1, 1, 6, 0, 0x11, 0x22, 0x33, 0x44])?;
     bytes.push_all(&[0; 16])?;
-    bytes.push_all(&RELAY.0.to_be_bytes())?;
+    bytes.push_all(&relay.0.to_be_bytes())?;
     bytes.push_all(&MODEM.0)?;
     bytes.push_all(&[0; 202])?;
-    bytes.push_all(&[99, 130, 83, 99, 53, 1, 1, 60, 10])?;
+    bytes.push_all(&[99, 130, 83, 99])?;
+    Ok(bytes)
+}
+
+// Options 53, 60, 43 in two pieces with a pad between them, and 82.
+fn push_options(bytes: &mut Bytes) -> Result<(), NoMemory> {
+    bytes.push_all(&[53, 1, 1, 60, 10])?;
     bytes.push_all(b"docsis3.1:")?;
     bytes.push_all(&[43, 5, 2, 3])?;
     bytes.push_all(b"ECM")?;
@@ -71,6 +93,5 @@ pub(crate) fn discover(alloc: Global) -> Result<Bytes, NoMemory> {
     bytes.push_all(b"SN01")?;
     bytes.push_all(&[82, 14, 1, 4, 128, 0, 0, 1, 2, 6])?;
     bytes.push_all(&MODEM.0)?;
-    bytes.push_all(&[255])?;
-    Ok(bytes)
+    bytes.push_all(&[255])
 }

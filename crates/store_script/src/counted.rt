@@ -86,6 +86,10 @@ impl Kept for InCells {
     fn calls(&self) -> u64 {
         self.calls
     }
+
+    fn has_lost(&self) -> bool {
+        false
+    }
 }
 
 impl Kept for InDatabase {
@@ -103,6 +107,10 @@ impl Kept for InDatabase {
 
     fn calls(&self) -> u64 {
         self.calls
+    }
+
+    fn has_lost(&self) -> bool {
+        false
     }
 }
 
@@ -123,5 +131,9 @@ impl Kept for InJournal {
 
     fn calls(&self) -> u64 {
         self.calls
+    }
+
+    fn has_lost(&self) -> bool {
+        false
     }
 }
