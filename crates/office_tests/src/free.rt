@@ -48,7 +48,10 @@ fn part(seed: u64, most: u32) -> u32
 }
 
 fn address(stretch: u32, place: u32) -> Ip4 {
-    Ip4(BASE.wrapping_add(stretch.wrapping_mul(8)).wrapping_add(place))
+    Ip4(
+        BASE.wrapping_add(stretch.wrapping_mul(8))
+            .wrapping_add(place),
+    )
 }
 
 fn relay(number: u32) -> Ip4 {
@@ -248,12 +251,7 @@ fn number_of(alloc: Global, keeper: &mut MemKeeper, at: Ip4) -> Result<Option<u3
 }
 
 // Whether the address has no lease, or one that has ended.
-fn has_ended(
-    alloc: Global,
-    keeper: &mut MemKeeper,
-    now: Moment,
-    at: Ip4,
-) -> Result<bool, KeepErr> {
+fn has_ended(alloc: Global, keeper: &mut MemKeeper, now: Moment, at: Ip4) -> Result<bool, KeepErr> {
     let row = keeper.get(alloc, &Key::Lease(at))?;
     Ok(match &row {
         Some(Row::Lease(lease)) => lease.expiry.0 <= now.0,
@@ -320,13 +318,7 @@ fn offered(
     let Ok(message) = Message::read(bytes.as_slice()) else {
         return Err(KeepErr::Failed);
     };
-    let step = answer(
-        alloc,
-        &mut world.keeper,
-        &world.runs,
-        world.now,
-        &message,
-    )?;
+    let step = answer(alloc, &mut world.keeper, &world.runs, world.now, &message)?;
     Ok(match &step.reply {
         Some(Sent::Datagram { bytes, .. }) => given(bytes.as_slice()),
         _ => None,
@@ -336,9 +328,29 @@ fn offered(
 // The address that a reply gives (RFC 2131: yiaddr).
 fn given(reply: &[u8]) -> Option<Ip4> {
     match reply {
-        [_, _, _, _, _, _, _, _, _, _, _, _, _, _, _, _, a, b, c, d, ..] => {
-            Some(Ip4(u32::from_be_bytes([*a, *b, *c, *d])))
-        }
+        [
+            _,
+            _,
+            _,
+            _,
+            _,
+            _,
+            _,
+            _,
+            _,
+            _,
+            _,
+            _,
+            _,
+            _,
+            _,
+            _,
+            a,
+            b,
+            c,
+            d,
+            ..
+        ] => { Some(Ip4(u32::from_be_bytes([*a, *b, *c, *d]))) }
         _ => None,
     }
 }

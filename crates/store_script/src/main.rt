@@ -78,12 +78,7 @@ fn told(alloc: Global, parts: &Parts<'_>) -> Result<Page, Unread> {
 
 // Prints what comes of lines over a journal in which calls of the disk fail, where a crash would
 // leave other rows than those that were committed, or a line can't be read.
-fn show_crashes(
-    alloc: Global,
-    page: &mut Page,
-    script: &[u8],
-    other: &Page,
-) -> Result<(), Unread> {
+fn show_crashes(alloc: Global, page: &mut Page, script: &[u8], other: &Page) -> Result<(), Unread> {
     let watched = played::<Watched>(alloc, script)?;
     let all = headings(watched.as_slice()) == headings(other.as_slice());
     if all && mark_in(watched.as_slice(), LOST).is_none() {
