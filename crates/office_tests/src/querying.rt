@@ -93,6 +93,17 @@ struct Summary {
     options: [u8; 16],
 }
 
+// The first 16 bytes behind the fixed part and the cookie.
+fn options_of(bytes: &Bytes) -> [u8; 16] {
+    let mut options = [0; 16];
+    for place in 0..16 {
+        if let Some(byte) = bytes.as_slice().get(240 + place) {
+            options[place] = *byte;
+        }
+    }
+    options
+}
+
 fn summary_of(step: &QueryStep) -> Summary {
     let mut summary = Summary {
         word: step.word,
@@ -103,9 +114,7 @@ fn summary_of(step: &QueryStep) -> Summary {
     if let Some(Sent::Datagram { to, bytes, .. }) = &step.reply {
         summary.to = Some(*to);
         summary.len = bytes.len();
-        if let Some(options) = bytes.as_slice().get(240..256) {
-            summary.options.copy_from_slice(options);
-        }
+        summary.options = options_of(bytes);
     }
     summary
 }
