@@ -6,7 +6,7 @@ use Rattle.off_outside.specs.KeeperSeen.{KeeperSeen}
 use Rattle.off_outside.specs.KeeperCalls.{Looks, Reads, NotDone}
 use Rattle.off_outside.specs.declared.keeper.KeepErr.{KeepErr}
 use Rattle.off_outside.specs.declared.keeper.KeepErr.TheVariants.{Memory}
-use Rattle.off_outside.proofs.KeeperLemmas.{reads_then, reads_as, reads_forgotten, failed_then}
+use Rattle.off_outside.proofs.KeeperLemmas.{reads_as, reads_forgotten}
 use Rattle.off_query_rules.specs.declared.results.QueryStep.{QueryStep}
 use Rattle.off_query_rules.specs.declared.cases.QueryCase.{QueryCase}
 use Rattle.off_query_rules.specs.Answers.{query_case, settled, query_step}
@@ -17,12 +17,6 @@ looks_settled {P} {a} {b} step (Ok k) Q made is ok reads join =
     let e : k ≡ made = subst (λ (r : Result QueryStep NoMemory). IfOk r (λ s. s ≡ made)) is ok in
     reads_as reads (λ t p. subst (λ (s : QueryStep). Q s t) (sym e) (join t p))
 looks_settled {P} {a} {b} step (Err err) Q made is ok reads join = subst (λ (x : KeepErr). NotDone x a b) (sym is) (reads_forgotten reads)
-
--- a reading, and then another call's answer as it is
-pub looks_then : {P : Tables → Type 0} {a b : KeeperSeen} (c : KeeperSeen) (result : Result QueryCase KeepErr) (Q R : QueryCase → Tables → Type 0) → Reads P a b → Looks result b c Q
-    → ((s : QueryCase) (t : Tables) → P t → Q s t → R s t) → Looks result a c R
-looks_then c (Ok s) Q R p q join = reads_then p q (join s)
-looks_then c (Err err) Q R p q join = failed_then p q
 
 pub step_of_case : (t : Tables) (now : ℕ) (q : List ℕ) (case : QueryCase) → case ≡ query_case t q → settled now q case ≡ query_step t now q
 unfolding query_step
