@@ -32,7 +32,7 @@ from harness.mutating import mutated  # noqa: E402
 
 import leases  # noqa: E402
 import tftp  # noqa: E402
-from examples import compact, ip  # noqa: E402
+from examples import compact  # noqa: E402
 from messages import RELAYED_DISCOVER, option  # noqa: E402
 
 WORST = os.path.join(ROOT, "tests", "worst")

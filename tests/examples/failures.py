@@ -4,7 +4,7 @@ One script goes through all services: a modem boots and reads its file, and a cl
 What is expected is computed by the models of leases.py and tftp.py, in which an event either is done whole or, where the keeper fails in it, is as if it
 hadn't come; its line tells which. The word of each event in a run in which nothing fails is said here by hand.
 """
-from examples import answer, answered, datagram, fixed, outcome, request
+from examples import answer, answered, fixed, outcome, request
 from leases import DISCOVER, REQUEST, A, Office, moment_of, option, address, SERVER
 from messages import RELAYED_DISCOVER
 import leases
