@@ -1,7 +1,8 @@
 #!/usr/bin/env python3
 """officed where the system gives it too little: descriptors, memory, a reader of its log, time to read a burst.
 
-With 40 descriptors it goes on under 200 connections, and where growths of memory are refused it drops what they were for and goes on.
+With 40 descriptors it goes on under 200 connections, and where growths of memory are refused it drops what they were for and goes on,
+also under eight bodies of 1 MiB at once.
 A log that nobody reads ends it with status 4 after 30 seconds. Of a burst of 1,000 datagrams that come while it doesn't run it answers
 as many as its receive buffer holds. The figures are printed. It ends what it started, and takes about 45 seconds, most of them waiting.
 """
@@ -96,6 +97,45 @@ def refused_memory():
             stop(program)
 
 
+def eight_bodies():
+    """Eight requests of 1 MiB each at once, where memory is left for two of them: some are refused, and its line says so; with memory again all are done."""
+    ports = free_ports()
+    body = ANN + b" " * ((1 << 20) - len(ANN))
+
+    def try_all():
+        answers = [None] * 8
+
+        def one(place):
+            try:
+                with connect(ports[3], patience=200) as peer:
+                    peer.sendall(request("PUT", f"/subscribers/{place}", body))
+                    answers[place] = (read_to_end(peer) or b"").split(b" ", 2)[1:2]
+            except OSError:
+                pass
+        threads = [threading.Thread(target=one, args=(place,)) for place in range(8)]
+        for each in threads:
+            each.start()
+        for each in threads:
+            each.join()
+        return answers
+
+    with tempfile.TemporaryFile() as log:
+        program = start(ports, 10**9, log)
+        try:
+            check(wait_until_answering(ports[3]), "the office answers clerks")
+            limit_memory(program.pid, size(program.pid) + (5 << 20))
+            little = try_all()
+            check(program.poll() is None, "eight large bodies don't end the office")
+            check(any(answer != [b"200"] for answer in little), f"memory was refused to some of eight bodies of 1 MiB: {little}")
+            limit_memory(program.pid, resource.RLIM_INFINITY)
+            check(try_all() == [[b"200"]] * 8, "with memory again all eight are done")
+            lines = [line.split(b" ", 1)[1] for line in os.pread(log.fileno(), 1 << 24, 0).splitlines()]
+            check([b"503"] not in little or b"http memory" in lines, "who is told 503 has the line `memory`")
+            print(f"eight bodies of 1 MiB where 5 MiB are left: {[answer and answer[0].decode() for answer in little]}, {lines.count(b'http memory')} lines say memory")
+        finally:
+            stop(program)
+
+
 def unread_log():
     """A pipe that nobody reads is full after some thousand lines."""
     ports = free_ports()
@@ -164,6 +204,7 @@ def main():
     waiting.start()
     few_descriptors()
     refused_memory()
+    eight_bodies()
     burst()
     waiting.join()
     print(f"acceptance: {len(failures)} failed")

@@ -3,7 +3,7 @@
 
 Datagrams for DHCP, the time and TFTP and requests of clerks are changed by chance, from a seed that is printed (OFFICE_SEED names another). Each has the line
 that a model of words allows (harness/mutating.py), and no line says `memory` or `keeper`. A clerk is answered as the line says; what a changed request put is
-removed. The program goes on, and of a million inputs its resident memory grows by less than 1 MB behind the first 100,000. Last a modem boots and reads its file
+removed. The program goes on, and of a million inputs its resident memory grows by less than 1 MB after the first 100,000. Last a modem boots and reads its file
 as if nothing had been. The site's secret is in no line, answer, or word on standard error, as text or in hexadecimal; `seal`, `check` and `import` over
 changed files say it as little. Where `unshare -rn` isn't allowed it says so and skips. It ends what it started, and takes half a minute.
 """
@@ -279,7 +279,7 @@ def fuzzing():
             check(program.poll() is None, f"the office goes on: {program.poll()}")
             # A shorter run has not met all sizes yet.
             check(COUNT < 10**6 or grown < MOST_GROWTH, f"resident memory grew by {grown} bytes")
-            print(f"{COUNT} inputs of seed {SEED} in {time.perf_counter() - began:.0f} s, resident memory {before >> 10} KiB and {grown >> 10} KiB more behind the first tenth")
+            print(f"{COUNT} inputs of seed {SEED} in {time.perf_counter() - began:.0f} s, resident memory {before >> 10} KiB and {grown >> 10} KiB more after the first tenth")
             print("  " + ", ".join(f"{word} {count}" for word, count in sorted(fuzz.tried.items())))
             ends_well(fuzz)
         finally:
@@ -292,7 +292,7 @@ def fuzzing():
 
 
 def ends_well(fuzz):
-    """Behind it all a modem boots and reads its file, whose both values are right."""
+    """After it all a modem boots and reads its file, whose both values are right."""
     furnish()
     for each in (fuzz.relay, fuzz.asker, fuzz.clients):
         each.close()

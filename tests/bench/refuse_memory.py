@@ -174,8 +174,8 @@ def runs(refuser, counted, folder):
     for number in range(1, MOST):
         before = rows_of(store)
         status, was_refused = ran_once(refuser, number, ["import", "--store", store, "subscribers", str(number)], f"subscriber,active,cpes,name\n{number + 50},yes,2,B{number}\n".encode())
-        behind = rows_of(store)
-        check(status in (0, 6, 11) and (behind == before) == (status != 0), f"import, growth {number}: status {status}, {len(behind) - len(before)} rows more")
+        after = rows_of(store)
+        check(status in (0, 6, 11) and (after == before) == (status != 0), f"import, growth {number}: status {status}, {len(after) - len(before)} rows more")
         counted.note("import", "done" if status == 0 else f"status {status}")
         if not was_refused or failures:
             break

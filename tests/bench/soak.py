@@ -168,7 +168,7 @@ class Modems(threading.Thread):
 
 
 class Clerk(threading.Thread):
-    """Puts one subscriber behind another; `done` are those that were acknowledged."""
+    """Puts one subscriber after another; `done` are those that were acknowledged."""
 
     def __init__(self, first):
         super().__init__(daemon=True)

@@ -32,7 +32,7 @@ from harness.mutating import mutated  # noqa: E402
 
 import leases  # noqa: E402
 import tftp  # noqa: E402
-from examples import compact, ip  # noqa: E402
+from examples import compact  # noqa: E402
 from messages import RELAYED_DISCOVER, option  # noqa: E402
 
 WORST = os.path.join(ROOT, "tests", "worst")
@@ -96,7 +96,7 @@ def percentile(times, share):
 
 
 def waits(port, packet, seconds):
-    """How long answers of a port take, each asked two milliseconds behind the one before; an answer that is lost counts as a second."""
+    """How long answers of a port take, each asked two milliseconds after the one before; an answer that is lost counts as a second."""
     times, lost, end = [], 0, time.perf_counter() + seconds
     with socket.socket(socket.AF_INET, socket.SOCK_DGRAM) as client:
         client.bind(("10.64.200.10", 0))

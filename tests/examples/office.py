@@ -4,17 +4,17 @@
 The office of the worked examples is a site, class 1, subscriber 7, a modem and a pool. What is expected is said here by hand, from the rules
 in docs/, or computed by Python's hashlib, hmac and json and the readers of examples.py, which are written from the standards. The sections on
 DHCP are those of leases.py, those on TFTP of transfers.py, those on whole boots
-of boots.py, those on imports of import_job.py, those on drills of drills.py, those on calls that fail of faults.py, and those on input from strangers
-of strangers.py. With the word `check` it compares the two files with what it would write.
+of boots.py, those on imports of import_job.py, those on drills of drills.py, those on calls that fail of failures.py, and those on input from strangers
+of hostile.py. With the word `check` it compares the two files with what it would write.
 """
 import sys
 
 import boots
 import drills
-import faults
+import failures
+import hostile
 import import_job
 import leases
-import strangers
 import transfers
 from examples import T, Fault, Script, answer, answered, compact, datagram, fixed, ip, outcome, request, sealed, time_reply, verdict
 
@@ -709,8 +709,8 @@ def main():
     boots.sections(script, OFFICE)
     import_job.sections(script, OFFICE)
     drills.sections(script, OFFICE)
-    faults.sections(script, OFFICE)
-    strangers.sections(script, OFFICE)
+    failures.sections(script, OFFICE)
+    hostile.sections(script, OFFICE)
     return script.write("office_script")
 
 

@@ -4,7 +4,7 @@ One script goes through all services: a modem boots and reads its file, and a cl
 What is expected is computed by the models of leases.py and tftp.py, in which an event either is done whole or, where the keeper fails in it, is as if it
 hadn't come; its line tells which. The word of each event in a run in which nothing fails is said here by hand.
 """
-from examples import answer, answered, datagram, fixed, outcome, request
+from examples import answer, answered, fixed, outcome, request
 from leases import DISCOVER, REQUEST, A, Office, moment_of, option, address, SERVER
 from messages import RELAYED_DISCOVER
 import leases
@@ -80,7 +80,7 @@ def line_of(turn, moment, what):
     return transfers.line_of(turn, moment, what)
 
 
-# Behind the end nothing is taken.
+# After the end nothing is taken.
 SCRIPT = [*(line_of(turn, moment, what) for turn, (moment, _, what) in enumerate(EVENTS, 1)), "t end", "t datagram time from 10.0.0.1:37"]
 # These events look into the tables; the last acknowledgement and the first part of the request don't.
 READING = (1, 2, 3, 4, 5, 6, 9)
@@ -114,12 +114,12 @@ def sections(script, rows):
     run("each call of the link", ["fails each link"], whole.outcome(), *told_anew([*texts, whole.outcome()]))
     run("fifteen failures of the link in front", [f"fails link {' '.join(map(str, range(1, 16)))}"], whole.outcome())
     run("sixteen failures of the link in front", [f"fails link {' '.join(map(str, range(1, 17)))}"], outcome(5, ["link refused"], tables=Office(rows).rows()))
-    cut = [outcome(4, whole.wrote[:number], sent=sent, tables=tables) for number, (sent, tables) in enumerate(behind_each(rows))]
+    cut = [outcome(4, whole.wrote[:number], sent=sent, tables=tables) for number, (sent, tables) in enumerate(after_each(rows))]
     run("each call of the sink", ["fails each sink"], whole.outcome(), *cut)
 
 
-def behind_each(rows):
-    """What is sent and what the tables are behind each event: a line that can't be written ends the run, and what its event did stays done."""
+def after_each(rows):
+    """What is sent and what the tables are after each event: a line that can't be written ends the run, and what its event did stays done."""
     made = Played(rows)
     for event in EVENTS:
         made.take(*event)
