@@ -1,3 +1,5 @@
+ghost use Rattle.std.specs.Prelude.{◌≡◌};
+
 use off_base::Peer;
 use off_outside::{Calls, Event, Failed, Link, LinkErr, MemLink, Service, one_more};
 use std::alloc::Global;
