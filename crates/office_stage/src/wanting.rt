@@ -1,4 +1,5 @@
 ghost use Rattle.std.specs.Prelude.{◌≡◌};
+ghost use Rattle.off_defs.specs.Told.{one_exact};
 
 use off_base::Peer;
 use off_outside::{Calls, Event, Failed, Link, LinkErr, MemLink, Service, one_more};
@@ -55,7 +56,7 @@ impl Link for WantingLink {
         self.link.close(conn)
     }
 
-    ghost one_left = { λ w up. ⟦<MemLink as Link>⟧.one_left w.link up };
+    ghost one_left = { λ w up. one_exact w.link.left };
 
-    ghost one_sent = { λ w up. ⟦<MemLink as Link>⟧.one_sent w.link up };
+    ghost one_sent = { λ w up. one_exact w.link.outbox.sent };
 }

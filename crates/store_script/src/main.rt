@@ -16,7 +16,7 @@ mod counted;
 mod watched;
 
 use crate::counted::{InCells, InDatabase, InJournal};
-use crate::watched::Watched;
+use crate::watched::InWatched;
 use off_outside::Keeper;
 use office_stage::{Kept, Stage};
 use script_words::{Page, Unread};
@@ -84,7 +84,7 @@ fn show_crashes(alloc: Global, page: &mut Page, script: &[u8]) -> Result<(), Unr
         return Err(Unread::Words);
     };
     let other = played::<InCells>(alloc, script)?;
-    let watched = played::<Watched>(alloc, script)?;
+    let watched = played::<InWatched>(alloc, script)?;
     let all = headings(watched.as_slice()) == headings(other.as_slice());
     if all && mark_in(watched.as_slice(), LOST).is_none() {
         return Ok(());

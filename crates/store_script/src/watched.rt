@@ -13,10 +13,25 @@ use std::alloc::Global;
 /// the disk picks are opened. Each has the rows of the commits that were done, and at most those of
 /// one more, which was refused behind them.
 #[derive(Drop)]
-pub struct Watched {
-    keeper: JournalKeeper<MemDisk>,
+pub struct Watched<K> {
+    keeper: K,
     crashes: Crashes,
     calls: u64,
+}
+
+/// A journal that is watched.
+pub type InWatched = Watched<JournalKeeper<MemDisk>>;
+
+/// What keeps tables on a disk in memory.
+pub trait OnDisk {
+    /// The disk.
+    fn lies_on(&self) -> &MemDisk;
+}
+
+impl OnDisk for JournalKeeper<MemDisk> {
+    fn lies_on(&self) -> &MemDisk {
+        self.disk()
+    }
 }
 
 /// What a crash may leave, and whether it left something else.
@@ -40,8 +55,8 @@ const AT_FIRST: u64 = 7;
 // No run has calls beyond this number that fail.
 const MOST_CALLS: u64 = 400;
 
-impl Keeper for Watched {
-    ghost seen = { λ s. ⟦<JournalKeeper<MemDisk> as Keeper>⟧.seen s.keeper };
+impl<K: Keeper + OnDisk> Keeper for Watched<K> {
+    ghost seen = { λ s. K.seen s.keeper };
 
     fn get(&mut self, alloc: Global, key: &Key) -> Result<Option<Row>, KeepErr> {
         self.calls = self.calls.saturating_add(1);
@@ -57,24 +72,24 @@ impl Keeper for Watched {
         self.calls = self.calls.saturating_add(1);
         let result = self.keeper.commit(alloc, writes);
         let is_done = result.is_ok();
-        watch(alloc, &self.keeper, &mut self.crashes, writes, is_done);
+        watch(
+            alloc,
+            self.keeper.lies_on(),
+            &mut self.crashes,
+            writes,
+            is_done,
+        );
         result
     }
 
-    ghost one_tables = { λ s. ⟦<JournalKeeper<MemDisk> as Keeper>⟧.one_tables s.keeper };
+    ghost one_tables = { λ s. K.one_tables s.keeper };
 
-    ghost rests = { λ s. ⟦<JournalKeeper<MemDisk> as Keeper>⟧.rests s.keeper };
+    ghost rests = { λ s. K.rests s.keeper };
 }
 
 // Takes a commit. Where memory is wanted for that, it's as if rows were lost.
-fn watch(
-    alloc: Global,
-    keeper: &JournalKeeper<MemDisk>,
-    crashes: &mut Crashes,
-    writes: &Writes,
-    is_done: bool,
-) {
-    if crashes.take(alloc, keeper.disk(), writes, is_done).is_err() {
+fn watch(alloc: Global, disk: &MemDisk, crashes: &mut Crashes, writes: &Writes, is_done: bool) {
+    if crashes.take(alloc, disk, writes, is_done).is_err() {
         crashes.lost = true;
     }
 }
@@ -197,8 +212,8 @@ fn shifted(alloc: Global, fails: &Calls) -> Result<Calls, Unread> {
     Ok(calls)
 }
 
-impl Kept for Watched {
-    fn made(alloc: Global, fails: Calls) -> Result<Watched, Unread> {
+impl Kept for InWatched {
+    fn made(alloc: Global, fails: Calls) -> Result<InWatched, Unread> {
         let disk = MemDisk::new(alloc, ROOM, shifted(alloc, &fails)?)?;
         match JournalKeeper::begin(alloc, disk) {
             Ok(keeper) => Ok(Watched {
@@ -215,7 +230,7 @@ impl Kept for Watched {
     }
 
     // It has rows, and no cells.
-    fn with_cell(self, _alloc: Global, _ident: KeyBytes, _val: Bytes) -> Result<Watched, Unread> {
+    fn with_cell(self, _alloc: Global, _ident: KeyBytes, _val: Bytes) -> Result<InWatched, Unread> {
         Err(Unread::Words)
     }
 
