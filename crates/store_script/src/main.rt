@@ -5,18 +5,13 @@
 //! The script's first part is played over all three, and what comes of it is printed once; where
 //! the database or the journal prints something else, that is printed behind it. The part behind
 //! the line `in cells` is played over both kinds of cells, and the part behind the line `cells
-//! alone` over cells in memory, where calls can be made to fail. The runs of all services, its last
-//! section, are played over a journal too, in which the same calls of the disk fail: behind each
-//! commit each image that a crash may leave is opened, and has what was committed. Nothing is printed
-//! of it where that is so.
+//! alone` over cells in memory, where calls can be made to fail.
 //! `tests/examples/README.md` says how a script is written.
 #![tactic(auto)]
 
 mod counted;
-mod watched;
 
 use crate::counted::{InCells, InDatabase, InJournal};
-use crate::watched::InWatched;
 use off_outside::Keeper;
 use office_stage::{Kept, Stage};
 use script_words::{Page, Unread};
@@ -73,35 +68,7 @@ fn told(alloc: Global, parts: &Parts<'_>) -> Result<Page, Unread> {
     let _cells = show_cells(alloc, &mut page, parts.cells)?;
     let rest = played::<InCells>(alloc, parts.alone)?;
     page.raw(rest.as_slice())?;
-    show_crashes(alloc, &mut page, parts.alone)?;
     Ok(page)
-}
-
-// Prints what comes of lines over a journal in which calls of the disk fail, where a crash would
-// leave other rows than those that were committed, or a line can't be read.
-fn show_crashes(alloc: Global, page: &mut Page, script: &[u8]) -> Result<(), Unread> {
-    let Some((_others, script)) = split_at_mark(script, OF_ALL) else {
-        return Err(Unread::Words);
-    };
-    let other = played::<InCells>(alloc, script)?;
-    let watched = played::<InWatched>(alloc, script)?;
-    let all = headings(watched.as_slice()) == headings(other.as_slice());
-    if all && mark_in(watched.as_slice(), LOST).is_none() {
-        return Ok(());
-    }
-    page.text("over the journal whose disk fails\n")?;
-    Ok(page.raw(watched.as_slice())?)
-}
-
-// How many runs a page has.
-fn headings(page: &[u8]) -> usize {
-    let mut count: usize = 0;
-    for line in page.split(|byte| *byte == b'\n') {
-        if line.starts_with(b"run") {
-            count = count.saturating_add(1);
-        }
-    }
-    count
 }
 
 // The parts of a script.
@@ -115,11 +82,6 @@ struct Parts<'a> {
 const CELLS: &[u8] = b"in cells\n";
 
 const ALONE: &[u8] = b"cells alone\n";
-
-// Behind this the runs of all services stand, in which each call of the outside fails.
-const OF_ALL: &[u8] = b"a clerk puts a row while each call of the outside fails in turn\n";
-
-const LOST: &[u8] = b"a crash would leave other rows\n";
 
 // Where a mark begins, if it is there.
 fn mark_in(script: &[u8], mark: &[u8]) -> Option<usize> {
