@@ -973,8 +973,8 @@ def querying(player):
     for remark, asked in (("each alone", alone), ("each with the next", with_the_next)):
         player.play(remark, [("t", word, data) for word, all_data in asked.items() for data in all_data], rows=[SECOND, *HELD])
     player.play("no site, and then one", [("t", "query-relay", who_has(A)), ("t", "query-relay", has_which()), ("t", "query-relay", who_has("0.0.0.0")),
-                                          ("t", "", put_site(server="10.0.0.9")), ("t", "query-active", who_has(A)), ("t", "query-active", has_which())],
-                rows=["drop site", *HELD])
+                                          ("t", "", put_site(server="10.0.0.9")), ("t", "query-unassigned", who_has(A)), ("t", "query-unknown", has_which())],
+                rows=["drop site"])
     player.play("the site is another", [("t", "query-active", who_has(A)), ("t", "", put_site(server="10.0.0.9", lease=60)), ("t", "query-active", who_has(A)),
                                         ("t", "query-unassigned", who_has("10.64.0.11"))], rows=HELD)
     player.play("no pool", [("t", "query-relay", who_has(A)), ("t", "query-relay", has_which())], rows=["drop pool 1"])
