@@ -256,7 +256,7 @@ def within(word, words):
         elif word == "kea":
             beside_kea(program)
         else:
-            for subscribers in map(int, words or (1_000, 200_000)):
+            for subscribers in map(int, words or (1_000, 190_000)):
                 print(f"{subscribers} subscribers with a modem each; {load()}", flush=True)
                 over(program, ManyRows(subscribers, max(3, -(-subscribers // dora.MOST_IN_POOL))), removals)
     return 0
