@@ -182,7 +182,7 @@ fn do_payload(alloc: Global, rows: &mut MemKeeper, gate: u64, payload: &[u8]) ->
         Err(PayloadErr::Bad) => return Err(OpenErr::Bad(gate + 1)),
         Err(PayloadErr::Memory) => return Err(OpenErr::Memory),
     };
-    let plan = rows.plan(alloc, &writes)?;
+    let plan = rows.plan_owned(alloc, writes)?;
     rows.apply(plan);
     Ok(())
 }

@@ -1,5 +1,5 @@
 ghost use Rattle.std.specs.Prelude.{◌≡◌, ◌≢◌, ℕ, ◌+◌, ◌<◌, ◌≤◌, ◌^◌, ◌++◌, [], ◌∷◌, List, length};
-ghost use Rattle.std.specs.Prelude.{MatchResult, MatchOption};
+ghost use Rattle.std.specs.Prelude.{MatchResult, MatchOption, OnOk};
 ghost use Rattle.std.specs.Int.{to_be_bytes, w32};
 ghost use Rattle.off_defs.specs.declared.keys.Key.{Key};
 ghost use Rattle.off_defs.specs.declared.orders.Write.{Write};
@@ -11,7 +11,7 @@ ghost use Rattle.off_journal.specs.Payload.{write_bytes, payload_of, put_row};
 ghost use Rattle.off_journal.specs.Reading.{WhyNoPayload, WhyNoWrite, WhyNoPut, WhyNoRowOf};
 
 use off_base::NoMemory;
-use off_defs::{Key, Row, Write, Writes};
+use off_defs::{Key, Row, Write};
 use off_rows::{RowErr, decode, decode_key};
 use std::alloc::Global;
 
@@ -36,22 +36,32 @@ impl From<NoMemory> for PayloadErr {
 
 // The writes that have these bytes.
 #[tactic(auto, using(crate::proofs::PayloadLemmas::why_none))]
-pub(crate) fn read_payload(alloc: Global, bytes: &[u8]) -> Result<Writes, PayloadErr>
-    ensures { MatchResult result (λ writes. AllSpelled writes × (payload_of writes ≡ bytes.now))
+pub(crate) fn read_payload(alloc: Global, bytes: &[u8]) -> Result<Vec<Write>, PayloadErr>
+    ensures { MatchResult result
+        (λ writes. AllSpelled writes.items × (payload_of writes.items ≡ bytes.now))
         (WhyNoPayload bytes.now) }
 {
-    let mut writes = Writes::new(alloc);
+    let mut writes = Vec::new(alloc);
     let mut rest = bytes;
     while !rest.is_empty() {
         match read_write(alloc, rest) {
             Ok((write, after)) => {
-                writes.push(write)?;
+                add_write(&mut writes, write)?;
                 rest = after;
             }
             Err(err) => return Err(err),
         }
     }
     Ok(writes)
+}
+
+fn add_write(writes: &mut Vec<Write>, write: Write) -> Result<(), NoMemory>
+    ensures { OnOk result (writes.new.items ≡ writes.old.items ++ write ∷ []) }
+{
+    match writes.push(write) {
+        Ok(()) => Ok(()),
+        Err(_refused) => Err(NoMemory),
+    }
 }
 
 // The write at the front, and what stands behind it.

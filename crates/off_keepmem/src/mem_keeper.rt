@@ -112,22 +112,31 @@ impl MemKeeper {
 
     /// Takes all the memory that these writes want, and changes no tables, also after `NoMemory`.
     /// It isn't counted as a call.
-    ///
-    /// A tree of more than 64 levels has over 2^45 rows, and gets no more (`NoMemory`): no machine
-    /// has the memory for their boxes.
-    #[tactic(auto, using(crate::proofs::HeightLemmas::most_in_64))]
     pub fn plan(&mut self, alloc: Global, writes: &Writes) -> Result<Plan, NoMemory>
         ensures plan { IfOk result (λ plan. plan ≡ writes.now) }
         ensures room { OnOk result (puts_in writes.now ≤ self.new.spare) }
         ensures rest { SameButSpare (puts_in writes.now) self.old self.new }
     {
+        let copies = copied(alloc, writes)?;
+        self.plan_owned(alloc, copies)
+    }
+
+    /// The same for writes that are given away: their rows are moved, and none is copied.
+    ///
+    /// A tree of more than 64 levels has over 2^45 rows, and gets no more (`NoMemory`): no machine
+    /// has the memory for their boxes.
+    #[tactic(auto, using(crate::proofs::HeightLemmas::most_in_64))]
+    pub fn plan_owned(&mut self, alloc: Global, writes: Vec<Write>) -> Result<Plan, NoMemory>
+        ensures plan { IfOk result (λ plan. plan ≡ writes.items) }
+        ensures room { OnOk result (puts_in writes.items ≤ self.new.spare) }
+        ensures rest { SameButSpare (puts_in writes.items) self.old self.new }
+    {
         if self.rows.height() > MOST_LEVELS {
             return Err(NoMemory);
         }
-        let copies = copied(alloc, writes)?;
-        let puts = count_puts(&copies);
+        let puts = count_puts(&writes);
         self.spare.reserve(alloc, puts)?;
-        Ok(Plan { writes: copies })
+        Ok(Plan { writes })
     }
 
     /// Does the writes of a plan, in order. It takes no memory, and isn't counted as a call.

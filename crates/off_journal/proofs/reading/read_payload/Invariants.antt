@@ -5,8 +5,8 @@ use Rattle.off_journal.proofs.reading.read_payload.Given as goal
 
 abbrev pub invariant-loop-rest : goal.invariant-loop-rest
 invariant-loop-rest l = record {
-  spelled : AllSpelled l.writes;
-  so_far : l.bytes ≡ payload_of l.writes ++ l.rest;
+  spelled : AllSpelled l.writes.items;
+  so_far : l.bytes ≡ payload_of l.writes.items ++ l.rest;
 }
 
 abbrev pub decreases-loop-rest : goal.decreases-loop-rest
