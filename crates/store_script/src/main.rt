@@ -5,13 +5,20 @@
 //! The script's first part is played over all three, and what comes of it is printed once; where
 //! the database or the journal prints something else, that is printed behind it. The part behind
 //! the line `in cells` is played over both kinds of cells, and the part behind the line `cells
-//! alone` over cells in memory, where calls can be made to fail.
+//! alone` over cells in memory, where calls can be made to fail. Its last section, the runs of all
+//! services, is played over a journal too, in which the same calls of the disk fail: behind each
+//! commit each image that a crash may leave is opened, and has what was committed. Nothing is
+//! printed of it where that is so.
 //! `tests/examples/README.md` says how a script is written.
 #![tactic(auto)]
 
 mod counted;
+mod crashes;
+mod watched;
 
 use crate::counted::{InCells, InDatabase, InJournal};
+use crate::watched::InWatched;
+use off_base::NoMemory;
 use off_outside::Keeper;
 use office_stage::{Kept, Stage};
 use script_words::{Page, Unread};
@@ -66,9 +73,58 @@ fn told(alloc: Global, parts: &Parts<'_>) -> Result<Page, Unread> {
     let expected = show_cells(alloc, &mut page, parts.all)?;
     compare::<InJournal>(alloc, &mut page, parts.all, &expected, "over the journal\n")?;
     let _cells = show_cells(alloc, &mut page, parts.cells)?;
-    let rest = played::<InCells>(alloc, parts.alone)?;
-    page.raw(rest.as_slice())?;
+    show_alone(alloc, &mut page, parts.alone)?;
     Ok(page)
+}
+
+// What comes of lines over cells in memory, and of their last section over a journal.
+fn show_alone(alloc: Global, page: &mut Page, script: &[u8]) -> Result<(), Unread> {
+    let rest = played::<InCells>(alloc, script)?;
+    page.raw(rest.as_slice())?;
+    show_crashes(alloc, page, script)
+}
+
+// Prints what comes of the runs of all services over a journal in which calls of the disk fail,
+// where a crash would leave other tables than those that were committed, or a line can't be read.
+fn show_crashes(alloc: Global, page: &mut Page, script: &[u8]) -> Result<(), Unread> {
+    let watched = watched_runs(alloc, script)?;
+    if is_whole(watched.as_slice()) {
+        return Ok(());
+    }
+    page.text("over the journal whose disk fails\n")?;
+    Ok(page.raw(watched.as_slice())?)
+}
+
+fn watched_runs(alloc: Global, script: &[u8]) -> Result<Page, Unread> {
+    let runs = runs_of_all(alloc, script)?;
+    played::<InWatched>(alloc, runs.as_slice())
+}
+
+// The lines of the last section, and before them those that sections share.
+fn runs_of_all(alloc: Global, script: &[u8]) -> Result<Page, Unread> {
+    let Some((before, runs)) = split_at_mark(script, OF_ALL) else {
+        return Err(Unread::Words);
+    };
+    let mut page = Page::new(alloc);
+    push_shared(&mut page, before)?;
+    page.raw(runs)?;
+    Ok(page)
+}
+
+fn push_shared(page: &mut Page, script: &[u8]) -> Result<(), NoMemory> {
+    for line in script.split(|byte| *byte == b'\n') {
+        if line.starts_with(b"common ") {
+            page.raw(line)?;
+            page.end_line()?;
+        }
+    }
+    Ok(())
+}
+
+// Whether all lines could be read, and no crash leaves other tables. A line that can't be read
+// stands at the end, without a line end.
+fn is_whole(watched: &[u8]) -> bool {
+    watched.ends_with(b"\n") && mark_in(watched, LOST).is_none()
 }
 
 // The parts of a script.
@@ -82,6 +138,11 @@ struct Parts<'a> {
 const CELLS: &[u8] = b"in cells\n";
 
 const ALONE: &[u8] = b"cells alone\n";
+
+// Behind this the runs of all services stand, in which each call of the outside fails.
+const OF_ALL: &[u8] = b"a clerk puts a row while each call of the outside fails in turn\n";
+
+const LOST: &[u8] = b"a crash would leave other rows\n";
 
 // Where a mark begins, if it is there.
 fn mark_in(script: &[u8], mark: &[u8]) -> Option<usize> {
