@@ -22,6 +22,7 @@ import time
 from harness import PROGRAM, check, failures, free_ports, start
 from harness.clerks import (ANN, DONE, ask, connect, is_open, read_to_end, reply, request,
                             wait_until_answering)
+from harness.told import SECRET
 
 WORDS = r"wait|closed|busy|link|200|400 head|404 no-path|405 no-method|413 too-long"
 
@@ -131,7 +132,7 @@ FLOWS = ('[{"code":24,"parts":[{"code":1,"hex":"0001"},{"code":6,"hex":"07"},{"c
 ADDED = '[{"code":24,"parts":[{"code":1,"hex":"0005"},{"code":6,"hex":"07"}]},{"code":22,"parts":[{"code":1,"hex":"03"},{"code":3,"hex":"0005"}]}]'
 # Each row's path, the body that puts it, and what is shown of it: keys ascend, and the site's secret isn't shown.
 OFFICE = [
-    ("/site", '{"server":"10.0.0.2","secret":"736563726574","offset":3600,"lease":86400,"log":"0.0.0.0"}',
+    ("/site", '{"server":"10.0.0.2","secret":"%s","offset":3600,"lease":86400,"log":"0.0.0.0"}' % SECRET.hex(),
      '{"lease":86400,"log":"0.0.0.0","offset":3600,"server":"10.0.0.2"}'),
     ("/classes/1", '{"name":"gold","settings":%s}' % FLOWS, '{"name":"gold","settings":%s}' % FLOWS),
     ("/subscribers/7", '{"active":true,"cpes":2,"name":"Ann"}', '{"active":true,"cpes":2,"name":"Ann"}'),

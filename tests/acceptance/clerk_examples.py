@@ -15,6 +15,7 @@ import tempfile
 
 from harness import (PROGRAM, ROOT, check, failures, free_ports, loaded, start, stop, text_of,
                      wait_for)
+from harness.told import SECRET
 from clerk_api import table
 
 CLERK = os.path.join(ROOT, "bin", "office-clerk")
@@ -23,7 +24,7 @@ FLOWS = [{"code": code, "parts": [{"code": 1, "hex": reference}, {"code": 6, "he
 POOL = {"first": "10.0.0.10", "last": "10.0.0.20", "prefix": 24, "router": "10.0.0.1",
         "relay": "10.0.0.1"}
 ANN, GOLD = {"active": True, "cpes": 2, "name": "Ann"}, {"name": "gold", "settings": FLOWS}
-SITE = {"server": "10.0.0.2", "secret": "00", "offset": 0, "lease": 3600, "log": "0.0.0.0"}
+SITE = {"server": "10.0.0.2", "secret": SECRET.hex(), "offset": 0, "lease": 3600, "log": "0.0.0.0"}
 MODEM = {"subscriber": 7, "class": 1, "serial": ""}
 NAMES = {"subscribers": "subscriber,active,cpes,name", "modems": "mac,subscriber,class,serial"}
 

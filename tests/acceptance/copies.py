@@ -150,9 +150,13 @@ def left_by_a_kill(folder, store):
 
 
 def refusals(folder, store, writer):
-    out, other = (os.path.join(folder, name) for name in ("refused.db", "other.db"))
+    out, other, journal = (os.path.join(folder, name)
+                           for name in ("refused.db", "other.db", "a.journal"))
+    with open(journal, "wb") as held:
+        held.write(b"\1" + bytes(40))
     for words, expected in (
-            ((store, store), 2), ((os.path.join(folder, "none"), out), 2),
+            ((store, store), 2), ((os.path.join(folder, "none"), out), 2), ((store, folder), 2),
+            (("journal:" + store, out), 2), ((journal, out), 2),
             ((store, os.path.join(folder, "none", "out.db")), 2),
             (("--pid", str(os.getpid()), store, out), 3), (("--pid", "4194999", store, out), 3),
             (("--program", "/bin/false", store, out), 1), (("--unit", "none", store, out), 3),

@@ -27,13 +27,14 @@ import urllib.parse
 
 from harness import (PROGRAM, ROOT, check, failures, free_ports, loaded, start, stop, text_of,
                      wait_for)
+from harness.told import SECRET
 from clerk_examples import people
 from store_reader import made
 
 DESK = os.path.join(ROOT, "bin", "office-desk")
 CHROMIUM = next(filter(None, map(shutil.which, ("chromium", "chromium-browser",
                                                 "google-chrome"))), None)
-SITE = {"server": "10.0.0.2", "secret": "736563726574", "offset": "3600", "lease": "86400",
+SITE = {"server": "10.0.0.2", "secret": SECRET.hex(), "offset": "3600", "lease": "86400",
         "log": "0.0.0.0"}
 POOL = {"first": "10.64.0.10", "last": "10.64.0.99", "prefix": "24", "router": "10.64.0.1",
         "relay": "10.64.0.1"}
@@ -262,6 +263,12 @@ def copies_and_counts():
     check({word: sum(counts) for word, counts in series.items()}
           == {"tftp block N": 3, "dhcp ack": 1}, f"the last hour: {series}")
     check(series["tftp block N"][-3:] in ([2, 0, 1], [0, 1, 0]), "each in its minute")
+    lines.counts, lines.last = {}, []
+    lines.take("17 dhcp offer", lambda: None)
+    lines.take("18 dhcp ack")
+    check([word for word, _ in lines.series()] == ["dhcp ack"],
+          "a line that was there when the desk began isn't of the last hour")
+    check([text for _, text, _, _ in lines.last] == ["17 dhcp offer", "18 dhcp ack"], "and is shown")
 
 
 # Chromium reads descriptor 3 and writes 4; others first, lest one takes another's place.

@@ -21,6 +21,7 @@ import time
 
 from harness import PROGRAM, SECONDS_BEFORE_1970, check, failures, only_alone, start, stop, written
 from harness import modems as office
+from harness.told import SECRET
 from listening import forge_from
 
 sys.dont_write_bytecode = True
@@ -29,7 +30,6 @@ import tftp  # noqa: E402
 from examples import COVERED, ip, spelled  # noqa: E402
 
 MODEMS, PORT, CLIENT = office.MODEMS, office.PORTS[2], 5000
-SITE_SECRET = b"secret"
 FLOWS = "24{ 1=0001 6=07 8=%s } 25{ 1=0002 6=07 }"
 GOLD, SILVER = FLOWS % "00989680", FLOWS % "01312d00"
 BOOST = "24{ 1=0005 6=07 } 22{ 1=03 3=0005 }"
@@ -92,7 +92,7 @@ def is_sealed(found):
     check([code for code, _ in found[-4:]] == [19, 20, 6, 7], "settings 19, 20, 6 and 7 stand last")
     check(found[-2][1] == hashlib.md5(spelled(found[:-2])).digest(), "the MIC for modems is right")
     covered = b"".join(spelled([each]) for code in COVERED for each in found[:-1] if each[0] == code)
-    check(found[-1][1] == hmac.new(SITE_SECRET, covered, hashlib.md5).digest(), "the MIC for the CMTS is right")
+    check(found[-1][1] == hmac.new(SECRET, covered, hashlib.md5).digest(), "the MIC for the CMTS is right")
 
 
 # ---- the office, as modems see it
@@ -227,7 +227,7 @@ class Reading:
         is_sealed(found)
         moment = int.from_bytes(found[-4][1], "big") - SECONDS_BEFORE_1970
         check(int(self.began) <= moment % 2**32 <= time.time(), f"modem {number}'s file is of the moment of its request")
-        check(file == tftp.file_of(profile, moment, leases.address(self.at[0]), SITE_SECRET), f"modem {number}'s file is made of its rows")
+        check(file == tftp.file_of(profile, moment, leases.address(self.at[0]), SECRET), f"modem {number}'s file is made of its rows")
 
 
 def has_read(reading):
@@ -259,7 +259,7 @@ def run(talk, readings, until=has_read, seconds=30):
 class Modem:
     def __init__(self, number, held):
         self.number, self.held = number, held
-        self.name = leases.name_of(SITE_SECRET, leases.mac(number), leases.address(held))
+        self.name = leases.name_of(SECRET, leases.mac(number), leases.address(held))
 
     def reading(self, talk, size=b"", losing=None, port=CLIENT):
         return Reading(talk, (self.held, port), self.name, SIZES[self.number // 8 % len(SIZES)] if size == b"" else size, losing)

@@ -21,6 +21,7 @@ from harness import PROGRAM, SECONDS_BEFORE_1970, check, failures, only_alone, s
 from harness import modems as office
 from harness.clerks import connect, read_to_end, request
 from harness.mutating import fits_request, mutated, mutated_request, words_of_message, words_of_packet
+from harness.told import SECRET
 
 sys.dont_write_bytecode = True
 import leases  # noqa: E402
@@ -30,8 +31,6 @@ from messages import RELAYED_DISCOVER, option  # noqa: E402
 
 COUNT = int(os.environ.get("OFFICE_MUTATIONS", "10000"))
 SEED = int(os.environ.get("OFFICE_SEED", "45"))
-# No word of the office has these bytes.
-SECRET = b"Zq7_never_told_9xK"
 AT_ONCE = 50
 MOST_GROWTH = 1 << 20
 # Of the first modem messages are changed; the second one reads files from its address.
@@ -180,7 +179,7 @@ class Fuzzing:
             fault = json.loads(text).get("fault", "") if text else ""
             check(head.split(b" ")[1].decode() == words[:3] and fault == words[4:], f"http: {words} is answered by {answer[:200]!r}")
         if words in ("200", "link") and data.startswith(b"PUT"):
-            self.restore(data.split(b" ")[1].decode())
+            self.restore(data.split(b" ")[1].partition(b"?")[0].decode())
 
     def ends_of(self, count):
         """The last lines of so many connections."""

@@ -15,6 +15,7 @@ import tempfile
 import time
 
 from harness import HERE, ROOT, check, failures, only_alone
+from harness.told import SECRET
 
 sys.path.insert(0, os.path.join(ROOT, "tests", "examples"))
 import leases  # noqa: E402
@@ -43,7 +44,7 @@ nsenter -t {0} -n ip link set ve1 up
 ip route add 10.64.0.0/24 via 10.0.0.1
 """
 # The office's rows as dhcpd is configured.
-ROWS = [f"site {SERVER} {b'secret'.hex()} 0 {LEASE} 0.0.0.0", f"pool 1 {HELD} 10.64.0.99 24 {RELAY} {RELAY}", leases.modem_row(0xEE)]
+ROWS = [f"site {SERVER} {SECRET.hex()} 0 {LEASE} 0.0.0.0", f"pool 1 {HELD} 10.64.0.99 24 {RELAY} {RELAY}", leases.modem_row(0xEE)]
 
 
 class Both:

@@ -21,9 +21,10 @@ import time
 
 from harness import PROGRAM, alone, check, failures, loaded, may_be_alone, start, stop
 from harness import modems
+from harness.told import SECRET
 
 OFFICE, ROUTER, RELAY = "10.0.0.2", "10.0.0.1", "10.64.0.1"
-MAC, SERIAL, SECRET = "02:aa:bb:cc:dd:ee", "SN01", b"secret"
+MAC, SERIAL = "02:aa:bb:cc:dd:ee", "SN01"
 PORTS = [67, 37, 69, 8080]
 # What a modem says of itself: option 43, its parts 2 (a modem) and 4 (its serial number).
 ABOUT = b"\x02\x03ECM\x04\x04" + SERIAL.encode()

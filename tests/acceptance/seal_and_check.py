@@ -7,17 +7,11 @@ import random
 import subprocess
 import sys
 
-ROOT = os.path.dirname(os.path.dirname(os.path.dirname(os.path.abspath(__file__))))
-PROGRAM = os.path.join(ROOT, "crates", "officed", "out", "officed")
+from harness import PROGRAM, check, failures
+from harness.told import beware_of
+
 # The codes that the termination system's check covers, in order: this project's profile.
 ORDER = [1, 2, 3, 4, 17, 43, 6, 18, 19, 20, 22, 23, 24, 25, 28, 29, 26, 35, 36, 37, 40]
-failures = []
-
-
-def check(holds, what):
-    if not holds:
-        failures.append(what)
-        print("FAILED", what)
 
 
 def do(words, data):
@@ -70,6 +64,7 @@ def main():
     random.seed(868)
     for trial in range(300):
         secret = random.randbytes(random.choice([1, 6, 16, 63, 64]))
+        beware_of(secret)
         leaves = [code for code in range(1, 255) if code not in (22, 23, 24, 25, 43)]
         settings = [(random.choice(ORDER[:4] + leaves), random.randbytes(random.randrange(0, 40))) for _ in range(random.randrange(0, 12))]
         settings = [each for each in settings if each[0] not in (22, 23, 24, 25, 43)]

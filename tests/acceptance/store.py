@@ -28,6 +28,7 @@ from imports import table
 from harness import PROGRAM, ROOT, check, failures, free_ports, start, stop
 from harness.clerks import read_to_end, request
 from harness import modems
+from harness.told import SECRET
 
 try:
     import sqlite3
@@ -152,7 +153,7 @@ def new_file():
 
 
 SETTINGS = [{"code": code, "parts": [{"code": 1, "hex": reference}, {"code": 6, "hex": "07"}]} for code, reference in ((24, "0001"), (25, "0002"))]
-CHANGES = [("/site", {"server": "10.0.0.2", "secret": b"secret".hex(), "offset": -18000, "lease": 3600, "log": "0.0.0.0"}),
+CHANGES = [("/site", {"server": "10.0.0.2", "secret": SECRET.hex(), "offset": -18000, "lease": 3600, "log": "0.0.0.0"}),
            ("/classes/1", {"name": "gold", "settings": SETTINGS}), ("/subscribers/7", subscriber(7)),
            ("/pools/1", {"first": "10.64.0.10", "last": "10.64.0.99", "prefix": 24, "router": "10.64.0.1", "relay": "10.64.0.1"}),
            ("/modems/02aabbccddee", {"subscriber": 7, "class": 1, "serial": "SN01"})]

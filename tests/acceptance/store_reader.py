@@ -19,6 +19,7 @@ import tempfile
 import time
 
 from harness import PROGRAM, ROOT, check, failures, free_ports, may_be_alone, stop, wait_for
+from harness.told import SECRET
 from first_office import may_relay, run
 
 READER = os.path.join(ROOT, "bin", "office-sql")
@@ -56,7 +57,7 @@ def leased(held, hold, owner, expiry):
 
 
 ROWS = [
-    (b"\x01", ip("10.0.0.2") + text(b"secret") + big(3600, 4) + big(86400, 4) + bytes(4)),
+    (b"\x01", ip("10.0.0.2") + text(SECRET) + big(3600, 4) + big(86400, 4) + bytes(4)),
     (b"\x02" + big(7, 4), b"\x01\x02" + text(b"Ann")),
     (b"\x02" + big(8, 4), b"\x00\x02" + text("Bö".encode())),
     modem(0xEE, 7, 1, b"SN01"), modem(0xEF, 8, 1), modem(0xF0, 7, 2, b"a,b"), modem(0xF1, 7, 1),

@@ -19,6 +19,7 @@ import time
 
 from harness import PROGRAM, ROOT, check, failures, only_alone, start, stop
 from harness import modems
+from harness.told import SECRET
 
 ALL, COPY, MODEM, SQL = (os.path.join(ROOT, "bin", name)
                          for name in ("office-all", "office-copy", "modem", "office-sql"))
@@ -74,16 +75,16 @@ def boot(number, office, relay):
     """The address that a modem is given, or why it has none."""
     mac, serial = f"0200000000{number:02x}", f"SN{number:02x}"
     status, said, _ = run(MODEM, "--server", office, "--relay", relay, "--mac", mac, "--serial",
-                          serial, "--secret", b"secret".hex())
+                          serial, "--secret", SECRET.hex())
     given = re.search(r"(?m)^ACK +(\S+) for", said)
     return given[1] if status == 0 and given else said.splitlines()[-1]
 
 
 def same_changes():
     """Each change goes to both; an import acts once in each; what one refuses is told."""
-    site = '{{"server":"{}","secret":"736563726574","offset":0,"lease":3600,"log":"0.0.0.0"}}'
+    site = '{"server":"%s","secret":"%s","offset":0,"lease":3600,"log":"0.0.0.0"}'
     for office, relay in RELAYS.items():
-        for path, row in (("site", site.format(office)), ("pools/1", pool(relay))):
+        for path, row in (("site", site % (office, SECRET.hex())), ("pools/1", pool(relay))):
             status, said, _ = run(ALL, "--offices", url(office), "put", path, row)
             check(status == 0, f"{path} of {office}: {said}")
     check(run(ALL, "put", "classes/1", CLASS)[0] == 0, "the class of both")

@@ -212,7 +212,7 @@ def refused():
         with open(text, "w", encoding="utf-8") as held:
             held.write("no capture, but a text that is longer than a head\n")
         for words in (("--capture", text), ("--capture", none), (), ("--find", "x", none),
-                      ("--capture", text, "--page", none)):
+                      ("--find", "02aabbccddee"), ("--capture", text, "--page", none)):
             done = subprocess.run([WATCH, *words], stdin=subprocess.DEVNULL, timeout=60,
                                   stdout=subprocess.PIPE, stderr=subprocess.PIPE)
             check((done.returncode, done.stdout) == (2, b""), f"{words}: {done}")

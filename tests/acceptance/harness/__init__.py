@@ -13,12 +13,17 @@ import time
 import urllib.request
 import urllib.error
 
+from harness import told
+
 HERE = os.path.dirname(os.path.abspath(__file__))
 ROOT = os.path.dirname(os.path.dirname(os.path.dirname(HERE)))
 BUILT = os.path.join(ROOT, "crates", "officed", "out", "officed")
 PROGRAM = os.environ.get("OFFICE_PROGRAM", BUILT)
 SECONDS_BEFORE_1970 = 2_208_988_800
 failures = []
+# Measurements use this package too, and are to be slowed by nothing.
+if os.path.dirname(os.path.abspath(sys.argv[0])) == os.path.dirname(HERE):
+    told.begin()
 
 
 def check(holds, what):

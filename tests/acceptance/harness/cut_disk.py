@@ -97,7 +97,10 @@ class CutDisk:
 
     def __exit__(self, *_):
         self.libc.umount2(self.path.encode(), 2)
-        os.close(self.device)
+        # While the thread still reads, the next disk could be given this device's number, and its questions would be answered here.
+        self.thread.join(timeout=60)
+        if not self.thread.is_alive():
+            os.close(self.device)
 
     # ---- the power
 

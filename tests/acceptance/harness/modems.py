@@ -9,6 +9,7 @@ import time
 
 from harness import ROOT, check
 from harness.clerks import read_to_end, request
+from harness.told import SECRET
 
 sys.path.insert(0, os.path.join(ROOT, "tests", "examples"))
 import leases  # noqa: E402
@@ -19,7 +20,7 @@ SERVER, RELAY = "10.0.0.2", "10.64.0.1"
 PORTS = [67, 37, 69, 8080]
 FIRST, MODEMS, AT_ONCE = int.from_bytes(leases.address("10.64.16.0"), "big"), 200, 20
 LEASE = 3600
-SITE = {"server": SERVER, "secret": b"secret".hex(), "offset": -18000, "lease": LEASE, "log": "10.0.0.3"}
+SITE = {"server": SERVER, "secret": SECRET.hex(), "offset": -18000, "lease": LEASE, "log": "10.0.0.3"}
 POOL = {"first": ip(FIRST), "last": ip(FIRST + MODEMS - 1), "prefix": 20, "router": RELAY, "relay": RELAY}
 GOLD = [{"code": code, "parts": [{"code": 1, "hex": reference}, {"code": 6, "hex": "07"}]} for code, reference in ((24, "0001"), (25, "0002"))]
 IP_PKTINFO = 8
@@ -34,7 +35,7 @@ def modem(number):
     return {"last": number, "cable": leases.vendor(serial(number).encode()), "xid": 0xABCD0000 + number}
 
 
-ROWS = [f"site {SERVER} {b'secret'.hex()} -18000 {LEASE} 10.0.0.3", f"pool 1 {POOL['first']} {POOL['last']} 20 {RELAY} {RELAY}",
+ROWS = [f"site {SERVER} {SECRET.hex()} -18000 {LEASE} 10.0.0.3", f"pool 1 {POOL['first']} {POOL['last']} 20 {RELAY} {RELAY}",
         *(leases.modem_row(number, serial(number)) for number in range(MODEMS + 1))]
 
 

@@ -102,10 +102,14 @@ OF_TABLES = {
 }
 # These are answered, and the answer may find no way, since a message says itself where it is to go.
 ANSWERED = {"offer", "ack", "not-your-address"}
+# A change may make a relay's query of a message, which is answered to the relay that it names.
+QUERIED = {"query-relay", "query-form", "query-active", "query-unassigned", "query-unknown", "link"}
 
 
 def words_of_message(data):
     """What may become of a DHCP datagram, where the office has a site."""
+    if messages.is_query(data):
+        return QUERIED
     fault = messages.fault_of(data)
     if fault:
         return {"dhcp-" + fault.split(" ")[0]}
@@ -152,10 +156,11 @@ PATHS = re.compile(rb"/(site|subscribers/\d{1,20}(/addons/\d{1,20})?|modems/[0-9
 
 
 def may_be_done(data):
-    """Whether a request may be one that is done: a line of a known method and path, and of a row that is put a JSON object."""
+    """Whether a request may be one that is done: a line of a known method and path, which empty lines may stand before, a line feed alone may end
+    and a `?` go behind, and of a row that is put a JSON object."""
     head, end, body = data.partition(b"\r\n\r\n")
-    line = head.split(b"\r\n")[0].split(b" ")
-    if not end or len(line) != 3 or line[0] not in (b"GET", b"PUT", b"DELETE") or not PATHS.fullmatch(line[1]):
+    line = re.split(rb"\r?\n", head.lstrip(b"\r\n"))[0].split(b" ")
+    if not end or len(line) != 3 or line[0] not in (b"GET", b"PUT", b"DELETE") or not PATHS.fullmatch(line[1].partition(b"?")[0]):
         return False
     if line[0] != b"PUT" or line[1].startswith(b"/imports"):
         return True

@@ -1,0 +1,179 @@
+#!/usr/bin/env python3
+"""The site's secret is told nowhere: a clerk puts it, the store's file keeps it, and no answer, line or error shows it, that of `GET /site` neither.
+
+The search is that of harness/told.py, by which each script of this folder ends. Here it's tested that it finds what was told, in each form and by each way;
+an office over a file is asked for its site in every way and refused in every way; and what the examples of crates/, docs/, examples/ and packaging/ say is
+searched: there the secret stands where it is given to the office, and where a program that runs examples prints the site's row itself, and nowhere else.
+"""
+import contextlib
+import json
+import os
+import re
+import socket
+import sqlite3
+import stat
+import subprocess
+import sys
+import tempfile
+
+from harness import PROGRAM, ROOT, check, failures, free_ports, start, stop, text_of, wait_for, written
+from harness.clerks import DONE, ask, reply, request
+from harness.told import EXAMPLE, SECRET, all_forms, forms, found_in
+
+SITE = {"server": "10.0.0.2", "secret": SECRET.hex(), "offset": 3600, "lease": 86400, "log": "0.0.0.0"}
+SHOWN = b'{"lease":86400,"log":"0.0.0.0","offset":3600,"server":"10.0.0.2"}'
+FAULTS = {word: b'{"at":"secret","fault":"%s"}' % word.encode() for word in ("field", "value")}
+# A line of the documents and examples that gives the secret to the office, to a modem, or to `seal` and `check`.
+GIVES = re.compile(r'PUT http\S+/site |--secret |^ *HEX=|`HEX=|"secret": "|\b(seal|check) 736563726574')
+# Where the examples' own programs print the site's row, which clerks put: behind a run, as a command that was read, and as the bytes of the row.
+PRINTED = {"office_script": r"row site ", "store_script": r"row site ", "clerk_script": r"put site ", "format_script": r"site "}
+
+
+# ---- the search itself
+
+def tell(way, data):
+    """Lets this script be told some bytes."""
+    if way == "printed":
+        subprocess.run(["printf", "%s", data], stdout=subprocess.PIPE)
+    elif way == "on standard error":
+        subprocess.run(["sh", "-c", 'printf %s "$1" >&2', "sh", data], stderr=subprocess.DEVNULL)
+    elif way == "in a log":
+        with tempfile.TemporaryFile() as log:
+            subprocess.run(["printf", "%s", data], stdout=log)
+    else:
+        kind = socket.SOCK_DGRAM if way == "as a datagram" else socket.SOCK_STREAM
+        left, right = socket.socketpair(socket.AF_UNIX, kind)
+        # Of a stream it comes in two pieces.
+        for part in [data] if kind == socket.SOCK_DGRAM else [data[:5], data[5:]]:
+            left.sendall(part)
+            right.recv(64) if way != "in a reply" else right.makefile("rb").read(len(part))
+
+
+def search_finds():
+    """What was told, in each form, by each way; and nothing where nothing was."""
+    ways = ("printed", "on standard error", "in a log", "as a datagram", "in a stream", "in a reply")
+    told = [(ways[place % len(ways)], form) for place, form in enumerate(forms(SECRET))]
+    told += [(way, SECRET) for way in ways] + [("printed", EXAMPLE.hex().encode())]
+    for way, data in told:
+        check(child(way, data) == 1, f"{data} is found where it was told {way}")
+    for way in ways:
+        check(child(way, SECRET[1:]) == 0, f"what is no secret isn't found {way}")
+
+
+def child(way, data):
+    """The status of a script that was told this. What it says of that isn't kept, since it's the secret."""
+    words = [sys.executable, "-B", os.path.abspath(__file__), "told", way, data.hex()]
+    return os.waitstatus_to_exitcode(os.system(" ".join(f"'{word}'" for word in words) + " >/dev/null"))
+
+
+# ---- the office
+
+def refusals():
+    """Requests with the secret in them that are refused, and the answers."""
+    site = json.dumps(SITE)
+    yield "PUT", "/site", site.replace(SITE["secret"], SITE["secret"] + "7"), 400, FAULTS["value"]
+    yield "PUT", "/site", site.replace(SITE["secret"], SITE["secret"] * 4), 400, FAULTS["value"]
+    yield "PUT", "/site", site.replace(f'"{SITE["secret"]}"', json.dumps([SITE["secret"]])), 400, FAULTS["value"]
+    yield "PUT", "/site", site.replace('"secret"', '"Secret"'), 400, FAULTS["field"]
+    yield "PUT", "/site", site.replace(SITE["secret"], SECRET.decode()), 400, FAULTS["value"]
+    yield "PUT", "/site", site[:-1], 400, b'{"fault":"not-json"}'
+    yield "PUT", "/site", json.dumps({**SITE, "lease": SITE["secret"]}), 400, b'{"at":"lease","fault":"value"}'
+    yield "PUT", f"/site/{SITE['secret']}", site, 404, b'{"fault":"no-path"}'
+    yield SECRET.decode(), "/site", site, 405, b'{"fault":"no-method"}'
+    yield "PUT", "/imports/subscribers/1", f"{SECRET.decode()}\n", 422, b'{"fault":"header"}'
+
+
+def asked(port):
+    """A clerk puts the site, and is refused with it; what is shown of it is all but the secret."""
+    check(ask(port, request("PUT", "/site", json.dumps(SITE).encode())) == DONE, "the site is put, and that's all that is said")
+    for method, path, body, status, wanted in refusals():
+        answer = ask(port, request(method, path, body.encode())) or b""
+        head, _, told = answer.partition(b"\r\n\r\n")
+        check((head.split(b" ")[1:2], told) == ([str(status).encode()], wanted), f"{method} {path} {body}: {answer}")
+    check(ask(port, request("GET", "/site")) == reply(200, SHOWN), "GET /site shows all but the secret")
+
+
+def at_the_office(folder):
+    """The store's file has the secret, for its owner alone, and the log hasn't."""
+    store, ports = os.path.join(folder, "office.db"), free_ports()
+    with tempfile.TemporaryFile() as log:
+        program = start(ports, 10**9, log, store=store)
+        try:
+            # More than once, since a busy machine takes its time with the first start over a file.
+            for _ in range(9):
+                wait_for(ports[3])
+            asked(ports[3])
+        finally:
+            stop(program)
+        lines = written(log)
+    check(lines.count(b" http ") >= 12 and found_in(lines, all_forms()) is None, f"the log has no secret: {lines}")
+    files = [os.path.join(folder, name) for name in os.listdir(folder)]
+    having = {os.path.basename(path) for path in files if SECRET in open(path, "rb").read()}
+    check(having and having <= {"office.db", "office.db-wal"}, f"the store's files have it, and no others: {having}")
+    check(all(stat.S_IMODE(os.stat(path).st_mode) == 0o600 for path in files), "and are their owner's alone")
+    return store
+
+
+def refused_at_the_start(store):
+    """A site that isn't good, or can't be read, is named and not shown."""
+    for value, line in ((bytes(4) + bytes([len(SECRET)]) + SECRET + bytes(12), b"tables refused site\n"), (bytes(4) + b"\x40" + SECRET, b"keeper refused\n")):
+        with contextlib.closing(sqlite3.connect(store)) as held, held:
+            held.execute("UPDATE office SET val = ? WHERE ident = x'01'", (value,))
+        words = [PROGRAM, "serve", "--store", store, "--ports", ",".join(map(str, free_ports())), "--turns", "0"]
+        done = subprocess.run(words, stdout=subprocess.PIPE, stderr=subprocess.PIPE, timeout=300)
+        check((done.stdout, done.stderr) == (line, b""), f"{line}: {done}")
+
+
+# ---- what is written down
+
+def expected(crate):
+    """What one of the programs that run examples prints, without the lines of its script that it repeats."""
+    given = set(text_of("crates", crate, "stdin").splitlines())
+    return [line for line in text_of("crates", crate, "stdout").splitlines() if line not in given and not line.startswith(("section ", "run ", "again "))]
+
+
+def in_examples():
+    for crate, printed in PRINTED.items():
+        lines = expected(crate)
+        having = [line for line in lines if found_in(line.encode(), all_forms())]
+        check(having and all(re.match(printed, line) for line in having), f"{crate} prints it with the site's row alone: {having[:3]}")
+        for line in lines:
+            name = line.encode().replace(FAULTS["field"], b"").replace(FAULTS["value"], b"")
+            check(EXAMPLE not in name, f"{crate}: its text stands as the name of the field alone: {line}")
+
+
+def pages():
+    yield ["README.md"]
+    for folder in ("docs", "examples", "packaging"):
+        for at, _, names in os.walk(os.path.join(ROOT, folder)):
+            yield from ([os.path.relpath(at, ROOT), name] for name in sorted(names))
+
+
+def in_pages():
+    count = 0
+    for page in pages():
+        for line in text_of(*page).splitlines():
+            if found_in(line.encode(), all_forms()):
+                count += 1
+                check(bool(GIVES.search(line)), f"{'/'.join(page)} gives it to the office: {line}")
+    check(count > 0, "the documents' examples give it")
+
+
+def main():
+    if sys.argv[1:2] == ["told"]:
+        tell(sys.argv[2], bytes.fromhex(sys.argv[3]))
+        return 0
+    search_finds()
+    in_examples()
+    in_pages()
+    if not os.path.exists(PROGRAM):
+        print("officed isn't built: run bin/officed once")
+        return 1
+    with tempfile.TemporaryDirectory() as folder:
+        refused_at_the_start(at_the_office(folder))
+    print(f"acceptance: {len(failures)} failed")
+    return 1 if failures else 0
+
+
+if __name__ == "__main__":
+    sys.exit(main())
