@@ -1,7 +1,9 @@
 #!/usr/bin/env python3
 """Times clerks' PUTs over loopback, with 100 and with 100,000 subscribers in the tables, and the memory that 100,000 modems take.
 
-It prints figures and judges nothing. bin/officed has to be built.
+    python3 tests/bench/clerks.py [MANY]
+
+MANY takes the place of 100,000. It prints figures and judges nothing. bin/officed has to be built (or OFFICE_PROGRAM).
 """
 import os
 import signal
@@ -48,7 +50,7 @@ def resident(pid):
 
 
 def main():
-    ports = free_ports()
+    ports, most = free_ports(), int((sys.argv[1:] or ["100000"])[0])
     with tempfile.TemporaryFile() as log:
         program = start(ports, 10**12, log)
         try:
@@ -60,15 +62,15 @@ def main():
                     time.sleep(0.05)
             subscribers(ports[3], 1, 99)
             few = max(subscribers(ports[3], 0, 100) for _ in range(20))
-            subscribers(ports[3], 100, 99_900)
+            subscribers(ports[3], 100, most - 100)
             many = max(subscribers(ports[3], 0, 100) for _ in range(20))
-            print(f"PUTs per second, one client, one at a time: {few:.0f} with 100 subscribers, {many:.0f} with 100,000")
+            print(f"PUTs per second, one client, one at a time: {few:.0f} with 100 subscribers, {many:.0f} with {most:,}")
             settings = b'[{"code":24,"parts":[{"code":1,"hex":"0001"},{"code":6,"hex":"07"}]},{"code":25,"parts":[{"code":1,"hex":"0002"},{"code":6,"hex":"07"}]}]'
             put(ports[3], b"/classes/1", b'{"name":"gold","settings":%s}' % settings)
             before = resident(program.pid)
-            for number in range(100_000):
+            for number in range(most):
                 put(ports[3], b"/modems/02%010x" % number, b'{"subscriber":%d,"class":1,"serial":"SN%06d"}' % (number, number))
-            print(f"memory: {(resident(program.pid) - before) / 1e6:.1f} MB for 100,000 modems, {resident(program.pid) / 1e6:.1f} MB in all")
+            print(f"memory: {(resident(program.pid) - before) / 1e6:.1f} MB for {most:,} modems, {resident(program.pid) / 1e6:.1f} MB in all")
         finally:
             program.send_signal(signal.SIGTERM)
             program.wait(timeout=10)

@@ -208,8 +208,9 @@ class Measured:
                 (ours, used), (others, other_used) = self.by_turns(at_once, echo, mode, echoed)
                 goal = f", goal {wanted}: {'met' if ours >= wanted else 'missed'}" if wanted and at_once > 1 and self.rows.modems == 100 else ""
                 print(f"  {what}, {at_once} at once: {ours:.0f} {unit}/s ({used:.1f} us of processor each), echo of {length} bytes {others:.0f} "
-                      f"({other_used:.1f} us): {ours / others:.2f}{goal}")
-                taken[at_once] = (1 / ours, used)
+                      f"({other_used:.1f} us): {ours / others if others else 0:.2f}{goal}")
+                # A machine that is too busy may exchange none in a round.
+                taken[at_once] = (1 / ours if ours else float("inf"), used)
         finally:
             echo.kill()
             echo.wait()

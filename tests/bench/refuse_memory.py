@@ -26,13 +26,15 @@ import files_over_sockets as files  # noqa: E402
 import files_without_memory as without  # noqa: E402
 from harness import PROGRAM, check, failures, modems as office, start, stop  # noqa: E402
 from harness.clerks import connect, read_to_end, request  # noqa: E402
+from harness.told import SECRET  # noqa: E402
 
 import leases  # noqa: E402
 import tftp  # noqa: E402
 from examples import compact, ip, sealed  # noqa: E402
 from messages import RELAYED_DISCOVER  # noqa: E402
 
-MOST, PATIENCE = 4000, 3
+# A first start over SQLite's format has some 20,000 growths.
+MOST, MOST_OF_RUNS, PATIENCE = 4000, 60_000, 3
 FLOWS = tftp.spelled_tree([(3, b"\1"), *tftp.tree_in(files.GOLD), (18, b"\2")]) + b"\xff"
 
 
@@ -132,7 +134,7 @@ def events(refuser, counted, folder):
             came = trial.datagram(kind, "dhcp", lambda data=data: talk.relay.sendto(data, (office.SERVER, office.PORTS[0])), word,
                                   lambda reply=reply, kind=kind: talk.hears(reply, kind) if reply else None)
             given = ip(int.from_bytes(came["address"], "big")) if kind == "a DISCOVER" and came else given
-        at, name = (given, files.CLIENT), leases.name_of(files.SITE_SECRET, leases.mac(number), leases.address(given))
+        at, name = (given, files.CLIENT), leases.name_of(SECRET, leases.mac(number), leases.address(given))
         for packet in (tftp.request(name, (b"blksize", b"44")), tftp.acknowledgement(0), tftp.acknowledgement(1), tftp.request(b"x"), tftp.error(0, "enough")):
             trial.goes(at, packet)
         for word, ends in trial.counted.items():
@@ -171,7 +173,7 @@ def runs(refuser, counted, folder):
     for kind, run in words.items():
         ran(refuser, counted, kind, run, store)
         check(rows_of(store) == kept, f"{kind}: the rows are as before")
-    for number in range(1, MOST):
+    for number in range(1, MOST_OF_RUNS):
         before = rows_of(store)
         status, was_refused = ran_once(refuser, number, ["import", "--store", store, "subscribers", str(number)], f"subscriber,active,cpes,name\n{number + 50},yes,2,B{number}\n".encode())
         after = rows_of(store)
@@ -192,7 +194,7 @@ def ran_once(refuser, number, words, data):
 
 def ran(refuser, counted, kind, run, store):
     words, data, statuses = run
-    for number in range(1, MOST):
+    for number in range(1, MOST_OF_RUNS):
         if kind == "a first start":
             for name in (store, store + "-wal"):
                 with contextlib.suppress(FileNotFoundError):

@@ -1,11 +1,11 @@
 #!/usr/bin/env python3
 """Gives clones what runs of `rt ci` on this machine have proved, so that a check there begins with it.
 
-    tests/bench/share_proofs.py CLONE ..
+    tests/bench/share_proofs.py [--from FOLDER] CLONE ..
 
 While `rt ci NAME ..` runs, the libraries that it has proved lie in its copy (/tmp/rt-copy-*/repo/crates/NAME/out/rlib). A clone whose text of the crate and
 of all crates below is the same gets them with the stamp of that text, and takes them for built. A crate that a check is building there at that moment must
-not be given: run it while no `rt` runs in the clone. It's no part of the gate, which keeps its own proofs.
+not be given: run it while no `rt` runs in the clone. A run without names works in its own folder, which `--from` names. It's no part of the gate, which keeps its own proofs.
 """
 import glob
 import importlib.machinery
@@ -55,7 +55,7 @@ class Run:
 
     def __init__(self, top, clone, crates):
         self.top, self.clone, self.crates = top, clone, crates
-        self.here, self.there, self.alike = below(top), below(clone), {}
+        self.here, self.there, self.alike, self.gave = below(top), below(clone), {}, {}
 
     def is_alike(self, name):
         if name not in self.here and name not in self.there:
@@ -67,7 +67,12 @@ class Run:
         return self.alike[name]
 
     def give(self, name, given):
-        """Gives the crate and those below it, and tells whether all are there."""
+        """Gives the crate and those below it, each once, and tells whether all are there."""
+        if name not in self.gave:
+            self.gave[name] = self.give_one(name, given)
+        return self.gave[name]
+
+    def give_one(self, name, given):
         if not all(self.give(each, given) for each in self.here[name] if each in self.here):
             return False
         made, kept = f"{self.top}/crates/{name}/out/rlib", f"{self.clone}/crates/{name}/out/rlib"
@@ -92,11 +97,13 @@ class Run:
         return True
 
 
-def main(clones):
-    rtlib = toolchain()
-    for clone in map(os.path.abspath, clones):
+def main(words):
+    rtlib, tops = toolchain(), sorted(glob.glob("/tmp/rt-copy-*/repo"), key=os.path.getmtime, reverse=True)
+    if words[:1] == ["--from"]:
+        tops, words = [os.path.abspath(words[1])], words[2:]
+    for clone in map(os.path.abspath, words):
         crates, given = {each.name: each for each in rtlib.crates_below(f"{clone}/crates")}, []
-        for top in sorted(glob.glob("/tmp/rt-copy-*/repo"), key=os.path.getmtime, reverse=True):
+        for top in tops:
             if os.path.exists(f"{top}/crates.txt"):
                 run = Run(top, clone, crates)
                 for name in run.here:

@@ -281,7 +281,7 @@ def all_there(modems, clerks):
 
 
 def lines_are_words(path):
-    words = {"dhcp": set(every_word.DHCP), "time": {"sent"}, "tftp": set(every_word.TFTP)}
+    words = {"dhcp": {*every_word.DHCP, *every_word.QUERIES}, "time": {"sent"}, "tftp": set(every_word.TFTP)}
     every, counted = {"memory", "keeper", "link"}, collections.Counter()
     with open(path) as log:
         for line in log:
