@@ -2,11 +2,14 @@
 
 A modem discovers, requests and reads its file; other events come between each two of its messages, in every place. Then each thing that it needs for that is
 taken away alone, and the log has the word that says so. What is expected is computed by the models of leases.py and tftp.py, and the words are said here by hand.
+The word `memory` alone isn't here: a script can refuse memory in front of an event and not within one, as tests/acceptance/files_without_memory.py does.
 """
+from examples import outcome
 from leases import (A, HELD, ONE, RELAY, SECOND, declines, discover, has_which, leased, modem_row, put_pool, put_site, reboots, releases, remove, selects, vendor,
                     who_has)
+import failures
 import leases
-from transfers import (B, BOTH, PLAIN, PORT, TICK, TransferPlayer, acks, gives_up, name, put_class, put_modem, put_subscriber, reads, sends)
+from transfers import (B, BOTH, PLAIN, PORT, TICK, TransferPlayer, acks, gives_up, line_of, name, put_class, put_modem, put_subscriber, reads, sends)
 
 MODEL = "By the models of leases and of transfers, from RFC 2131, 1350, 2347 and 2348, and the office's rules."
 # The modem's own messages, in order; the file has 88 bytes.
@@ -133,8 +136,110 @@ def broken(player):
     player.play("its lease has ended", [*at("t", BOOT[:4]), ("t+86400", "agreement", acks(1))], rows=[])
 
 
+
+def renewing(player):
+    """A modem that has its address asks for it again, as RFC 2131 says in section 4.3.2: by ciaddr alone."""
+    player.section("a renewal that isn't acknowledged has the word that says why", MODEL, "The last message of each run lacks nothing.")
+    cases = {
+        "request-form": [("it names the address in option 50 too", {"asked": A}), ("it names the server too", {"server": "10.0.0.2"}),
+                         ("it names both", {"asked": A, "server": "10.0.0.2"}), ("through the relay", {"asked": A, "relay": RELAY}),
+                         ("no address", {"client": "0.0.0.0"}), ("half an address", {"asked": b"\x0a\x40"})],
+        "part-cut": [("the modem's option", {"cable": b"\x02\x03EC"})],
+        "relay-mismatch": [("the relay names another", {"remote": leases.mac(3), "relay": RELAY})],
+        "not-a-modem": [("another class", {"docsis": b"pktc1.0:00"})],
+        "no-relay-pool": [("another relay", {"relay": "10.64.0.2"}), ("an address of no pool", {"client": "10.99.0.1"})],
+        "unknown-modem": [("another modem", {"last": 0x99})],
+        "serial-mismatch": [("another serial number", {"cable": vendor(b"SN02")})],
+        "not-your-address": [("another's address", {"client": B})],
+    }
+    renewed = ("ack", leases.renews())
+    for word, given in cases.items():
+        for remark, what in given:
+            player.play(remark, at("t", [OFFER, ACK, (word, leases.renews(**what)), renewed]), rows=OTHERS)
+    player.play("no site", at("t", [("no-site", leases.renews()), ("", put_site()), OFFER, ACK, renewed]), rows=["drop site"])
+    player.play("it released the address", at("t", [OFFER, ACK, ("released", releases()), ("no-record", leases.renews())]), rows=OTHERS)
+
+
+def crowded(player):
+    """All transfers are others'."""
+    player.section("a read request while all 256 transfers are others' has the word that says so", MODEL,
+                   "It's accepted once one has ended, or where one of the 256 is its own.")
+    folded = ['repeat 0 255 modem 0300% 7 1 ""', "repeat 0 255 lease 10.64.1.# bound 0300% t+1000", "repeat 0 255 held 0300% 10.64.1.#"]
+    single = [row for number in range(256) for row in (f'modem {many(number).hex()} 7 1 ""', f"lease 10.64.1.{number} bound {many(number).hex()} t+1000",
+                                                       f"held {many(number).hex()} 10.64.1.{number}")]
+    wide = ["drop pool 1", f"pool 1 {A} 10.64.1.255 16 {RELAY} {RELAY}"]
+
+    def others(count):
+        return [("oack", reads(44, held=held, name=leases.name_of(b"secret", many(number), leases.address(held))))
+                for number, held in ((number, f"10.64.1.{number}") for number in range(count))]
+
+    def play(remark, events):
+        return player.play(remark, at("t", events), rows=[*folded, *wide], model_rows=[*single, *wide], lines=["room link 2000 200000"])
+    ended = [("peer-error", gives_up(held="10.64.1.9"))]
+    play("another gives up", [*others(256), OFFER, ACK, ("full", reads(44)), ("full", reads(44)), *ended, OACK, *FILE])
+    play("one is its own", [*others(255), *BOOT[:4], ("full", reads(44, port=PORT + 1)), ("oack", reads(45)), OACK, *FILE])
+
+
+def many(number):
+    """One of many modems' addresses."""
+    return bytes.fromhex(f"0300{number:08x}")
+
+
+# Each message of the boot, and the same again, as a modem sends it that has no answer; what comes too late for anything is silent.
+TWICE = [event for own, again in zip(BOOT, (OFFER[0], ACK[0], "again", "stale-ack", "stale-ack", "stale-ack", "unknown"))
+         for event in (own, (again, own[1]))]
+# Those that look into the tables; a message that comes again behind its answer does so in DHCP alone.
+LOOKING = (1, 2, 3, 4, 5, 7, 9, 11)
+# The modem waits; what it isn't answered comes again with a Tick, of a transfer, or by its own asking.
+PATIENT = [*((f"t+{number}", word, what) for number, (word, what) in enumerate(TWICE[:6])),
+           *(event for number, own in enumerate(FILE) for event in ((f"t+{7 + 2 * number}", "again 1 closed 0", TICK), (f"t+{7 + 2 * number}", *own)))]
+
+
+def refused_outside(player):
+    """The store, the network and memory."""
+    run = player.script.run
+    rows = [*player.rows, *OTHERS]
+
+    def scene(events, *lines):
+        return ["office", *OTHERS, "show tables", *lines, *(line_of(turn, moment, what) for turn, (moment, _, what) in enumerate(events, 1))]
+
+    def boots_all_the_same(made, whole):
+        if blocks_in(made) != blocks_in(whole) or len(blocks_in(made)) != 3:
+            raise leases.Disagreement("the modem gets its file all the same")
+        return made.outcome()
+    player.section("a message in which the store fails has the word `keeper`, and the modem that sends it again boots", MODEL,
+                   "Each call of the keeper fails in turn: of the opening, status 3; of a message, which is as if it hadn't come.")
+    events = at("t", TWICE)
+    whole = failures.played(rows, events)
+    run("", scene(events, "fails each keeper"), whole.outcome(), outcome(3, ["keeper refused"], tables=leases.Office(rows).rows()),
+        *(boots_all_the_same(failures.played(rows, events, failing=number), whole) for number in LOOKING))
+    player.section("a message whose answer can't be sent has the word `link`, and the modem that sends it again boots", MODEL,
+                   "Each call of the link fails in turn: a failed `next` is tried again; an answer is lost, and what was done stays done.")
+    whole, counting, texts = failures.played(rows, PATIENT), failures.Played(rows), []
+    for number, event in enumerate(PATIENT, 1):
+        counting.take(*event)
+        texts.append(whole.outcome())
+        texts += [boots_all_the_same(failures.played(rows, PATIENT, losing=(number, place)), whole) for place in range(len(counting.items))]
+    run("", scene(PATIENT, "fails each link"), whole.outcome(), *failures.told_anew([*texts, whole.outcome()]))
+    player.section("where memory is refused for a message the office ends with `memory refused`, and the modem boots when it has started anew",
+                   "A link that tells want of memory: status 6. Behind the start the transfers are gone, and the leases stay.", MODEL)
+    alone = failures.played(rows, at("t", BOOT))
+    for place in range(len(BOOT)):
+        made = failures.played(rows, at("t", BOOT[:place]))
+        run(f"message {place + 1}", scene(at("t", BOOT), f"wants link {place + 1}"), outcome(6, [*made.wrote, "memory refused"], sent=made.sent, tables=made.office.rows()))
+        again = at("t", BOOT if place < 4 else [("unknown", BOOT[place][1]), *BOOT])
+        run("", ["show tables", *(line_of(turn, moment, what) for turn, (moment, _, what) in enumerate(again, 1))],
+            boots_all_the_same(failures.played(made.office.rows(), again), alone), again=True)
+
+
+def blocks_in(made):
+    """The file's blocks that go to the modem, each once, by their numbers."""
+    packets = [bytes.fromhex(item.split(" ")[-1]) for item in files_in(made)]
+    return sorted({packet[2:] for packet in packets if packet[:2] == b"\0\3"})
+
+
 def sections(script, rows):
     """Writes the sections, over an office of these rows."""
     player = TransferPlayer(script, rows)
-    for write in (booting, broken):
+    for write in (booting, broken, renewing, crowded, refused_outside):
         write(player)

@@ -67,9 +67,9 @@ class Played(transfers.Played):
             self.sent += answered(what.conn, status, text)
 
 
-def played(rows, **what):
+def played(rows, events=EVENTS, **what):
     made = Played(rows, **what)
-    for event in EVENTS:
+    for event in events:
         made.take(*event)
     return made
 

@@ -100,6 +100,8 @@ class Office:
         return [*self.kept.values(), *leases, *held]
 
     def site(self):
+        if ("site",) not in self.kept:
+            return None
         words = self.kept["site",].split(" ")
         return {"server": address(words[1]), "secret": bytes.fromhex(words[2]), "offset": int(words[3]), "lease": int(words[4]),
                 "log": address(words[5])}
@@ -115,6 +117,13 @@ class Office:
             return next((pool for pool in self.pools.values() if pool.has(m.client)), None)
         return None
 
+    def site_for(self, m):
+        """The site of a message: that of its pool's hub, or of the address's that it gives back, which may lie in no pool."""
+        if m.kind in (DISCOVER, REQUEST):
+            return self.site() if self.pool_of(m) is not None else None
+        given = m.address(50) if m.kind == DECLINE else m.client
+        return self.site() if given is not None and any(pool.has(given) for pool in self.pools.values()) else None
+
     def address_for(self, m, pool):
         """The address that a DISCOVER is offered: its own; the one that it asks for, if that is free; the least that is free."""
         own, wanted = self.held.get(m.mac), m.address(50)
@@ -126,8 +135,6 @@ class Office:
 
     def said_wrongly(self, m):
         """The first rule that a message breaks by what it says, or None."""
-        if ("site",) not in self.kept:
-            return "no-site"
         if m.kind not in (DISCOVER, REQUEST, DECLINE, RELEASE):
             return "not-served"
         if m.kind == REQUEST and m.asked() is None:
@@ -147,13 +154,16 @@ class Office:
         asks = m.kind in (DISCOVER, REQUEST)
         if asks and self.pool_of(m) is None:
             return "no-relay-pool"
+        if asks and self.site() is None:
+            return "no-site"
         if asks and m.mac not in self.serials:
             return "unknown-modem"
         serial = first_of(parts_in(m.options.get(43, b""), True), 4) if asks else None
         if serial is not None and self.serials[m.mac] and self.serials[m.mac] != serial:
             return "serial-mismatch"
         names = m.kind in (DECLINE, RELEASE) or m.kind == REQUEST and m.asked()[0] == "selecting"
-        if names and m.address(54) not in (None, self.site()["server"]):
+        site = self.site_for(m)
+        if names and site is not None and m.address(54) not in (None, site["server"]):
             return "other-server"
         return None
 
@@ -557,7 +567,7 @@ ONE = ["drop pool 1", f"pool 1 {A} {A} 24 {RELAY} {RELAY}"]
 
 def crowded(player):
     player.section("a message asks as little in a pool of 4,096 addresses that is full but for the last",
-                   "A message by which an address is offered or acknowledged makes five calls of the keeper at most, whatever the tables: the site, what the modem holds, its own "
+                   "A message by which an address is offered or acknowledged makes five calls of the keeper at most, whatever the tables: its hub, what the modem holds, its own "
                    "row, the lease of what is offered, the commit.")
     wide = ["drop pool 1", f"pool 1 10.64.16.0 10.64.31.255 16 {RELAY} {RELAY}"]
     pools = [f"pool {number} 10.65.{number}.0 10.65.{number}.255 24 10.65.{number}.1 10.65.{number}.1" for number in range(2, 40)]
@@ -567,7 +577,7 @@ def crowded(player):
     last = "10.64.31.255"
     # An OFFER, the same again, the REQUEST, a renewal, and one of the other modem's, for which there is no address.
     whole = [("t", "offer", discover(), 5), ("t+1", "offer", discover(), 5), ("t+2", "ack", selects(last), 4), ("t+3", "ack", renews(last), 4), ("t+4", "pool-full", discover(1), 3),
-             ("t+4", "relay-mismatch", discover(remote=mac(1)), 1), ("t+5", "released", releases(last), 3), ("t+6", "offer", discover(1), 5),
+             ("t+4", "relay-mismatch", discover(remote=mac(1)), 0), ("t+5", "released", releases(last), 3), ("t+6", "offer", discover(1), 5),
              ("t+100", "offer", discover(), 5)]
     for count in (1, 2, 3, 4, 5, 7, 8, 9):
         player.count(f"{count}", [event[:3] for event in whole[:count]], [SECOND, *wide, *pools, *folded], [SECOND, *wide, *pools, *single], sum(event[3] for event in whole[:count]))
@@ -753,14 +763,16 @@ def refusing(player):
     player.section("a kind that isn't served has its word", "RFC 2132, section 9.6: DISCOVER, REQUEST, DECLINE and RELEASE are served.")
     player.play("", [("t", "not-served", says(kind, relay="10.64.0.2", last=0x99, way=b"\x02\x06"))
                      for kind in (0, OFFER, ACK, NAK, INFORM, 9, UNASSIGNED, UNKNOWN, ACTIVE, 18, 255)])
-    player.section("without a site no message is served", "A datagram that is no message has its own word all the same.")
-    kinds = [says(kind) for kind in (DISCOVER, REQUEST, DECLINE, RELEASE, INFORM)]
-    player.play("", [*(("t", "no-site", data) for data in [*kinds, selects()]), ("t", "dhcp-short", b""), ("t", "dhcp-no-type", reading(53, b""))],
+    player.section("without a site nobody gets an address", "A message that is refused by what it says itself has its own word all the same.")
+    player.play("", [
+        ("t", "no-site", discover()), ("t", "no-site", selects()), ("t", "request-form", says(REQUEST)), ("t", "not-served", says(INFORM)),
+        ("t", "no-record", declines()), ("t", "no-record", releases()), ("t", "dhcp-short", b""), ("t", "dhcp-no-type", reading(53, b""))],
                 rows=["drop site"])
     player.section("without a pool, and without modems", "")
     player.play("", [
         ("t", "no-relay-pool", discover()), ("t", "no-relay-pool", selects()), ("t", "no-relay-pool", renews()), ("t", "no-record", declines()),
-        ("t", "no-record", releases())], rows=["drop pool 1"])
+        ("t", "no-record", releases()), ("t", "no-record", declines(server="10.0.0.9")), ("t", "no-record", releases(server="10.0.0.9"))],
+                rows=["drop pool 1"])
     player.play("", [
         ("t", "unknown-modem", discover()), ("t", "unknown-modem", selects()), ("t", "unknown-modem", renews()), ("t", "no-record", declines()),
         ("t", "no-record", releases())], rows=[f"drop modem {MODEM}"])
@@ -927,8 +939,8 @@ def clerking(player):
         ("t", "offer", discover()), ("t", "", put_site(server="10.0.0.9", secret=b"x" * 64, lease=60, log="10.0.0.7", offset=-5)),
         ("t", "other-server", selects()), ("t", "ack", selects(server="10.0.0.9")), ("t+60", "", put_site()), ("t+60", "ack", renews()),
         ("t+60", "", show(A))])
-    player.play("a site and a pool come first", [
-        ("t", "no-site", discover()), ("t", "", put_site()), ("t", "no-relay-pool", discover()), ("t", "", put_pool(1, A, A)),
+    player.play("a pool and a site come first", [
+        ("t", "no-relay-pool", discover()), ("t", "", put_pool(1, A, A)), ("t", "no-site", discover()), ("t", "", put_site()),
         ("t", "offer", discover()), ("t", "", show(A))], rows=["drop site", "drop pool 1"])
     player.play("leases are shown", [
         ("t", "", show(A)), ("t", "", show("10.64.0.11")), ("t", "", show("10.64.0.12")), ("t", "no-row", show("10.64.0.13"))

@@ -1,8 +1,8 @@
 -- Rows of the tables, by kind. A row is possible at a key where it's of the key's kind and its own
 -- values are in their ranges, whatever the other rows are. Whoever reads a row takes an impossible
 -- one as one that isn't there; only the test of good tables doesn't.
-use Rattle.std.specs.Prelude.{ℕ, ℤ, pos, neg_ℤ, ◌-◌, ◌==◌, Bool, true, false, not, ◌&&◌, nat_le, nat_lt, int_le, min, max, List, length, Option, Some, None, is_some, is_none, option_and_then, if◌then◌else◌}
-use Rattle.std.specs.List.{filter_map, count_by}
+use Rattle.std.specs.Prelude.{ℕ, zero, suc, ℤ, pos, neg_ℤ, ◌-◌, ◌==◌, Bool, true, false, not, ◌&&◌, nat_le, nat_lt, int_le, min, max, List, length, Option, Some, None, is_some, is_none, option_map, option_and_then, if◌then◌else◌}
+use Rattle.std.specs.List.{filter_map, find, count_by}
 use Rattle.std.specs.Int.{is_in_range}
 use Rattle.std.specs.Option.{option_map_or}
 use Rattle.std.specs.FinMap as map
@@ -100,6 +100,10 @@ abbrev pub as_batch : Row → Option Batch
 as_batch (row.Batch batch) = Some batch
 as_batch row = None
 
+abbrev pub as_pool_hub : Row → Option ℕ
+as_pool_hub (row.PoolHub hub) = Some hub
+as_pool_hub row = None
+
 -- the row is of the wanted kind, and passes the test
 abbrev pub passes : {X : Type 0} → (X → Bool) → Option X → Bool
 passes test None = false
@@ -130,8 +134,13 @@ possible key (Some row) = if is_possible key row then Some row else None
 abbrev pub seen_at : Tables → Key → Option Row
 seen_at tables key = possible key (row_at tables key)
 
-abbrev pub site_in : Tables → Option Site
-site_in tables = option_and_then as_site (seen_at tables key.Site)
+-- A hub's row is its site. The hub 0 has the one row of a site as yet, and no other hub has a row.
+abbrev pub hub_key : ℕ → Key
+hub_key zero = key.Site
+hub_key (suc n) = key.Hub (suc n)
+
+abbrev pub hub_in : Tables → ℕ → Option Site
+hub_in tables n = option_and_then as_site (seen_at tables (hub_key n))
 
 abbrev pub subscriber_in : Tables → ℕ → Option Subscriber
 subscriber_in tables n = option_and_then as_subscriber (seen_at tables (key.Subscriber n))
@@ -156,6 +165,14 @@ held_in tables mac = option_and_then as_held (seen_at tables (key.Held mac))
 
 abbrev pub batch_in : Tables → ℕ → Option Batch
 batch_in tables n = option_and_then as_batch (seen_at tables (key.Batch n))
+
+-- the number of a pool's hub, which is 0 where none is named
+abbrev pub number_or_0 : Option ℕ → ℕ
+number_or_0 None = 0
+number_or_0 (Some hub) = hub
+
+abbrev pub pool_hub_in : Tables → ℕ → ℕ
+pool_hub_in tables n = number_or_0 (option_and_then as_pool_hub (seen_at tables (key.PoolHub n)))
 
 -- All rows of a kind with their keys, in the order of keys
 abbrev pub modem_of : Key × Row → Option (Mac × Modem)
@@ -189,6 +206,19 @@ has_address pool address = nat_le pool.first.0 address.0 && nat_le address.0 poo
 
 abbrev pub overlaps : Pool → Pool → Bool
 overlaps pool other = nat_le (max pool.first.0 other.first.0) (min pool.last.0 other.last.0)
+
+-- An address has the hub of the pool in which it lies; in no pool it has none. In good tables it
+-- lies in one pool at most.
+abbrev pub pool_with : Tables → Ip4 → Option (ℕ × Pool)
+pool_with tables address = find (λ entry. has_address entry.1 address) (pools tables)
+
+abbrev pub hub_of : Tables → Ip4 → Option ℕ
+hub_of tables address =
+    option_map (λ entry. pool_hub_in tables entry.0) (pool_with tables address)
+
+-- the site of an address is that of its hub: what the modems of a hub have in common
+abbrev pub site_of : Tables → Ip4 → Option Site
+site_of tables address = option_and_then (hub_in tables) (hub_of tables address)
 
 -- the kind by which a row of this key is counted, if it is
 abbrev pub kind_counted : Key → Option Kind

@@ -16,3 +16,6 @@ mod JudgeLemmas
 mod RowsLemmas
 mod ImportLemmas
 pub mod GoodLemmas
+pub mod WalkedLemmas
+pub mod AskedLemmas
+pub mod CommandWalks

@@ -5,3 +5,4 @@ pub mod Searches
 pub mod Tests
 pub mod Commands
 pub mod Imports
+pub mod Walking

@@ -7,6 +7,7 @@ ghost use Rattle.off_accounts.specs.Deciding.{most_calls, IsDecided, NotDecided,
 ghost use Rattle.off_accounts.specs.Commands.{AnswersImport, KeepsGood};
 ghost use Rattle.off_accounts.specs.Commands.{most_import_calls};
 ghost use Rattle.off_accounts.specs.Imports.{import_answer};
+ghost use Rattle.off_accounts.specs.Walking.{WalksWithin};
 
 use crate::importing::import;
 use crate::putting::Refused;
@@ -27,7 +28,9 @@ use std::alloc::Global;
 ///
 /// A command that needs no walk over pools or leases makes nine calls of the keeper at most, and
 /// three where it doesn't remove a subscriber; an import makes three for each of its rows and one
-/// more.
+/// more. One that puts a pool goes over the pools twice at most. One that removes a pool, or puts
+/// one where another was, goes over the leases in the range of the pool that was there twice at
+/// most. How many calls that makes is known over tables that are told.
 pub fn decide<K: Keeper>(
     alloc: Global,
     keeper: &mut K,
@@ -48,6 +51,7 @@ pub fn decide<K: Keeper>(
         (K.seen keeper.old)) }
     ensures spent { IfSome (most_calls c.now)
         (λ n. Spent n (K.seen keeper.old) (K.seen keeper.new)) }
+    ensures walks { WalksWithin c.now (K.seen keeper.old) (K.seen keeper.new) }
     ensures importing { IfSome (most_import_calls c.now)
         (λ n. Spent n (K.seen keeper.old) (K.seen keeper.new)) }
 {

@@ -7,6 +7,7 @@ ghost use Rattle.off_users.specs.Users.{StandsFor};
 ghost use Rattle.off_outside.specs.KeeperCalls.{Looks, Reads, Spent};
 ghost use Rattle.off_accounts.specs.Deciding.{is_import, most_calls, IsByRules, IsRuling};
 ghost use Rattle.off_accounts.specs.Deciding.{IsDecided, NotDecided, AnswersCommand, clerk_answer};
+ghost use Rattle.off_accounts.specs.Walking.{WalksWithin};
 
 use crate::counting::counts_after;
 use crate::planning::writes_for;
@@ -30,7 +31,10 @@ use std::alloc::Global;
 /// only where the keeper counted a fault.
 ///
 /// A command that needs no walk over pools or leases makes nine calls of the keeper at most, and
-/// three where it doesn't remove a subscriber.
+/// three where it doesn't remove a subscriber. One that puts a pool goes over the pools twice at
+/// most. One that removes a pool, or puts one where another was, goes over the leases in the range
+/// of the pool that was there twice at most. How many calls that makes is known over tables that
+/// are told.
 pub fn decide<K: Keeper>(
     alloc: Global,
     keeper: &mut K,
@@ -49,12 +53,14 @@ pub fn decide<K: Keeper>(
     ensures answers { IfOk result (λ planned. AnswersCommand c.now planned) }
     ensures spent { IfSome (most_calls c.now)
         (λ n. Spent n (K.seen keeper.old) (K.seen keeper.new)) }
+    ensures walks { WalksWithin c.now (K.seen keeper.old) (K.seen keeper.new) }
 {
     let verdict = verdict_on(alloc, keeper, counts, users, now, c);
     clerk_answer(verdict)
 }
 
 // What is planned, or the rule that is broken.
+#[tactic(auto, using(crate::proofs::CommandWalks::show_walks))]
 fn verdict_on<K: Keeper>(
     alloc: Global,
     keeper: &mut K,
@@ -71,6 +77,7 @@ fn verdict_on<K: Keeper>(
         (λ planned. AnswersCommand c.now planned)) }
     ensures spent { IfSome (most_calls c.now)
         (λ n. Spent n (K.seen keeper.old) (K.seen keeper.new)) }
+    ensures walks { WalksWithin c.now (K.seen keeper.old) (K.seen keeper.new) }
 {
     if let Command::Show(key) = c {
         return show(alloc, keeper, counts, users, now, key);
@@ -120,6 +127,7 @@ fn show<K: Keeper>(
 }
 
 // A command that changes the tables: its rules are tested, and then it's planned.
+#[tactic(auto, using(crate::proofs::CommandWalks::first_walks))]
 fn change<K: Keeper>(
     alloc: Global,
     keeper: &mut K,
@@ -134,6 +142,7 @@ fn change<K: Keeper>(
     ensures answers { IfOk result (λ verdict. IfOk verdict (λ planned. planned.reply ≡ Done)) }
     ensures spent { IfSome (most_calls c.now)
         (λ n. Spent n (K.seen keeper.old) (K.seen keeper.new)) }
+    ensures walks { WalksWithin c.now (K.seen keeper.old) (K.seen keeper.new) }
 {
     let subject = subject_of(alloc, keeper, users, c)?;
     let tests = tests_of(asked, &subject, c);

@@ -2,8 +2,10 @@ ghost use Rattle.std.specs.Prelude.{◌≡◌, ◌∷◌, ◌++◌, Some, OnOk};
 ghost use Rattle.std.specs.List.{flat_map};
 ghost use Rattle.off_account_rules.specs.Clerk.{lease_drops, held_drop};
 ghost use Rattle.off_account_rules.specs.Good.{owner_of};
-ghost use Rattle.off_outside.specs.KeeperCalls.{Looks};
+ghost use Rattle.off_defs.specs.State.{Tables};
+ghost use Rattle.off_outside.specs.KeeperCalls.{Looks, Spent};
 ghost use Rattle.off_accounts.specs.Searches.{lost_from, drops_of, drops_at};
+ghost use Rattle.off_accounts.specs.Walking.{WalksOver, is_lease_in, lease_calls};
 
 use crate::lost::{Lost, before_lost, gives_up, is_past_lost};
 use off_base::{Ip4, NoMemory};
@@ -14,22 +16,24 @@ use std::alloc::Global;
 
 /// Appends the drops of the leases that are lost where a pool changes, and of the rows of who holds
 /// them.
+#[tactic(auto, using(crate::proofs::WalkedLemmas::walk_ends))]
 pub(crate) fn drop_lost<K: Keeper>(
     alloc: Global,
     keeper: &mut K,
     lost: &Lost,
     writes: &mut Writes,
 ) -> Result<(), KeepErr>
-    ensures { Looks result (K.seen keeper.old) (K.seen keeper.new)
+    ensures told { Looks result (K.seen keeper.old) (K.seen keeper.new)
         (λ _ t. writes.new
         ≡ writes.old ++ flat_map lease_drops (lost_from (Some lost.now.old) lost.now.new t)) }
+    ensures walks { WalksOver (is_lease_in lost.now.old) (K.seen keeper.old) (K.seen keeper.new) }
 {
     let mut place = before_lost(lost);
     'walk: loop {
         let Some((key, row)) = next_behind(alloc, keeper, Some(place))? else {
             return Ok(());
         };
-        if is_past_lost(lost, &key) {
+        if is_past_lost(lost, key) {
             return Ok(());
         }
         push_drops(lost, &key, &row, writes)?;
@@ -39,6 +43,7 @@ pub(crate) fn drop_lost<K: Keeper>(
 
 /// A write, and behind it the drops of the leases that are lost where one pool, or none, takes the
 /// place of another one, or none.
+#[tactic(auto, using(crate::proofs::WalkedLemmas::drop_rules))]
 pub(crate) fn with_drops<K: Keeper>(
     alloc: Global,
     keeper: &mut K,
@@ -46,8 +51,10 @@ pub(crate) fn with_drops<K: Keeper>(
     old: Option<Pool>,
     new: Option<Pool>,
 ) -> Result<Writes, KeepErr>
-    ensures { Looks result (K.seen keeper.old) (K.seen keeper.new)
+    ensures told { Looks result (K.seen keeper.old) (K.seen keeper.new)
         (λ writes t. writes ≡ write ∷ flat_map lease_drops (lost_from old new t)) }
+    ensures walks { (t : Tables) → (K.seen keeper.old).tables t
+        → Spent (lease_calls old t) (K.seen keeper.old) (K.seen keeper.new) }
 {
     let mut writes = Writes::new(alloc);
     writes.push(write)?;

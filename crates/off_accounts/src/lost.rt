@@ -5,7 +5,9 @@ ghost use Rattle.off_defs.specs.Tables.{is_after};
 ghost use Rattle.off_account_rules.specs.Rows.{lease_of};
 ghost use Rattle.off_account_rules.specs.Clerk.{gives_up};
 ghost use Rattle.off_account_rules.specs.Rows.{passes};
+ghost use Rattle.off_rows.specs.KeyBytes.{IsRanged};
 ghost use Rattle.off_accounts.specs.Searches.{is_given_up};
+ghost use Rattle.off_accounts.specs.Walking.{AllBehind, is_past_first, is_past_last};
 
 use off_base::Ip4;
 use off_defs::{Key, Pool};
@@ -29,9 +31,11 @@ pub(crate) fn gives_up(lost: &Lost, address: Ip4) -> bool
 }
 
 /// The place from which a walk finds all leases that are lost.
+#[tactic(auto, using(crate::proofs::WalkedLemmas::begin_rules))]
 pub(crate) fn before_lost(lost: &Lost) -> Key
-    ensures { (entry : Key × Row) → is_after (Some result) entry ≡ false
+    ensures none { (entry : Key × Row) → is_after (Some result) entry ≡ false
         → passes (is_given_up lost.now) (lease_of entry) ≡ false }
+    ensures begins { AllBehind (is_past_first lost.now) result }
 {
     let first = lost.old.first.0;
     if first == 0 {
@@ -41,13 +45,15 @@ pub(crate) fn before_lost(lost: &Lost) -> Key
 }
 
 /// Whether the walk has passed by all leases that are lost.
-pub(crate) fn is_past_lost(lost: &Lost, key: &Key) -> bool
+pub(crate) fn is_past_lost(lost: &Lost, key: Key) -> bool
     ensures here { (row : Row) → result ≡ true
-        → passes (is_given_up lost.now) (lease_of (key.now, row)) ≡ false }
-    ensures later { (entry : Key × Row) → result ≡ true → is_after (Some key.now) entry ≡ true
+        → passes (is_given_up lost.now) (lease_of (key, row)) ≡ false }
+    ensures later { (entry : Key × Row) → result ≡ true → is_after (Some key) entry ≡ true
         → passes (is_given_up lost.now) (lease_of entry) ≡ false }
+    ensures last { result ≡ is_past_last lost.now key }
+    ensures ranged { IsRanged key }
 {
-    match *key {
+    match key {
         Key::Lease(address) => lost.old.last.0 < address.0,
         Key::Held(_) | Key::Batch(_) | Key::Hub(_) | Key::PoolHub(_) => true,
         Key::DevicePool(_) | Key::Device(_) => true,

@@ -10,6 +10,8 @@ ghost use Rattle.off_outside.specs.KeeperCalls.{Looks, Spent};
 ghost use Rattle.off_account_rules.specs.Clerk.{add_on_keys, removal_writes, writes_of};
 ghost use Rattle.off_accounts.specs.Deciding.{most_calls, most_calls_removing};
 ghost use Rattle.off_accounts.specs.Tests.{SubjectStands, IsSubject};
+ghost use Rattle.off_accounts.specs.Walking.{drop_calls, drop_calls_removing};
+ghost use Rattle.off_defs.specs.State.{Tables};
 
 use crate::dropping::with_drops;
 use crate::subject::Subject;
@@ -29,6 +31,9 @@ pub(crate) fn writes_for<K: Keeper>(
         (λ writes t. IsSubject c.now subject.now t → writes ≡ writes_of t c.now) }
     ensures spent { is_some (most_calls c.now) ≡ true
         → Spent 0 (K.seen keeper.old) (K.seen keeper.new) }
+    ensures walks { (t : Tables) → (K.seen keeper.old).tables t
+        → Spent (drop_calls c.now subject.now.pool t)
+        (K.seen keeper.old) (K.seen keeper.new) }
 {
     match c {
         Command::SetSite(site) => one_write(alloc, Write::Put(Key::Site, Row::Site(site.copy()))),
@@ -70,6 +75,9 @@ fn removal_writes<K: Keeper>(
         (λ writes t. SubjectStands t key.now subject.now → writes ≡ removal_writes t key.now) }
     ensures spent { is_some (most_calls_removing key.now) ≡ true
         → Spent 0 (K.seen keeper.old) (K.seen keeper.new) }
+    ensures walks { (t : Tables) → (K.seen keeper.old).tables t
+        → Spent (drop_calls_removing key.now subject.now.pool t)
+        (K.seen keeper.old) (K.seen keeper.new) }
 {
     match *key {
         Key::Subscriber(n) => subscriber_drops(alloc, n),

@@ -3,7 +3,9 @@ ghost use Rattle.off_defs.specs.declared.keys.Key.{Key};
 ghost use Rattle.off_defs.specs.declared.tables.Row.{Row};
 ghost use Rattle.off_defs.specs.Tables.{is_after};
 ghost use Rattle.off_outside.specs.KeeperCalls.{Looks};
+ghost use Rattle.off_rows.specs.KeyBytes.{IsRanged};
 ghost use Rattle.off_accounts.specs.Searches.{is_wanted, least_wanted};
+ghost use Rattle.off_accounts.specs.Walking.{WalksOver, AllBehind, looks_at, is_reached, is_passed};
 
 use crate::lost::{Lost, before_lost, is_past_lost};
 use crate::wanted::is_wanted;
@@ -26,20 +28,22 @@ pub enum Sought {
 
 /// The least key of a row that is sought, or `None` where there is none. It walks over the rows of
 /// one kind.
+#[tactic(auto, using(crate::proofs::WalkedLemmas::walk_ends))]
 pub(crate) fn search<K: Keeper>(
     alloc: Global,
     keeper: &mut K,
     sought: &Sought,
 ) -> Result<Option<Key>, KeepErr>
-    ensures { Looks result (K.seen keeper.old) (K.seen keeper.new)
+    ensures told { Looks result (K.seen keeper.old) (K.seen keeper.new)
         (λ found t. found ≡ least_wanted sought.now t) }
+    ensures walks { WalksOver (looks_at sought.now) (K.seen keeper.old) (K.seen keeper.new) }
 {
     let mut place = before(sought);
     'walk: loop {
         let Some((key, row)) = next_behind(alloc, keeper, Some(place))? else {
             return Ok(None);
         };
-        if is_past(sought, &key) {
+        if is_past(sought, key) {
             return Ok(None);
         }
         if is_wanted(sought, &key, &row) {
@@ -50,9 +54,11 @@ pub(crate) fn search<K: Keeper>(
 }
 
 // The place from which a walk finds all that is sought.
+#[tactic(auto, using(crate::proofs::WalkedLemmas::begin_rules))]
 fn before(sought: &Sought) -> Key
-    ensures { (entry : Key × Row) → is_after (Some result) entry ≡ false
+    ensures none { (entry : Key × Row) → is_after (Some result) entry ≡ false
         → is_wanted sought.now entry ≡ false }
+    ensures begins { AllBehind (is_reached sought.now) result }
 {
     match sought {
         Sought::Overlapping(_, _) => Key::Class(u32::MAX),
@@ -62,14 +68,16 @@ fn before(sought: &Sought) -> Key
 }
 
 // Whether the walk has passed by all that is sought.
-fn is_past(sought: &Sought, key: &Key) -> bool
-    ensures here { (row : Row) → result ≡ true → is_wanted sought.now (key.now, row) ≡ false }
-    ensures later { (entry : Key × Row) → result ≡ true → is_after (Some key.now) entry ≡ true
+fn is_past(sought: &Sought, key: Key) -> bool
+    ensures here { (row : Row) → result ≡ true → is_wanted sought.now (key, row) ≡ false }
+    ensures later { (entry : Key × Row) → result ≡ true → is_after (Some key) entry ≡ true
         → is_wanted sought.now entry ≡ false }
+    ensures passed { result ≡ is_passed sought.now key }
+    ensures ranged { IsRanged key }
 {
     match sought {
-        Sought::Overlapping(_, _) => is_past_pools(key),
-        Sought::WithRelay(_, _) => is_past_pools(key),
+        Sought::Overlapping(_, _) => is_past_pools(&key),
+        Sought::WithRelay(_, _) => is_past_pools(&key),
         Sought::LiveLost(_, lost) => is_past_lost(lost, key),
     }
 }

@@ -4,6 +4,7 @@ ghost use Rattle.off_account_rules.specs.Rows.{as_pool};
 ghost use Rattle.off_defs.specs.State.{Tables};
 ghost use Rattle.off_users.specs.Users.{StandsFor};
 ghost use Rattle.off_accounts.specs.Tests.{SubjectStands, IsSubject, calls_for_subject, uses_at};
+ghost use Rattle.off_accounts.specs.Walking.{PoolStands, IsPoolAt};
 
 use off_defs::{Command, Key, Pool, Row};
 use off_outside::{KeepErr, Keeper};
@@ -32,6 +33,8 @@ pub(crate) fn subject_of<K: Keeper>(
 ) -> Result<Subject, KeepErr>
     ensures told { Looks result (K.seen keeper.old) (K.seen keeper.new)
         (λ subject t. StandsFor users.now t → IsSubject c.now subject t) }
+    ensures pool { Looks result (K.seen keeper.old) (K.seen keeper.new)
+        (λ subject t. IsPoolAt c.now subject t) }
     ensures spent { Spent (calls_for_subject c.now) (K.seen keeper.old) (K.seen keeper.new) }
 {
     match c {
@@ -64,6 +67,8 @@ fn at_key<K: Keeper>(
 ) -> Result<Subject, KeepErr>
     ensures told { Looks result (K.seen keeper.old) (K.seen keeper.new)
         (λ subject t. StandsFor users.now t → SubjectStands t key.now subject) }
+    ensures pool { Looks result (K.seen keeper.old) (K.seen keeper.new)
+        (λ subject t. PoolStands t key.now subject) }
     ensures counted { WasCounted (K.seen keeper.old) (K.seen keeper.new) }
 {
     let row = read_row(alloc, keeper, key)?;

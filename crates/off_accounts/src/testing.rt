@@ -5,6 +5,8 @@ ghost use Rattle.off_account_rules.specs.Clerk.{no_subscriber, no_class};
 ghost use Rattle.off_accounts.specs.Searches.{pool_number, lease_address};
 ghost use Rattle.off_accounts.specs.Tests.{says, looks_up, searches, lookups, any_searches};
 ghost use Rattle.off_accounts.specs.Tests.{found_rule, sought_rule};
+ghost use Rattle.off_accounts.specs.Walking.{WalksOver, looks_at, test_calls, tests_calls};
+ghost use Rattle.off_defs.specs.State.{Tables};
 
 use crate::searching::{Sought, search};
 use off_base::Ip4;
@@ -37,6 +39,8 @@ pub fn first_broken<K: Keeper>(
         (λ broken t. broken ≡ first_there (map (says t) tests.now)) }
     ensures spent { any_searches tests.now ≡ false
         → Spent (lookups tests.now) (K.seen keeper.old) (K.seen keeper.new) }
+    ensures asks { (t : Tables) → (K.seen keeper.old).tables t
+        → Spent (tests_calls t tests.now) (K.seen keeper.old) (K.seen keeper.new) }
 {
     for test in tests {
         let broken = broken_by(alloc, keeper, test)?;
@@ -54,6 +58,8 @@ fn broken_by<K: Keeper>(alloc: Global, keeper: &mut K, test: &Test) -> Result<Op
         (λ broken t. broken ≡ says t test.now) }
     ensures spent { searches test.now ≡ false
         → Spent (looks_up test.now) (K.seen keeper.old) (K.seen keeper.new) }
+    ensures asks { (t : Tables) → (K.seen keeper.old).tables t
+        → Spent (test_calls t test.now) (K.seen keeper.old) (K.seen keeper.new) }
 {
     match *test {
         Test::Tested(broken) => Ok(broken),
@@ -94,8 +100,9 @@ fn what_is_found<K: Keeper>(
     keeper: &mut K,
     sought: &Sought,
 ) -> Result<Option<Rule>, KeepErr>
-    ensures { Looks result (K.seen keeper.old) (K.seen keeper.new)
+    ensures told { Looks result (K.seen keeper.old) (K.seen keeper.new)
         (λ broken t. broken ≡ sought_rule sought.now t) }
+    ensures walks { WalksOver (looks_at sought.now) (K.seen keeper.old) (K.seen keeper.new) }
 {
     let found = search(alloc, keeper, sought)?;
     Ok(found_rule(sought, found))

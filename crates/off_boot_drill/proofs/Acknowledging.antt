@@ -23,7 +23,7 @@ use Rattle.off_drill_rules.specs.Rows.{site, modem, mac, address, is_active, dri
 use Rattle.off_drill_rules.specs.Messages.{by_modem, name, read_request, acknowledgement}
 use Rattle.off_drill_rules.specs.Events.{acknowledges, acknowledgements, blocks_of}
 use Rattle.off_drill_rules.specs.Law.{AllDid}
-use Rattle.off_drill_laws.proofs.RowLemmas.{drill_rows, site_read, modem_read}
+use Rattle.off_drill_laws.proofs.RowLemmas.{drill_rows, address_within, site_read_at, modem_read}
 use Rattle.off_transfer_runs.specs.Answering.{Ask, Speaks, Aside, ask, AnswersBy, AnswersUpTo}
 use Rattle.off_boot_laws.specs.Boot.{KeepsName}
 use Rattle.off_boot_drill.specs.Met.{EachAcknowledgesAll}
@@ -102,7 +102,7 @@ each_acknowledges_all n k s last soon few more is run events did =
       site = site;
       modem_is = modem_read (drill_tables n (suc k)) (suc k) rows;
       owned = refl;
-      site_is = site_read (drill_tables n (suc k)) (suc k) rows;
+      site_is = site_read_at (drill_tables n (suc k)) (suc k) rows (address (suc k)) (address_within (suc k) (omega arith) (omega (arith, few, more)));
       named = refl;
     } in
     let blocks : ℕ = suc (blocks_of (is_active (suc k))) in

@@ -1,6 +1,5 @@
 -- Each modem of a drill meets what booting asks.
-use Rattle.std.proofs.Common.{codes, ◌≡◌, ◌≢◌, ◌⊎◌, ℕ, suc, ◌+◌, ◌<◌, ◌≤◌, true, leb, List, [], ◌∷◌, ◌++◌, Option, Some, None, MatchOption, option_and_then, refl, sym, ap, subst, ◌∙◌, inl, inr, arith}
-use Rattle.std.proofs.lemmas.Bool.{le-leb, and_from}
+use Rattle.std.proofs.Common.{codes, ◌≡◌, ◌≢◌, ◌⊎◌, ℕ, suc, ◌<◌, ◌≤◌, true, List, [], ◌∷◌, ◌++◌, Option, Some, None, MatchOption, option_and_then, refl, sym, ap, subst, ◌∙◌, inl, inr, arith}
 use Rattle.std.specs.FinMap as map
 use Rattle.off_base.specs.declared.addresses.Ip4.{Ip4}
 use Rattle.off_base.specs.declared.macs.Mac.{Mac}
@@ -11,7 +10,7 @@ use Rattle.off_defs.specs.declared.tables.Lease.{Lease}
 use Rattle.off_defs.specs.State.{Tables, State, Transfer, peer_cmp}
 use Rattle.off_dhcp.specs.Datagram.{option_in}
 use Rattle.off_docsis.specs.Cable.{begins_as_modem}
-use Rattle.off_account_rules.specs.Rows.{possible, as_pool, pool_in, lease_in, has_address}
+use Rattle.off_account_rules.specs.Rows.{possible, as_pool, pool_in, lease_in}
 use Rattle.off_table_laws.proofs.Reading.{row_lease}
 use Rattle.off_defs.specs.declared.results.Outcome.TheVariants.{Did}
 use Rattle.off_packets.specs.Packets.{only_size}
@@ -24,7 +23,7 @@ use Rattle.off_drill_rules.specs.Messages.{by_relay, by_modem, name, discover, r
 use Rattle.off_drill_rules.specs.Events.{asks_for_offer, asks_for_lease, asks_for_file}
 use Rattle.off_drill_rules.specs.Law.{drill_state}
 use Rattle.off_drill_laws.specs.Stages.{offered_tables, offered_state}
-use Rattle.off_drill_laws.proofs.RowLemmas.{HasRows, with_lease, with_held, drill_rows, lease_beyond, lease_within, site_read, modem_read, lease_read}
+use Rattle.off_drill_laws.proofs.RowLemmas.{HasRows, with_lease, with_held, drill_rows, lease_beyond, lease_within, pool_site, address_within, site_read_at, modem_read, lease_read}
 use Rattle.off_drill_laws.proofs.LeaseLemmas.{discovered, requested, claim_is}
 use Rattle.off_drill_laws.proofs.LeaseLemmas as said
 use Rattle.off_drill_laws.proofs.PacketLemmas.{request_says}
@@ -54,7 +53,7 @@ known_discover t i h = record {
   number = 1;
   pool = pool;
   modem = modem i;
-  site_is = site_read t i h;
+  site_is = pool_site t i h 1;
   pool_is = pool_there t i h;
   pooled = inl ((λ e. omega (arith, e)), refl);
   modem_is = modem_read t i h;
@@ -72,7 +71,7 @@ known_request t i h = record {
   number = 1;
   pool = pool;
   modem = modem i;
-  site_is = site_read t i h;
+  site_is = pool_site t i h 1;
   pool_is = pool_there t i h;
   pooled = inl ((λ e. omega (arith, e)), refl);
   modem_is = modem_read t i h;
@@ -82,11 +81,6 @@ known_request t i h = record {
   class = refl;
   serial = inl refl;
 }
-
-within : (i : ℕ) → 1 ≤ i → i ≤ 4000 → has_address pool (address i) ≡ true
-within i first few =
-    and_from (leb 0x0a401000 (0x0a400fff + i)) (leb (0x0a400fff + i) 0x0a401fff)
-    (le-leb 0x0a401000 (0x0a400fff + i) (omega (arith, first))) (le-leb (0x0a400fff + i) 0x0a401fff (omega (arith, few)))
 
 no_lease : (o : Option Lease) (one : Lease) → o ≡ None → o ≡ Some one → ⊥
 no_lease o one e f = let both : None ≡ Some one = sym e ∙ f in cc
@@ -105,7 +99,7 @@ module _ (n k : ℕ) (few : n ≤ 4000) (more : k < n) where
     known = known_discover (drill_tables n k) (suc k) (drill_rows n k (suc k) few (omega arith) (omega (arith, more)));
     told = not_none (option_in 60 (discovered (suc k)).options) (codes "docsis3.1:") refl;
     address = address (suc k);
-    within = within (suc k) (omega arith) (omega (arith, more, few));
+    within = address_within (suc k) (omega arith) (omega (arith, more, few));
     opens = inr (λ one is. absurd (no_lease (lease_in (drill_tables n k) (address (suc k))) one
         (lease_read (drill_tables n k) (address (suc k)) (lease_beyond n k (suc k) (omega arith))) is));
   }
@@ -123,7 +117,7 @@ module _ (n k : ℕ) (few : n ≤ 4000) (more : k < n) where
     known = known_request (offered_tables n k) (suc k) offered_rows;
     server = inr refl;
     claim = claim_is (suc k) (omega (arith, more, few));
-    within = within (suc k) (omega arith) (omega (arith, more, few));
+    within = address_within (suc k) (omega arith) (omega (arith, more, few));
   }
 
   -- the address is bound to it
@@ -154,7 +148,7 @@ module _ (n k : ℕ) (few : n ≤ 4000) (more : k < n) where
         modem = modem (suc k);
         event = ap (λ (e : Event). e.what) event;
         read = request_says (suc k);
-        site_is = site_read (drill_tables n (suc k)) (suc k) rows;
+        site_is = site_read_at (drill_tables n (suc k)) (suc k) rows (address (suc k)) (address_within (suc k) (omega arith) (omega (arith, few, more)));
         modem_is = modem_read (drill_tables n (suc k)) (suc k) rows;
         named = refl;
         place = place_so;

@@ -1,10 +1,10 @@
 -- Each modem of a drill meets what the law of booting asks of a modem and of the office for it: so
 -- all that can be met together, and the law isn't empty.
-use Rattle.std.specs.Prelude.{◌≡◌, ℕ, suc, ◌<◌, ◌≤◌, List, [], Some}
+use Rattle.std.specs.Prelude.{◌≡◌, ℕ, suc, ◌<◌, ◌≤◌, List, []}
 use Rattle.off_defs.specs.State.{State}
 use Rattle.off_defs.specs.declared.results.Outcome.TheVariants.{Did}
 use Rattle.off_dhcp.specs.Datagram.{Received}
-use Rattle.off_lease_rules.specs.Asking.{client}
+use Rattle.off_asking.specs.Asking.{client}
 use Rattle.off_packets.specs.Packets.{only_size}
 use Rattle.off_book.specs.Step.{Step}
 use Rattle.off_book.specs.Run.{Turn, Run, effect_of, events_of}

@@ -22,9 +22,10 @@ use Rattle.off_lease_rules.specs.declared.cases.Case.{Case}
 use Rattle.off_lease_rules.specs.declared.results.LeaseStep.{LeaseStep}
 use Rattle.off_lease_rules.specs.declared.words.DhcpWord.{DhcpWord}
 use Rattle.off_lease_rules.specs.declared.words.DhcpWord.TheVariants as word
-use Rattle.off_lease_rules.specs.Asking.{client, claimed}
+use Rattle.off_asking.specs.Asking.{client, claimed}
 use Rattle.off_lease_rules.specs.Free.{pool_for, case_of, chosen_in}
-use Rattle.off_lease_rules.specs.Rules.{rules_for, refused_by}
+use Rattle.off_asking.specs.Claims.{refused_by}
+use Rattle.off_lease_rules.specs.Rules.{rules_for}
 use Rattle.off_lease_rules.specs.Steps.{is_live_bound, accepts, unless_refused, settled, lease_step, dhcp_step}
 use Rattle.off_lease_laws.specs.Outcomes.{WasOffered}
 use Rattle.off_lease_laws.specs.Effects.{bound_until, IsBoundBy}

@@ -12,7 +12,7 @@ use Rattle.off_defs.specs.Keys.{key_cmp}
 use Rattle.off_defs.specs.State.{Tables, State}
 use Rattle.off_defs.specs.Tables.{row_at}
 use Rattle.off_defs.proofs.TableLemmas.{same_key}
-use Rattle.off_account_rules.specs.Rows.{possible, as_site, as_modem, as_pool}
+use Rattle.off_account_rules.specs.Rows.{possible, as_site, as_modem, as_pool, hub_key, as_pool_hub, number_or_0}
 use Rattle.off_table_laws.proofs.Rows.{Rows, row_written, rows_after, all_written}
 use Rattle.off_book.specs.Run.{Turn, Run, effect_of}
 use Rattle.off_laws.proofs.StepLaws.{tables_by_commit}
@@ -37,10 +37,13 @@ row_stays P q leaves s last (turn ∷ turns) run all =
     ∙ ap (λ (rows : Rows). rows q) (all_written s.tables turn.commit) ∙ all_stay (row_at s.tables) turn.commit q (leaves turn all.0)
 
 pub rows_stay : RowsStay
-rows_stay s last turns mac number run all = record {
-  site = ap (λ (o : Option Row). option_and_then as_site (possible key.Site o)) (row_stays (LeavesModem mac number) key.Site (λ turn l. l.site) s last turns run all);
+rows_stay s last turns mac number hub run all = record {
+  site = ap (λ (o : Option Row). option_and_then as_site (possible (hub_key hub) o))
+      (row_stays (LeavesModem mac number hub) (hub_key hub) (λ turn l. l.site) s last turns run all);
+  pool_hub = ap (λ (o : Option Row). number_or_0 (option_and_then as_pool_hub (possible (key.PoolHub number) o)))
+      (row_stays (LeavesModem mac number hub) (key.PoolHub number) (λ turn l. l.pool_hub) s last turns run all);
   modem = ap (λ (o : Option Row). option_and_then as_modem (possible (key.Modem mac) o))
-      (row_stays (LeavesModem mac number) (key.Modem mac) (λ turn l. l.modem) s last turns run all);
+      (row_stays (LeavesModem mac number hub) (key.Modem mac) (λ turn l. l.modem) s last turns run all);
   pool = ap (λ (o : Option Row). option_and_then as_pool (possible (key.Pool number) o))
-      (row_stays (LeavesModem mac number) (key.Pool number) (λ turn l. l.pool) s last turns run all);
+      (row_stays (LeavesModem mac number hub) (key.Pool number) (λ turn l. l.pool) s last turns run all);
 }

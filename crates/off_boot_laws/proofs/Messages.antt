@@ -25,15 +25,17 @@ use Rattle.off_defs.specs.Clock.{later_by}
 use Rattle.off_defs.specs.State.{Tables, State, Effect, at_moment}
 use Rattle.off_defs.specs.Tables.{write_all}
 use Rattle.off_dhcp.specs.Datagram.{Received, mac_of_client, option_in}
-use Rattle.off_account_rules.specs.Rows.{passes, site_in, modem_in, lease_in, held_in, has_address}
+use Rattle.off_account_rules.specs.Rows.{passes, modem_in, lease_in, held_in, has_address}
 use Rattle.off_account_rules.specs.Good.{Good, owner_of, is_address}
 use Rattle.off_table_laws.specs.Laws.{owner_in}
-use Rattle.off_lease_rules.specs.Asking.{is_discover, is_request, asks, client, claimed, named_server, serial_number, remote_identifier, form_of, named_address, at_address, asked_by, is_formless, is_selecting}
-use Rattle.off_lease_rules.specs.declared.forms.Named.TheVariants.{Absent, At}
-use Rattle.off_lease_rules.specs.declared.forms.Form.{Form}
-use Rattle.off_lease_rules.specs.declared.forms.Form.TheVariants.{Selecting, InitReboot, Renewing, NoForm}
-use Rattle.off_lease_rules.specs.Free.{pool_for, case_of, has_ended, is_free, choice, chosen_in, provided, least_free}
-use Rattle.off_lease_rules.specs.Rules.{has_cut_part, relays_another, is_no_modem, has_other_serial, is_another, is_for_a_server, names_another_server, claims_held, claims_wrongly, rules_for, refused_by}
+use Rattle.off_asking.specs.Asking.{is_discover, is_request, asks, client, claimed, named_server, serial_number, remote_identifier, form_of, named_address, at_address, asked_by, is_formless, is_selecting}
+use Rattle.off_asking.specs.declared.forms.Named.TheVariants.{Absent, At}
+use Rattle.off_asking.specs.declared.forms.Form.{Form}
+use Rattle.off_asking.specs.declared.forms.Form.TheVariants.{Selecting, InitReboot, Renewing, NoForm}
+use Rattle.off_asking.specs.Choice.{provided}
+use Rattle.off_lease_rules.specs.Free.{pool_for, site_for, case_of, has_ended, is_free, choice, chosen_in, least_free}
+use Rattle.off_asking.specs.Claims.{is_another, names_another_server, claims_own, claims_wrongly, refused_by}
+use Rattle.off_lease_rules.specs.Rules.{has_cut_part, relays_another, is_no_modem, has_other_serial, is_for_a_server, rules_for}
 use Rattle.off_lease_rules.specs.Steps.{is_bound, is_live_bound, offer_to, accepts, unless_refused, settled, settled_in, lease_step}
 use Rattle.off_lease_rules.specs.declared.cases.Case.{Case}
 use Rattle.off_lease_rules.specs.declared.results.LeaseStep.{LeaseStep}
@@ -55,7 +57,7 @@ use Rattle.off_laws.proofs.Messages.{message_did}
 use Rattle.off_book.specs.Step.{Step, Does}
 use Rattle.off_book.specs.Run.{Turn, effect_of}
 use Rattle.off_laws.specs.Leases.{TakesMessage, moment_of}
-use Rattle.off_boot_laws.proofs.Pooling.{pool_is_found}
+use Rattle.off_boot_laws.proofs.Pooling.{pool_is_found, site_is_found}
 use Rattle.off_boot_laws.specs.Known.{IsOwn, SaysModem, IsOfModem}
 use Rattle.off_boot_laws.specs.Stages.{IsFree, DiscoversAreOffered, RequestsAreAcknowledged}
 
@@ -79,7 +81,7 @@ pub record Known (t : Tables) (m : Received) : Type 0 where
   pub site : Site
   pub pool : Pool
   pub modem : Modem
-  pub site_is : site_in t ≡ Some site
+  pub site_is : site_for t m ≡ Some site
   pub pool_is : pool_for t m ≡ Some pool
   pub modem_is : modem_in t (client m) ≡ Some modem
   pub whole : has_cut_part m ≡ false
@@ -119,12 +121,12 @@ says_modem : (d r : Bool) (o : Option (List ℕ)) → SaysModem o → (o ≡ Non
 says_modem d r None says told = ap (λ b. (b && not (begins_as_modem (bytes_of None))) || (r && false)) (told refl) ∙ and_false r false refl
 says_modem d r (Some class) says told = ap (λ b. (d && not b) || (r && not b)) says ∙ both_false d r
 
-known_of : (t : Tables) (m : Received) → Good t → (k : IsOfModem t m) → (option_in 60 m.options ≡ None → is_discover m ≡ false) → Known t m
-known_of t m good k told = record {
+known_of : (t : Tables) (m : Received) → Good t → (k : IsOfModem t m) → asks m ≡ true → (option_in 60 m.options ≡ None → is_discover m ≡ false) → Known t m
+known_of t m good k asking told = record {
   site = k.site;
   pool = k.pool;
   modem = k.modem;
-  site_is = k.site_is;
+  site_is = site_is_found t m k.number k.pool k.site good k.pool_is k.pooled asking k.site_is;
   pool_is = pool_is_found t m k.number k.pool good k.pool_is k.pooled;
   modem_is = k.modem_is;
   whole = (λ j. (asks m && k.vendor j) || k.relay j) ∙ not_cut (asks m);
@@ -187,7 +189,7 @@ module _ (t : Tables) (now : ℕ) (m : Received) where
   discover_rules : (k : Known t (of_kind 1 m)) (held : Option Ip4) (a : Ip4) → refused_by (rules_for (of_kind 1 m) (case_with k.site k.pool k.modem held) (Some a)) ≡ None
   discover_rules k held a =
       none_broken (rules_for (of_kind 1 m) (case_with k.site k.pool k.modem held) (Some a))
-      (refl, (refl, (refl, (k.whole, (k.relayed, (k.said, (refl, (refl, (k.serial, (refl, (refl, (refl, (refl, tt)))))))))))))
+      (refl, (refl, (k.whole, (k.relayed, (k.said, (refl, (refl, (refl, (k.serial, (refl, (refl, (refl, (refl, tt)))))))))))))
 
   discover_word_of : (k : Known t (of_kind 1 m)) (address : Ip4) → has_address k.pool address ≡ true
       → ((held_in t (client m) ≡ Some address) ⊎ (has_ended now (lease_in t address) ≡ true)) → (lease_step t now (of_kind 1 m)).word ≡ word.Offer
@@ -216,7 +218,7 @@ no_lack false c = refl
 
 module _ (t : Tables) (now : ℕ) (m : Received) where
   own_claim : (pool : Pool) (a : Ip4) → claimed (of_kind 3 m) ≡ Some a → has_address pool a ≡ true → (c : Case) → c.held ≡ Some a → c.pool ≡ Some pool
-      → claims_wrongly (of_kind 3 m) c ≡ false
+      → claims_wrongly (of_kind 3 m) c.held c.pool ≡ false
   own_claim pool a claim within c held pool_is =
       (λ j. not (passes (λ (b : Ip4). passes (is_address b) (held j)) (claim j) && passes (λ (b : Ip4). passes (λ (p : Pool). has_address p b) (pool_is j)) (claim j)))
       ∙ ap not (and_from (is_address a a) (has_address pool a) (eq-eqb a.0 a.0 refl) within)
@@ -227,22 +229,22 @@ module _ (t : Tables) (now : ℕ) (m : Received) where
       none_broken (rules_for (of_kind 3 m) (case_with k.site k.pool k.modem (Some a)) (Some a)) (
         refl,
         (
-          refl,
+          formed (form_of m) a claim,
           (
-            formed (form_of m) a claim,
+            k.whole,
             (
-              k.whole,
+              k.relayed,
               (
-                k.relayed,
+                k.said,
                 (
-                  k.said,
+                  refl,
                   (
                     refl,
                     (
                       refl,
                       (
                         k.serial,
-                        (and_false (is_for_a_server (of_kind 3 m)) (names_another_server m k.site) server, (refl, (no_lack (is_selecting (form_of m)) (claims_held (of_kind 3 m) (case_with k.site k.pool k.modem (Some a))), (own_claim k.pool a claim within (case_with k.site k.pool k.modem (Some a)) refl refl, tt)))),
+                        (and_false (is_for_a_server (of_kind 3 m)) (names_another_server m k.site) server, (refl, (no_lack (is_selecting (form_of m)) (claims_own (of_kind 3 m) (Some a)), (own_claim k.pool a claim within (case_with k.site k.pool k.modem (Some a)) refl refl, tt)))),
                       ),
                     ),
                   ),
@@ -275,7 +277,7 @@ pub record OffersOne (t : Tables) (now : ℕ) (m : Received) (step : LeaseStep) 
   pub pool : Pool
   pub address : Ip4
   pub lease : Lease
-  pub site_is : site_in t ≡ Some site
+  pub site_is : site_for t m ≡ Some site
   pub pool_is : pool_for t m ≡ Some pool
   pub within : has_address pool address ≡ true
   pub own : (held : Ip4) → held_in t (client m) ≡ Some held → has_address pool held ≡ true → address ≡ held
@@ -392,7 +394,7 @@ unfolding known_of
 discovers_are_offered s after turn m good step well d =
     let is = message_acts s after turn m step d.takes well.did (ap (λ k. k == 10) d.kind) in
     let now = moment_of s turn in
-    let said : (lease_step s.tables now m).word ≡ word.Offer = discover_word s.tables now m d.kind (known_of s.tables m good d.known (λ none. absurd (d.told none))) d.address d.within (opened_of s.tables now (client m) d.address d.opens) in
+    let said : (lease_step s.tables now m).word ≡ word.Offer = discover_word s.tables now m d.kind (known_of s.tables m good d.known (ap (λ k. (k == 1) || (k == 3)) d.kind) (λ none. absurd (d.told none))) d.address d.within (opened_of s.tables now (client m) d.address d.opens) in
     let one = offers_one s.tables now m (good_agree s.tables good) (lease_step s.tables now m) (offering_of s.tables now m (lease_step s.tables now m) (outcome s.tables now m) said) in
     record {
       site = one.site;
@@ -418,7 +420,7 @@ unfolding known_of
 requests_are_acknowledged s after turn m address good step well r held =
     let is = message_acts s after turn m step r.takes well.did (ap (λ k. k == 10) r.kind) in
     let now = moment_of s turn in
-    let said : (lease_step s.tables now m).word ≡ word.Ack = request_word s.tables now m r.kind (known_of s.tables m good r.known (λ none. ap (λ k. k == 1) r.kind)) address (right_server m r.known.site r.server) r.claim r.within held in
+    let said : (lease_step s.tables now m).word ≡ word.Ack = request_word s.tables now m r.kind (known_of s.tables m good r.known (ap (λ k. (k == 1) || (k == 3)) r.kind) (λ none. ap (λ k. k == 1) r.kind)) address (right_server m r.known.site r.server) r.claim r.within held in
     let acked : IsBoundBy s.tables now m (lease_step s.tables now m) = acks_bind s.tables now m said in
     let same : acked.address ≡ address = same_address acked.address address (claimed m) acked.claim r.claim in
     record {

@@ -1,18 +1,20 @@
 -- The pool that is found for a message is the one of its relay, or of its address: good tables have no other.
-use Rattle.std.proofs.Common.{◌≡◌, ℕ, true, false, cond, not, ◌&&◌, eqb, Option, Some, None, option_map, inl, inr, refl, sym, ap, subst, ◌∙◌}
+use Rattle.std.proofs.Common.{◌≡◌, ℕ, true, false, cond, not, ◌&&◌, eqb, Option, Some, None, option_map, option_and_then, inl, inr, refl, sym, ap, subst, ◌∙◌}
 use Rattle.std.proofs.lemmas.Bool.{or_cases, and_parts, and_from, not-true, eqb-true, eq-eqb, false_from_ne_true}
 use Rattle.std.specs.List.{find}
+use Rattle.off_defs.specs.declared.tables.Site.{Site}
 use Rattle.off_defs.specs.declared.tables.Pool.{Pool}
 use Rattle.off_defs.specs.State.{Tables}
 use Rattle.off_dhcp.specs.Datagram.{Received}
-use Rattle.off_account_rules.specs.Rows.{pools, pool_in, has_address, overlaps}
+use Rattle.off_account_rules.specs.Rows.{pools, pool_in, hub_in, hub_of, pool_hub_in, has_address, overlaps}
 use Rattle.off_account_rules.specs.Good.{Good}
 use Rattle.off_table_laws.proofs.Judging.{good_rows, pool_in_raw}
 use Rattle.off_table_laws.proofs.ListLemmas.{In, none_found}
 use Rattle.off_table_laws.proofs.Reading.{pool_row, pools_raw}
 use Rattle.off_table_laws.proofs.TableLaws.{pools_are_apart}
-use Rattle.off_lease_rules.specs.Asking.{ip}
-use Rattle.off_lease_rules.specs.Free.{is_renewal, serves, pool_for}
+use Rattle.off_asking.specs.Asking.{ip, asks, claimed}
+use Rattle.off_asking.specs.Choice.{is_renewal, serves}
+use Rattle.off_lease_rules.specs.Free.{numbered_pool_for, pool_for, site_for}
 use Rattle.off_lease_laws.proofs.ChoiceLemmas.{found, pool_read}
 use Rattle.off_boot_laws.specs.Known.{IsPoolOf}
 
@@ -54,7 +56,7 @@ module _ (t : Tables) (good : Good t) (m : Received) (n : ℕ) (pool : Pool) (th
       let e : other ≡ pool = cc in
       e
 
-  pool_by : (o : Option (ℕ × Pool)) → find (λ (entry : ℕ × Pool). serves m entry.1) (pools t) ≡ o → option_map (λ (entry : ℕ × Pool). entry.1) o ≡ Some pool
+  pool_by : (o : Option (ℕ × Pool)) → find (λ (entry : ℕ × Pool). serves m entry.1) (pools t) ≡ o → o ≡ Some (n, pool)
   pool_by None e =
       let no = none_found (λ (entry : ℕ × Pool). serves m entry.1) (pools t) e (n, pool) listed in
       let f : true ≡ false = sym serving ∙ no in
@@ -62,10 +64,23 @@ module _ (t : Tables) (good : Good t) (m : Received) (n : ℕ) (pool : Pool) (th
   pool_by (Some entry) e =
       let is = found (λ (entry : ℕ × Pool). serves m entry.1) (pools t) entry e in
       let read = pool_read t entry.0 entry.1 is.0 in
-      ap Some (same_pool entry.0 entry.1 read (one_number entry.0 entry.1 read is.1))
+      let number = one_number entry.0 entry.1 read is.1 in
+      let same : entry ≡ (n, pool) = λ j. (sym number j, same_pool entry.0 entry.1 read number j) in
+      ap Some same
 
-  found_pool : pool_for t m ≡ Some pool
+  found_pool : numbered_pool_for t m ≡ Some (n, pool)
   found_pool = pool_by (find (λ (entry : ℕ × Pool). serves m entry.1) (pools t)) refl
 
+numbered_is_found : (t : Tables) (m : Received) (n : ℕ) (pool : Pool) → Good t → pool_in t n ≡ Some pool → IsPoolOf m pool → numbered_pool_for t m ≡ Some (n, pool)
+numbered_is_found t m n pool good there is = found_pool t good m n pool there (served_by m pool is)
+
 pub pool_is_found : (t : Tables) (m : Received) (n : ℕ) (pool : Pool) → Good t → pool_in t n ≡ Some pool → IsPoolOf m pool → pool_for t m ≡ Some pool
-pool_is_found t m n pool good there is = found_pool t good m n pool there (served_by m pool is)
+pool_is_found t m n pool good there is = ap (option_map (λ (entry : ℕ × Pool). entry.1)) (numbered_is_found t m n pool good there is)
+
+-- and the site of who asks is that of the pool's hub
+pub site_is_found : (t : Tables) (m : Received) (n : ℕ) (pool : Pool) (site : Site) → Good t → pool_in t n ≡ Some pool → IsPoolOf m pool → asks m ≡ true
+    → hub_in t (pool_hub_in t n) ≡ Some site → site_for t m ≡ Some site
+site_is_found t m n pool site good there is asking site_is =
+    ap (λ b. option_and_then (hub_in t) (cond b (option_map (λ (entry : ℕ × Pool). pool_hub_in t entry.0) (numbered_pool_for t m)) (option_and_then (hub_of t) (claimed m)))) asking
+    ∙ ap (λ (o : Option (ℕ × Pool)). option_and_then (hub_in t) (option_map (λ (entry : ℕ × Pool). pool_hub_in t entry.0) o)) (numbered_is_found t m n pool good there is)
+    ∙ site_is

@@ -16,7 +16,7 @@ use Rattle.off_dhcp.specs.Datagram.{Received, message_of}
 use Rattle.off_account_rules.specs.Rows.{lease_in}
 use Rattle.off_account_rules.specs.Good.{Good, owner_of}
 use Rattle.off_lease_rules.specs.declared.words.DhcpWord.{DhcpWord}
-use Rattle.off_lease_rules.specs.Asking.{client}
+use Rattle.off_asking.specs.Asking.{client}
 use Rattle.off_book.specs.Dhcp.{dhcp_line}
 use Rattle.off_book.specs.Step.{Step, Does}
 use Rattle.off_book.specs.Run.{Turn, Run, effect_of}

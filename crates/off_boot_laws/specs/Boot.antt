@@ -1,5 +1,5 @@
 -- A modem that asks boots, whatever other turns come between its own.
-use Rattle.std.specs.Prelude.{◌≡◌, ℕ, suc, true, List, ◌∷◌, ◌++◌, Option, Some}
+use Rattle.std.specs.Prelude.{◌≡◌, ℕ, suc, true, List, ◌∷◌, ◌++◌, Some}
 use Rattle.off_base.specs.declared.addresses.Ip4.{Ip4}
 use Rattle.off_base.specs.declared.addresses.Peer.{Peer}
 use Rattle.off_base.specs.declared.macs.Mac.{Mac}
@@ -8,10 +8,10 @@ use Rattle.off_defs.specs.declared.tables.Modem.{Modem}
 use Rattle.off_defs.specs.State.{Tables, State}
 use Rattle.off_defs.specs.Tables.{write_all}
 use Rattle.off_dhcp.specs.Datagram.{Received}
-use Rattle.off_account_rules.specs.Rows.{site_in, modem_in}
+use Rattle.off_account_rules.specs.Rows.{site_of, modem_in}
 use Rattle.off_account_rules.specs.Good.{Good}
 use Rattle.off_file_rules.specs.Name.{name_of}
-use Rattle.off_lease_rules.specs.Asking.{client}
+use Rattle.off_asking.specs.Asking.{client}
 use Rattle.off_packets.specs.declared.packets.Options.{Options}
 use Rattle.off_transfer_rules.specs.Transfers.{size_for, first_number, is_last_number}
 use Rattle.off_book.specs.Run.{Turn, Run}
@@ -31,7 +31,7 @@ pub record KeepsName (tables : Tables) (mac : Mac) (owner : ℕ) (ip : Ip4) (nam
   pub site : Site
   pub modem_is : modem_in tables mac ≡ Some modem
   pub owned : modem.subscriber ≡ owner
-  pub site_is : site_in tables ≡ Some site
+  pub site_is : site_of tables ip ≡ Some site
   pub named : name ≡ name_of site.secret mac ip
 
 -- From its read request on it acknowledges one packet behind another up to packet k, each before

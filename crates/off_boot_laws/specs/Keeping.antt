@@ -7,7 +7,7 @@ use Rattle.off_dhcp.specs.Datagram.{Received}
 use Rattle.off_account_rules.specs.Rows.{has_address}
 use Rattle.off_account_rules.specs.Good.{Good}
 use Rattle.off_table_laws.specs.Laws.{owner_in}
-use Rattle.off_lease_rules.specs.Asking.{client}
+use Rattle.off_asking.specs.Asking.{client}
 use Rattle.off_book.specs.Step.{Step}
 use Rattle.off_book.specs.Run.{Turn, Run, effect_of}
 use Rattle.off_boot_laws.specs.Went.{GoesWell}

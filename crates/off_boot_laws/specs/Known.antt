@@ -1,7 +1,7 @@
 -- A modem on record, and what its message says: there is a pool for it, that of its relay, or,
--- where it renews without one, that of its address; the parts of its options can be read; the relay
--- names it or nobody; option 60, where it's there, is a modem's; and the serial number is that of
--- its row, where both have one.
+-- where it renews without one, that of its address, and the pool's hub is there; the parts of its
+-- options can be read; the relay names it or nobody; option 60, where it's there, is a modem's; and
+-- the serial number is that of its row, where both have one.
 use Rattle.std.specs.Prelude.{◌≡◌, ◌≢◌, ◌⊎◌, ℕ, true, false, is_err, IsTrue, List, [], Option, Some, None}
 use Rattle.off_defs.specs.declared.tables.Site.{Site}
 use Rattle.off_defs.specs.declared.tables.Pool.{Pool}
@@ -9,9 +9,9 @@ use Rattle.off_defs.specs.declared.tables.Modem.{Modem}
 use Rattle.off_defs.specs.State.{Tables}
 use Rattle.off_dhcp.specs.Datagram.{Received, mac_of_client, option_in}
 use Rattle.off_docsis.specs.Cable.{begins_as_modem}
-use Rattle.off_account_rules.specs.Rows.{site_in, modem_in, pool_in, has_address}
-use Rattle.off_lease_rules.specs.Asking.{ip, client, vendor_parts, relay_parts, serial_number, remote_identifier}
-use Rattle.off_lease_rules.specs.Free.{is_renewal}
+use Rattle.off_account_rules.specs.Rows.{hub_in, pool_hub_in, modem_in, pool_in, has_address}
+use Rattle.off_asking.specs.Asking.{ip, client, vendor_parts, relay_parts, serial_number, remote_identifier}
+use Rattle.off_asking.specs.Choice.{is_renewal}
 
 abbrev pub IsPoolOf : Received → Pool → Type 0
 IsPoolOf m pool =
@@ -31,7 +31,7 @@ pub record IsOfModem (tables : Tables) (m : Received) : Type 0 where
   pub number : ℕ
   pub pool : Pool
   pub modem : Modem
-  pub site_is : site_in tables ≡ Some site
+  pub site_is : hub_in tables (pool_hub_in tables number) ≡ Some site
   pub pool_is : pool_in tables number ≡ Some pool
   pub pooled : IsPoolOf m pool
   pub modem_is : modem_in tables (client m) ≡ Some modem

@@ -1,6 +1,6 @@
 -- The stages of a modem's boot, each by itself: what it sends, what the office must have for it,
 -- and how it's answered.
-use Rattle.std.specs.Prelude.{◌≡◌, ◌≢◌, ◌⊎◌, ℕ, ◌<◌, ◌≤◌, true, IsTrue, List, [], ◌∷◌, Option, Some, None, Ok, codes, MatchOption}
+use Rattle.std.specs.Prelude.{◌≡◌, ◌≢◌, ◌⊎◌, ℕ, ◌<◌, ◌≤◌, true, IsTrue, List, [], ◌∷◌, Some, None, Ok, codes, MatchOption}
 use Rattle.std.specs.FinMap as map
 use Rattle.off_base.specs.declared.addresses.Ip4.{Ip4}
 use Rattle.off_base.specs.declared.addresses.Peer.{Peer}
@@ -15,13 +15,13 @@ use Rattle.off_defs.specs.declared.tables.Hold.TheVariants.{Offered}
 use Rattle.off_defs.specs.Clock.{later_by}
 use Rattle.off_defs.specs.State.{Tables, State}
 use Rattle.off_dhcp.specs.Datagram.{Received, option_in}
-use Rattle.off_account_rules.specs.Rows.{site_in, modem_in, lease_in, held_in, has_address}
+use Rattle.off_account_rules.specs.Rows.{site_of, modem_in, lease_in, held_in, has_address}
 use Rattle.off_account_rules.specs.Good.{Good}
 use Rattle.off_table_laws.specs.Laws.{owner_in}
 use Rattle.off_file_rules.specs.Name.{name_of}
-use Rattle.off_lease_rules.specs.Asking.{client, claimed, named_server}
-use Rattle.off_lease_rules.specs.declared.forms.Named.TheVariants.{Absent, At}
-use Rattle.off_lease_rules.specs.Free.{pool_for}
+use Rattle.off_asking.specs.Asking.{client, claimed, named_server}
+use Rattle.off_asking.specs.declared.forms.Named.TheVariants.{Absent, At}
+use Rattle.off_lease_rules.specs.Free.{pool_for, site_for}
 use Rattle.off_lease_rules.specs.Steps.{offer_to}
 use Rattle.off_lease_laws.specs.Effects.{lease_until, IsLiveBound}
 use Rattle.off_packets.specs.Packets.{Reads, packet_of}
@@ -58,7 +58,7 @@ pub record IsOffered (s : State) (m : Received) (turn : Turn) (after : State) : 
   pub pool : Pool
   pub address : Ip4
   pub lease : Lease
-  pub site_is : site_in s.tables ≡ Some site
+  pub site_is : site_for s.tables m ≡ Some site
   pub pool_is : pool_for s.tables m ≡ Some pool
   pub within : IsTrue (has_address pool address)
   pub own : (held : Ip4) → held_in s.tables (client m) ≡ Some held → IsTrue (has_address pool held)
@@ -85,12 +85,12 @@ pub record Requests (s : State) (m : Received) (turn : Turn) (address : Ip4) : T
   pub claim : claimed m ≡ Some address
   pub within : IsTrue (has_address known.pool address)
 
--- and is told that the address is its own for as long as the site's leases last
+-- and is told that the address is its own for as long as the leases of its hub last
 pub record IsAcknowledged (s : State) (m : Received) (turn : Turn) (address : Ip4) (after : State)
     : Type 0 where
   pub site : Site
   pub pool : Pool
-  pub site_is : site_in s.tables ≡ Some site
+  pub site_is : site_for s.tables m ≡ Some site
   pub line : turn.said.line ≡ codes "dhcp ack"
   pub sent : sent_in turn ≡ offer_to 5 m site pool address ∷ []
   pub bound : IsBoundUntil (client m) address (later_by site.lease (moment_of s turn)) after
@@ -117,7 +117,7 @@ pub record AsksForFile (s : State) (mac : Mac) (peer : Peer) (name : List ℕ) (
   pub modem : Modem
   pub event : turn.event.what ≡ Datagram Tftp peer bytes
   pub read : packet_of bytes ≡ Ok (Reads name asked)
-  pub site_is : site_in s.tables ≡ Some site
+  pub site_is : site_of s.tables peer.ip ≡ Some site
   pub modem_is : modem_in s.tables mac ≡ Some modem
   pub named : name ≡ name_of site.secret mac peer.ip
   pub place : HasPlace s.held.transfers peer bytes

@@ -11,7 +11,7 @@ use Rattle.off_dhcp.specs.Datagram.{Received}
 use Rattle.off_account_rules.specs.Rows.{pool_in, lease_in, has_address}
 use Rattle.off_account_rules.specs.Good.{Good, owner_of}
 use Rattle.off_table_laws.specs.Laws.{owner_in}
-use Rattle.off_lease_rules.specs.Asking.{client, claimed}
+use Rattle.off_asking.specs.Asking.{client, claimed}
 use Rattle.off_lease_laws.specs.Effects.{bound_until}
 use Rattle.off_book.specs.Step.{Step}
 use Rattle.off_book.specs.Run.{Turn, Run, effect_of}

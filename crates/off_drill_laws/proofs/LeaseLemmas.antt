@@ -22,9 +22,10 @@ use Rattle.off_account_rules.specs.Good.{is_address}
 use Rattle.off_table_laws.proofs.Reading.{row_lease, row_held}
 use Rattle.off_defs.specs.Tables.{with_row}
 use Rattle.off_defs.proofs.TableLemmas.{row_with_here}
-use Rattle.off_lease_rules.specs.Asking.{claimed}
+use Rattle.off_asking.specs.Asking.{claimed}
 use Rattle.off_lease_rules.specs.Free.{case_of, has_ended, is_free, least_free, chosen_in}
-use Rattle.off_lease_rules.specs.Rules.{claims_wrongly, rules_for, refused_by}
+use Rattle.off_asking.specs.Claims.{claims_wrongly, refused_by}
+use Rattle.off_lease_rules.specs.Rules.{rules_for}
 use Rattle.off_lease_rules.specs.Steps.{lease_row, reply_for, settled, settled_in, lease_step, step_of, dhcp_step, unless_refused, accepts}
 use Rattle.off_lease_rules.specs.declared.cases.Case.{Case}
 use Rattle.off_lease_rules.specs.declared.results.LeaseStep.{LeaseStep}
@@ -34,7 +35,7 @@ use Rattle.off_lease_laws.proofs.FreeLemmas.{least_is_least}
 use Rattle.off_drill_rules.specs.Rows.{site, pool, modem, mac, address, lease, moment, drill_tables}
 use Rattle.off_drill_rules.specs.Messages.{modem_options, discover, request}
 use Rattle.off_drill_laws.specs.Stages.{offered_lease, offered_tables}
-use Rattle.off_drill_laws.proofs.RowLemmas.{HasRows, with_lease, with_held, drill_rows, lease_beyond, held_beyond, lease_within, site_read, modem_read, pool_read_for, lease_read, held_read}
+use Rattle.off_drill_laws.proofs.RowLemmas.{HasRows, with_lease, with_held, drill_rows, lease_beyond, held_beyond, lease_within, address_within, site_read_for, modem_read, pool_read_for, lease_read, held_read}
 
 -- ---- what the two messages say
 
@@ -80,7 +81,7 @@ discover_rules : (i : ℕ) → refused_by (rules_for (discovered i) (held_case N
 unfolding parts_in begins_as_modem
 discover_rules i =
     none_broken (rules_for (discovered i) (held_case None i) (Some (address i)))
-    (refl, (refl, (refl, (refl, (own_remote i, (refl, (refl, (refl, (refl, (refl, (refl, (refl, (refl, tt)))))))))))))
+    (refl, (refl, (refl, (own_remote i, (refl, (refl, (refl, (refl, (refl, (refl, (refl, (refl, (refl, tt)))))))))))))
 
 abbrev pub offer_step : ℕ → LeaseStep
 offer_step i = record {
@@ -104,7 +105,7 @@ module _ (n k : ℕ) (more : k < n) (few : n ≤ 4000) where
   here_free : is_free (drill_tables n k) (moment (suc k)) pool (address (suc k)) ≡ true
   here_free =
       and_from (has_address pool (address (suc k))) (has_ended (moment (suc k)) (lease_in (drill_tables n k) (address (suc k))))
-      (and_from (leb 0x0a401000 (0x0a400fff + suc k)) (leb (0x0a400fff + suc k) 0x0a401fff) (le-leb 0x0a401000 (0x0a400fff + suc k) (omega arith)) (le-leb (0x0a400fff + suc k) 0x0a401fff (omega (arith, more, few))))
+      (address_within (suc k) (omega arith) (omega (arith, more, few)))
       (ap (has_ended (moment (suc k))) (lease_read (drill_tables n k) (address (suc k)) (lease_beyond n k (suc k) (omega arith))))
 
   -- an address below it is another modem's
@@ -162,7 +163,7 @@ module _ (t : Tables) (i : ℕ) (h : HasRows t i) where
   case_of_discover : held_in t (mac i) ≡ None → case_of t (discovered i) ≡ held_case None i
   unfolding case_of
   case_of_discover held = λ j. record {
-    site = site_read t i h j;
+    site = site_read_for t i h (discovered i) refl refl j;
     pool = pool_read_for t i h (discovered i) refl j;
     modem = modem_read t i h j;
     held = held j;
@@ -171,7 +172,7 @@ module _ (t : Tables) (i : ℕ) (h : HasRows t i) where
   case_of_request : held_in t (mac i) ≡ Some (address i) → case_of t (requested i) ≡ held_case (Some (address i)) i
   unfolding case_of parts_in
   case_of_request held = λ j. record {
-    site = site_read t i h j;
+    site = site_read_for t i h (requested i) refl refl j;
     pool = pool_read_for t i h (requested i) refl j;
     modem = modem_read t i h j;
     held = held j;
@@ -204,9 +205,9 @@ unfolding parts_in
 claim_is i few = λ j. Some (record { 0 = spoken_is i few j })
 
 module _ (i : ℕ) (first : 1 ≤ i) (few : i ≤ 4000) where
-  claims_own : claims_wrongly (requested i) (held_case (Some (address i)) i) ≡ false
+  claims_right : claims_wrongly (requested i) (Some (address i)) (Some pool) ≡ false
   unfolding parts_in
-  claims_own =
+  claims_right =
       ap (λ (o : Option Ip4). not (passes (λ (a : Ip4). passes (is_address a) (Some (address i))) o && passes (λ (a : Ip4). passes (λ (p : Pool). has_address p a) (Some pool)) o)) (claim_is i few)
       ∙ ap not (and_from (eqb (address i).0 (address i).0) (has_address pool (address i)) (eq-eqb (address i).0 (address i).0 refl)
       (and_from (leb 0x0a401000 (0x0a400fff + i)) (leb (0x0a400fff + i) 0x0a401fff) (le-leb 0x0a401000 (0x0a400fff + i) (omega (arith, first))) (le-leb (0x0a400fff + i) 0x0a401fff (omega (arith, few)))))
@@ -215,7 +216,7 @@ module _ (i : ℕ) (first : 1 ≤ i) (few : i ≤ 4000) where
   unfolding parts_in begins_as_modem
   request_rules =
       none_broken (rules_for (requested i) (held_case (Some (address i)) i) (Some (address i)))
-      (refl, (refl, (refl, (refl, (own_remote i, (refl, (refl, (refl, (refl, (refl, (refl, (refl, (claims_own, tt)))))))))))))
+      (refl, (refl, (refl, (own_remote i, (refl, (refl, (refl, (refl, (refl, (refl, (refl, (refl, (claims_right, tt)))))))))))))
 
 abbrev pub ack_step : ℕ → LeaseStep
 ack_step i = record {

@@ -24,7 +24,7 @@ use Rattle.off_defs.specs.declared.results.Sent.{Sent}
 use Rattle.off_defs.specs.State.{Transfer, peer_cmp}
 use Rattle.off_file_rules.specs.Name.{name_of, name_key}
 use Rattle.off_file_rules.specs.File.{with_stamps}
-use Rattle.off_account_rules.specs.Rows.{passes}
+use Rattle.off_account_rules.specs.Rows.{passes, site_of}
 use Rattle.off_account_rules.specs.Good.{is_mac}
 use Rattle.off_table_laws.proofs.Reading.{row_lease}
 use Rattle.off_packets.specs.Packets.{Reads, Acknowledges, is_zero, packet_of, only_size}
@@ -39,7 +39,7 @@ use Rattle.off_drill_rules.specs.Rows.{site, modem, mac, address, lease, moment,
 use Rattle.off_drill_rules.specs.Messages.{by_modem, name, behind_name, read_request, acknowledgement}
 use Rattle.off_drill_rules.specs.Events.{blocks_of}
 use Rattle.off_drill_laws.specs.Stages.{moving, file_size}
-use Rattle.off_drill_laws.proofs.RowLemmas.{drill_rows, lease_within, site_read, modem_read}
+use Rattle.off_drill_laws.proofs.RowLemmas.{drill_rows, lease_within, address_within, site_read_at, modem_read}
 use Rattle.off_drill_laws.proofs.FileLemmas.{profile, profile_is, size_is, last_is}
 
 -- ---- the view of a modem that has its address
@@ -52,8 +52,8 @@ unfolding view
 view_is n i few first within =
     let t = drill_tables n i in
     let h = drill_rows n i i few first within in
-    ap (view_by t) (row_lease t (address i) (lease i) (lease_within n i i first (omega arith)))
-    ∙ (λ j. record { site = site_read t i h j; lease = Some (lease i); modem = modem_read t i h j; profile = profile_is t i h j })
+    ap (view_by t (site_of t (address i))) (row_lease t (address i) (lease i) (lease_within n i i first (omega arith)))
+    ∙ (λ j. record { site = site_read_at t i h (address i) (address_within i first (omega (arith, within, few))) j; lease = Some (lease i); modem = modem_read t i h j; profile = profile_is t i h j })
 
 live_now : (i : ℕ) → nat_le (moment i + 86400) (moment i) ≡ false
 live_now i = lt-leb (moment i + 86400) (moment i) (omega arith)

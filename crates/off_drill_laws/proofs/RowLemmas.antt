@@ -1,6 +1,6 @@
 -- The rows of a drill's tables.
-use Rattle.std.proofs.Common.{◌≡◌, ◌≢◌, ℕ, zero, suc, ◌+◌, ◌/◌, ◌%◌, ◌<◌, ◌≤◌, Bool, true, false, cond, Option, Some, None, option_map, option_and_then, get_or, refl, sym, ap, subst, ◌∙◌, inl, inr, arith}
-use Rattle.std.proofs.lemmas.Bool.{cases_eq}
+use Rattle.std.proofs.Common.{◌≡◌, ◌≢◌, ℕ, zero, suc, ◌+◌, ◌/◌, ◌%◌, ◌<◌, ◌≤◌, leb, Bool, true, false, cond, Option, Some, None, option_map, option_and_then, get_or, refl, sym, ap, subst, ◌∙◌, inl, inr, arith}
+use Rattle.std.proofs.lemmas.Bool.{cases_eq, and_from, le-leb}
 use Rattle.std.specs.FinMap as map
 use Rattle.std.specs.List.{find}
 use Rattle.std.specs.Ordering.{eq_by_cmp}
@@ -17,12 +17,15 @@ use Rattle.off_defs.specs.State.{Tables}
 use Rattle.off_defs.specs.Tables.{row_at, with_row}
 use Rattle.off_defs.proofs.TableLemmas.{same_key, same_tables, row_with, row_with_here}
 use Rattle.off_dhcp.specs.Datagram.{Received}
-use Rattle.off_account_rules.specs.Rows.{possible, class_is_good, as_site, as_subscriber, as_add_on, as_modem, as_class, as_lease, as_held, site_in, subscriber_in, add_on_in, modem_in, class_in, lease_in, held_in, pool_of, pools}
-use Rattle.off_table_laws.proofs.ListLemmas.{In, none_found, in_made}
+use Rattle.off_account_rules.specs.Rows.{possible, class_is_good, as_site, as_subscriber, as_add_on, as_modem, as_class, as_lease, as_held, hub_in, pool_hub_in, hub_of, site_of, subscriber_in, add_on_in, modem_in, class_in, lease_in, held_in, pool_of, pools, has_address}
+use Rattle.off_table_laws.proofs.ListLemmas.{In, some_found, in_made}
 use Rattle.off_table_laws.proofs.EntryRows.{row_in}
 use Rattle.off_table_laws.proofs.Reading.{pool_row}
-use Rattle.off_lease_rules.specs.Free.{serves, pool_for}
-use Rattle.off_lease_laws.proofs.ChoiceLemmas.{found, pool_read}
+use Rattle.off_table_laws.proofs.TableLaws.{no_hub_named}
+use Rattle.off_asking.specs.Asking.{asks, claimed}
+use Rattle.off_asking.specs.Choice.{serves}
+use Rattle.off_lease_rules.specs.Free.{numbered_pool_for, pool_for, site_for}
+use Rattle.off_lease_laws.proofs.ChoiceLemmas.{pool_read}
 use Rattle.off_drill_rules.specs.Rows.{site, class, pool, subscriber, modem, mac, address, lease, founded, peopled, leased, drill_tables}
 use Rattle.off_drill_laws.specs.Stages.{offered_lease}
 
@@ -265,11 +268,21 @@ pub one_more : (n k : ℕ)
 unfolding drill_tables
 one_more n k = put_again (drill_tables n k) (address (suc k)) (mac (suc k)) (row.Lease (lease (suc k))) (row.Lease (offered_lease (suc k))) (row.Held (address (suc k)))
 
+-- each address lies in the pool
+pub address_within : (i : ℕ) → 1 ≤ i → i ≤ 4000 → has_address pool (address i) ≡ true
+address_within i first few =
+    and_from (leb 0x0a401000 (0x0a400fff + i)) (leb (0x0a400fff + i) 0x0a401fff)
+    (le-leb 0x0a401000 (0x0a400fff + i) (omega (arith, first))) (le-leb (0x0a400fff + i) 0x0a401fff (omega (arith, few)))
+
 -- ---- what is read of the rows
 
 module _ (t : Tables) (i : ℕ) (h : HasRows t i) where
-  pub site_read : site_in t ≡ Some site
-  site_read = ap (λ o. option_and_then as_site (possible key.Site o)) h.site_row
+  hub_read : hub_in t 0 ≡ Some site
+  hub_read = ap (λ o. option_and_then as_site (possible key.Site o)) h.site_row
+
+  -- the site of each pool's hub
+  pub pool_site : (n : ℕ) → hub_in t (pool_hub_in t n) ≡ Some site
+  pool_site n = ap (hub_in t) (no_hub_named t n) ∙ hub_read
 
   pub modem_read : modem_in t (mac i) ≡ Some (modem i)
   modem_read = ap (λ o. option_and_then as_modem (possible (key.Modem (mac i)) o)) h.modem_row
@@ -297,13 +310,28 @@ module _ (t : Tables) (i : ℕ) (h : HasRows t i) where
       only_row entry.0 entry.1 (eq_by_cmp key_cmp (key.Pool entry.0) (key.Pool 1)) refl
       (sym (h.pool_rows entry.0) ∙ pool_row t entry.0 entry.1 (pool_read t entry.0 entry.1 i))
 
-  pool_by : (m : Received) → serves m pool ≡ true → (o : Option (ℕ × Pool)) → find (λ (entry : ℕ × Pool). serves m entry.1) (pools t) ≡ o
-      → option_map (λ (entry : ℕ × Pool). entry.1) o ≡ Some pool
-  pool_by m fits None e = let no = none_found (λ (entry : ℕ × Pool). serves m entry.1) (pools t) e (1, pool) pool_there in let f : true ≡ false = sym fits ∙ no in cc
-  pool_by m fits (Some entry) e = ap Some (only_pool entry (found (λ (entry : ℕ × Pool). serves m entry.1) (pools t) entry e).0)
+  -- what is found that the pool passes is the pool, with the hub's site
+  found_pool : (test : ℕ × Pool → Bool) → test (1, pool) ≡ true → option_map (λ (entry : ℕ × Pool). entry.1) (find test (pools t)) ≡ Some pool
+  found_pool test passes =
+      let f = some_found test (pools t) (1, pool) pool_there passes in
+      ap (option_map (λ (entry : ℕ × Pool). entry.1)) f.1 ∙ ap Some (only_pool f.0 f.2)
+
+  found_site : (test : ℕ × Pool → Bool) → test (1, pool) ≡ true
+      → option_and_then (hub_in t) (option_map (λ (entry : ℕ × Pool). pool_hub_in t entry.0) (find test (pools t))) ≡ Some site
+  found_site test passes =
+      let f = some_found test (pools t) (1, pool) pool_there passes in
+      ap (λ (o : Option (ℕ × Pool)). option_and_then (hub_in t) (option_map (λ (entry : ℕ × Pool). pool_hub_in t entry.0) o)) f.1 ∙ pool_site (f.0).0
 
   pub pool_read_for : (m : Received) → serves m pool ≡ true → pool_for t m ≡ Some pool
-  pool_read_for m fits = pool_by m fits (find (λ (entry : ℕ × Pool). serves m entry.1) (pools t)) refl
+  pool_read_for m fits = found_pool (λ (entry : ℕ × Pool). serves m entry.1) fits
+
+  pub site_read_for : (m : Received) → asks m ≡ true → serves m pool ≡ true → site_for t m ≡ Some site
+  site_read_for m asking fits =
+      ap (λ b. option_and_then (hub_in t) (cond b (option_map (λ (entry : ℕ × Pool). pool_hub_in t entry.0) (numbered_pool_for t m)) (option_and_then (hub_of t) (claimed m)))) asking
+      ∙ found_site (λ (entry : ℕ × Pool). serves m entry.1) fits
+
+  pub site_read_at : (a : Ip4) → has_address pool a ≡ true → site_of t a ≡ Some site
+  site_read_at a within = found_site (λ (entry : ℕ × Pool). has_address entry.1 a) within
 
 pub lease_read : (t : Tables) (a : Ip4) → row_at t (key.Lease a) ≡ None → lease_in t a ≡ None
 lease_read t a e = ap (λ o. option_and_then as_lease (possible (key.Lease a) o)) e

@@ -1,5 +1,5 @@
 -- Worked examples, evaluated: the definitions say what was meant.
-use Rattle.std.proofs.Common.{◌≡◌, [], ◌∷◌, ◌++◌, replicate, refl, codes, Ok, Some, length}
+use Rattle.std.proofs.Common.{◌≡◌, [], ◌∷◌, ◌++◌, replicate, refl, codes, Ok, length}
 use Rattle.std.specs.Fmt.{digits}
 use Rattle.md5.specs.Md5.{block_words, rounds, compress, hash_after, digest_bytes, md5}
 use Rattle.hex.proofs.OnLiterals.{hex_on_literals}

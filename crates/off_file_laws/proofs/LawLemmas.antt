@@ -26,7 +26,7 @@ use Rattle.off_defs.specs.Tables.{row_at}
 use Rattle.off_account_rules.specs.Rows.{class_is_good, add_on_is_good, possible, as_class, as_add_on, subscriber_in, modem_in, class_in, add_on_in}
 use Rattle.off_defs.specs.Bounds.{add_on_numbers}
 use Rattle.off_file_rules.specs.Profile.{profile_of, numbered_add_on, add_ons_in, profile_at, profile_in}
-use Rattle.off_file_rules.specs.File.{stamps, with_stamps}
+use Rattle.off_file_rules.specs.File.{stamps, with_stamps, IsBuilt}
 use Rattle.off_file_laws.specs.Laws.{Agree, own_codes, ProfilesAgree, ProfilesSpell, SpellsProfile, OwnSettingsOnce, FileIsOne, FileIsThere, FilesAreShort, FilesBoot}
 use Rattle.off_file_laws.proofs.AgreeLemmas.{AllGood, profile_agrees}
 use Rattle.off_file_laws.proofs.ShapeLemmas.{both_right, profile_spells}
@@ -190,9 +190,14 @@ file_is_there tables mac now ip site modem who class s m w c =
       },
     )
 
+-- under any secret
+pub built_short : (tables : Tables) (mac : Mac) (now : ℕ) (ip : Ip4) (secret : List ℕ) (profile : List Tree) (file : List ℕ) → profile_in tables mac ≡ Some profile
+    → IsBuilt secret profile now ip file → length file ≤ 6200
+built_short tables mac now ip secret profile file is built =
+    file_short file secret profile now ip (by_rows tables mac profile (λ (p : List Tree). trees_length p ≤ 6150) profile_short is) built
+
 pub files_are_short : FilesAreShort
-files_are_short tables mac now ip file is =
-    file_short file is.site.secret is.profile now ip (by_rows tables mac is.profile (λ (p : List Tree). trees_length p ≤ 6150) profile_short is.profile_is) is.built
+files_are_short tables mac now ip file is = built_short tables mac now ip is.site.secret is.profile file is.profile_is is.built
 
 pub files_boot : FilesBoot
 files_boot tables mac now ip file is =

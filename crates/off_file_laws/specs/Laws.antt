@@ -14,7 +14,7 @@ use Rattle.off_defs.specs.declared.tables.Site.{Site}
 use Rattle.off_defs.specs.declared.tables.Subscriber.{Subscriber}
 use Rattle.off_defs.specs.declared.tables.Modem.{Modem}
 use Rattle.off_defs.specs.declared.tables.Class.{Class}
-use Rattle.off_account_rules.specs.Rows.{site_in, subscriber_in, modem_in, class_in}
+use Rattle.off_account_rules.specs.Rows.{site_of, subscriber_in, modem_in, class_in}
 use Rattle.off_file_rules.specs.Profile.{profile_in}
 use Rattle.off_file_rules.specs.File.{with_stamps, IsFile}
 
@@ -66,7 +66,7 @@ abbrev pub FileIsThere : Type 0
 FileIsThere =
     (tables : Tables) (mac : Mac) (now : ℕ) (ip : Ip4) (site : Site) (modem : Modem)
     (who : Subscriber) (class : Class)
-    → site_in tables ≡ Some site → modem_in tables mac ≡ Some modem →
+    → site_of tables ip ≡ Some site → modem_in tables mac ≡ Some modem →
     subscriber_in tables modem.subscriber ≡ Some who → class_in tables modem.class ≡ Some class
     → (file : List ℕ) × IsFile tables mac now ip file
 

@@ -9,7 +9,7 @@ use Rattle.off_defs.specs.declared.tables.Site.{Site}
 use Rattle.off_defs.specs.State.{Tables}
 use Rattle.off_defs.specs.Clock.{time_bytes}
 use Rattle.off_mic.specs.Mic.{Sealed}
-use Rattle.off_account_rules.specs.Rows.{site_in}
+use Rattle.off_account_rules.specs.Rows.{site_of}
 use Rattle.off_file_rules.specs.Profile.{profile_in}
 
 -- setting 19, the time of the server that made the file (annex C.1.1.10), and setting 20, the
@@ -20,7 +20,7 @@ stamps now ip = leaf 19 (time_bytes now) ∷ leaf 20 (to_be_bytes w32 ip.0) ∷ 
 abbrev pub with_stamps : List Tree → ℕ → Ip4 → List Tree
 with_stamps profile now ip = profile ++ stamps now ip
 
--- the file of a profile, for an address at a moment under the site's secret
+-- the file of a profile, for an address at a moment under the secret of its hub
 abbrev pub IsBuilt : List ℕ → List Tree → ℕ → Ip4 → List ℕ → Type 0
 IsBuilt secret profile now ip file = Sealed file (with_stamps profile now ip) secret
 
@@ -28,6 +28,6 @@ IsBuilt secret profile now ip file = Sealed file (with_stamps profile now ip) se
 pub record IsFile (tables : Tables) (mac : Mac) (now : ℕ) (ip : Ip4) (file : List ℕ) : Type 0 where
   pub site : Site
   pub profile : List Tree
-  pub site_is : site_in tables ≡ Some site
+  pub site_is : site_of tables ip ≡ Some site
   pub profile_is : profile_in tables mac ≡ Some profile
   pub built : IsBuilt site.secret profile now ip file

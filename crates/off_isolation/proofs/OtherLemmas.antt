@@ -21,9 +21,10 @@ use Rattle.off_defs.specs.State.{Tables, Transfer, State, Effect, at_moment}
 use Rattle.off_dhcp.specs.Datagram.{Received, message_of}
 use Rattle.off_dhcp.specs.declared.faults.DhcpFault.{DhcpFault}
 use Rattle.off_http.specs.Request.{Meaning, Waits, Refused, Asked}
-use Rattle.off_lease_rules.specs.Asking.{is_discover, is_request, is_decline}
+use Rattle.off_asking.specs.Asking.{is_discover, is_request, is_decline}
 use Rattle.off_lease_rules.specs.Free.{case_of}
-use Rattle.off_lease_rules.specs.Rules.{rules_for, refused_by}
+use Rattle.off_asking.specs.Claims.{refused_by}
+use Rattle.off_lease_rules.specs.Rules.{rules_for}
 use Rattle.off_lease_rules.specs.Steps.{offer_to, reply_to_refused, offers, acknowledges, declines, releases, accepts, unless_refused, settled, step_of, lease_step, dhcp_step}
 use Rattle.off_lease_rules.specs.declared.cases.Case.{Case}
 use Rattle.off_lease_rules.specs.declared.words.DhcpWord.{DhcpWord}

@@ -1,5 +1,5 @@
 -- What a turn acknowledges is the client's from then on.
-use Rattle.std.proofs.Common.{◌≡◌, ℕ, List, [], ◌∷◌, ◌++◌, Option, Some, None, Ok, codes, refl, sym, ap, subst, ◌∙◌}
+use Rattle.std.proofs.Common.{◌≡◌, ℕ, List, [], ◌∷◌, Option, Some, None, Ok, codes, refl, sym, ap, subst, ◌∙◌}
 use Rattle.std.specs.Prelude.{bytes_eq}
 use Rattle.std.specs.List.{find}
 use Rattle.off_base.specs.declared.addresses.Peer.{Peer}
@@ -11,7 +11,7 @@ use Rattle.off_defs.specs.declared.results.Outcome.TheVariants.{Did, Memory, Kee
 use Rattle.off_defs.specs.State.{State, Effect, at_moment}
 use Rattle.off_dhcp.specs.Datagram.{Received, message_of}
 use Rattle.off_account_rules.specs.Rows.{lease_in}
-use Rattle.off_lease_rules.specs.Asking.{client}
+use Rattle.off_asking.specs.Asking.{client}
 use Rattle.off_lease_rules.specs.Steps.{lease_step, dhcp_step}
 use Rattle.off_lease_rules.specs.declared.words.DhcpWord.{DhcpWord}
 use Rattle.off_lease_rules.specs.declared.words.DhcpWord.TheVariants as word

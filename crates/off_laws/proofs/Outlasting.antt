@@ -21,7 +21,7 @@ use Rattle.off_account_rules.specs.Good.{Good, owner_of}
 use Rattle.off_account_rules.specs.Clerk.{Refusal, clerk_step}
 use Rattle.off_clerk_rules.specs.declared.faults.ClerkErr.{ClerkErr}
 use Rattle.off_clerk_rules.specs.Commands.{command_read}
-use Rattle.off_lease_rules.specs.Asking.{client}
+use Rattle.off_asking.specs.Asking.{client}
 use Rattle.off_lease_rules.specs.Words.{acts}
 use Rattle.off_lease_rules.specs.Steps.{lease_step, dhcp_step}
 use Rattle.off_lease_rules.specs.declared.results.LeaseStep.{LeaseStep}

@@ -1,5 +1,5 @@
 -- What is sent for a query goes from the DHCP port.
-use Rattle.std.proofs.Common.{◌≡◌, ℕ, List, Option, Some, None, option_map, option_and_then}
+use Rattle.std.proofs.Common.{ℕ, List, Option, Some, None, option_map, option_and_then}
 use Rattle.off_base.specs.declared.addresses.Ip4.{Ip4}
 use Rattle.off_base.specs.declared.macs.Mac.{Mac}
 use Rattle.off_defs.specs.declared.events.Service.TheVariants.{Dhcp, Time, Tftp}

@@ -13,7 +13,7 @@ use Rattle.off_import_rules.specs.declared.faults.ImportFault.{ImportFault}
 use Rattle.off_clerk_rules.specs.declared.faults.ClerkErr.{ClerkErr}
 use Rattle.off_clerk_rules.specs.declared.faults.ClerkErr.TheVariants.{NoMethod}
 use Rattle.off_clerk_rules.specs.Commands.{◌>>=◌, site_in, subscriber_in, add_on_in, modem_in, class_in, pool_in, object_in, put_read, as_import, asked_at, command_read}
-use Rattle.off_clerk_rules.specs.Paths.{path_of, place_at, IsNamed}
+use Rattle.off_clerk_rules.specs.Paths.{path_of, place_at}
 use Rattle.off_clerk_rules.specs.declared.places.Place.{Place}
 use Rattle.off_clerk_rules.specs.declared.places.Place.TheVariants as at
 use Rattle.off_clerk_rules.proofs.PathLemmas.{NamesOne}

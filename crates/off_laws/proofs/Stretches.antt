@@ -1,11 +1,11 @@
 -- What holds of leases over each stretch of a run.
-use Rattle.std.proofs.Common.{◌≡◌, ℕ, List, ◌∷◌, ◌++◌, codes, All, subst}
+use Rattle.std.proofs.Common.{◌≡◌, List, ◌∷◌, codes, All, subst}
 use Rattle.off_defs.specs.State.{State}
 use Rattle.off_dhcp.specs.Datagram.{Received}
 use Rattle.off_account_rules.specs.Good.{Good}
-use Rattle.off_lease_rules.specs.Asking.{client}
+use Rattle.off_asking.specs.Asking.{client}
 use Rattle.off_book.specs.Run.{Turn, Run}
-use Rattle.off_laws.specs.Leases.{TakesMessage, DoesNotServe, IsGiven, LeasesHold, LeasesHoldThrough}
+use Rattle.off_laws.specs.Leases.{TakesMessage, DoesNotServe, IsGiven, LeasesHoldThrough}
 use Rattle.off_laws.proofs.RunLaws.{run_keeps_good}
 use Rattle.off_laws.proofs.Standings.{leases_stay_right}
 use Rattle.off_laws.proofs.Outlasting.{bindings_outlast}

@@ -19,12 +19,12 @@ use Rattle.off_defs.specs.Clock.{later_by}
 use Rattle.off_defs.specs.State.{Tables, State}
 use Rattle.off_dhcp.specs.Datagram.{Received, message_of}
 use Rattle.off_rows.specs.Sound.{is_sound}
-use Rattle.off_account_rules.specs.Rows.{site_in, lease_in}
+use Rattle.off_account_rules.specs.Rows.{lease_in}
 use Rattle.off_account_rules.specs.Good.{Good, owner_of}
 use Rattle.off_account_rules.specs.Clerk.{clerk_step}
 use Rattle.off_table_laws.specs.Laws.{owner_in, LiesInOnePool}
-use Rattle.off_lease_rules.specs.Asking.{client, claimed}
-use Rattle.off_lease_rules.specs.Free.{has_ended, pool_for}
+use Rattle.off_asking.specs.Asking.{client, claimed}
+use Rattle.off_lease_rules.specs.Free.{has_ended, pool_for, site_for}
 use Rattle.off_lease_rules.specs.Steps.{offer_to}
 use Rattle.off_lease_rules.specs.Words.{acts}
 use Rattle.off_lease_rules.specs.declared.words.DhcpWord.{DhcpWord}
@@ -174,13 +174,13 @@ BindingsOutlast =
 abbrev pub moment_of : State → Turn → ℕ
 moment_of s turn = max s.held.now turn.event.at.0
 
--- The client was told that the address for which it asked is its own for as long as the site's
--- leases last, and until then it is bound to it.
+-- The client was told that the address for which it asked is its own for as long as the
+-- leases of its hub last, and until then it is bound to it.
 pub record IsGiven (s : State) (m : Received) (turn : Turn) (last : State) : Type 0 where
   pub site : Site
   pub pool : Pool
   pub address : Ip4
-  pub site_is : site_in s.tables ≡ Some site
+  pub site_is : site_for s.tables m ≡ Some site
   pub pool_is : pool_for s.tables m ≡ Some pool
   pub claim : claimed m ≡ Some address
   pub told : turn.said.items ≡ offer_to 5 m site pool address ∷ []

@@ -1,24 +1,26 @@
 -- What is decided by a part of the rules or of the rows is what is decided by all.
-use Rattle.std.proofs.Common.{◌≡◌, ℕ, ◌+◌, Bool, true, false, cond, ◌||◌, List, [], ◌∷◌, ◌++◌, Option, Some, None, is_some, not, option_and_then, refl, sym, ap, ◌∙◌, subst, arith}
+use Rattle.std.proofs.Common.{◌≡◌, ℕ, Bool, true, false, cond, ◌||◌, List, [], ◌∷◌, ◌++◌, Option, Some, None, is_some, not, option_and_then, refl, sym, ap, ◌∙◌, subst, arith}
+use Rattle.std.proofs.lemmas.Bool.{and_parts}
+use Rattle.std.specs.List.{list_all}
 use Rattle.off_base.specs.declared.addresses.Ip4.{Ip4}
 use Rattle.off_defs.specs.declared.tables.Lease.{Lease}
-use Rattle.off_defs.specs.declared.tables.Site.{Site}
 use Rattle.off_defs.specs.State.{Tables}
 use Rattle.off_dhcp.specs.Datagram.{Received}
-use Rattle.off_account_rules.specs.Rows.{lease_in, site_in, held_in}
+use Rattle.off_account_rules.specs.Rows.{lease_in, held_in}
 use Rattle.off_outside.specs.KeeperSeen.{KeeperSeen}
 use Rattle.off_outside.specs.KeeperCalls.{Spent}
-use Rattle.off_outside.proofs.KeeperLemmas.{spent_then, spent_within}
-use Rattle.off_lease_rules.specs.Asking.{client, asks, is_discover, is_request, is_decline}
-use Rattle.off_lease_rules.specs.Free.{case_of, chosen_in, pool_for}
-use Rattle.off_lease_rules.specs.Rules.{early, late, rules_for, refused_by, is_served, has_no_form, has_cut_part, relays_another, is_no_modem}
-use Rattle.off_lease_rules.specs.Steps.{settled, settled_in, lease_step, accepts, offers, acknowledges, declines, releases, refuses, unless_refused, reply_to_refused}
+use Rattle.off_outside.proofs.KeeperLemmas.{spent_none, spent_then, spent_within}
+use Rattle.off_asking.specs.Asking.{client, asks, is_discover, is_request, is_decline}
+use Rattle.off_lease_rules.specs.Free.{case_of, chosen_in, pool_for, site_for}
+use Rattle.off_asking.specs.Claims.{refused_by, is_served, has_no_form}
+use Rattle.off_lease_rules.specs.Rules.{early, late, rules_for, has_cut_part, relays_another, is_no_modem}
+use Rattle.off_lease_rules.specs.Steps.{lease_step_by, settled, settled_in, lease_step, accepts, offers, acknowledges, declines, releases, refuses, unless_refused, reply_to_refused}
 use Rattle.off_lease_rules.specs.declared.cases.Case.{Case}
 use Rattle.off_lease_rules.specs.declared.results.LeaseStep.{LeaseStep}
 use Rattle.off_lease_rules.specs.declared.words.DhcpWord.{DhcpWord}
 use Rattle.off_lease_rules.specs.declared.words.DhcpWord.TheVariants as word
 use Rattle.off_lease.specs.Calls.{message_calls, row_calls}
-use Rattle.off_lease.specs.Stages.{own_rules, first_rules, row_rules, knowing, seen_case}
+use Rattle.off_lease.specs.Stages.{own_rules, row_rules, knowing, seen_case}
 
 refused_none : (xs ys : List (DhcpWord × Bool)) → refused_by xs ≡ None → refused_by (xs ++ ys) ≡ refused_by ys
 refused_none [] ys none = refl
@@ -36,18 +38,27 @@ refused_some (x ∷ xs) ys w some =
       | false ↦ λ e. refused_some xs ys w e
     ] some
 
-negated : (a b : Bool) → b ≡ not a → a ≡ not b
-negated true b is = sym (ap not is)
-negated false b is = sym (ap not is)
+-- the table of the code is that of the rules, where its conditions are
+pub own_five : (m : Received) (a b c d e : Bool) → a ≡ not (is_served m) → b ≡ has_no_form m → c ≡ has_cut_part m → d ≡ relays_another m → e ≡ is_no_modem m
+    → refused_by ((word.NotServed, a) ∷ (word.RequestForm, b) ∷ (word.PartCut, c) ∷ (word.RelayMismatch, d) ∷ (word.NotAModem, e) ∷ []) ≡ refused_by (own_rules m)
+own_five m a b c d e p q r s t = rw (p, q, r, s, t) refl
 
--- the table of the code is that of the rules, where each condition is
-pub first_six : (m : Received) (site : Option Site) (a b c d e f : Bool) → is_some site ≡ not a → b ≡ not (is_served m) → c ≡ has_no_form m → d ≡ has_cut_part m
-    → e ≡ relays_another m → f ≡ is_no_modem m
-    → refused_by ((word.NoSite, a) ∷ (word.NotServed, b) ∷ (word.RequestForm, c) ∷ (word.PartCut, d) ∷ (word.RelayMismatch, e) ∷ (word.NotAModem, f) ∷ [])
-    ≡ refused_by (first_rules m site)
-first_six m site a b c d e f p q r s t u =
-    let none = negated a (is_some site) p in
-    rw (none, q, r, s, t, u) refl
+-- who is refused by what it says itself gets no reply
+abbrev silent : DhcpWord → Bool
+silent word.NotYourAddress = false
+silent w = true
+
+silent_reply : (m : Received) (c : Case) (w : DhcpWord) → silent w ≡ true → reply_to_refused m c w ≡ None
+silent_reply m c word.NotYourAddress is = cc
+silent_reply m c w is = refl
+
+silent_of : (rules : List (DhcpWord × Bool)) (w : DhcpWord) → list_all (λ rule. silent rule.0) rules ≡ true → refused_by rules ≡ Some w → silent w ≡ true
+silent_of [] w all e = cc
+silent_of ((v, true) ∷ rules) w all e = let same : v ≡ w = cc in ap silent (sym same) ∙ (and_parts (silent v) (list_all (λ rule. silent rule.0) rules) all).0
+silent_of ((v, false) ∷ rules) w all e = silent_of rules w (and_parts (silent v) (list_all (λ rule. silent rule.0) rules) all).1 e
+
+own_refuses : (m : Received) (c : Case) (w : DhcpWord) → refused_by (own_rules m) ≡ Some w → lease_step_by w [] None ≡ refuses m c w
+own_refuses m c w broken = ap (λ reply. record { writes = []; reply = reply; word = w }) (sym (silent_reply m c w (silent_of (own_rules m) w refl broken)))
 
 -- who is refused gets a reply by the site alone
 reply_same : (m : Received) (c : Case) (w : DhcpWord) → reply_to_refused m (knowing c.site) w ≡ reply_to_refused m c w
@@ -59,17 +70,11 @@ refuses_same m c w = ap (λ reply. record { writes = []; reply = reply; word = w
 
 -- ---- early rules
 
-pub early_passed : (m : Received) (site : Option Site) (c : Case) → c.site ≡ site → refused_by (first_rules m site) ≡ None → refused_by (row_rules m c) ≡ None → refused_by (early m c) ≡ None
-early_passed m site c same first rows =
-    refused_none (first_rules m c.site) (row_rules m c) (ap (λ (v : Option Site). refused_by (first_rules m v)) same ∙ first) ∙ rows
+pub early_passed : (m : Received) (c : Case) → refused_by (own_rules m) ≡ None → refused_by (row_rules m c) ≡ None → refused_by (early m c) ≡ None
+early_passed m c own rows = refused_none (own_rules m) (row_rules m c) own ∙ rows
 
-early_broken : (m : Received) (site : Option Site) (c : Case) (w : DhcpWord) → c.site ≡ site → refused_by (first_rules m site) ≡ None → refused_by (row_rules m c) ≡ Some w
-    → refused_by (early m c) ≡ Some w
-early_broken m site c w same first rows =
-    refused_none (first_rules m c.site) (row_rules m c) (ap (λ (v : Option Site). refused_by (first_rules m v)) same ∙ first) ∙ rows
-
-early_first : (m : Received) (c : Case) (w : DhcpWord) → refused_by (first_rules m c.site) ≡ Some w → refused_by (early m c) ≡ Some w
-early_first m c w first = refused_some (first_rules m c.site) (row_rules m c) w first
+early_broken : (m : Received) (c : Case) (w : DhcpWord) → refused_by (own_rules m) ≡ None → refused_by (row_rules m c) ≡ Some w → refused_by (early m c) ≡ Some w
+early_broken m c w own rows = refused_none (own_rules m) (row_rules m c) own ∙ rows
 
 settled_early : (now : ℕ) (m : Received) (c : Case) (chosen : Option Ip4) (lease : Option Lease) (w : DhcpWord) → refused_by (early m c) ≡ Some w
     → settled now m c chosen lease ≡ refuses m c w
@@ -119,7 +124,7 @@ neither true b e = cc
 neither false b e = (refl, e)
 
 abbrev seen_by : Tables → Received → Bool → Case
-seen_by t m asking = cond asking (case_of t m) (record { site = site_in t; pool = None; modem = None; held = held_in t (client m) })
+seen_by t m asking = cond asking (case_of t m) (record { site = site_for t m; pool = None; modem = None; held = held_in t (client m) })
 
 bare_enough : (t : Tables) (now : ℕ) (m : Received) (c : Case) → asks m ≡ false → settled_in t now m (bare c) (chosen_in t now m (bare c)) ≡ settled_in t now m c (chosen_in t now m c)
 unfolding settled
@@ -146,27 +151,24 @@ seen_enough t now m =
 pub asked_pool : (t : Tables) (m : Received) (c : Case) → c ≡ seen_case t m → is_discover m ≡ true → c.pool ≡ pool_for t m
 unfolding case_of
 asked_pool t m c seen d =
-    ap (λ (v : Case). v.pool) seen ∙ ap (λ b. (cond (b || is_request m) (case_of t m) (record { site = site_in t; pool = None; modem = None; held = held_in t (client m) })).pool) d
+    ap (λ (v : Case). v.pool) seen ∙ ap (λ b. (cond (b || is_request m) (case_of t m) (record { site = site_for t m; pool = None; modem = None; held = held_in t (client m) })).pool) d
 
 -- ---- what is answered at each stage is what a message does
 
 abbrev in_full : Tables → ℕ → Received → Case → LeaseStep
 in_full t now m c = settled_in t now m c (chosen_in t now m c)
 
-pub site_refuses : (t : Tables) (now : ℕ) (m : Received) (site : Option Site) (w : DhcpWord) → site ≡ site_in t → Some w ≡ refused_by (first_rules m site)
-    → refuses m (knowing site) w ≡ lease_step t now m
-unfolding lease_step case_of
-site_refuses t now m site w same broken =
-    let first = sym (broken ∙ ap (λ (v : Option Site). refused_by (first_rules m v)) same) in
-    ap (λ (v : Option Site). refuses m (knowing v) w) same
-    ∙ refuses_same m (case_of t m) w
-    ∙ sym (settled_early now m (case_of t m) _ _ w (early_first m (case_of t m) w first))
+pub own_step : (t : Tables) (now : ℕ) (m : Received) (w : DhcpWord) → Some w ≡ refused_by (own_rules m) → lease_step_by w [] None ≡ lease_step t now m
+unfolding lease_step
+own_step t now m w broken =
+    own_refuses m (case_of t m) w (sym broken)
+    ∙ sym (settled_early now m (case_of t m) _ _ w (refused_some (own_rules m) (row_rules m (case_of t m)) w (sym broken)))
 
-pub rows_refuse : (t : Tables) (now : ℕ) (m : Received) (site : Option Site) (c : Case) (w : DhcpWord) → c ≡ seen_case t m → c.site ≡ site
-    → refused_by (first_rules m site) ≡ None → Some w ≡ refused_by (row_rules m c) → refuses m (knowing c.site) w ≡ lease_step t now m
-rows_refuse t now m site c w seen same passed broken =
+pub rows_refuse : (t : Tables) (now : ℕ) (m : Received) (c : Case) (w : DhcpWord) → c ≡ seen_case t m → refused_by (own_rules m) ≡ None → Some w ≡ refused_by (row_rules m c)
+    → refuses m (knowing c.site) w ≡ lease_step t now m
+rows_refuse t now m c w seen passed broken =
     refuses_same m c w
-    ∙ sym (settled_early now m c (chosen_in t now m c) (option_and_then (lease_in t) (chosen_in t now m c)) w (early_broken m site c w same passed (sym broken)))
+    ∙ sym (settled_early now m c (chosen_in t now m c) (option_and_then (lease_in t) (chosen_in t now m c)) w (early_broken m c w passed (sym broken)))
     ∙ ap (in_full t now m) seen
     ∙ seen_enough t now m
 
@@ -181,29 +183,24 @@ case_answered t now m c chosen lease chose leased =
 
 -- ---- calls
 
-pub one_is_enough : (m : Received) {a b : KeeperSeen} → Spent 1 a b → Spent (message_calls m) a b
-one_is_enough m {a} {b} spent =
-    elim (is_some (refused_by (own_rules m))) as (λ x. Spent (cond x 1 (1 + row_calls m)) a b) [ true ↦ spent | false ↦ spent_within spent (omega arith) ]
+pub none_are_enough : (m : Received) (w : DhcpWord) (a : KeeperSeen) → Some w ≡ refused_by (own_rules m) → Spent (message_calls m) a a
+none_are_enough m w a broken = subst (λ (r : Option DhcpWord). Spent (cond (is_some r) 0 (row_calls m)) a a) broken (spent_none a)
 
-own_passed : (m : Received) (site : Option Site) → refused_by (first_rules m site) ≡ None → refused_by (own_rules m) ≡ None
-own_passed m None none = cc
-own_passed m (Some site) none = none
-
-pub rows_are_enough : (m : Received) (site : Option Site) {a b : KeeperSeen} → refused_by (first_rules m site) ≡ None → Spent (1 + row_calls m) a b → Spent (message_calls m) a b
-rows_are_enough m site {a} {b} passed spent = subst (λ (r : Option DhcpWord). Spent (cond (is_some r) 1 (1 + row_calls m)) a b) (sym (own_passed m site passed)) spent
+pub rows_are_enough : (m : Received) {a b : KeeperSeen} → refused_by (own_rules m) ≡ None → Spent (row_calls m) a b → Spent (message_calls m) a b
+rows_are_enough m {a} {b} passed spent = subst (λ (r : Option DhcpWord). Spent (cond (is_some r) 0 (row_calls m)) a b) (sym passed) spent
 
 -- what is gathered for a message, and what is read for an offer
-pub gathered_enough : (m : Received) {a b : KeeperSeen} → Spent (cond (asks m) 2 1) a b → Spent (row_calls m) a b
+pub gathered_enough : (m : Received) {a b : KeeperSeen} → Spent (cond (asks m) 3 2) a b → Spent (row_calls m) a b
 gathered_enough m {a} {b} spent =
-    elim (is_discover m) as (λ x. is_discover m ≡ x → Spent (cond x 3 (cond (asks m) 2 1)) a b) [
-      | true ↦ λ e. spent_within (subst (λ y. Spent (cond (y || is_request m) 2 1) a b) e spent) (omega arith)
+    elim (is_discover m) as (λ x. is_discover m ≡ x → Spent (cond x 4 (cond (asks m) 3 2)) a b) [
+      | true ↦ λ e. spent_within (subst (λ y. Spent (cond (y || is_request m) 3 2) a b) e spent) (omega arith)
       | false ↦ λ e. spent
     ] refl
 
-pub both_enough : (m : Received) {a b c : KeeperSeen} → Spent (cond (asks m) 2 1) a b → Spent (cond (is_discover m) 1 0) b c → Spent (row_calls m) a c
+pub both_enough : (m : Received) {a b c : KeeperSeen} → Spent (cond (asks m) 3 2) a b → Spent (cond (is_discover m) 1 0) b c → Spent (row_calls m) a c
 both_enough m {a} {b} {c} first second =
-    elim (is_discover m) as (λ x. is_discover m ≡ x → Spent (cond x 3 (cond (asks m) 2 1)) a c) [
-      | true ↦ λ e. spent_then (subst (λ y. Spent (cond (y || is_request m) 2 1) a b) e first) (subst (λ y. Spent (cond y 1 0) b c) e second)
+    elim (is_discover m) as (λ x. is_discover m ≡ x → Spent (cond x 4 (cond (asks m) 3 2)) a c) [
+      | true ↦ λ e. spent_then (subst (λ y. Spent (cond (y || is_request m) 3 2) a b) e first) (subst (λ y. Spent (cond y 1 0) b c) e second)
       | false ↦ λ e. spent_within (spent_then first (subst (λ y. Spent (cond y 1 0) b c) e second)) (omega arith)
     ] refl
 

@@ -5,12 +5,13 @@ use Rattle.std.specs.List.{find, range_with_len}
 use Rattle.off_base.specs.declared.addresses.Ip4.{Ip4}
 use Rattle.off_defs.specs.declared.tables.Pool.{Pool}
 use Rattle.off_defs.specs.State.{Tables}
-use Rattle.off_lease_rules.specs.Asking.{ip}
+use Rattle.off_asking.specs.Asking.{ip}
 use Rattle.off_defs.specs.declared.tables.Lease.{Lease}
 use Rattle.off_account_rules.specs.Rows.{lease_in, has_address}
 use Rattle.off_runs.specs.Runs.{in_pool, is_open}
 use Rattle.off_runs.specs.Held.{NoneOpen, IsLeastOpen}
 use Rattle.off_runs.specs.Leases.{expiry_in, expiry_of}
+use Rattle.off_asking.specs.Choice.{least_of}
 use Rattle.off_lease_rules.specs.Free.{has_ended, is_free, least_free}
 
 -- the first that passes of the addresses from a number up to another
@@ -66,7 +67,7 @@ in_bounds pool a b is = (grind (arith, nat_tests), grind (arith, nat_tests))
 
 -- the least free address is the first in the order of addresses
 pub least_is : (t : Tables) (now : ℕ) (pool : Pool) (least : Option Ip4) → MatchOption least (NoneOpen (expiry_in t) now pool) (IsLeastOpen (expiry_in t) now pool) → least ≡ least_free t now pool
-unfolding least_free
+unfolding least_of
 least_is t now pool None none =
     sym (none_from (is_free t now pool) (λ b. sym (open_is_free t now pool (ip b)) ∙ none b) pool.first.0 (pool.last.0 + 1 - pool.first.0))
 least_is t now pool (Some a) least =

@@ -7,7 +7,7 @@ use Rattle.off_defs.specs.declared.tables.Site.{Site}
 use Rattle.off_defs.specs.declared.tables.Pool.{Pool}
 use Rattle.off_defs.specs.declared.tables.Lease.{Lease}
 use Rattle.off_dhcp.specs.Datagram.{Received}
-use Rattle.off_lease_rules.specs.Asking.{client, is_discover, is_request, is_decline}
+use Rattle.off_asking.specs.Asking.{client, is_discover, is_request, is_decline}
 use Rattle.off_lease_rules.specs.Steps.{lease_step_by, offered, bound, offer_to, offers, acknowledges, declines, releases, accepts}
 use Rattle.off_lease_rules.specs.declared.results.LeaseStep.{LeaseStep}
 use Rattle.off_lease_rules.specs.declared.cases.Case.{Case}

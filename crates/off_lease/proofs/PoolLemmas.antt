@@ -1,5 +1,5 @@
 -- The pool of a message, by what is kept of the pools.
-use Rattle.std.proofs.Common.{◌≡◌, ℕ, ◌==◌, Bool, true, false, cond, ◌&&◌, ◌||◌, nat_le, List, [], ◌∷◌, Option, Some, None, option_map, refl, sym, ap, ◌∙◌, subst, arith}
+use Rattle.std.proofs.Common.{◌≡◌, ℕ, ◌==◌, Bool, true, false, cond, ◌&&◌, ◌||◌, nat_le, List, [], ◌∷◌, Some, None, option_map, refl, sym, ap, ◌∙◌, subst, arith}
 use Rattle.std.proofs.lemmas.Bool.Decides.{nat_tests}
 use Rattle.std.specs.List.{find, list_any}
 use Rattle.off_defs.specs.declared.tables.Pool.{Pool}
@@ -7,23 +7,21 @@ use Rattle.off_defs.specs.State.{Tables}
 use Rattle.off_dhcp.specs.Datagram.{Received}
 use Rattle.off_account_rules.specs.Rows.{pools, has_address}
 use Rattle.off_runs.specs.Runs.{in_pool, is_open}
-use Rattle.off_lease_rules.specs.Asking.{ip, is_discover, is_request}
-use Rattle.off_lease_rules.specs.Free.{is_renewal, pool_for}
-
-abbrev served : (ℕ × Pool → Bool) → Tables → Option Pool
-served test t = option_map (λ (e : ℕ × Pool). e.1) (find test (pools t))
+use Rattle.off_asking.specs.Asking.{ip, is_discover, is_request}
+use Rattle.off_asking.specs.Choice.{is_renewal}
+use Rattle.off_lease_rules.specs.Free.{numbered_pool_for, pool_for}
 
 abbrev serves_by : Received → Bool → Bool → Pool → Bool
 serves_by m direct renews pool = cond direct (renews && has_address pool (ip m.ciaddr)) (pool.relay.0 == m.giaddr)
 
-by_cases : (m : Received) (t : Tables) (direct renews : Bool) → (m.giaddr == 0) ≡ direct → is_renewal m ≡ renews → pool_for t m ≡ served (λ e. serves_by m direct renews e.1) t
+by_cases : (m : Received) (t : Tables) (direct renews : Bool) → (m.giaddr == 0) ≡ direct → is_renewal m ≡ renews → numbered_pool_for t m ≡ find (λ e. serves_by m direct renews e.1) (pools t)
 by_cases m t direct renews d r =
-    ap (λ b. served (λ e. serves_by m b (is_renewal m) e.1) t) d ∙ ap (λ b. served (λ e. serves_by m direct b e.1) t) r
+    ap (λ b. find (λ (e : ℕ × Pool). serves_by m b (is_renewal m) e.1) (pools t)) d ∙ ap (λ b. find (λ (e : ℕ × Pool). serves_by m direct b e.1) (pools t)) r
 
-pub relay_pool : (m : Received) (t : Tables) → (m.giaddr == 0) ≡ false → pool_for t m ≡ served (λ e. e.1.relay.0 == m.giaddr) t
+pub relay_pool : (m : Received) (t : Tables) → (m.giaddr == 0) ≡ false → numbered_pool_for t m ≡ find (λ e. e.1.relay.0 == m.giaddr) (pools t)
 relay_pool m t d = by_cases m t false (is_renewal m) d refl
 
-pub renewed_pool : (m : Received) (t : Tables) → (m.giaddr == 0) ≡ true → is_renewal m ≡ true → pool_for t m ≡ served (λ e. in_pool e.1 m.ciaddr) t
+pub renewed_pool : (m : Received) (t : Tables) → (m.giaddr == 0) ≡ true → is_renewal m ≡ true → numbered_pool_for t m ≡ find (λ e. in_pool e.1 m.ciaddr) (pools t)
 renewed_pool m t d r = by_cases m t true true d r
 
 pub not_zero : (r g : ℕ) → r ≡ g → (r ≡ 0 → ⊥) → (g == 0) ≡ false
@@ -36,18 +34,19 @@ none_served : (es : List (ℕ × Pool)) → find (λ e. false) es ≡ None
 none_served [] = refl
 none_served (e ∷ es) = none_served es
 
-pub no_pool : (m : Received) (t : Tables) → (m.giaddr == 0) ≡ true → is_renewal m ≡ false → pool_for t m ≡ None
-no_pool m t d r = by_cases m t true false d r ∙ ap (option_map (λ (e : ℕ × Pool). e.1)) (none_served (pools t))
+pub no_pool : (m : Received) (t : Tables) → (m.giaddr == 0) ≡ true → is_renewal m ≡ false → numbered_pool_for t m ≡ None
+no_pool m t d r = by_cases m t true false d r ∙ none_served (pools t)
 
 -- a DISCOVER renews nothing, so its pool is the one behind its relay
 discovers_only : (m : Received) (b : Bool) → is_discover m ≡ true → (is_request m && b) ≡ false
 discovers_only m b d = grind (arith, nat_tests)
 
-pub discovered : (m : Received) (t : Tables) (pool : Pool) → is_discover m ≡ true → Some pool ≡ pool_for t m → served (λ e. e.1.relay.0 == m.giaddr) t ≡ Some pool
+pub discovered : (m : Received) (t : Tables) (pool : Pool) → is_discover m ≡ true → Some pool ≡ pool_for t m
+    → option_map (λ (e : ℕ × Pool). e.1) (find (λ e. e.1.relay.0 == m.giaddr) (pools t)) ≡ Some pool
 discovered m t pool d is =
-    elim (m.giaddr == 0) as (λ b. (m.giaddr == 0) ≡ b → served (λ e. e.1.relay.0 == m.giaddr) t ≡ Some pool) [
-      | true ↦ λ e. let none : pool_for t m ≡ None = no_pool m t e (discovers_only m _ d) in cc
-      | false ↦ λ e. sym (relay_pool m t e) ∙ sym is
+    elim (m.giaddr == 0) as (λ b. (m.giaddr == 0) ≡ b → option_map (λ (e : ℕ × Pool). e.1) (find (λ e. e.1.relay.0 == m.giaddr) (pools t)) ≡ Some pool) [
+      | true ↦ λ e. let none : pool_for t m ≡ None = ap (option_map (λ (e : ℕ × Pool). e.1)) (no_pool m t e (discovers_only m _ d)) in cc
+      | false ↦ λ e. ap (option_map (λ (e : ℕ × Pool). e.1)) (sym (relay_pool m t e)) ∙ sym is
     ] refl
 
 -- an address of a pool that is there is free by the one expiry that it has, whichever pool is asked

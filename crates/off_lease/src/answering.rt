@@ -1,39 +1,38 @@
 ghost use Rattle.std.specs.Prelude.{◌≡◌, MatchResult, Ok, None, true, if◌then◌else◌};
-ghost use Rattle.off_account_rules.specs.Rows.{site_in};
-ghost use Rattle.off_lease_rules.specs.Rules.{early, refused_by};
+ghost use Rattle.off_asking.specs.Claims.{refused_by};
+ghost use Rattle.off_lease_rules.specs.Rules.{early};
 ghost use Rattle.off_runs.specs.Held.{StandsFor};
 ghost use Rattle.off_runs.specs.Leases.{ground};
-ghost use Rattle.off_lease_rules.specs.Asking.{is_discover};
+ghost use Rattle.off_asking.specs.Asking.{is_discover};
 ghost use Rattle.off_lease_rules.specs.Steps.{lease_step, settled_in};
 ghost use Rattle.off_lease_rules.specs.Free.{chosen_in, pool_for};
-ghost use Rattle.off_lease.specs.Stages.{first_rules, HasGoodPool};
+ghost use Rattle.off_lease.specs.Stages.{own_rules, HasGoodPool};
 ghost use Rattle.off_lease.specs.Calls.{message_calls, row_calls};
 ghost use Rattle.off_outside.specs.declared.keeper.KeepErr.TheVariants.{Memory};
 ghost use Rattle.off_outside.specs.KeeperCalls.{Looks, Spent};
 
-use crate::asking::Asked;
 use crate::choosing::{choose, lease_of};
 use crate::gathering::gather;
-use crate::ruling::{first_refusal, row_refusal};
-use crate::settling::{refuse, settle};
+use crate::ruling::{own_refusal, row_refusal};
+use crate::settling::{refuse, settle, silent};
+use off_asking::Asked;
 use off_base::{Moment, NoMemory};
-use off_defs::Site;
+use off_defs::Writes;
 use off_dhcp::Message;
 use off_lease_rules::{Case, LeaseStep};
 use off_outside::{KeepErr, Keeper};
-use off_readers::read_site;
 use off_runs::FreeRuns;
 use std::alloc::Global;
 
 /// What a client's message does at a moment: what is to be written, what is to be sent for it, and
 /// the word with which the log has it. It writes nothing.
 ///
-/// Pools and free addresses are those that are kept for the tables at the moment. The tables needn't
-/// be good: an impossible row is taken as one that isn't there. `Failed` comes only where the keeper
-/// counted a fault.
+/// Pools, their hubs and free addresses are those that are kept for the tables at the moment. The
+/// tables needn't be good: an impossible row is taken as one that isn't there. `Failed` comes only
+/// where the keeper counted a fault.
 ///
-/// A message that is refused by what it says itself makes one call of the keeper at most, one that
-/// gives an address back two, a REQUEST three, and a DISCOVER four, whatever the tables.
+/// A message that is refused by what it says itself makes no call of the keeper, one that gives an
+/// address back two at most, a REQUEST three, and a DISCOVER four, whatever the tables.
 pub fn answer<K: Keeper>(
     alloc: Global,
     keeper: &mut K,
@@ -61,14 +60,13 @@ fn answer_asked<K: Keeper>(
         (λ step t. StandsFor runs.now (ground t) now.0 → step ≡ lease_step t now.0 m.now) }
     ensures spent { Spent (message_calls m.now) (K.seen keeper.old) (K.seen keeper.new) }
 {
-    let site = read_site(alloc, keeper)?;
-    match first_refusal(m, &site) {
-        Some(word) => kept(refuse(alloc, m, &site, word)),
-        None => answer_by_rows(alloc, keeper, runs, now, m, site),
+    match own_refusal(m) {
+        Some(word) => Ok(silent(Writes::new(alloc), word)),
+        None => answer_by_rows(alloc, keeper, runs, now, m),
     }
 }
 
-// What becomes of a message that is neither refused by what it says itself, nor for want of a site.
+// What becomes of a message that isn't refused by what it says itself.
 #[tactic(auto, using(crate::proofs::Chain::rows))]
 fn answer_by_rows<K: Keeper>(
     alloc: Global,
@@ -76,15 +74,13 @@ fn answer_by_rows<K: Keeper>(
     runs: &FreeRuns,
     now: Moment,
     m: &Asked<'_>,
-    site: Option<Site>,
 ) -> Result<LeaseStep, KeepErr>
-    requires { refused_by (first_rules m.now site) ≡ None }
+    requires { refused_by (own_rules m.now) ≡ None }
     ensures told { Looks result (K.seen keeper.old) (K.seen keeper.new)
-        (λ step t. StandsFor runs.now (ground t) now.0 → site ≡ site_in t
-        → step ≡ lease_step t now.0 m.now) }
+        (λ step t. StandsFor runs.now (ground t) now.0 → step ≡ lease_step t now.0 m.now) }
     ensures spent { Spent (row_calls m.now) (K.seen keeper.old) (K.seen keeper.new) }
 {
-    let case = gather(alloc, keeper, runs, m, site)?;
+    let case = gather(alloc, keeper, runs, m)?;
     match row_refusal(m, &case) {
         Some(word) => kept(refuse(alloc, m, &case.site, word)),
         None => answer_case(alloc, keeper, runs, now, m, &case),

@@ -7,13 +7,14 @@ ghost use Rattle.off_account_rules.specs.Rows.{has_address, lease_in};
 ghost use Rattle.off_runs.specs.Held.{KeepsPools};
 ghost use Rattle.off_runs.specs.Leases.{ground};
 ghost use Rattle.off_base.specs.declared.addresses.Ip4.{Ip4};
-ghost use Rattle.off_lease_rules.specs.Asking.{is_discover, claimed};
-ghost use Rattle.off_lease_rules.specs.Free.{provided, is_free, least_free, choice, chosen_in};
+ghost use Rattle.off_asking.specs.Asking.{is_discover, claimed};
+ghost use Rattle.off_asking.specs.Choice.{provided};
+ghost use Rattle.off_lease_rules.specs.Free.{is_free, least_free, choice, chosen_in};
 ghost use Rattle.off_lease_rules.specs.Free.{pool_for};
 ghost use Rattle.off_lease.specs.Stages.{IsBehind};
 ghost use Rattle.off_outside.specs.KeeperCalls.{Looks, Spent};
 
-use crate::asking::{Asked, at_address, claimed, is_discover};
+use off_asking::{Asked, at_address, claimed, is_discover};
 use off_base::Ip4;
 use off_defs::{Lease, Pool};
 use off_lease_rules::Case;

@@ -1,42 +1,39 @@
 ghost use Rattle.std.specs.Prelude.{◌≡◌, IfOk, None, if◌then◌else◌};
-ghost use Rattle.off_account_rules.specs.Rows.{site_in, held_in};
+ghost use Rattle.off_account_rules.specs.Rows.{held_in};
 ghost use Rattle.off_runs.specs.Held.{KeepsPools};
 ghost use Rattle.off_runs.specs.Leases.{ground};
-ghost use Rattle.off_lease_rules.specs.Asking.{asks, client};
-ghost use Rattle.off_lease_rules.specs.Free.{case_of};
+ghost use Rattle.off_asking.specs.Asking.{asks, client};
+ghost use Rattle.off_lease_rules.specs.Free.{case_of, site_for};
 ghost use Rattle.off_lease.specs.Stages.{seen_case, HasGoodPool};
 ghost use Rattle.off_outside.specs.KeeperCalls.{Looks, Spent};
 
-use crate::asking::{Asked, asks, client};
-use crate::pools::pool_for;
+use crate::pools::{hub_for, pool_for};
+use off_asking::{Asked, asks, client};
 use off_defs::Site;
 use off_lease_rules::Case;
 use off_outside::{KeepErr, Keeper};
-use off_readers::{read_held, read_modem};
+use off_readers::{read_held, read_hub, read_modem};
 use off_runs::FreeRuns;
 use std::alloc::Global;
 
-/// The rows by which the message is judged, the site among them. The pool is one that the office
-/// keeps. Where the client asks for an address it's two calls of the keeper, and else one.
+/// The rows by which the message is judged. The pool and the hub are what the office keeps of its
+/// pools. Where the client asks for an address it's three calls of the keeper, and else two.
 #[tactic(auto, using(crate::proofs::Chain::rows))]
 pub(crate) fn gather<K: Keeper>(
     alloc: Global,
     keeper: &mut K,
     runs: &FreeRuns,
     m: &Asked<'_>,
-    site: Option<Site>,
 ) -> Result<Case, KeepErr>
     ensures told { Looks result (K.seen keeper.old) (K.seen keeper.new)
-        (λ case t. KeepsPools runs.now.pools (ground t) → site ≡ site_in t
-        → case ≡ seen_case t m.now) }
-    ensures site { IfOk result (λ case. case.site ≡ site) }
+        (λ case t. KeepsPools runs.now.pools (ground t) → case ≡ seen_case t m.now) }
     ensures fits { IfOk result HasGoodPool }
-    ensures spent { Spent (if asks m.now then 2 else 1) (K.seen keeper.old) (K.seen keeper.new) }
+    ensures spent { Spent (if asks m.now then 3 else 2) (K.seen keeper.old) (K.seen keeper.new) }
 {
     if asks(m) {
-        gather_all(alloc, keeper, runs, m, site)
+        gather_all(alloc, keeper, runs, m)
     } else {
-        gather_held(alloc, keeper, m, site)
+        gather_held(alloc, keeper, runs, m)
     }
 }
 
@@ -47,16 +44,14 @@ fn gather_all<K: Keeper>(
     keeper: &mut K,
     runs: &FreeRuns,
     m: &Asked<'_>,
-    site: Option<Site>,
 ) -> Result<Case, KeepErr>
     ensures told { Looks result (K.seen keeper.old) (K.seen keeper.new)
-        (λ case t. KeepsPools runs.now.pools (ground t) → site ≡ site_in t
-        → case ≡ case_of t m.now) }
-    ensures site { IfOk result (λ case. case.site ≡ site) }
+        (λ case t. KeepsPools runs.now.pools (ground t) → case ≡ case_of t m.now) }
     ensures fits { IfOk result HasGoodPool }
-    ensures spent { Spent 2 (K.seen keeper.old) (K.seen keeper.new) }
+    ensures spent { Spent 3 (K.seen keeper.old) (K.seen keeper.new) }
 {
     let pool = pool_for(runs, m);
+    let site = site_for(alloc, keeper, runs, m)?;
     let held = read_held(alloc, keeper, client(m))?;
     let modem = read_modem(alloc, keeper, client(m))?;
     Ok(Case {
@@ -72,20 +67,20 @@ fn gather_all<K: Keeper>(
 fn gather_held<K: Keeper>(
     alloc: Global,
     keeper: &mut K,
+    runs: &FreeRuns,
     m: &Asked<'_>,
-    site: Option<Site>,
 ) -> Result<Case, KeepErr>
     ensures told { Looks result (K.seen keeper.old) (K.seen keeper.new)
-        (λ case t. case ≡ record {
-          site = site;
+        (λ case t. KeepsPools runs.now.pools (ground t) → case ≡ record {
+          site = site_for t m.now;
           pool = None;
           modem = None;
           held = held_in t (client m.now);
         }) }
-    ensures site { IfOk result (λ case. case.site ≡ site) }
     ensures fits { IfOk result HasGoodPool }
-    ensures spent { Spent 1 (K.seen keeper.old) (K.seen keeper.new) }
+    ensures spent { Spent 2 (K.seen keeper.old) (K.seen keeper.new) }
 {
+    let site = site_for(alloc, keeper, runs, m)?;
     let held = read_held(alloc, keeper, client(m))?;
     Ok(Case {
         site,
@@ -93,4 +88,22 @@ fn gather_held<K: Keeper>(
         modem: None,
         held,
     })
+}
+
+// The site of the message's hub, where it has one.
+#[tactic(auto, using(crate::proofs::Chain::rows))]
+fn site_for<K: Keeper>(
+    alloc: Global,
+    keeper: &mut K,
+    runs: &FreeRuns,
+    m: &Asked<'_>,
+) -> Result<Option<Site>, KeepErr>
+    ensures told { Looks result (K.seen keeper.old) (K.seen keeper.new)
+        (λ site t. KeepsPools runs.now.pools (ground t) → site ≡ site_for t m.now) }
+    ensures spent { Spent 1 (K.seen keeper.old) (K.seen keeper.new) }
+{
+    match hub_for(runs, m) {
+        Some(hub) => read_hub(alloc, keeper, hub),
+        None => Ok(None),
+    }
 }

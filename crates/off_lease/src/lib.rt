@@ -8,12 +8,10 @@
 #![tactic(auto)]
 
 mod answering;
-mod asking;
 mod choosing;
 mod gathering;
 mod granting;
 mod judging;
-mod parts;
 mod pools;
 mod replying;
 mod ruling;

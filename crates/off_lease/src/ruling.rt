@@ -1,24 +1,22 @@
 //! The rules by which a message is refused, in their order.
 
 ghost use Rattle.std.specs.Prelude.{◌≡◌};
-ghost use Rattle.off_lease_rules.specs.Rules.{late, refused_by};
-ghost use Rattle.off_lease.specs.Stages.{first_rules, row_rules};
+ghost use Rattle.off_asking.specs.Claims.{refused_by};
+ghost use Rattle.off_lease_rules.specs.Rules.{late};
+ghost use Rattle.off_lease.specs.Stages.{own_rules, row_rules};
 
-use crate::asking::{Asked, asks, is_discover};
-use crate::judging::{
-    claims_wrongly, has_cut_part, has_no_form, has_other_serial, is_for_another, is_no_modem,
-    is_served, lacks_record, relays_another,
+use crate::judging::{has_cut_part, has_other_serial, is_for_another, is_no_modem, relays_another};
+use off_asking::{
+    Asked, asks, claims_wrongly, first_broken, has_no_form, is_discover, is_served, lacks_record,
 };
 use off_base::Ip4;
-use off_defs::Site;
 use off_lease_rules::{Case, DhcpWord};
 
-/// The first rule that is broken of those that need the site alone.
-pub(crate) fn first_refusal(m: &Asked<'_>, site: &Option<Site>) -> Option<DhcpWord>
-    ensures { result ≡ refused_by (first_rules m.now site.now) }
+/// The first rule that is broken of those that need no row.
+pub(crate) fn own_refusal(m: &Asked<'_>) -> Option<DhcpWord>
+    ensures { result ≡ refused_by (own_rules m.now) }
 {
     first_broken(&[
-        (DhcpWord::NoSite, site.is_none()),
         (DhcpWord::NotServed, !is_served(m)),
         (DhcpWord::RequestForm, has_no_form(m)),
         (DhcpWord::PartCut, has_cut_part(m)),
@@ -33,6 +31,7 @@ pub(crate) fn row_refusal(m: &Asked<'_>, case: &Case) -> Option<DhcpWord>
 {
     first_broken(&[
         (DhcpWord::NoRelayPool, asks(m) && case.pool.is_none()),
+        (DhcpWord::NoSite, asks(m) && case.site.is_none()),
         (DhcpWord::UnknownModem, asks(m) && case.modem.is_none()),
         (
             DhcpWord::SerialMismatch,
@@ -48,19 +47,10 @@ pub(crate) fn late_refusal(m: &Asked<'_>, case: &Case, chosen: Option<Ip4>) -> O
 {
     first_broken(&[
         (DhcpWord::PoolFull, is_discover(m) && chosen.is_none()),
-        (DhcpWord::NoRecord, lacks_record(m, case)),
-        (DhcpWord::NotYourAddress, claims_wrongly(m, case)),
+        (DhcpWord::NoRecord, lacks_record(m, case.held)),
+        (
+            DhcpWord::NotYourAddress,
+            claims_wrongly(m, case.held, case.pool),
+        ),
     ])
-}
-
-// The word of the first rule that is broken.
-fn first_broken(rules: &[(DhcpWord, bool)]) -> Option<DhcpWord>
-    ensures { result ≡ refused_by rules.now }
-{
-    for rule in rules {
-        if rule.1 {
-            return Some(rule.0);
-        }
-    }
-    None
 }

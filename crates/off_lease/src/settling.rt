@@ -3,21 +3,22 @@
 ghost use Rattle.std.specs.Prelude.{◌≡◌, IfOk, IsTrue, Some, None, false};
 ghost use Rattle.off_account_rules.specs.Rows.{pool_fits};
 ghost use Rattle.off_lease_rules.specs.declared.words.DhcpWord.TheVariants as word;
-ghost use Rattle.off_lease_rules.specs.Asking.{client, claimed, is_discover};
-ghost use Rattle.off_lease_rules.specs.Rules.{early, late, refused_by};
+ghost use Rattle.off_asking.specs.Asking.{client, claimed, is_discover};
+ghost use Rattle.off_asking.specs.Claims.{refused_by};
+ghost use Rattle.off_lease_rules.specs.Rules.{early, late};
 ghost use Rattle.off_lease_rules.specs.Steps.{settled, accepts, refuses, reply_to_refused};
 ghost use Rattle.off_lease_rules.specs.Steps.{lease_step_by, offered, bound, offer_to};
 ghost use Rattle.off_lease_rules.specs.Steps.{declines, releases};
 ghost use Rattle.off_lease.specs.Stages.{knowing, HasGoodPool};
 
-use crate::asking::{Asked, client};
 use crate::granting::{Granted, given_back, grant};
-use crate::replying::{nak_to, offer_to};
+use crate::replying::offer_to;
 use crate::ruling::late_refusal;
 use crate::writing::{bound, given_up, offered, set_aside};
+use off_asking::{Asked, Kind, client, nak_to};
 use off_base::{Ip4, Moment, NoMemory};
 use off_defs::{Lease, Sent, Site, Writes};
-use off_lease_rules::{Case, DhcpWord, Kind, LeaseStep};
+use off_lease_rules::{Case, DhcpWord, LeaseStep};
 use std::alloc::Global;
 
 const OFFER: u8 = 2;
@@ -159,8 +160,8 @@ fn release(alloc: Global, m: &Asked<'_>, address: Ip4) -> Result<LeaseStep, NoMe
     Ok(silent(writes, DhcpWord::Released))
 }
 
-// A step for which nothing is sent.
-fn silent(writes: Writes, word: DhcpWord) -> LeaseStep
+/// A step for which nothing is sent.
+pub(crate) fn silent(writes: Writes, word: DhcpWord) -> LeaseStep
     ensures { result ≡ lease_step_by word writes None }
 {
     LeaseStep {

@@ -1,5 +1,5 @@
 -- Where leases and holders agree, a message moves one client to one address, and they agree again.
-use Rattle.std.proofs.Common.{◌≡◌, ℕ, true, false, cond, Some, is_some, option_and_then, [], List, ◌⊎◌, inl, inr, refl, sym, ap, subst, ◌∙◌}
+use Rattle.std.proofs.Common.{◌≡◌, ℕ, true, false, cond, Some, option_and_then, [], List, ◌⊎◌, inl, inr, refl, sym, ap, subst, ◌∙◌}
 use Rattle.std.proofs.lemmas.Bool.{and_parts}
 use Rattle.off_base.specs.declared.addresses.Ip4.{Ip4}
 use Rattle.off_base.specs.declared.macs.Mac.{Mac}
@@ -13,7 +13,7 @@ use Rattle.off_dhcp.specs.Datagram.{Received}
 use Rattle.off_account_rules.specs.Rows.{passes, lease_in, held_in, has_address}
 use Rattle.off_account_rules.specs.Good.{owner_of}
 use Rattle.off_table_laws.specs.Laws.{owner_in}
-use Rattle.off_lease_rules.specs.Asking.{client, named_address, at_address}
+use Rattle.off_asking.specs.Asking.{client, named_address, at_address}
 use Rattle.off_lease_rules.specs.Free.{has_ended, is_free}
 use Rattle.off_lease_rules.specs.Steps.{is_live_bound, lease_step}
 use Rattle.off_lease_rules.specs.declared.results.LeaseStep.{LeaseStep}
@@ -95,7 +95,7 @@ module _ (t : Tables) (now : ℕ) (m : Received) where
     offer_moves : WasOffered t now m step → Moves now (client m) t (write_all t step.writes)
     offer_moves was =
         let fits = chosen_fits t now was.pool (held_in t (client m)) (at_address (named_address m)) was.address was.chosen in
-        let lies = pool_there t m was.pool was.address was.pool_is fits.0 in
+        let lies = pool_there t m was.pool was.site was.address was.pool_is was.asking was.site_is fits.0 in
         let lease : Lease = record { hold = Offered (client m); expiry = record { 0 = later_by 120 now } } in
         subst (λ (writes : List Write). Moves now (client m) t (write_all t writes)) (sym was.writes)
         (elim (passes (is_live_bound now) (lease_in t was.address)) as (λ b.
@@ -103,7 +103,6 @@ module _ (t : Tables) (now : ℕ) (m : Received) where
           | true ↦ inl refl
           | false ↦ inr (record {
             address = was.address;
-            site_is = ap is_some was.site_is;
             changes = offer_changes t (client m) was.address lease refl;
             was_open = chosen_open was.pool was.address lies fits.1;
             in_pool = λ _. lies;
@@ -115,10 +114,9 @@ module _ (t : Tables) (now : ℕ) (m : Received) where
       bound_moves was =
           subst (λ (writes : List Write). Moves now (client m) t (write_all t writes)) (sym was.writes) (inr (record {
             address = was.address;
-            site_is = ap is_some was.site_is;
             changes = bound_changes t (client m) was.address was.held ((agree (client m) was.address).1 was.held) now was.site;
             was_open = inl was.held;
-            in_pool = λ _. pool_there t m was.pool was.address was.pool_is was.within;
+            in_pool = λ _. pool_there t m was.pool was.site was.address was.pool_is was.asking was.site_is was.within;
           }))
 
       declined_moves : WasDeclined t now m step → Moves now (client m) t (write_all t step.writes)
@@ -126,7 +124,6 @@ module _ (t : Tables) (now : ℕ) (m : Received) where
           let owns = (agree (client m) was.address).1 was.held in
           subst (λ (writes : List Write). Moves now (client m) t (write_all t writes)) (sym was.writes) (inr (record {
             address = was.address;
-            site_is = was.site_is;
             changes = declined_changes t (client m) was.address was.held owns now;
             was_open = inl was.held;
             in_pool = λ e. let none = declined_owner t (client m) was.address now in cc;
@@ -137,7 +134,6 @@ module _ (t : Tables) (now : ℕ) (m : Received) where
           let owns = (agree (client m) was.address).1 was.held in
           subst (λ (writes : List Write). Moves now (client m) t (write_all t writes)) (sym was.writes) (inr (record {
             address = was.address;
-            site_is = was.site_is;
             changes = released_changes t (client m) was.address was.held owns;
             was_open = inl was.held;
             in_pool = λ e. let none = released_owner t (client m) was.address in cc;

@@ -19,7 +19,7 @@ use Rattle.off_defs.proofs.TableLemmas.{own_key}
 use Rattle.off_account_rules.specs.Rows.{lease_in, held_in}
 use Rattle.off_account_rules.specs.Good.{owner_of, is_address}
 use Rattle.off_table_laws.specs.Laws.{owner_in}
-use Rattle.off_lease_rules.specs.Free.{provided}
+use Rattle.off_asking.specs.Choice.{provided}
 use Rattle.off_lease_rules.specs.Steps.{held_elsewhere, former_owner, bound, set_aside, given_up}
 use Rattle.off_lease_laws.specs.Moves.{Reassigns}
 use Rattle.off_lease_laws.proofs.ChoiceLemmas.{provided_is}

@@ -1,5 +1,5 @@
 -- What is known of the pool of a message, and of the address that is chosen in it.
-use Rattle.std.proofs.Common.{◌≡◌, ℕ, Bool, true, false, cond, Option, Some, None, option_map, option_and_then, List, [], ◌∷◌, ◌⊎◌, inl, inr, refl, sym, ap, subst, ◌∙◌}
+use Rattle.std.proofs.Common.{◌≡◌, ℕ, Bool, true, false, cond, Option, Some, None, is_some, option_map, option_and_then, List, [], ◌∷◌, ◌⊎◌, inl, inr, refl, sym, ap, subst, ◌∙◌}
 use Rattle.std.proofs.lemmas.Bool.{and_parts}
 use Rattle.std.specs.Option.{option_or}
 use Rattle.std.specs.List.{find}
@@ -9,14 +9,17 @@ use Rattle.off_defs.specs.declared.keys.Key.{Key}
 use Rattle.off_defs.specs.declared.keys.Key.TheVariants as key
 use Rattle.off_defs.specs.declared.tables.Row.{Row}
 use Rattle.off_defs.specs.declared.tables.Row.TheVariants as row
+use Rattle.off_defs.specs.declared.tables.Site.{Site}
 use Rattle.off_defs.specs.declared.tables.Pool.{Pool}
 use Rattle.off_defs.specs.State.{Tables}
 use Rattle.off_defs.specs.Tables.{row_at}
 use Rattle.off_dhcp.specs.Datagram.{Received}
-use Rattle.off_account_rules.specs.Rows.{possible, as_pool, pool_fits, fitting_pool, pool_of, pools, pool_in, lease_in, has_address}
+use Rattle.off_account_rules.specs.Rows.{hub_in, pool_hub_in, hub_of, possible, as_pool, pool_fits, fitting_pool, pool_of, pools, pool_in, lease_in, has_address}
 use Rattle.off_table_laws.proofs.ListLemmas.{In, made_in}
 use Rattle.off_table_laws.proofs.EntryRows.{in_row}
-use Rattle.off_lease_rules.specs.Free.{serves, pool_for, has_ended, is_free, addresses, least_free, provided, choice}
+use Rattle.off_asking.specs.Asking.{asks, claimed}
+use Rattle.off_asking.specs.Choice.{serves, addresses, least_of, provided}
+use Rattle.off_lease_rules.specs.Free.{numbered_pool_for, hub_for, site_for, pool_for, has_ended, is_free, least_free, choice}
 use Rattle.off_lease_laws.specs.Moves.{LiesInAPool}
 
 -- what is found is in the list, and passes the test
@@ -51,12 +54,21 @@ pool_read t n pool i =
     subst (λ (q : Key). row_at t q ≡ Some (row.Pool pool)) parts.0 (in_row t m.0.0 m.0.1 m.1 ∙ ap Some parts.1) in
     ap (λ o. option_and_then as_pool (possible (key.Pool n) o)) there ∙ ap (λ b. option_and_then as_pool (cond b (Some (row.Pool pool)) None)) parts.2
 
+-- the site of a message that asks is that of its pool's hub
+site_by : (t : Tables) (m : Received) (site : Site) (entry : ℕ × Pool) → numbered_pool_for t m ≡ Some entry → asks m ≡ true → site_for t m ≡ Some site
+    → is_some (hub_in t (pool_hub_in t entry.0)) ≡ true
+site_by t m site entry e asking is =
+    let hub : hub_for t m ≡ Some (pool_hub_in t entry.0) =
+    ap (λ b. cond b (option_map (λ (e : ℕ × Pool). pool_hub_in t e.0) (numbered_pool_for t m)) (option_and_then (hub_of t) (claimed m))) asking
+    ∙ ap (option_map (λ (e : ℕ × Pool). pool_hub_in t e.0)) e in
+    ap is_some (sym (ap (option_and_then (hub_in t)) hub) ∙ is)
+
 -- the pool of a message is one of the tables
-pub pool_there : (t : Tables) (m : Received) (pool : Pool) (address : Ip4) → pool_for t m ≡ Some pool → has_address pool address ≡ true → LiesInAPool t address
-pool_there t m pool address e w =
+pub pool_there : (t : Tables) (m : Received) (pool : Pool) (site : Site) (address : Ip4) → pool_for t m ≡ Some pool → asks m ≡ true → site_for t m ≡ Some site → has_address pool address ≡ true → LiesInAPool t address
+pool_there t m pool site address e asking is w =
     let entry = mapped (λ (entry : ℕ × Pool). entry.1) (find (λ (entry : ℕ × Pool). serves m entry.1) (pools t)) pool e in
     let there = pool_read t entry.0.0 entry.0.1 (found (λ (entry : ℕ × Pool). serves m entry.1) (pools t) entry.0 entry.1).0 in
-    record { number = entry.0.0; pool = pool; there = there ∙ ap Some entry.2; within = w }
+    record { number = entry.0.0; pool = pool; there = there ∙ ap Some entry.2; within = w; hub_is = site_by t m site entry.0 entry.1 asking is }
 
 -- ---- the choice
 
@@ -77,7 +89,7 @@ neither None q e = (refl, e)
 neither (Some other) q e = cc
 
 pub least_found : (t : Tables) (now : ℕ) (pool : Pool) (address : Ip4) → least_free t now pool ≡ Some address → In address (addresses pool) × (is_free t now pool address ≡ true)
-unfolding least_free
+unfolding least_of
 least_found t now pool address e = found (is_free t now pool) (addresses pool) address e
 
 module _ (t : Tables) (now : ℕ) (pool : Pool) (held asked : Option Ip4) (address : Ip4) where

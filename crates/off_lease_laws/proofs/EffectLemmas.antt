@@ -13,7 +13,7 @@ use Rattle.off_dhcp.specs.Datagram.{Received}
 use Rattle.off_account_rules.specs.Rows.{passes, lease_in, held_in, has_address}
 use Rattle.off_account_rules.specs.Good.{owner_of}
 use Rattle.off_lease_rules.specs.Words.{acts}
-use Rattle.off_lease_rules.specs.Asking.{client, named_address, at_address}
+use Rattle.off_asking.specs.Asking.{client, named_address, at_address}
 use Rattle.off_lease_rules.specs.Free.{has_ended, is_free}
 use Rattle.off_lease_rules.specs.Steps.{is_bound, is_live_bound, lease_step}
 use Rattle.off_lease_rules.specs.declared.results.LeaseStep.{LeaseStep}
@@ -73,7 +73,7 @@ module _ (t : Tables) (now : ℕ) (m : Received) (step : LeaseStep) where
       reply = was.reply;
       lease = subst (λ (w : List Write). (lease_in (write_all t w) was.address ≡ Some given) ⊎ IsLiveBound now (client m) (lease_in (write_all t w) was.address)) (sym e) lease;
       held = ap (λ (w : List Write). held_in (write_all t w) (client m)) e ∙ held;
-      in_pool = pool_there t m was.pool was.address was.pool_is fits.0;
+      in_pool = pool_there t m was.pool was.site was.address was.pool_is was.asking was.site_is fits.0;
     }
 
     offer_holds : IsOfferedBy t now m step
@@ -99,7 +99,7 @@ module _ (t : Tables) (now : ℕ) (m : Received) (step : LeaseStep) where
     reply = was.reply;
     lease = ap (λ writes. lease_in (write_all t writes) was.address) was.writes ∙ bound_lease t (client m) was.address now was.site;
     held = ap (λ writes. held_in (write_all t writes) (client m)) was.writes ∙ bound_held t (client m) was.address now was.site (client m) ∙ was.held;
-    in_pool = pool_there t m was.pool was.address was.pool_is was.within;
+    in_pool = pool_there t m was.pool was.site was.address was.pool_is was.asking was.site_is was.within;
   }
 
   decline_rests : WasDeclined t now m step → IsDeclinedBy t now m step

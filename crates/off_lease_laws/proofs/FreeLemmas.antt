@@ -12,8 +12,9 @@ use Rattle.off_defs.specs.State.{Tables}
 use Rattle.off_account_rules.specs.Rows.{lease_in, has_address}
 use Rattle.off_account_rules.specs.Good.{owner_of}
 use Rattle.off_table_laws.proofs.ListLemmas.{In, none_found}
-use Rattle.off_lease_rules.specs.Asking.{ip}
-use Rattle.off_lease_rules.specs.Free.{has_ended, is_free, addresses, least_free, provided, choice}
+use Rattle.off_asking.specs.Asking.{ip}
+use Rattle.off_asking.specs.Choice.{addresses, least_of, provided}
+use Rattle.off_lease_rules.specs.Free.{has_ended, is_free, least_free, choice}
 use Rattle.off_lease_laws.specs.Laws.{LeastIsLeast, ChoiceFits, FreeStandsFree, LiveForItsOwner, OneLeaseAClient, free, standing_of, standing, live_for}
 use Rattle.off_lease_laws.proofs.ChoiceLemmas.{least_found, neither, chosen_fits}
 
@@ -58,12 +59,12 @@ module _ (t : Tables) (now : ℕ) (pool : Pool) where
   in_pool address h = let b = bounds address h in in_range pool.first.0 (pool.last.0 + 1 - pool.first.0) address.0 b.0 b.1
 
   none_free : least_free t now pool ≡ None → (address : Ip4) → is_free t now pool address ≡ false
-  unfolding least_free
+  unfolding least_of
   none_free e address =
       false_from_ne_true (is_free t now pool address) (λ h. let no = none_found (is_free t now pool) (addresses pool) e address (in_pool address h) in cc)
 
   least_below : (least address : Ip4) → least_free t now pool ≡ Some least → is_free t now pool address ≡ true → least.0 ≤ address.0
-  unfolding least_free
+  unfolding least_of
   least_below least address e h =
       first_least (is_free t now pool) pool.first.0 (pool.last.0 + 1 - pool.first.0) least address.0 e h (bounds address h).0
 

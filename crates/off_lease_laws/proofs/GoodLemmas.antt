@@ -10,13 +10,13 @@ use Rattle.off_defs.specs.Kinds.{kind_of}
 use Rattle.off_defs.specs.State.{Tables}
 use Rattle.off_defs.specs.Tables.{row_at, write_all}
 use Rattle.off_dhcp.specs.Datagram.{Received}
-use Rattle.off_account_rules.specs.Rows.{as_site, site_in, lease_in, held_in}
+use Rattle.off_account_rules.specs.Rows.{as_site, hub_in, lease_in, held_in}
 use Rattle.off_account_rules.specs.Good.{owner_of, Good}
 use Rattle.off_table_laws.proofs.GoodRows.{Has, OnePool, OwnedBy, GoodRows}
 use Rattle.off_table_laws.proofs.Judging.{good_rows, good_tables}
 use Rattle.off_table_laws.proofs.Reading.{lease_row, held_row, pool_row, row_lease, row_held, row_pool, has_read}
-use Rattle.off_table_laws.proofs.TableLaws.{owners_hold, pools_are_apart}
-use Rattle.off_lease_rules.specs.Asking.{client}
+use Rattle.off_table_laws.proofs.TableLaws.{owners_hold, pools_are_apart, no_hub_named}
+use Rattle.off_asking.specs.Asking.{client}
 use Rattle.off_lease_rules.specs.Steps.{lease_step}
 use Rattle.off_lease_laws.specs.Moves.{HoldersAgree, LiesInAPool, Moved}
 use Rattle.off_lease_laws.proofs.Tests.{ip_or, some_or}
@@ -83,6 +83,25 @@ module _ (t : Tables) (now : ℕ) (m : Received) (good : Good t) (moved : Moved 
         | inr apart ↦ g.one_pool address lease (lease_row t address lease (before address lease apart e))
       ]
 
+  -- a leased address has its hub's site, which is the one site as yet
+  lies_site : LiesInAPool t moved.address → Has (row_at t) key.Site
+  lies_site lies = has_read t key.Site as_site (not_none (hub_in t 0) (ap (λ n. is_some (hub_in t n)) (sym (no_hub_named t lies.number)) ∙ lies.hub_is))
+
+  held_site : held_in t (client m) ≡ Some moved.address → Has (row_at t) key.Site
+  held_site h =
+      let o = owned (lease_in t moved.address) (client m) ((good_agree t good (client m) moved.address).1 h) in
+      g.site moved.address o.0 (lease_row t moved.address o.0 o.1)
+
+  here_site : Has (row_at t) key.Site
+  here_site = elim moved.was_open as (λ s. Has (row_at t) key.Site) [ inl held ↦ held_site held | inr open_ ↦ lies_site open_.1 ]
+
+  site_before : (address : Ip4) (lease : Lease) → lease_in u address ≡ Some lease → Has (row_at t) key.Site
+  site_before address lease e =
+      elim (ip_or address moved.address) as (λ s. Has (row_at t) key.Site) [
+        | inl same ↦ here_site
+        | inr apart ↦ g.site address lease (lease_row t address lease (before address lease apart e))
+      ]
+
   pool_after : (address : Ip4) → OnePool (row_at t) address → OnePool (row_at u) address
   pool_after address p = record {
     number = p.number;
@@ -117,7 +136,7 @@ module _ (t : Tables) (now : ℕ) (m : Received) (good : Good t) (moved : Moved 
         g.apart n pool k another (sym (other (key.Pool n) (λ e. omega (arith, e)) (λ e. omega (arith, e))) ∙ e)
         (sym (other (key.Pool k) (λ e. omega (arith, e)) (λ e. omega (arith, e))) ∙ f);
     site = λ address lease e.
-        has_other key.Site (λ e. omega (arith, e)) (λ e. omega (arith, e)) (has_read t key.Site as_site (not_none (site_in t) moved.site_is));
+        has_other key.Site (λ e. omega (arith, e)) (λ e. omega (arith, e)) (site_before address lease (row_lease u address lease e));
     one_pool = λ address lease e. pool_after address (pool_before address lease (row_lease u address lease e));
     holder = holder_after;
     owner = owner_after;

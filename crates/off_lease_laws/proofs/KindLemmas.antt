@@ -23,7 +23,7 @@ use Rattle.off_account_rules.specs.Rows.{passes, is_of_kind, counts_of, lease_in
 use Rattle.off_table_laws.proofs.Rows.{Rows, row_written, rows_after, all_written}
 use Rattle.off_table_laws.proofs.GoodRows.{Possible}
 use Rattle.off_table_laws.proofs.RowChanges.{possible_put, possible_drop}
-use Rattle.off_lease_rules.specs.Asking.{client}
+use Rattle.off_asking.specs.Asking.{client}
 use Rattle.off_lease_rules.specs.Steps.{is_live_bound, lease_step}
 use Rattle.off_lease_rules.specs.declared.results.LeaseStep.{LeaseStep}
 use Rattle.off_lease_laws.specs.Outcomes.{Outcome, refusal, offering, binding, declining, releasing}

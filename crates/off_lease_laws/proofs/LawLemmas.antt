@@ -12,7 +12,7 @@ use Rattle.off_account_rules.specs.Rows.{lease_in, held_in}
 use Rattle.off_account_rules.specs.Good.{owner_of}
 use Rattle.off_table_laws.specs.Laws.{owner_in}
 use Rattle.off_lease_rules.specs.Words.{acts}
-use Rattle.off_lease_rules.specs.Asking.{client}
+use Rattle.off_asking.specs.Asking.{client}
 use Rattle.off_lease_rules.specs.Free.{has_ended}
 use Rattle.off_lease_rules.specs.Steps.{step_of, lease_step, dhcp_step}
 use Rattle.off_lease_rules.specs.declared.results.LeaseStep.{LeaseStep}

@@ -9,12 +9,13 @@ use Rattle.off_defs.specs.State.{Tables}
 use Rattle.off_dhcp.specs.Datagram.{Received}
 use Rattle.off_account_rules.specs.Rows.{passes, lease_in, has_address}
 use Rattle.off_lease_rules.specs.declared.words.DhcpWord.{DhcpWord}
-use Rattle.off_lease_rules.specs.Asking.{client, is_discover, is_request, is_decline, is_release, asks, gives_back, named_address, at_address, is_selecting, form_of, claimed}
+use Rattle.off_asking.specs.Asking.{client, is_discover, is_request, is_decline, is_release, asks, gives_back, named_address, at_address, is_selecting, form_of, claimed}
 use Rattle.off_lease_rules.specs.Free.{case_of, choice, chosen_in}
-use Rattle.off_lease_rules.specs.Rules.{claims_held, claims_in_pool, rules_for, refused_by}
+use Rattle.off_asking.specs.Claims.{claims_own, claims_in_pool, refused_by}
+use Rattle.off_lease_rules.specs.Rules.{rules_for}
 use Rattle.off_lease_rules.specs.Steps.{offered, bound, set_aside, given_up, offer_to, for_some, offers, acknowledges, declines, releases, accepts, unless_refused, settled, lease_step}
 use Rattle.off_lease_laws.specs.Outcomes.{Outcome, refusal, offering, binding, declining, releasing}
-use Rattle.off_lease_laws.proofs.Tests.{second_false, second_true, some_of, some_is, held_claim}
+use Rattle.off_lease_laws.proofs.Tests.{second_false, second_true, some_of, held_claim}
 use Rattle.off_lease_laws.proofs.RuleLemmas.{Unbroken, unbroken, refusals}
 
 -- a reply where all is there
@@ -43,7 +44,8 @@ module _ (t : Tables) (now : ℕ) (m : Received) where
   offered_outcome : is_discover m ≡ true → Unbroken m (case_of t m) chosen → Outcome t now m (offers now m (case_of t m) chosen lease)
   unfolding case_of
   offered_outcome d u =
-      let site = some_of (case_of t m).site u.site in
+      let asking = or_left (is_discover m) (is_request m) d in
+      let site = some_of (case_of t m).site (second_false (asks m) (is_none (case_of t m).site) asking u.site) in
       let pool = some_of (case_of t m).pool (second_false (asks m) (is_none (case_of t m).pool) (or_left (is_discover m) (is_request m) d) u.pool) in
       let address = some_of chosen (second_false (is_discover m) (is_none chosen) d u.full) in
       offering (record {
@@ -52,16 +54,17 @@ module _ (t : Tables) (now : ℕ) (m : Received) where
         address = address.0;
         site_is = site.1;
         pool_is = pool.1;
+        asking = asking;
         chosen = sym (ap (option_and_then (λ (p : Pool). choice t now p (case_of t m).held (at_address (named_address m)))) pool.1) ∙ sym (for_discover d) ∙ address.1;
         said = refl;
         writes = ap (λ o. for_some (λ a. offered now (client m) (case_of t m).held a (option_and_then (lease_in t) o)) o) address.1;
         reply = reply_there 2 m (case_of t m).site (case_of t m).pool chosen site.0 pool.0 address.0 site.1 pool.1 address.1;
       })
 
-  claim_held : claims_held m (case_of t m) ≡ true → (address : Ip4) × (claimed m ≡ Some address) × ((case_of t m).held ≡ Some address)
+  claim_held : claims_own m (case_of t m).held ≡ true → (address : Ip4) × (claimed m ≡ Some address) × ((case_of t m).held ≡ Some address)
   claim_held h = held_claim (claimed m) (case_of t m).held h
 
-  claim_within : (pool : Pool) (address : Ip4) → (case_of t m).pool ≡ Some pool → claimed m ≡ Some address → claims_in_pool m (case_of t m) ≡ true → has_address pool address ≡ true
+  claim_within : (pool : Pool) (address : Ip4) → (case_of t m).pool ≡ Some pool → claimed m ≡ Some address → claims_in_pool m (case_of t m).pool ≡ true → has_address pool address ≡ true
   claim_within pool address p a h =
       sym (ap (λ (o : Option Pool). passes (λ q. has_address q address) o) p)
       ∙ sym (ap (λ (o : Option Ip4). passes (λ b. passes (λ q. has_address q b) (case_of t m).pool) o) a)
@@ -70,11 +73,12 @@ module _ (t : Tables) (now : ℕ) (m : Received) where
   bound_outcome : is_discover m ≡ false → is_request m ≡ true → Unbroken m (case_of t m) chosen → Outcome t now m (acknowledges now m (case_of t m) chosen)
   unfolding case_of
   bound_outcome d r u =
-      let site = some_of (case_of t m).site u.site in
+      let asking = or_right (is_discover m) (is_request m) r in
+      let site = some_of (case_of t m).site (second_false (asks m) (is_none (case_of t m).site) asking u.site) in
       let pool = some_of (case_of t m).pool (second_false (asks m) (is_none (case_of t m).pool) (or_right (is_discover m) (is_request m) r) u.pool) in
-      let right = and_parts (claims_held m (case_of t m)) (claims_in_pool m (case_of t m))
-      (not-false (claims_held m (case_of t m) && claims_in_pool m (case_of t m))
-      (second_false (is_request m) (not (claims_held m (case_of t m) && claims_in_pool m (case_of t m))) r u.own)) in
+      let right = and_parts (claims_own m (case_of t m).held) (claims_in_pool m (case_of t m).pool)
+      (not-false (claims_own m (case_of t m).held && claims_in_pool m (case_of t m).pool)
+      (second_false (is_request m) (not (claims_own m (case_of t m).held && claims_in_pool m (case_of t m).pool)) r u.own)) in
       let claim = claim_held right.0 in
       let address : chosen ≡ Some claim.0 = for_others d ∙ claim.1 in
       binding (record {
@@ -83,6 +87,7 @@ module _ (t : Tables) (now : ℕ) (m : Received) where
         address = claim.0;
         site_is = site.1;
         pool_is = pool.1;
+        asking = asking;
         claim = claim.1;
         held = claim.2;
         within = claim_within pool.0 claim.0 pool.1 claim.1 right.1;
@@ -92,11 +97,11 @@ module _ (t : Tables) (now : ℕ) (m : Received) where
       })
 
   -- who gives an address back holds it
-  given_back : gives_back m ≡ true → Unbroken m (case_of t m) chosen → claims_held m (case_of t m) ≡ true
+  given_back : gives_back m ≡ true → Unbroken m (case_of t m) chosen → claims_own m (case_of t m).held ≡ true
   given_back g u =
-      not-false (claims_held m (case_of t m))
-      (second_false (gives_back m) (not (claims_held m (case_of t m))) g
-      (or_parts (is_request m && not (is_selecting (form_of m)) && is_none (case_of t m).held) (gives_back m && not (claims_held m (case_of t m))) u.known).1)
+      not-false (claims_own m (case_of t m).held)
+      (second_false (gives_back m) (not (claims_own m (case_of t m).held)) g
+      (or_parts (is_request m && not (is_selecting (form_of m)) && is_none (case_of t m).held) (gives_back m && not (claims_own m (case_of t m).held)) u.known).1)
 
   declined_outcome : is_discover m ≡ false → is_decline m ≡ true → Unbroken m (case_of t m) chosen → Outcome t now m (declines now m chosen)
   unfolding case_of
@@ -104,7 +109,6 @@ module _ (t : Tables) (now : ℕ) (m : Received) where
       let claim = claim_held (given_back (or_left (is_decline m) (is_release m) e) u) in
       declining (record {
         address = claim.0;
-        site_is = some_is (case_of t m).site u.site;
         claim = claim.1;
         held = claim.2;
         said = refl;
@@ -118,7 +122,6 @@ module _ (t : Tables) (now : ℕ) (m : Received) where
       let claim = claim_held (given_back g u) in
       releasing (record {
         address = claim.0;
-        site_is = some_is (case_of t m).site u.site;
         claim = claim.1;
         held = claim.2;
         said = refl;

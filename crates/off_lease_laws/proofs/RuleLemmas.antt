@@ -6,8 +6,9 @@ use Rattle.off_base.specs.declared.addresses.Ip4.{Ip4}
 use Rattle.off_dhcp.specs.Datagram.{Received}
 use Rattle.off_table_laws.proofs.ListLemmas.{In}
 use Rattle.off_lease_rules.specs.Words.{acts}
-use Rattle.off_lease_rules.specs.Asking.{is_discover, asks}
-use Rattle.off_lease_rules.specs.Rules.{is_served, lacks_record, claims_wrongly, rules_for, refused_by}
+use Rattle.off_asking.specs.Asking.{is_discover, asks}
+use Rattle.off_asking.specs.Claims.{is_served, lacks_record, claims_wrongly, refused_by}
+use Rattle.off_lease_rules.specs.Rules.{rules_for}
 use Rattle.off_lease_rules.specs.declared.cases.Case.{Case}
 use Rattle.off_lease_rules.specs.declared.words.DhcpWord.{DhcpWord}
 use Rattle.off_lease_rules.specs.declared.words.DhcpWord.TheVariants as word
@@ -20,23 +21,23 @@ unbroken_in ((w, false) ∷ rules) e rule (inl same) = ap (λ (r : DhcpWord × B
 unbroken_in ((w, false) ∷ rules) e rule (inr rest) = unbroken_in rules e rule rest
 
 pub record Unbroken (m : Received) (c : Case) (chosen : Option Ip4) : Type 0 where
-  pub site : is_none c.site ≡ false
+  pub site : (asks m && is_none c.site) ≡ false
   pub served : not (is_served m) ≡ false
   pub pool : (asks m && is_none c.pool) ≡ false
   pub full : (is_discover m && is_none chosen) ≡ false
-  pub known : lacks_record m c ≡ false
-  pub own : claims_wrongly m c ≡ false
+  pub known : lacks_record m c.held ≡ false
+  pub own : claims_wrongly m c.held c.pool ≡ false
 
 pub unbroken : (m : Received) (c : Case) (chosen : Option Ip4) → refused_by (rules_for m c chosen) ≡ None → Unbroken m c chosen
 unbroken m c chosen e =
     let holds = unbroken_in (rules_for m c chosen) e in
     record {
-      site = holds (word.NoSite, is_none c.site) (inl refl);
-      served = holds (word.NotServed, not (is_served m)) (inr (inl refl));
-      pool = holds (word.NoRelayPool, asks m && is_none c.pool) (inr (inr (inr (inr (inr (inr (inl refl)))))));
+      served = holds (word.NotServed, not (is_served m)) (inl refl);
+      pool = holds (word.NoRelayPool, asks m && is_none c.pool) (inr (inr (inr (inr (inr (inl refl))))));
+      site = holds (word.NoSite, asks m && is_none c.site) (inr (inr (inr (inr (inr (inr (inl refl)))))));
       full = holds (word.PoolFull, is_discover m && is_none chosen) (inr (inr (inr (inr (inr (inr (inr (inr (inr (inr (inl refl)))))))))));
-      known = holds (word.NoRecord, lacks_record m c) (inr (inr (inr (inr (inr (inr (inr (inr (inr (inr (inr (inl refl))))))))))));
-      own = holds (word.NotYourAddress, claims_wrongly m c) (inr (inr (inr (inr (inr (inr (inr (inr (inr (inr (inr (inr (inl refl)))))))))))));
+      known = holds (word.NoRecord, lacks_record m c.held) (inr (inr (inr (inr (inr (inr (inr (inr (inr (inr (inr (inl refl))))))))))));
+      own = holds (word.NotYourAddress, claims_wrongly m c.held c.pool) (inr (inr (inr (inr (inr (inr (inr (inr (inr (inr (inr (inr (inl refl)))))))))))));
     }
 
 -- the word of a refusal isn't one of those that act

@@ -11,9 +11,9 @@ use Rattle.off_defs.specs.Clock.{later_by}
 use Rattle.off_defs.specs.State.{Tables}
 use Rattle.off_defs.specs.Tables.{write_all}
 use Rattle.off_dhcp.specs.Datagram.{Received}
-use Rattle.off_account_rules.specs.Rows.{site_in, lease_in, held_in}
-use Rattle.off_lease_rules.specs.Free.{pool_for}
-use Rattle.off_lease_rules.specs.Asking.{client, claimed}
+use Rattle.off_account_rules.specs.Rows.{lease_in, held_in}
+use Rattle.off_lease_rules.specs.Free.{pool_for, site_for}
+use Rattle.off_asking.specs.Asking.{client, claimed}
 use Rattle.off_lease_rules.specs.Steps.{offer_to}
 use Rattle.off_lease_rules.specs.declared.results.LeaseStep.{LeaseStep}
 use Rattle.off_lease_laws.specs.Moves.{LiesInAPool}
@@ -36,7 +36,7 @@ pub record IsOfferedBy (tables : Tables) (now : ℕ) (m : Received) (step : Leas
   pub site : Site
   pub pool : Pool
   pub address : Ip4
-  pub site_is : site_in tables ≡ Some site
+  pub site_is : site_for tables m ≡ Some site
   pub reply : step.reply ≡ Some (offer_to 2 m site pool address)
   pub lease : (lease_in (write_all tables step.writes) address
       ≡ Some (lease_until (Offered (client m)) (later_by 120 now)))
@@ -50,7 +50,7 @@ pub record IsBoundBy (tables : Tables) (now : ℕ) (m : Received) (step : LeaseS
   pub site : Site
   pub pool : Pool
   pub address : Ip4
-  pub site_is : site_in tables ≡ Some site
+  pub site_is : site_for tables m ≡ Some site
   pub pool_is : pool_for tables m ≡ Some pool
   pub claim : claimed m ≡ Some address
   pub reply : step.reply ≡ Some (offer_to 5 m site pool address)

@@ -17,7 +17,7 @@ use Rattle.off_account_rules.specs.Rows.{lease_in, has_address, counts_of}
 use Rattle.off_account_rules.specs.Good.{Good, owner_of}
 use Rattle.off_table_laws.specs.Laws.{owner_in}
 use Rattle.off_lease_rules.specs.Words.{acts, unread}
-use Rattle.off_lease_rules.specs.Asking.{client}
+use Rattle.off_asking.specs.Asking.{client}
 use Rattle.off_lease_rules.specs.Free.{is_free, least_free, choice}
 use Rattle.off_lease_rules.specs.Steps.{lease_step_by, lease_step, dhcp_step, DhcpStep}
 use Rattle.off_lease_rules.specs.declared.words.DhcpWord.{DhcpWord}

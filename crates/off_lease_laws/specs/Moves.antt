@@ -5,7 +5,7 @@ use Rattle.off_base.specs.declared.addresses.Ip4.{Ip4}
 use Rattle.off_base.specs.declared.macs.Mac.{Mac}
 use Rattle.off_defs.specs.declared.tables.Pool.{Pool}
 use Rattle.off_defs.specs.State.{Tables}
-use Rattle.off_account_rules.specs.Rows.{site_in, lease_in, held_in, pool_in, has_address}
+use Rattle.off_account_rules.specs.Rows.{hub_in, pool_hub_in, lease_in, held_in, pool_in, has_address}
 use Rattle.off_table_laws.specs.Laws.{owner_in}
 use Rattle.off_lease_rules.specs.Free.{has_ended}
 
@@ -31,12 +31,13 @@ pub record Reassigns (mac : Mac) (address : Ip4) (old new : Tables) : Type 0 whe
   pub taken : ((owner_in new address ≡ Some mac) × (held_in new mac ≡ Some address))
       ⊎ ((owner_in new address ≡ None) × (held_in new mac ≡ None))
 
--- a pool of the tables has the address
+-- a pool of the tables has the address, and its hub is there
 pub record LiesInAPool (tables : Tables) (address : Ip4) : Type 0 where
   pub number : ℕ
   pub pool : Pool
   pub there : pool_in tables number ≡ Some pool
   pub within : IsTrue (has_address pool address)
+  pub hub_is : IsSome (hub_in tables (pool_hub_in tables number))
 
 -- the address was the client's before, or nobody's: one of a pool, whose lease, if it had one, had
 -- ended
@@ -47,7 +48,6 @@ WasOpenTo now mac address old =
 
 pub record Moved (now : ℕ) (mac : Mac) (old new : Tables) : Type 0 where
   pub address : Ip4
-  pub site_is : IsSome (site_in old)
   pub changes : Reassigns mac address old new
   pub was_open : WasOpenTo now mac address old
   pub in_pool : owner_in new address ≡ Some mac → LiesInAPool old address

@@ -1,14 +1,14 @@
 -- What may become of a message: one of five things, each with what holds of the tables before.
-use Rattle.std.specs.Prelude.{◌≡◌, ℕ, false, IsTrue, IsSome, [], Some, None}
+use Rattle.std.specs.Prelude.{◌≡◌, ℕ, false, IsTrue, [], Some, None}
 use Rattle.off_base.specs.declared.addresses.Ip4.{Ip4}
 use Rattle.off_defs.specs.declared.tables.Site.{Site}
 use Rattle.off_defs.specs.declared.tables.Pool.{Pool}
 use Rattle.off_defs.specs.State.{Tables}
 use Rattle.off_dhcp.specs.Datagram.{Received}
-use Rattle.off_account_rules.specs.Rows.{site_in, lease_in, held_in, has_address}
+use Rattle.off_account_rules.specs.Rows.{lease_in, held_in, has_address}
 use Rattle.off_lease_rules.specs.Words.{acts}
-use Rattle.off_lease_rules.specs.Asking.{client, named_address, at_address, claimed}
-use Rattle.off_lease_rules.specs.Free.{pool_for, case_of, choice}
+use Rattle.off_asking.specs.Asking.{client, asks, named_address, at_address, claimed}
+use Rattle.off_lease_rules.specs.Free.{pool_for, site_for, case_of, choice}
 use Rattle.off_lease_rules.specs.Steps.{offered, bound, set_aside, given_up, offer_to, reply_to_refused}
 use Rattle.off_lease_rules.specs.declared.results.LeaseStep.{LeaseStep}
 use Rattle.off_lease_rules.specs.declared.words.DhcpWord.TheVariants as word
@@ -24,8 +24,9 @@ pub record WasOffered (tables : Tables) (now : ℕ) (m : Received) (step : Lease
   pub site : Site
   pub pool : Pool
   pub address : Ip4
-  pub site_is : site_in tables ≡ Some site
+  pub site_is : site_for tables m ≡ Some site
   pub pool_is : pool_for tables m ≡ Some pool
+  pub asking : IsTrue (asks m)
   pub chosen : choice tables now pool (held_in tables (client m)) (at_address (named_address m))
       ≡ Some address
   pub said : step.word ≡ word.Offer
@@ -38,8 +39,9 @@ pub record WasBound (tables : Tables) (now : ℕ) (m : Received) (step : LeaseSt
   pub site : Site
   pub pool : Pool
   pub address : Ip4
-  pub site_is : site_in tables ≡ Some site
+  pub site_is : site_for tables m ≡ Some site
   pub pool_is : pool_for tables m ≡ Some pool
+  pub asking : IsTrue (asks m)
   pub claim : claimed m ≡ Some address
   pub held : held_in tables (client m) ≡ Some address
   pub within : IsTrue (has_address pool address)
@@ -50,7 +52,6 @@ pub record WasBound (tables : Tables) (now : ℕ) (m : Received) (step : LeaseSt
 -- the client declined the address that it held, or released it; neither has a reply
 pub record WasDeclined (tables : Tables) (now : ℕ) (m : Received) (step : LeaseStep) : Type 0 where
   pub address : Ip4
-  pub site_is : IsSome (site_in tables)
   pub claim : claimed m ≡ Some address
   pub held : held_in tables (client m) ≡ Some address
   pub said : step.word ≡ word.Declined
@@ -59,7 +60,6 @@ pub record WasDeclined (tables : Tables) (now : ℕ) (m : Received) (step : Leas
 
 pub record WasReleased (tables : Tables) (m : Received) (step : LeaseStep) : Type 0 where
   pub address : Ip4
-  pub site_is : IsSome (site_in tables)
   pub claim : claimed m ≡ Some address
   pub held : held_in tables (client m) ≡ Some address
   pub said : step.word ≡ word.Released

@@ -28,7 +28,7 @@ use Rattle.off_lease_rules.specs.declared.cases.Case.{Case}
 use Rattle.off_lease_rules.specs.declared.results.LeaseStep.{LeaseStep}
 use Rattle.off_lease_rules.specs.declared.words.DhcpWord.{DhcpWord}
 use Rattle.off_lease_rules.specs.declared.words.DhcpWord.TheVariants as word
-use Rattle.off_lease_rules.specs.Asking.{ip}
+use Rattle.off_asking.specs.Asking.{ip}
 use Rattle.off_lease_rules.specs.Steps.{settled}
 
 -- an office at 10.0.0.2 with a pool of 10.64.0.10 to 10.64.0.99 behind the relay 10.64.0.1, and a

@@ -1,34 +1,37 @@
 -- The rows by which a message is judged, and the addresses of a pool that are free. All rows are
 -- read by kind: an impossible one is one that isn't there.
-use Rattle.std.specs.Prelude.{ℕ, ◌+◌, ◌-◌, ◌==◌, Bool, true, ◌&&◌, nat_le, List, map, Option, Some, None, option_map, option_and_then, if◌then◌else◌}
-use Rattle.std.specs.Option.{option_or}
-use Rattle.std.specs.List.{find, range_with_len}
+use Rattle.std.specs.Prelude.{ℕ, Bool, true, ◌&&◌, nat_le, Option, Some, None, option_map, option_and_then, if◌then◌else◌}
 use Rattle.off_base.specs.declared.addresses.Ip4.{Ip4}
+use Rattle.off_defs.specs.declared.tables.Site.{Site}
 use Rattle.off_defs.specs.declared.tables.Pool.{Pool}
 use Rattle.off_defs.specs.declared.tables.Lease.{Lease}
 use Rattle.off_defs.specs.State.{Tables}
 use Rattle.off_dhcp.specs.Datagram.{Received}
-use Rattle.off_account_rules.specs.Rows.{site_in, modem_in, lease_in, held_in, pools, has_address}
-use Rattle.off_lease_rules.specs.Asking.{ip, client, is_request, is_discover, is_renewing, form_of, named_address, at_address, claimed}
+use Rattle.off_account_rules.specs.Rows.{hub_in, pool_hub_in, hub_of, modem_in, lease_in, held_in, pools, has_address}
+use Rattle.off_asking.specs.Asking.{client, asks, claimed}
+use Rattle.off_asking.specs.Choice.{numbered_among, pool_among, least_of, choice_by, chosen_by}
 use Rattle.off_lease_rules.specs.declared.cases.Case.{Case}
 
--- The pool of a message is that of its relay (RFC 2131 section 4.3.1: giaddr). Without a relay a
--- client can only renew, and its pool has the address that it renews.
-abbrev pub is_renewal : Received → Bool
-is_renewal m = is_request m && is_renewing (form_of m)
-
-abbrev pub serves : Received → Pool → Bool
-serves m pool =
-    if m.giaddr == 0 then is_renewal m && has_address pool (ip m.ciaddr)
-    else pool.relay.0 == m.giaddr
+-- the pool of a message, and its number
+abbrev pub numbered_pool_for : Tables → Received → Option (ℕ × Pool)
+numbered_pool_for tables m = numbered_among (pools tables) m
 
 abbrev pub pool_for : Tables → Received → Option Pool
-pool_for tables m = option_map (λ entry. entry.1) (find (λ entry. serves m entry.1) (pools tables))
+pool_for tables m = pool_among (pools tables) m
+
+-- The hub of a message is that of its pool; for an address that is given back, that of the address.
+abbrev pub hub_for : Tables → Received → Option ℕ
+hub_for tables m =
+    if asks m then option_map (λ entry. pool_hub_in tables entry.0) (numbered_pool_for tables m)
+    else option_and_then (hub_of tables) (claimed m)
+
+abbrev pub site_for : Tables → Received → Option Site
+site_for tables m = option_and_then (hub_in tables) (hub_for tables m)
 
 unfoldable pub case_of : Tables → Received → Case
 case_of tables m =
     record {
-      site = site_in tables;
+      site = site_for tables m;
       pool = pool_for tables m;
       modem = modem_in tables (client m);
       held = held_in tables (client m);
@@ -45,26 +48,13 @@ is_free tables now pool address =
     has_address pool address && has_ended now (lease_in tables address)
 
 -- its least member, or None where it has none
-abbrev pub addresses : Pool → List Ip4
-addresses pool = map ip (range_with_len pool.first.0 (pool.last.0 + 1 - pool.first.0))
+abbrev pub least_free : Tables → ℕ → Pool → Option Ip4
+least_free tables now pool = least_of (is_free tables now pool) pool
 
-unfoldable pub least_free : Tables → ℕ → Pool → Option Ip4
-least_free tables now pool = find (is_free tables now pool) (addresses pool)
-
--- what there is, where it passes the test
-abbrev pub provided : {A : Type 0} → (A → Bool) → Option A → Option A
-provided test None = None
-provided test (Some x) = if test x then Some x else None
-
--- The address for a client of the pool (RFC 2131 section 4.3.1): its own, which is the one that it
--- holds; else the one that it asks for, where that is free; else the least that is free
+-- The address for a client of the pool: its own is the one that it holds.
 abbrev pub choice : Tables → ℕ → Pool → Option Ip4 → Option Ip4 → Option Ip4
-choice tables now pool held asked =
-    option_or (provided (has_address pool) held)
-    (option_or (provided (is_free tables now pool) asked) (least_free tables now pool))
+choice tables now pool held asked = choice_by (is_free tables now pool) pool held asked
 
--- the address that a message is about: for a DISCOVER it is chosen
+-- the address that a message is about
 abbrev pub chosen_in : Tables → ℕ → Received → Case → Option Ip4
-chosen_in tables now m c =
-    if is_discover m then option_and_then
-    (λ pool. choice tables now pool c.held (at_address (named_address m))) c.pool else claimed m
+chosen_in tables now m c = chosen_by (is_free tables now) m c.pool c.held

@@ -1,11 +1,9 @@
 -- What a message does that no rule refuses, and what is sent for it (RFC 2131 sections 3.1, 4.1 and
 -- 4.3).
-use Rattle.std.specs.Prelude.{◌≡◌, ℕ, ◌==◌, Bool, true, false, not, ◌&&◌, nat_lt, List, [], ◌∷◌, ◌++◌, Option, Some, None, option_map, option_and_then, Result, Ok, Err, if◌then◌else◌}
+use Rattle.std.specs.Prelude.{◌≡◌, ℕ, Bool, true, false, not, ◌&&◌, nat_lt, List, [], ◌∷◌, ◌++◌, Option, Some, None, option_map, option_and_then, Result, Ok, Err, if◌then◌else◌}
 use Rattle.std.specs.Str.{bytes_eq}
 use Rattle.off_base.specs.declared.addresses.Ip4.{Ip4}
-use Rattle.off_base.specs.declared.addresses.Peer.{Peer}
 use Rattle.off_base.specs.declared.macs.Mac.{Mac}
-use Rattle.off_defs.specs.declared.events.Service.TheVariants as service
 use Rattle.off_defs.specs.declared.keys.Key.TheVariants as key
 use Rattle.off_defs.specs.declared.tables.Row.TheVariants as row
 use Rattle.off_defs.specs.declared.tables.Site.{Site}
@@ -16,21 +14,22 @@ use Rattle.off_defs.specs.declared.tables.Lease.{Lease}
 use Rattle.off_defs.specs.declared.orders.Write.{Write}
 use Rattle.off_defs.specs.declared.orders.Write.TheVariants.{Put, Drop}
 use Rattle.off_defs.specs.declared.results.Sent.{Sent}
-use Rattle.off_defs.specs.declared.results.Sent.TheVariants as sent
 use Rattle.off_defs.specs.Clock.{later_by}
 use Rattle.off_defs.specs.State.{Tables}
 use Rattle.off_defs.specs.Tables.{write_all}
 use Rattle.off_dhcp.specs.declared.faults.DhcpFault.{DhcpFault}
 use Rattle.off_dhcp.specs.declared.offers.Offer.{Offer}
 use Rattle.off_dhcp.specs.Datagram.{Received, message_of}
-use Rattle.off_dhcp.specs.Reply.{nak_bytes, reply_bytes}
 use Rattle.off_account_rules.specs.Rows.{passes, lease_in}
 use Rattle.off_account_rules.specs.Good.{owner_of, is_address}
 use Rattle.off_account_rules.specs.Clerk.{held_drop}
 use Rattle.off_file_rules.specs.Name.{name_of}
-use Rattle.off_lease_rules.specs.Asking.{ip, client, is_discover, is_request, is_decline}
-use Rattle.off_lease_rules.specs.Free.{case_of, chosen_in, provided}
-use Rattle.off_lease_rules.specs.Rules.{rules_for, refused_by}
+use Rattle.off_asking.specs.Asking.{client, is_discover, is_request, is_decline}
+use Rattle.off_asking.specs.Choice.{provided}
+use Rattle.off_asking.specs.Claims.{refused_by}
+use Rattle.off_asking.specs.Sending.{nak_to, offer_named, reply_to}
+use Rattle.off_lease_rules.specs.Free.{case_of, chosen_in}
+use Rattle.off_lease_rules.specs.Rules.{rules_for}
 use Rattle.off_lease_rules.specs.Words.{unread}
 use Rattle.off_lease_rules.specs.declared.cases.Case.{Case}
 use Rattle.off_lease_rules.specs.declared.results.LeaseStep.{LeaseStep}
@@ -86,33 +85,14 @@ set_aside now mac address = lease_row address Declined 600 now ∷ Drop (key.Hel
 abbrev pub given_up : Mac → Ip4 → List Write
 given_up mac address = Drop (key.Lease address) ∷ Drop (key.Held mac) ∷ []
 
--- ---- what is sent: to the relay's server port, or to the client's own port (RFC 2131 section 4.1)
-
-abbrev pub peer_at : Ip4 → ℕ → Peer
-peer_at address port = record { ip = address; port = port }
-
-abbrev pub destination : Received → Ip4 → Peer
-destination m direct = if m.giaddr == 0 then peer_at direct 68 else peer_at (ip m.giaddr) 67
-
-abbrev pub nak_to : Received → Site → Sent
-nak_to m site =
-    sent.Datagram service.Dhcp (destination m (ip 0xffffffff)) (nak_bytes m site.server.0)
+-- ---- what is sent
 
 abbrev pub offer_of : ℕ → Received → Site → Pool → Ip4 → Offer
 offer_of kind m site pool address =
-    record {
-      kind = kind;
-      yiaddr = address;
-      site = site;
-      pool = pool;
-      name = name_of site.secret (client m) address;
-    }
+    offer_named kind site pool (name_of site.secret (client m) address) address
 
--- without a relay it is an ACK, since no pool serves a DISCOVER then
 abbrev pub offer_to : ℕ → Received → Site → Pool → Ip4 → Sent
-offer_to kind m site pool address =
-    sent.Datagram service.Dhcp (destination m (ip m.ciaddr))
-    (reply_bytes m (offer_of kind m site pool address))
+offer_to kind m site pool address = reply_to m (offer_of kind m site pool address)
 
 -- an OFFER (2) or an ACK (5), where the site, the pool and the address are there
 abbrev pub reply_for : ℕ → Received → Case → Option Ip4 → Option Sent

@@ -3,13 +3,9 @@
 #![tactic(auto)]
 
 mod cases;
-mod forms;
-mod kinds;
 mod results;
 mod words;
 
 pub use cases::Case;
-pub use forms::{Form, Named};
-pub use kinds::Kind;
 pub use results::LeaseStep;
 pub use words::DhcpWord;

@@ -1,12 +1,12 @@
 -- A relay's query, and so each datagram to the DHCP port: to the step of the book.
-use Rattle.std.proofs.Common.{◌≡◌, ℕ, true, false, inl, List, [], Option, Some, None, Result, Ok, Err, OnOk, MatchResult, refl, sym, ap, ◌∙◌, subst}
+use Rattle.std.proofs.Common.{◌≡◌, ℕ, true, false, inl, List, [], Option, Some, None, Result, Ok, Err, MatchResult, refl, sym, ap, ◌∙◌, subst}
 use Rattle.off_base.specs.declared.addresses.Peer.{Peer}
 use Rattle.off_dhcp.specs.Datagram.{message_of}
 use Rattle.off_defs.specs.declared.events.Service.TheVariants.{Dhcp}
 use Rattle.off_defs.specs.declared.events.What.TheVariants.{Datagram}
 use Rattle.off_defs.specs.declared.results.Outcome.{Outcome}
 use Rattle.off_defs.specs.declared.results.Outcome.TheVariants.{Did}
-use Rattle.off_defs.specs.State.{Tables, Said, Effect, state_of}
+use Rattle.off_defs.specs.State.{Tables, Said, state_of}
 use Rattle.off_query_rules.specs.declared.results.QueryStep.{QueryStep}
 use Rattle.off_query_rules.specs.Asked.{query_of}
 use Rattle.off_query_rules.specs.Answers.{query_step}
@@ -23,7 +23,7 @@ use Rattle.off_office.specs.Conditions.{Mirrors}
 use Rattle.off_office.specs.Acting.{Handled, DoesOn, effect_of}
 use Rattle.off_office.specs.Asking.{dhcp_asks}
 use Rattle.off_office.specs.Leasing.{ServesDatagram, FailsMessage}
-use Rattle.off_office.specs.Querying.{SaysAnswer, DidQuery, AnswersQuery}
+use Rattle.off_office.specs.Querying.{DidQuery, AnswersQuery}
 use Rattle.off_office.proofs.LeaseLemmas.{said_nothing_more, message_handled, message_failed, undone_told}
 use Rattle.off_office.proofs.StepLemmas.{kept_unwritten}
 

@@ -1,5 +1,7 @@
 -- A datagram to the TFTP port, and a Tick, to the step of the book.
-use Rattle.std.proofs.Common.{◌≡◌, ℕ, inl, true, false, List, [], codes, Result, Ok, Err, IfOk, IfErr, MatchResult, refl, sym, ap, ◌∙◌, subst, append-nil}
+use Rattle.std.proofs.Common.{◌≡◌, ℕ, inl, true, false, Option, option_map, List, [], codes, Result, Ok, Err, IfOk, IfErr, MatchResult, refl, sym, ap, ◌∙◌, subst, append-nil}
+use Rattle.std.specs.List.{find}
+use Rattle.off_base.specs.declared.addresses.Ip4.{Ip4}
 use Rattle.off_base.specs.declared.addresses.Peer.{Peer}
 use Rattle.off_base.specs.declared.octets.NoMemory.{NoMemory}
 use Rattle.off_defs.specs.declared.events.Service.TheVariants.{Tftp}
@@ -8,6 +10,7 @@ use Rattle.off_defs.specs.declared.results.Outcome.{Outcome}
 use Rattle.off_defs.specs.declared.results.Outcome.TheVariants.{Did, Memory, Keeper}
 use Rattle.off_defs.specs.State.{Tables, Said, state_of, says_nothing, held_at_start}
 use Rattle.off_defs.proofs.CountLemmas.{tallied_none}
+use Rattle.off_account_rules.specs.Rows.{hub_of}
 use Rattle.off_account_rules.specs.declared.counts.Counts.{Counts}
 use Rattle.off_transfer_rules.specs.Transfers.{Transfers}
 use Rattle.off_transfer_rules.specs.Steps.{gives}
@@ -28,7 +31,8 @@ use Rattle.off_office.specs.Asking.{FewCalls}
 use Rattle.off_kept.specs.Entries.{Entries}
 use Rattle.off_kept.specs.Right.{AllRight}
 use Rattle.off_kept.proofs.RightLemmas.{none_right}
-use Rattle.off_runs.specs.Held.{PoolHeld, KeepsPools}
+use Rattle.off_runs.specs.Runs.{in_pool}
+use Rattle.off_runs.specs.Held.{Ground, PoolHeld, KeepsPools}
 use Rattle.off_runs.specs.Leases.{ground}
 use Rattle.off_users.specs.Users.{UsersHeld}
 use Rattle.off_users.specs.Kept.{NamedMap, Knows, map_of}
@@ -36,7 +40,7 @@ use Rattle.off_users.proofs.KeptLemmas.{stands_known}
 use Rattle.off_opening.specs.Standing.{Opens}
 use Rattle.off_opening.specs.declared.opening.Opening.TheVariants as Opening
 use Rattle.off_office.specs.Desk.{Desk}
-use Rattle.off_office.specs.Conditions.{Opened, Begun}
+use Rattle.off_office.specs.Conditions.{Mirrors, Opened, Begun}
 use Rattle.off_office.specs.Acting.{Handled, DoesOn, NotStarted, effect_of}
 use Rattle.off_office.specs.Answering.{failed_said}
 use Rattle.off_office.specs.Transferring.{moved, moved_with, MovesTransfers, DidPacket, SaysPacket, FailsPacket, DidTick, MissedTick, TakesTick}
@@ -91,13 +95,18 @@ said_whole clear said whole items line none more is =
     ∙ (ap (λ (s : Said). record s { line = line }) more
     ∙ ap (λ (s : Said). record (says_more s items) { line = line }) none)
 
-pub packet_did : (from : Peer) (bytes : List ℕ) (before after : Desk) (new : Transfers) (keeps : Entries) (clear said whole : Said) (word : TftpWord) (a b : KeeperSeen)
-    → Reads (λ t. AllRight t before.kept → AnswersKeeping t before.held.now before.held.transfers new from bytes clear said before.kept keeps word) a b
+-- the hub of an address is the one of the pool that has it among those that are kept
+abbrev pub IsHubAround : Desk → Ip4 → Option ℕ → Type 0
+IsHubAround desk ip hub = (g : Ground) → KeepsPools desk.pools g → hub ≡ option_map (λ e. g.hub e.0) (find (λ e. in_pool e.1 ip.0) g.pools)
+
+pub packet_did : (from : Peer) (bytes : List ℕ) (before after : Desk) (new : Transfers) (keeps : Entries) (clear said whole : Said) (word : TftpWord) (hub : Option ℕ)
+    (a b : KeeperSeen) → IsHubAround before from.ip hub
+    → Reads (λ t. hub ≡ hub_of t from.ip → AllRight t before.kept → AnswersKeeping t before.held.now before.held.transfers new from bytes clear said before.kept keeps word) a b
     → clear ≡ says_nothing → whole ≡ record said { line = tftp_line word } → after ≡ moved_with before new keeps
-    → Reads (λ t. AllRight t before.kept → DidPacket from bytes before after whole t) a b
-packet_did from bytes before after new keeps clear said whole word a b reads none is moves =
-    reads_as reads (λ t answers right.
-    let did = answers right in
+    → Reads (λ t. Mirrors before t → DidPacket from bytes before after whole t) a b
+packet_did from bytes before after new keeps clear said whole word hub a b around reads none is moves =
+    reads_as reads (λ t answers mirrors.
+    let did = answers (around (ground t) mirrors.pools) mirrors.kept in
     let kept_is : after.kept ≡ keeps = ap (λ (d : Desk). d.kept) moves in
     record {
       given = gives new did.answers.items word;
@@ -109,17 +118,17 @@ packet_did from bytes before after new keeps clear said whole word a b reads non
     })
 
 pub packet_told : (q : Result (Unit {0}) KeepErr) (r : Result TftpWord KeepErr) (word : TftpWord) (from : Peer) (bytes : List ℕ) (inside before : Desk) (new : Transfers) (keeps : Entries)
-    (clear said whole : Said) (a b : KeeperSeen)
-    → q ≡ Ok tt → r ≡ Ok word
-    → Looks r a b (λ w t. AllRight t inside.kept → AnswersKeeping t inside.held.now inside.held.transfers new from bytes clear said inside.kept keeps w)
+    (clear said whole : Said) (hub : Option ℕ) (a b : KeeperSeen)
+    → q ≡ Ok tt → r ≡ Ok word → IsHubAround inside from.ip hub
+    → Looks r a b (λ w t. hub ≡ hub_of t from.ip → AllRight t inside.kept → AnswersKeeping t inside.held.now inside.held.transfers new from bytes clear said inside.kept keeps w)
     → inside ≡ before → clear ≡ says_nothing → whole ≡ record said { line = tftp_line word }
-    → Looks q a b (λ _ t. AllRight t before.kept → DidPacket from bytes before (moved_with inside new keeps) whole t)
-packet_told q r word from bytes inside before new keeps clear said whole a b done read told seen none is =
-    subst (λ (d : Desk). Looks q a b (λ _ t. AllRight t d.kept → DidPacket from bytes d (moved_with inside new keeps) whole t)) seen
-    (subst (λ (x : Result (Unit {0}) KeepErr). Looks x a b (λ _ t. AllRight t inside.kept → DidPacket from bytes inside (moved_with inside new keeps) whole t)) (sym done)
-    (packet_did from bytes inside (moved_with inside new keeps) new keeps clear said whole word a b
+    → Looks q a b (λ _ t. Mirrors before t → DidPacket from bytes before (moved_with inside new keeps) whole t)
+packet_told q r word from bytes inside before new keeps clear said whole hub a b done read around told seen none is =
+    subst (λ (d : Desk). Looks q a b (λ _ t. Mirrors d t → DidPacket from bytes d (moved_with inside new keeps) whole t)) seen
+    (subst (λ (x : Result (Unit {0}) KeepErr). Looks x a b (λ _ t. Mirrors inside t → DidPacket from bytes inside (moved_with inside new keeps) whole t)) (sym done)
+    (packet_did from bytes inside (moved_with inside new keeps) new keeps clear said whole word hub a b around
     (subst
-    (λ (x : Result TftpWord KeepErr). Looks x a b (λ w t. AllRight t inside.kept → AnswersKeeping t inside.held.now inside.held.transfers new from bytes clear said inside.kept keeps w))
+    (λ (x : Result TftpWord KeepErr). Looks x a b (λ w t. hub ≡ hub_of t from.ip → AllRight t inside.kept → AnswersKeeping t inside.held.now inside.held.transfers new from bytes clear said inside.kept keeps w))
     read told)
     none is refl))
 
@@ -143,22 +152,22 @@ packet_does from bytes before after said t did = record {
 }
 
 pub packet_handled : (from : Peer) (bytes : List ℕ) (said : Said) (before after : Desk) (a b : KeeperSeen) → Rests a
-    → Reads (λ t. AllRight t before.kept → DidPacket from bytes before after said t) a b → MovesTransfers before after
+    → Reads (λ t. Mirrors before t → DidPacket from bytes before after said t) a b → MovesTransfers before after
     → SaysPacket said → Spent (datagram_calls before.held.transfers from bytes) a b → FewCalls from bytes before after a b
     → Handled (Datagram Tftp from bytes) Did said before after a b
 packet_handled from bytes said before after a b rests reads moves says spent few = record {
   commit = [];
   tables = reads_told reads (λ t did. record {
-    holds = λ mirrors. packet_does from bytes before after said t (did mirrors.kept);
+    holds = λ mirrors. packet_does from bytes before after said t (did mirrors);
     stays = λ fits. record {
       counts = ap (λ (d : Desk). d.counts) moves ∙ fits.mirrors.counts;
-      kept = (did fits.mirrors.kept).right;
+      kept = (did fits.mirrors).right;
       pools = subst (λ (pools : List PoolHeld). KeepsPools pools (ground t)) (sym (ap (λ (d : Desk). d.pools) moves)) fits.mirrors.pools;
       users = subst (λ (users : NamedMap). Knows users t) (sym (ap (λ (d : Desk). d.users) moves)) fits.mirrors.users;
     };
   });
   written = reads_told reads (λ t did. refl);
-  keeps = reads_told reads (λ t did mirrors. (did mirrors.kept).keeps);
+  keeps = reads_told reads (λ t did mirrors. (did mirrors).keeps);
   few = few;
   up = λ up. inl (reads.quiet.up up);
   faults = reads.quiet.faults;

@@ -8,7 +8,7 @@ use Rattle.off_defs.specs.declared.orders.Write.{Write}
 use Rattle.off_defs.specs.declared.events.Service.TheVariants.{Dhcp, Time, Tftp}
 use Rattle.off_defs.specs.declared.events.What.{What}
 use Rattle.off_defs.specs.declared.events.What.TheVariants.{Datagram, Piece, Closed, Tick, End}
-use Rattle.off_defs.specs.State.{Held}
+use Rattle.off_defs.specs.State.{Held, Tables}
 use Rattle.off_dhcp.specs.Datagram.{Received, message_of}
 use Rattle.off_dhcp.specs.declared.faults.DhcpFault.{DhcpFault}
 use Rattle.off_query_rules.specs.Asked.{query_of}
@@ -21,6 +21,7 @@ use Rattle.off_book.specs.Http.{is_full, heard_of}
 use Rattle.off_outside.specs.KeeperSeen.{KeeperSeen}
 use Rattle.off_outside.specs.KeeperCalls.{Spent}
 use Rattle.off_accounts.specs.Deciding.{most_calls}
+use Rattle.off_accounts.specs.Walking.{walking_calls}
 use Rattle.off_tftp.specs.Keeping.{FewWhereKept, FewWhereBegun}
 use Rattle.off_office.specs.Desk.{Desk}
 
@@ -48,6 +49,14 @@ most_commits (Import kind batch digest rows) = 1
 -- a command is decided, and committed
 abbrev pub command_calls : Command → Option ℕ
 command_calls command = option_map (λ n. n + most_commits command) (most_calls command)
+
+-- and so is one that walks over pools or leases, whose calls hang on the tables that are told
+abbrev pub walked_calls : Command → Tables → Option ℕ
+walked_calls command t = option_map (λ n. n + most_commits command) (walking_calls command t)
+
+abbrev pub CommandWalks : Command → KeeperSeen → KeeperSeen → Type 0
+CommandWalks command old new =
+    (t : Tables) → old.tables t → SpentWithin (walked_calls command t) old new
 
 -- a request that is at fault by itself asks nothing
 abbrev pub request_calls : Result Command ClerkErr → Option ℕ

@@ -4,9 +4,10 @@ ghost use Rattle.off_defs.specs.Told.{Told};
 ghost use Rattle.off_rows.specs.Sound.{is_sound};
 ghost use Rattle.off_table_laws.specs.Laws.{secret_fits};
 ghost use Rattle.off_accounts.specs.Deciding.{most_calls};
+ghost use Rattle.off_accounts.specs.Walking.{WalksWithin};
 ghost use Rattle.off_outside.specs.KeeperCalls.{Reads, Settled, NotCommitted, IsWritten, Spent};
 ghost use Rattle.off_office.specs.Asking.{SpentWithin, command_calls, most_commits};
-ghost use Rattle.off_office.specs.Asking.{commit_calls};
+ghost use Rattle.off_office.specs.Asking.{commit_calls, CommandWalks};
 ghost use Rattle.off_office.specs.Conditions.{StaysFit, Follows};
 ghost use Rattle.off_office.specs.Answering.{IsPlanned, NotPlanned, Commanded, NotCommanded};
 ghost use Rattle.off_office.specs.Answering.{CountsRows};
@@ -49,6 +50,7 @@ impl Office {
             (StaysFit self.old self.new)) }
         ensures spent { SpentWithin (command_calls c.now)
             (K.seen keeper.old) (K.seen keeper.new) }
+        ensures walks { CommandWalks c.now (K.seen keeper.old) (K.seen keeper.new) }
     {
         self.reach(at);
         let planned = self.plan(keeper, c)?;
@@ -69,6 +71,7 @@ impl Office {
         ensures commits { IfOk result
             (λ planned. commit_calls planned.writes ≤ most_commits c.now) }
         ensures spent { SpentWithin (most_calls c.now) (K.seen keeper.old) (K.seen keeper.new) }
+        ensures walks { WalksWithin c.now (K.seen keeper.old) (K.seen keeper.new) }
     {
         match decide(self.alloc, keeper, &self.counts, &self.users, self.now, c) {
             Ok(planned) => Ok(planned),

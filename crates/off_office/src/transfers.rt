@@ -3,10 +3,10 @@ ghost use Rattle.off_defs.specs.State.{says_nothing};
 ghost use Rattle.off_transfer_rules.specs.Words.{tftp_line, tick_line};
 ghost use Rattle.off_transfer_rules.specs.declared.words.TftpWord.TheVariants as word;
 ghost use Rattle.off_outside.specs.KeeperCalls.{Looks, Spent};
-ghost use Rattle.off_kept.specs.Right.{AllRight};
 ghost use Rattle.off_tftp.specs.Calls.{datagram_calls};
 ghost use Rattle.off_office.specs.Acting.{Handled};
 ghost use Rattle.off_office.specs.Asking.{FewCalls};
+ghost use Rattle.off_office.specs.Conditions.{Mirrors};
 ghost use Rattle.off_office.specs.Transferring.{MovesTransfers, DidPacket, SaysPacket};
 ghost use Rattle.off_office.specs.Transferring.{FailsPacket, TakesTick};
 
@@ -46,7 +46,7 @@ impl Office {
     ) -> Result<(), KeepErr>
         requires { out.old ≡ says_nothing }
         ensures told { Looks result (K.seen keeper.old) (K.seen keeper.new)
-            (λ _ t. AllRight t self.old.kept
+            (λ _ t. Mirrors self.old t
             → DidPacket from bytes.now self.old self.new out.new t) }
         ensures moves { MovesTransfers self.old self.new }
         ensures says { OnOk result (SaysPacket out.new) }
@@ -56,10 +56,12 @@ impl Office {
         ensures few { FewCalls from bytes.now self.old self.new
             (K.seen keeper.old) (K.seen keeper.new) }
     {
+        let hub = self.runs.hub_around(from.ip);
         match self.transfers.on_datagram(
             self.alloc,
             keeper,
             &mut self.kept,
+            hub,
             self.now,
             from,
             bytes,

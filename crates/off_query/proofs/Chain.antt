@@ -1,4 +1,8 @@
 -- Calls of a keeper in a row, and how many there are.
 use Rattle.off_outside.proofs.KeeperLemmas.{reads_then, reads_as, reads_none, reads_forgotten, failed_then, spent_none, spent_one, spent_then, spent_within}
+use Rattle.off_query.proofs.StageLemmas.{case_by_hub}
 
 pub ruleset rows = (reads_then, reads_as, reads_none, reads_forgotten, failed_then, spent_none, spent_one, spent_then, spent_within)
+
+-- the same, where the case of a query is that of its relay's hub
+pub ruleset cases = (rows, case_by_hub)

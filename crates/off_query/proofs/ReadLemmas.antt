@@ -1,5 +1,5 @@
 -- When a head is a query.
-use Rattle.std.proofs.Common.{◌≡◌, ℕ, Bool, true, false, cond, ◌&&◌, List, Option, Some, None, refl, sym, ap, ◌∙◌, subst}
+use Rattle.std.proofs.Common.{◌≡◌, ℕ, Bool, true, false, cond, ◌&&◌, List, Some, None, refl, ap, ◌∙◌, subst}
 use Rattle.off_dhcp.specs.Datagram.{has_head, head_of, options_in}
 use Rattle.off_query_rules.specs.Asked.{says_query, is_query, query_of}
 

@@ -1,23 +1,36 @@
 -- The walk for a pool that is wanted.
-use Rattle.std.proofs.Common.{◌≡◌, ℕ, ◌<◌, true, false, cond, Option, Some, None, is_some, option_map, List, ◌∷◌, nat_lt, refl, sym, ap, ◌∙◌, arith}
+use Rattle.std.proofs.Common.{◌≡◌, ℕ, ◌<◌, ◌==◌, true, false, cond, Option, Some, None, is_some, option_map, List, ◌∷◌, nat_lt, refl, sym, ap, ◌∙◌, arith}
 use Rattle.std.proofs.lemmas.Bool.{ltb-true}
 use Rattle.std.specs.List.{find, filter_map, cons_option}
 use Rattle.std.specs.Option.{option_or}
 use Rattle.std.specs.FinMap as map
+use Rattle.off_base.specs.declared.addresses.Ip4.{Ip4}
 use Rattle.off_defs.specs.declared.keys.Key.{Key}
 use Rattle.off_defs.specs.declared.tables.Row.{Row}
 use Rattle.off_defs.specs.declared.tables.Pool.{Pool}
 use Rattle.off_defs.specs.State.{Tables}
 use Rattle.off_defs.specs.Tables.{behind, next_entry}
 use Rattle.off_rows.specs.KeyBytes.{kind_of}
-use Rattle.off_account_rules.specs.Rows.{pool_of, pools}
+use Rattle.off_account_rules.specs.Rows.{pool_of, pools, has_address, pool_hub_in, hub_of}
 use Rattle.off_readers.proofs.WalkLemmas.{kinds_rise, kinds_fall}
 use Rattle.off_readers.proofs.KindLemmas.{only_pools}
 use Rattle.off_readers.proofs.FoldLemmas.{fold_next, fold_none, fold_begin, fold_past}
-use Rattle.off_lease_rules.specs.Free.{provided}
-use Rattle.off_query_rules.specs.Hubs.{wants, pool_with}
+use Rattle.off_asking.specs.Choice.{provided}
+use Rattle.off_query_rules.specs.Hubs.{wants, wanted_pool, wanted_hub}
 use Rattle.off_query_rules.specs.declared.wanted.Wanted.{Wanted}
+use Rattle.off_query_rules.specs.declared.wanted.Wanted.TheVariants.{Relay, Address}
 use Rattle.off_query.specs.Walked.{wanting}
+
+-- the hub of a pool's number is that of the pool
+hub_of_number : (t : Tables) (o : Option (ℕ × Pool)) → option_map (pool_hub_in t) (option_map (λ (e : ℕ × Pool). e.0) o) ≡ option_map (λ (e : ℕ × Pool). pool_hub_in t e.0) o
+hub_of_number t None = refl
+hub_of_number t (Some e) = refl
+
+pub relay_hub : (t : Tables) (relay : Ip4) → wanted_hub t (Relay relay) ≡ option_map (λ (e : ℕ × Pool). pool_hub_in t e.0) (find (λ (e : ℕ × Pool). e.1.relay.0 == relay.0) (pools t))
+relay_hub t relay = hub_of_number t (find (λ (e : ℕ × Pool). e.1.relay.0 == relay.0) (pools t))
+
+pub address_hub : (t : Tables) (address : Ip4) → wanted_hub t (Address address) ≡ hub_of t address
+address_hub t address = hub_of_number t (find (λ (e : ℕ × Pool). has_address e.1 address) (pools t))
 
 -- the pool that is wanted, of entries
 abbrev found_in : Wanted → List (Key × Row) → Option ℕ
@@ -64,10 +77,10 @@ left_begins w place t lower =
     let not_above = kinds_fall place e.0 before in
     adds_none w e found (wants_none w e (λ is. omega arith)))
 
-pub left_none : (w : Wanted) (place : Key) (t : Tables) → IsLeft w place t → None ≡ next_entry (Some place) t → None ≡ pool_with t w
+pub left_none : (w : Wanted) (place : Key) (t : Tables) → IsLeft w place t → None ≡ next_entry (Some place) t → None ≡ wanted_pool t w
 left_none w place t left next = sym (left ∙ fold_none (found_in w) (add w) (makes w) (Some place) t next)
 
-pub left_past : (w : Wanted) (place : Key) (e : Key × Row) (t : Tables) → nat_lt 6 (kind_of e.0) ≡ true → IsLeft w place t → Some e ≡ next_entry (Some place) t → None ≡ pool_with t w
+pub left_past : (w : Wanted) (place : Key) (e : Key × Row) (t : Tables) → nat_lt 6 (kind_of e.0) ≡ true → IsLeft w place t → Some e ≡ next_entry (Some place) t → None ≡ wanted_pool t w
 left_past w place e t past left next =
     let higher : 6 < kind_of e.0 = ltb-true 6 (kind_of e.0) past in
     sym (left
@@ -76,7 +89,7 @@ left_past w place e t past left next =
     (λ other found after. let not_below = kinds_rise e.0 other.0 after in adds_none w other found (wants_none w other (λ is. omega arith))))
 
 pub left_found : (w : Wanted) (place : Key) (e : Key × Row) (pool : Option ℕ) (t : Tables) → pool ≡ wanting w e → is_some pool ≡ true → IsLeft w place t
-    → Some e ≡ next_entry (Some place) t → pool ≡ pool_with t w
+    → Some e ≡ next_entry (Some place) t → pool ≡ wanted_pool t w
 left_found w place e pool t is some left next =
     adds_some w e pool _ is some ∙ sym (left ∙ fold_next (found_in w) (add w) (makes w) (Some place) e t next)
 

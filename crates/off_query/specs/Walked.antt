@@ -1,10 +1,9 @@
 -- The walk for a pool that is wanted.
-use Rattle.std.specs.Prelude.{ℕ, Bool, true, false, Option, Some, None, option_map, if◌then◌else◌}
+use Rattle.std.specs.Prelude.{ℕ, Option, option_map}
 use Rattle.off_defs.specs.declared.keys.Key.{Key}
 use Rattle.off_defs.specs.declared.tables.Row.{Row}
-use Rattle.off_defs.specs.declared.tables.Pool.{Pool}
 use Rattle.off_account_rules.specs.Rows.{pool_of}
-use Rattle.off_lease_rules.specs.Free.{provided}
+use Rattle.off_asking.specs.Choice.{provided}
 use Rattle.off_query_rules.specs.Hubs.{wants}
 use Rattle.off_query_rules.specs.declared.wanted.Wanted.{Wanted}
 

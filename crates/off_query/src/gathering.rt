@@ -1,18 +1,16 @@
 //! The rows of a query that aren't pools.
 
 ghost use Rattle.std.specs.Prelude.{◌≡◌, None, option_and_then};
-ghost use Rattle.off_account_rules.specs.Rows.{lease_in};
-ghost use Rattle.off_query_rules.specs.Hubs.{hub_in};
+ghost use Rattle.off_account_rules.specs.Rows.{hub_in, lease_in};
 ghost use Rattle.off_query_rules.specs.Answers.{asked_address, case_with};
 ghost use Rattle.off_query.specs.Calls.{asked_calls};
 ghost use Rattle.off_outside.specs.KeeperCalls.{Looks, Spent};
 
-use crate::pools::read_hub;
 use off_base::Ip4;
 use off_defs::Lease;
 use off_outside::{KeepErr, Keeper};
 use off_query_rules::{QueryCase, Question};
-use off_readers::{read_held, read_lease};
+use off_readers::{read_held, read_hub, read_lease};
 use std::alloc::Global;
 
 /// What is there for a relay that no pool has.

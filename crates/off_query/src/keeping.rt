@@ -4,25 +4,26 @@ ghost use Rattle.std.specs.Prelude.{◌≡◌, Some};
 ghost use Rattle.off_defs.specs.State.{Tables};
 ghost use Rattle.off_runs.specs.Held.{KeepsPools};
 ghost use Rattle.off_runs.specs.Leases.{ground};
-ghost use Rattle.off_lease_rules.specs.Free.{provided};
+ghost use Rattle.off_asking.specs.Choice.{provided};
 ghost use Rattle.off_query_rules.specs.Asked.{question_of};
-ghost use Rattle.off_query_rules.specs.Hubs.{lies_in_hub, pool_with, hub_for};
+ghost use Rattle.off_query_rules.specs.Hubs.{lies_in_hub, wanted_hub};
 ghost use Rattle.off_query_rules.specs.Answers.{case_at, query_case};
+ghost use Rattle.off_query_rules.specs.declared.wanted.Wanted.TheVariants.{Relay};
 ghost use Rattle.off_query.specs.Calls.{question_calls};
 ghost use Rattle.off_outside.specs.KeeperCalls.{Looks, Spent};
 
 use crate::Query;
 use crate::asking::question_of;
 use crate::gathering::{asked_address, no_case, read_case};
-use crate::pools::{hub_of, within};
+use crate::pools::within;
 use off_base::Ip4;
 use off_outside::{KeepErr, Keeper};
-use off_query_rules::{QueryCase, Question, Wanted};
+use off_query_rules::{QueryCase, Question};
 use off_runs::FreeRuns;
 use std::alloc::Global;
 
 /// The rows by which a query is answered.
-#[tactic(auto, using(crate::proofs::Chain::rows), unfolding(off_query_rules::specs::Answers::query_case))]
+#[tactic(auto, using(crate::proofs::Chain::rows))]
 pub(crate) fn gather<K: Keeper>(
     alloc: Global,
     keeper: &mut K,
@@ -34,7 +35,7 @@ pub(crate) fn gather<K: Keeper>(
     ensures spent { Spent (question_calls (question_of q.now))
         (K.seen keeper.old) (K.seen keeper.new) }
 {
-    match hub_for(runs, Wanted::Relay(q.giaddr())) {
+    match hub_behind(runs, q.giaddr()) {
         Some(hub) => gather_of(alloc, keeper, runs, question_of(q), hub),
         None => Ok(no_case()),
     }
@@ -66,23 +67,13 @@ fn only_within(runs: &FreeRuns, hub: u32, address: Option<Ip4>) -> Option<Ip4>
     let Some(address) = address else {
         return None;
     };
-    let other = hub_for(runs, Wanted::Address(address));
-    within(hub, other, address)
+    within(hub, runs.hub_around(address), address)
 }
 
-// The hub of the pool that is wanted.
-fn hub_for(runs: &FreeRuns, wanted: Wanted) -> Option<u32>
-    ensures { (t : Tables) → KeepsPools runs.now.pools (ground t) → result ≡ hub_for t wanted }
+// The hub of the pool behind a relay.
+fn hub_behind(runs: &FreeRuns, relay: Ip4) -> Option<u32>
+    ensures { (t : Tables) → KeepsPools runs.now.pools (ground t)
+        → result ≡ wanted_hub t (Relay relay) }
 {
-    hub_of(pool_with(runs, wanted))
-}
-
-// The number of the pool that is wanted.
-fn pool_with(runs: &FreeRuns, wanted: Wanted) -> Option<u32>
-    ensures { (t : Tables) → KeepsPools runs.now.pools (ground t) → result ≡ pool_with t wanted }
-{
-    match wanted {
-        Wanted::Relay(relay) => runs.by_relay(relay),
-        Wanted::Address(address) => runs.pool_of(address),
-    }
+    runs.hub_behind(relay)
 }

@@ -1,8 +1,9 @@
-//! The rows by which a query is answered, over the keeper alone: pools are looked for in the tables.
+//! The rows by which a query is answered, over the keeper alone: pools are looked for in the
+//! tables.
 
 ghost use Rattle.std.specs.Prelude.{◌≡◌, Some};
-ghost use Rattle.off_lease_rules.specs.Free.{provided};
-ghost use Rattle.off_query_rules.specs.Hubs.{lies_in_hub, pool_with, hub_for};
+ghost use Rattle.off_asking.specs.Choice.{provided};
+ghost use Rattle.off_query_rules.specs.Hubs.{lies_in_hub, wanted_pool, wanted_hub};
 ghost use Rattle.off_query_rules.specs.Answers.{case_at, query_case};
 ghost use Rattle.off_query.specs.Walked.{wanting};
 ghost use Rattle.off_outside.specs.KeeperCalls.{Looks};
@@ -10,16 +11,16 @@ ghost use Rattle.off_outside.specs.KeeperCalls.{Looks};
 use crate::Query;
 use crate::asking::question_of;
 use crate::gathering::{asked_address, no_case, read_case};
-use crate::pools::{hub_of, wants, within};
+use crate::pools::{wants, within};
 use off_base::Ip4;
 use off_defs::{Key, Row};
 use off_outside::{KeepErr, Keeper};
 use off_query_rules::{QueryCase, Question, Wanted};
-use off_readers::{is_past_pools, is_possible, next_behind};
+use off_readers::{is_past_pools, is_possible, next_behind, read_pool_hub};
 use std::alloc::Global;
 
 /// The rows by which a query is answered. It walks over the pools.
-#[tactic(auto, using(crate::proofs::Chain::rows), unfolding(off_query_rules::specs::Answers::query_case))]
+#[tactic(auto, using(crate::proofs::Chain::cases))]
 pub(crate) fn gather<K: Keeper>(
     alloc: Global,
     keeper: &mut K,
@@ -28,7 +29,7 @@ pub(crate) fn gather<K: Keeper>(
     ensures { Looks result (K.seen keeper.old) (K.seen keeper.new)
         (λ case t. case ≡ query_case t q.now) }
 {
-    let hub = hub_for(alloc, keeper, Wanted::Relay(q.giaddr()))?;
+    let hub = wanted_hub(alloc, keeper, Wanted::Relay(q.giaddr()))?;
     match hub {
         Some(hub) => gather_of(alloc, keeper, question_of(q), hub),
         None => Ok(no_case()),
@@ -65,28 +66,34 @@ fn only_within<K: Keeper>(
     let Some(address) = address else {
         return Ok(None);
     };
-    let other = hub_for(alloc, keeper, Wanted::Address(address))?;
+    let other = wanted_hub(alloc, keeper, Wanted::Address(address))?;
     Ok(within(hub, other, address))
 }
 
-// The hub of the pool that is wanted.
+// The hub of the first pool that is wanted.
 #[tactic(auto, using(crate::proofs::Chain::rows))]
-fn hub_for<K: Keeper>(alloc: Global, keeper: &mut K, wanted: Wanted) -> Result<Option<u32>, KeepErr>
-    ensures { Looks result (K.seen keeper.old) (K.seen keeper.new)
-        (λ hub t. hub ≡ hub_for t wanted) }
-{
-    let number = pool_with(alloc, keeper, wanted)?;
-    Ok(hub_of(number))
-}
-
-// The number of the first pool that is wanted.
-fn pool_with<K: Keeper>(
+fn wanted_hub<K: Keeper>(
     alloc: Global,
     keeper: &mut K,
     wanted: Wanted,
 ) -> Result<Option<u32>, KeepErr>
     ensures { Looks result (K.seen keeper.old) (K.seen keeper.new)
-        (λ number t. number ≡ pool_with t wanted) }
+        (λ hub t. hub ≡ wanted_hub t wanted) }
+{
+    match wanted_pool(alloc, keeper, wanted)? {
+        Some(number) => Ok(Some(read_pool_hub(alloc, keeper, number)?)),
+        None => Ok(None),
+    }
+}
+
+// The number of the first pool that is wanted.
+fn wanted_pool<K: Keeper>(
+    alloc: Global,
+    keeper: &mut K,
+    wanted: Wanted,
+) -> Result<Option<u32>, KeepErr>
+    ensures { Looks result (K.seen keeper.old) (K.seen keeper.new)
+        (λ number t. number ≡ wanted_pool t wanted) }
 {
     let mut place = Key::Class(u32::MAX);
     'walk: loop {

@@ -4,12 +4,12 @@ use Rattle.off_base.specs.declared.addresses.Ip4.{Ip4}
 use Rattle.off_base.specs.declared.macs.Mac.{Mac}
 use Rattle.off_defs.specs.declared.tables.Lease.{Lease}
 use Rattle.off_defs.specs.State.{Tables}
-use Rattle.off_account_rules.specs.Rows.{lease_in, held_in}
+use Rattle.off_account_rules.specs.Rows.{hub_in, lease_in, held_in}
 use Rattle.off_account_rules.specs.Good.{owner_of, Good}
 use Rattle.off_table_laws.proofs.TableLaws.{owners_hold}
-use Rattle.off_lease_rules.specs.Free.{provided}
+use Rattle.off_asking.specs.Choice.{provided}
 use Rattle.off_query_rules.specs.Asked.{giaddr_of, question_of}
-use Rattle.off_query_rules.specs.Hubs.{hub_in, hub_for, lies_in_hub}
+use Rattle.off_query_rules.specs.Hubs.{wanted_hub, lies_in_hub}
 use Rattle.off_query_rules.specs.Answers.{asked_address, case_at, query_case, settled, query_step}
 use Rattle.off_query_rules.specs.declared.questions.Question.{Question}
 use Rattle.off_query_rules.specs.declared.questions.Question.TheVariants.{ByAddress, ByMac, Formless}
@@ -72,13 +72,13 @@ module _ (t u : Tables) (good : Good t) (fine : Good u) (h : ℕ)
   }
 
 module _ (t u : Tables) (q : List ℕ) (good : Good t) (fine : Good u) (alike : AlikeFor (giaddr_of q) t u) where
-  by_hub : (o : Option ℕ) → hub_for t (Relay (giaddr_of q)) ≡ o → case_at t (question_of q) o ≡ case_at u (question_of q) o
+  by_hub : (o : Option ℕ) → wanted_hub t (Relay (giaddr_of q)) ≡ o → case_at t (question_of q) o ≡ case_at u (question_of q) o
   by_hub None is = refl
   by_hub (Some h) is = case_alike t u good fine h (alike.addresses h is) (alike.leases h is) (question_of q) (alike.row h is)
 
   cases_alike : query_case t q ≡ query_case u q
   unfolding query_case
-  cases_alike = by_hub (hub_for t (Relay (giaddr_of q))) refl ∙ ap (case_at u (question_of q)) alike.hub
+  cases_alike = by_hub (wanted_hub t (Relay (giaddr_of q))) refl ∙ ap (case_at u (question_of q)) alike.hub
 
 pub seen_alike : SeenAlike
 unfolding query_step

@@ -1,9 +1,9 @@
 -- A message of another kind is no query.
-use Rattle.std.proofs.Common.{◌≡◌, ℕ, Bool, true, false, cond, ◌&&◌, eqb, length, is_none, List, Option, Some, None, Result, Ok, Err, refl, sym, ap, ◌∙◌}
+use Rattle.std.proofs.Common.{◌≡◌, ℕ, Bool, true, false, cond, ◌&&◌, eqb, length, is_none, List, Option, Some, None, Ok, refl, sym, ap, ◌∙◌}
 use Rattle.off_dhcp.specs.declared.faults.DhcpFault.{DhcpFault}
-use Rattle.off_dhcp.specs.Datagram.{Received, received, received_unless, message_fault, message_of, has_head, options_in, option_in}
+use Rattle.off_dhcp.specs.Datagram.{Received, received, received_unless, message_fault, has_head, options_in, option_in}
 use Rattle.off_base.specs.Parts.{bytes_of}
-use Rattle.off_query_rules.specs.Asked.{is_query, query_of}
+use Rattle.off_query_rules.specs.Asked.{is_query}
 use Rattle.off_query_laws.specs.Laws.{MessagesAreNoQueries}
 
 other_kind : (head one none kind : Bool) → kind ≡ false → (head && (one && (kind && none))) ≡ false

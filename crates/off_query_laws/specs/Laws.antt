@@ -1,23 +1,24 @@
 -- What an answer to a query depends on.
-use Rattle.std.specs.Prelude.{◌≡◌, ℕ, ◌==◌, false, List, Option, Some, None, Ok, IsTrue}
+use Rattle.std.specs.Prelude.{◌≡◌, ℕ, ◌==◌, false, List, Some, None, Ok, IsTrue}
 use Rattle.off_base.specs.declared.addresses.Ip4.{Ip4}
 use Rattle.off_defs.specs.State.{Tables}
-use Rattle.off_account_rules.specs.Rows.{lease_in}
+use Rattle.off_account_rules.specs.Rows.{hub_in, lease_in}
 use Rattle.off_account_rules.specs.Good.{Good}
 use Rattle.off_dhcp.specs.Datagram.{Received, message_of}
 use Rattle.off_query_rules.specs.Asked.{giaddr_of, query_of}
-use Rattle.off_query_rules.specs.Hubs.{hub_in, hub_for, lies_in_hub}
+use Rattle.off_query_rules.specs.Hubs.{wanted_hub, lies_in_hub}
 use Rattle.off_query_rules.specs.Answers.{query_step}
 use Rattle.off_query_rules.specs.declared.wanted.Wanted.TheVariants.{Relay}
 
 -- what two tables have in common for a relay: its hub, or that no pool has it; and of that hub the
 -- row, the addresses, and the leases of these
 pub record AlikeFor (relay : Ip4) (t u : Tables) : Type 0 where
-  pub hub : hub_for t (Relay relay) ≡ hub_for u (Relay relay)
-  pub row : (h : ℕ) → hub_for t (Relay relay) ≡ Some h → hub_in t h ≡ hub_in u h
-  pub addresses : (h : ℕ) → hub_for t (Relay relay) ≡ Some h → (a : Ip4) →
+  pub hub : wanted_hub t (Relay relay) ≡ wanted_hub u (Relay relay)
+  pub row : (h : ℕ) → wanted_hub t (Relay relay) ≡ Some h → hub_in t h ≡ hub_in u h
+  pub addresses : (h : ℕ) → wanted_hub t (Relay relay) ≡ Some h → (a : Ip4) →
       lies_in_hub t h a ≡ lies_in_hub u h a
-  pub leases : (h : ℕ) → hub_for t (Relay relay) ≡ Some h → (a : Ip4) → IsTrue (lies_in_hub t h a)
+  pub leases : (h : ℕ) → wanted_hub t (Relay relay) ≡ Some h → (a : Ip4) →
+      IsTrue (lies_in_hub t h a)
       → lease_in t a ≡ lease_in u a
 
 abbrev pub SeenAlike : Type 0

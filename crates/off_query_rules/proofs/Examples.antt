@@ -6,14 +6,12 @@ use Rattle.off_base.specs.declared.macs.Mac.{Mac}
 use Rattle.off_defs.specs.declared.events.Service.TheVariants as service
 use Rattle.off_defs.specs.declared.tables.Site.{Site}
 use Rattle.off_defs.specs.declared.tables.Hold.{Hold}
-use Rattle.off_defs.specs.declared.tables.Hold.TheVariants.{Offered, Bound, Declined}
+use Rattle.off_defs.specs.declared.tables.Hold.TheVariants.{Offered, Bound}
 use Rattle.off_defs.specs.declared.tables.Lease.{Lease}
 use Rattle.off_defs.specs.declared.results.Sent.{Sent}
 use Rattle.off_defs.specs.declared.results.Sent.TheVariants as sent
-use Rattle.off_lease_rules.specs.Asking.{ip}
+use Rattle.off_asking.specs.Asking.{ip}
 use Rattle.off_query_rules.specs.declared.cases.QueryCase.{QueryCase}
-use Rattle.off_query_rules.specs.declared.results.QueryStep.{QueryStep}
-use Rattle.off_query_rules.specs.declared.words.QueryWord.{QueryWord}
 use Rattle.off_query_rules.specs.declared.words.QueryWord.TheVariants as word
 use Rattle.off_query_rules.specs.Asked.{is_query}
 use Rattle.off_query_rules.specs.Answers.{query_head, plain_bytes, active_bytes, settled}

@@ -1,6 +1,6 @@
 -- How a query is answered (RFC 4388 section 6.4), byte for byte. The words, their order and the
 -- layout of what isn't active are this project's profile.
-use Rattle.std.specs.Prelude.{◌≡◌, ℕ, ◌-◌, Bool, true, false, ◌&&◌, min, List, [], ◌∷◌, ◌++◌, length, slice_index, Option, Some, None, is_some, is_none, option_map, option_and_then, if◌then◌else◌}
+use Rattle.std.specs.Prelude.{ℕ, ◌-◌, Bool, true, ◌&&◌, min, List, [], ◌∷◌, ◌++◌, slice_index, Option, Some, None, is_some, is_none, option_map, option_and_then, if◌then◌else◌}
 use Rattle.std.specs.List.{slice_range}
 use Rattle.std.specs.Str.{bytes_eq}
 use Rattle.off_base.specs.declared.addresses.Ip4.{Ip4}
@@ -8,18 +8,19 @@ use Rattle.off_base.specs.declared.macs.Mac.{Mac}
 use Rattle.off_defs.specs.declared.events.Service.TheVariants as service
 use Rattle.off_defs.specs.declared.tables.Site.{Site}
 use Rattle.off_defs.specs.declared.tables.Hold.{Hold}
-use Rattle.off_defs.specs.declared.tables.Hold.TheVariants.{Offered, Bound, Declined}
+use Rattle.off_defs.specs.declared.tables.Hold.TheVariants.{Bound}
 use Rattle.off_defs.specs.declared.tables.Lease.{Lease}
 use Rattle.off_defs.specs.declared.results.Sent.{Sent}
 use Rattle.off_defs.specs.declared.results.Sent.TheVariants as sent
 use Rattle.off_defs.specs.State.{Tables}
 use Rattle.off_dhcp.specs.Datagram.{magic_cookie}
 use Rattle.off_dhcp.specs.Reply.{zeros, four, option, padded}
-use Rattle.off_account_rules.specs.Rows.{passes, lease_in, held_in}
-use Rattle.off_lease_rules.specs.Free.{provided}
-use Rattle.off_lease_rules.specs.Steps.{is_live_bound, peer_at}
+use Rattle.off_account_rules.specs.Rows.{passes, hub_in, lease_in, held_in}
+use Rattle.off_asking.specs.Choice.{provided}
+use Rattle.off_asking.specs.Sending.{peer_at}
+use Rattle.off_lease_rules.specs.Steps.{is_live_bound}
 use Rattle.off_query_rules.specs.Asked.{giaddr_of, question_of, is_formless, asks_by_address}
-use Rattle.off_query_rules.specs.Hubs.{hub_in, hub_for, lies_in_hub}
+use Rattle.off_query_rules.specs.Hubs.{wanted_hub, lies_in_hub}
 use Rattle.off_query_rules.specs.declared.cases.QueryCase.{QueryCase}
 use Rattle.off_query_rules.specs.declared.questions.Question.{Question}
 use Rattle.off_query_rules.specs.declared.questions.Question.TheVariants.{ByAddress, ByMac, Formless}
@@ -52,7 +53,7 @@ case_at tables question (Some hub) =
 
 unfoldable pub query_case : Tables → List ℕ → QueryCase
 query_case tables q =
-    case_at tables (question_of q) (hub_for tables (Relay (giaddr_of q)))
+    case_at tables (question_of q) (wanted_hub tables (Relay (giaddr_of q)))
 
 -- ---- the word: the first whose condition holds
 

@@ -1,5 +1,5 @@
 -- The entries that give a row of a kind have keys of that kind alone.
-use Rattle.std.proofs.Common.{◌≡◌, ℕ, None, refl}
+use Rattle.std.proofs.Common.{◌≡◌, None, refl}
 use Rattle.off_defs.specs.declared.keys.Key.{Key}
 use Rattle.off_defs.specs.declared.keys.Key.TheVariants as key
 use Rattle.off_defs.specs.declared.tables.Row.{Row}

@@ -2,10 +2,11 @@
 //! impossible row as none.
 
 ghost use Rattle.std.specs.Prelude.{◌≡◌, option_and_then};
-ghost use Rattle.off_account_rules.specs.Rows.{site_in, subscriber_in, add_on_in, modem_in, class_in};
+ghost use Rattle.off_account_rules.specs.Rows.{hub_key, hub_in, pool_hub_in, number_or_0};
+ghost use Rattle.off_account_rules.specs.Rows.{subscriber_in, add_on_in, modem_in, class_in};
 ghost use Rattle.off_account_rules.specs.Rows.{pool_in, lease_in, held_in, batch_in};
 ghost use Rattle.off_account_rules.specs.Rows.{as_site, as_subscriber, as_add_on, as_modem, as_class};
-ghost use Rattle.off_account_rules.specs.Rows.{as_pool, as_lease, as_held, as_batch};
+ghost use Rattle.off_account_rules.specs.Rows.{as_pool, as_pool_hub, as_lease, as_held, as_batch};
 ghost use Rattle.off_outside.specs.KeeperCalls.{Looks, WasCounted};
 
 use crate::reading::read_row;
@@ -14,13 +15,32 @@ use off_defs::{Batch, Class, Key, Lease, Modem, Pool, Row, Site, Subscriber};
 use off_outside::{KeepErr, Keeper};
 use std::alloc::Global;
 
-/// The site, or `None` where there is none.
-pub fn read_site<K: Keeper>(alloc: Global, keeper: &mut K) -> Result<Option<Site>, KeepErr>
+/// The site of a hub, or `None` where there is none.
+pub fn read_hub<K: Keeper>(alloc: Global, keeper: &mut K, n: u32) -> Result<Option<Site>, KeepErr>
     ensures told { Looks result (K.seen keeper.old) (K.seen keeper.new)
-        (λ site t. site ≡ site_in t) }
+        (λ site t. site ≡ hub_in t n) }
     ensures counted { WasCounted (K.seen keeper.old) (K.seen keeper.new) }
 {
-    Ok(as_site(read_row(alloc, keeper, &Key::Site)?))
+    Ok(as_site(read_row(alloc, keeper, &hub_key(n))?))
+}
+
+// The hub 0 has the one row of a site as yet.
+fn hub_key(n: u32) -> Key
+    ensures { result ≡ hub_key n }
+{
+    match n {
+        0 => Key::Site,
+        _ => Key::Hub(n),
+    }
+}
+
+/// The number of a pool's hub, which is 0 where none is named.
+pub fn read_pool_hub<K: Keeper>(alloc: Global, keeper: &mut K, n: u32) -> Result<u32, KeepErr>
+    ensures told { Looks result (K.seen keeper.old) (K.seen keeper.new)
+        (λ hub t. hub ≡ pool_hub_in t n) }
+    ensures counted { WasCounted (K.seen keeper.old) (K.seen keeper.new) }
+{
+    Ok(named_hub(read_row(alloc, keeper, &Key::PoolHub(n))?))
 }
 
 /// The subscriber of a number, or `None` where there is none.
@@ -118,6 +138,17 @@ pub fn read_batch<K: Keeper>(
     ensures counted { WasCounted (K.seen keeper.old) (K.seen keeper.new) }
 {
     Ok(as_batch(read_row(alloc, keeper, &Key::Batch(n))?))
+}
+
+// The hub that a row names, or the hub 0.
+fn named_hub(row: Option<Row>) -> u32
+    ensures { result ≡ number_or_0 (option_and_then as_pool_hub row) }
+{
+    let Some(row) = row else { return 0 };
+    match &row {
+        Row::PoolHub(hub) => *hub,
+        _ => 0,
+    }
 }
 
 fn as_site(row: Option<Row>) -> Option<Site>

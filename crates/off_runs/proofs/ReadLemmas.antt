@@ -17,7 +17,7 @@ use Rattle.off_defs.specs.declared.orders.Write.{Write}
 use Rattle.off_defs.specs.Keys.{key_cmp}
 use Rattle.off_defs.specs.State.{Tables}
 use Rattle.off_defs.specs.Tables.{row_at, next_entry}
-use Rattle.off_account_rules.specs.Rows.{pools, pool_in}
+use Rattle.off_account_rules.specs.Rows.{pools, pool_in, pool_hub_in}
 use Rattle.off_rows.specs.KeyBytes.{kind_of}
 use Rattle.off_outside.specs.KeeperSeen.{KeeperSeen}
 use Rattle.off_outside.specs.KeeperCalls.{Reads}
@@ -26,7 +26,8 @@ use Rattle.off_readers.proofs.GatherLemmas.{Gathered}
 use Rattle.off_readers.proofs.WalkLemmas.{OnlyAt, left_of, left_next, left_none, kind_begins, kind_ends}
 use Rattle.off_runs.specs.Runs.{address}
 use Rattle.off_runs.specs.Held.{PoolHeld, HasLeases, HasHub, KeepsPools}
-use Rattle.off_runs.specs.Leases.{expiry_in, expiry_held, hub_in, ground, fitting, pools_after, expiries_by, expiries_after, lease_write, LeasesTaken, Moves}
+use Rattle.off_runs.specs.Leases.{expiry_in, expiry_held, ground, fitting, pools_after, expiries_by, expiries_after, lease_write, LeasesTaken, Moves}
+use Rattle.off_table_laws.proofs.TableLaws.{no_hub_named}
 use Rattle.off_runs.specs.Reading.{pool_put, lease_put, pools_put, leases_put, no_ground, bare_ground}
 use Rattle.off_runs.proofs.LeaseLemmas.{nothing_taken}
 use Rattle.off_runs.proofs.WriteLemmas.{same_number, read_pool, put_pool, read_expiry, put_expiry}
@@ -162,7 +163,7 @@ no_leases expiry (e ∷ es) = no_lease_first e.0 e.1 expiry es (no_leases expiry
 pub pools_move : (t : Tables) → Moves (pools_put t) (λ n. None) no_ground (bare_ground t)
 pools_move t = record {
   no_hubs = λ n. refl;
-  same_hubs = λ n. refl;
+  same_hubs = λ n. sym (no_hub_named t n);
   before_sorted = tt;
   before = λ n. refl;
   around = λ a h. absurd (omega (arith, h));
@@ -245,5 +246,5 @@ pub leased_keeps : (t : Tables) (pools leased : List PoolHeld) → KeepsPools po
 leased_keeps t pools leased s taken = record {
   heads_are = taken.heads_are ∙ s.heads_are;
   leases = All-weaker (HasLeases (expiries_after (λ a. 0) (leases_put t))) (HasLeases (expiry_in t)) (λ p has a inside. has a inside ∙ leases_read t a) leased (taken.leases (λ a. 0) s.leases);
-  hubs = taken.hubs (hub_in t) s.hubs;
+  hubs = taken.hubs (pool_hub_in t) s.hubs;
 }

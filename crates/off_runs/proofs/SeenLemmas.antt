@@ -21,7 +21,7 @@ use Rattle.off_account_rules.specs.Good.{Good}
 use Rattle.off_table_laws.proofs.ListLemmas.{made_in, in_made, in_any}
 use Rattle.off_table_laws.proofs.EntryRows.{row_in, in_row, found_in, in_found}
 use Rattle.off_table_laws.proofs.Reading.{pool_row}
-use Rattle.off_table_laws.proofs.TableLaws.{leases_stand}
+use Rattle.off_table_laws.proofs.TableLaws.{leases_stand, no_hub_named}
 use Rattle.off_runs.specs.Runs.{address, in_pool}
 use Rattle.off_runs.specs.Leases.{expiry_of, LeasesMove}
 use Rattle.off_runs.proofs.WriteLemmas.{pools_written, expiries_written}
@@ -111,8 +111,8 @@ lies_around t a good (Some lease) is h =
 
 pub moves : LeasesMove
 moves t good writes = record {
-  no_hubs = λ n. refl;
-  same_hubs = λ n. refl;
+  no_hubs = λ n. sym (no_hub_named t n);
+  same_hubs = λ n. no_hub_named t n ∙ sym (no_hub_named (write_all t writes) n);
   before_sorted = pools_sorted t;
   before = pool_seen t;
   around = λ a h. lies_around t a good (lease_in t (address a)) refl h;

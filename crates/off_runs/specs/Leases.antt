@@ -14,7 +14,7 @@ use Rattle.off_defs.specs.declared.orders.Write.TheVariants.{Put, Drop}
 use Rattle.off_defs.specs.State.{Tables}
 use Rattle.off_defs.specs.Tables.{write_all}
 use Rattle.off_account_rules.specs.Good.{Good}
-use Rattle.off_account_rules.specs.Rows.{pool_fits, pools, pool_in, lease_in}
+use Rattle.off_account_rules.specs.Rows.{pool_fits, pools, pool_in, pool_hub_in, lease_in}
 use Rattle.off_runs.specs.Runs.{address, in_pool}
 use Rattle.off_runs.specs.Held.{Ground, PoolHeld, heads, HasLeases, HasHub}
 use Rattle.off_runs.specs.Shelf.{with_pool}
@@ -27,12 +27,8 @@ expiry_of (Some lease) = lease.expiry.0
 abbrev pub expiry_in : Tables → ℕ → ℕ
 expiry_in t a = expiry_of (lease_in t (address a))
 
--- there's one hub as yet
-abbrev pub hub_in : Tables → ℕ → ℕ
-hub_in t n = 0
-
 abbrev pub ground : Tables → Ground
-ground t = record { pools = pools t; expiry = expiry_in t; hub = hub_in t }
+ground t = record { pools = pools t; expiry = expiry_in t; hub = pool_hub_in t }
 
 -- the pool that a write makes of a number, and what a write makes of an address's expiry
 abbrev pub fitting : Row → Option Pool
@@ -89,7 +85,7 @@ pub record LeasesTaken (writes : List Write) (old new : List PoolHeld) : Type 0 
 
 -- What writes make of the ground that pools stand on: its pools are sorted by number, before and
 -- after, and those after are what the writes made of those before, as its expiries are; before, an
--- address that has a lease lies in a pool.
+-- address that has a lease lies in a pool. No pool names a hub as yet.
 abbrev pub HasNoHubs : Ground → Type 0
 HasNoHubs g = (n : ℕ) → 0 ≡ g.hub n
 

@@ -8,11 +8,10 @@ use Rattle.off_defs.specs.declared.tables.Row.{Row}
 use Rattle.off_defs.specs.declared.orders.Write.{Write}
 use Rattle.off_defs.specs.declared.orders.Write.TheVariants.{Put}
 use Rattle.off_defs.specs.State.{Tables}
-use Rattle.off_account_rules.specs.Rows.{pools}
+use Rattle.off_account_rules.specs.Rows.{pools, pool_hub_in}
 use Rattle.off_outside.specs.KeeperSeen.{KeeperSeen}
 use Rattle.off_outside.specs.KeeperCalls.{Spent}
 use Rattle.off_runs.specs.Held.{Ground}
-use Rattle.off_runs.specs.Leases.{hub_in}
 
 abbrev pub pool_put : Key × Row → Option Write
 pool_put (key.Pool n, held) = Some (Put (key.Pool n) held)
@@ -37,4 +36,4 @@ abbrev pub no_ground : Ground
 no_ground = record { pools = []; expiry = λ a. 0; hub = λ n. 0 }
 
 abbrev pub bare_ground : Tables → Ground
-bare_ground t = record { pools = pools t; expiry = λ a. 0; hub = hub_in t }
+bare_ground t = record { pools = pools t; expiry = λ a. 0; hub = pool_hub_in t }

@@ -215,6 +215,31 @@ impl FreeRuns {
         }
     }
 
+    /// The hub of the pool behind a relay, or `None` where there's no such pool.
+    pub fn hub_behind(&self, relay: Ip4) -> Option<u32>
+        ensures { (g : Ground) → KeepsPools self.now.pools g
+            → result ≡ option_map (λ e. g.hub e.0)
+            (find (λ e. e.1.relay.0 == relay.0) g.pools) }
+    {
+        let place = place_behind(&self.pools, relay);
+        match self.pools.get(place) {
+            Some(pool) => Some(pool.hub()),
+            None => None,
+        }
+    }
+
+    /// The hub of the pool that has the address, or `None` where none has it.
+    pub fn hub_around(&self, address: Ip4) -> Option<u32>
+        ensures { (g : Ground) → KeepsPools self.now.pools g
+            → result ≡ option_map (λ e. g.hub e.0) (find (λ e. in_pool e.1 address.0) g.pools) }
+    {
+        let place = place_with(&self.pools, address);
+        match self.pools.get(place) {
+            Some(pool) => Some(pool.hub()),
+            None => None,
+        }
+    }
+
     /// Whether the address is one of a pool's, and free.
     pub fn is_free(&self, address: Ip4) -> bool
         ensures { (g : Ground) → KeepsPools self.now.pools g

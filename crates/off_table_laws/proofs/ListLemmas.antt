@@ -48,6 +48,22 @@ module _ {A : Type 0} (p : A → Bool) where
         | false ↦ λ e f. elim i as (λ j. p x ≡ false) [ inl same ↦ ap p same ∙ e | inr rest ↦ none_found ys f x rest ]
       ] refl h
 
+  -- what is found passes, and is in the list; and where one is in it that passes, one is found
+  found_passes : (xs : List A) (x : A) → find p xs ≡ Some x → In x xs × (p x ≡ true)
+  found_passes [] x e = cc
+  found_passes (y ∷ ys) x e =
+      elim (p y) as (λ b. p y ≡ b → cond b (Some y) (find p ys) ≡ Some x → In x (y ∷ ys) × (p x ≡ true)) [
+        | true ↦ λ h f. let same : x ≡ y = cc in (inl same, ap p same ∙ h)
+        | false ↦ λ h f. let rest = found_passes ys x f in (inr rest.0, rest.1)
+      ] refl e
+
+  pub some_found : (xs : List A) (x : A) → In x xs → p x ≡ true → (y : A) × (find p xs ≡ Some y) × In y xs × (p y ≡ true)
+  some_found xs x i h =
+      elim (find p xs) as (λ o. find p xs ≡ o → (y : A) × (find p xs ≡ Some y) × In y xs × (p y ≡ true)) [
+        | None ↦ λ e. let none = none_found xs e x i in cc
+        | Some y ↦ λ e. let f = found_passes xs y e in (y, e, f.0, f.1)
+      ] refl
+
   -- what a filter keeps
   pub kept_in : (xs : List A) (x : A) → In x (filter p xs) → In x xs × (p x ≡ true)
   kept_in [] x i = elim i [ ]

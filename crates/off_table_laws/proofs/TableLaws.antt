@@ -1,5 +1,5 @@
 -- What is known of good tables, and of what a test says of tables.
-use Rattle.std.proofs.Common.{◌≡◌, ℕ, true, not, ◌&&◌, eqb, Option, Some, None, is_some, option_and_then, inl, inr, refl, sym, ap, ◌∙◌}
+use Rattle.std.proofs.Common.{◌≡◌, ℕ, Bool, true, false, not, ◌&&◌, eqb, List, Option, Some, None, is_some, option_map, option_and_then, inl, inr, refl, sym, ap, subst, ◌∙◌}
 use Rattle.std.proofs.lemmas.Bool.{or_cases, and_parts, not-true, eqb-true}
 use Rattle.std.specs.Ordering.{ordering_reverse}
 use Rattle.std.specs.declared.cmp.Ordering.TheVariants.{Less, Equal, Greater}
@@ -10,15 +10,17 @@ use Rattle.off_defs.specs.declared.keys.Key.TheVariants as key
 use Rattle.off_defs.specs.declared.tables.Row.{Row}
 use Rattle.off_defs.specs.declared.tables.Row.TheVariants as row
 use Rattle.off_defs.specs.declared.tables.Lease.{Lease}
+use Rattle.off_defs.specs.declared.tables.Pool.{Pool}
 use Rattle.off_defs.specs.Keys.{key_cmp}
 use Rattle.off_defs.specs.State.{Tables}
 use Rattle.off_defs.specs.Tables.{row_at}
 use Rattle.off_defs.proofs.KeyLemmas.{key_total, key_exact}
-use Rattle.off_account_rules.specs.Rows.{is_possible, possible, overlaps, as_site, as_subscriber, as_add_on, as_class, lease_in}
-use Rattle.off_account_rules.specs.Good.{owner_of, Keeps, IsLeastBad}
-use Rattle.off_table_laws.specs.Laws.{owner_in, OneLeaseAModem, OwnersHold, PoolsAreApart, ModemsStand, AddOnsStand, LeasesStand, GoodHaveNoBadKey, OneJudgement, SeenAsTheyStand}
+use Rattle.off_account_rules.specs.Rows.{is_possible, possible, overlaps, as_site, as_subscriber, as_add_on, as_class, as_pool_hub, number_or_0, hub_in, pool_hub_in, site_of, lease_in, has_address, pools}
+use Rattle.off_account_rules.specs.Good.{owner_of, Good, Keeps, IsLeastBad}
+use Rattle.off_table_laws.specs.Laws.{owner_in, OneLeaseAModem, OwnersHold, PoolsAreApart, ModemsStand, AddOnsStand, HubOfPool, LeasesStand, GoodHaveNoBadKey, OneJudgement, SeenAsTheyStand}
+use Rattle.off_table_laws.proofs.ListLemmas.{In, some_found}
 use Rattle.off_table_laws.proofs.GoodRows.{Has, GoodRows}
-use Rattle.off_table_laws.proofs.Judging.{good_rows}
+use Rattle.off_table_laws.proofs.Judging.{good_rows, pool_in_raw, raw_in_pool}
 use Rattle.off_table_laws.proofs.PoolLemmas.{share}
 use Rattle.off_table_laws.proofs.Reading.{seen_row, modem_row, lease_row, held_row, pool_row, row_lease, row_held, row_pool, pools_raw}
 
@@ -99,12 +101,40 @@ add_ons_stand t good n number settings e =
     let at_row = some_row (key.AddOn n number) as_add_on (row_at t (key.AddOn n number)) settings e in
     read_of t g (key.Subscriber n) as_subscriber (subscriber_read n) (g.add_on n number at_row.0 at_row.1)
 
+-- in good tables the hub of an address is that of its pool
+pub hub_of_pool : HubOfPool
+hub_of_pool t good address n pool e w =
+    let g = good_rows t good in
+    let all = pools_raw t g.possible in
+    let i = subst (λ (ps : List (ℕ × Pool)). In (n, pool) ps) (sym all) (pool_in_raw t n pool (pool_row t n pool e)) in
+    let f = some_found (λ (entry : ℕ × Pool). has_address entry.1 address) (pools t) (n, pool) i w in
+    let there = raw_in_pool t f.0.0 f.0.1 (subst (λ (ps : List (ℕ × Pool)). In f.0 ps) all f.2) in
+    let same = pools_are_apart t good address f.0.0 n f.0.1 pool (row_pool t g.possible f.0.0 f.0.1 there) e f.3 w in
+    ap (option_map (λ (entry : ℕ × Pool). pool_hub_in t entry.0)) f.1 ∙ ap (λ m. Some (pool_hub_in t m)) same
+
+-- no row of a pool's hub is possible as yet
+no_hub_read : (n : ℕ) (o : Option Row) → number_or_0 (option_and_then as_pool_hub (possible (key.PoolHub n) o)) ≡ 0
+no_hub_read n None = refl
+no_hub_read n (Some held) = refl
+
+pub no_hub_named : (t : Tables) (n : ℕ) → pool_hub_in t n ≡ 0
+no_hub_named t n = no_hub_read n (row_at t (key.PoolHub n))
+
+-- the hub of a leased address is there
+site_there : (t : Tables) → Good t → (address : Ip4) (lease : Lease) → row_at t (key.Lease address) ≡ Some (row.Lease lease) → is_some (site_of t address) ≡ true
+site_there t good address lease e =
+    let g = good_rows t good in
+    let one = g.one_pool address lease e in
+    let hub = hub_of_pool t good address one.number one.pool (row_pool t g.possible one.number one.pool one.there) one.within in
+    ap (λ (o : Option ℕ). is_some (option_and_then (hub_in t) o)) hub ∙ ap (λ m. is_some (hub_in t m)) (no_hub_named t one.number)
+    ∙ read_of t g key.Site as_site site_read (g.site address lease e)
+
 pub leases_stand : LeasesStand
 leases_stand t good address lease e =
     let g = good_rows t good in
     let at_row = lease_row t address lease e in
     let one = g.one_pool address lease at_row in (
-      read_of t g key.Site as_site site_read (g.site address lease at_row),
+      site_there t good address lease at_row,
       record {
         number = one.number;
         pool = one.pool;

@@ -12,7 +12,7 @@ use Rattle.off_defs.specs.declared.orders.Command.TheVariants.{SetSite}
 use Rattle.off_defs.specs.State.{Tables}
 use Rattle.off_defs.specs.Tables.{row_at}
 use Rattle.off_rows.specs.Sound.{is_sound}
-use Rattle.off_account_rules.specs.Rows.{has_address, seen_at, site_in, subscriber_in, add_on_in, modem_in, class_in, pool_in, lease_in, held_in, pools}
+use Rattle.off_account_rules.specs.Rows.{has_address, seen_at, hub_of, site_of, pool_hub_in, subscriber_in, add_on_in, modem_in, class_in, pool_in, lease_in, held_in, pools}
 use Rattle.off_account_rules.specs.Good.{owner_of, raw_pools, Good, IsLeastBad, Judged}
 use Rattle.off_account_rules.specs.Clerk.{Refusal, clerk_step}
 
@@ -81,12 +81,19 @@ pub record LiesInOnePool (tables : Tables) (address : Ip4) : Type 0 where
   pub only : (m : ℕ) (other : Pool) → pool_in tables m ≡ Some other →
       IsTrue (has_address other address) → m ≡ number
 
--- a lease has its site, and its address lies in one pool
+-- an address of a pool has the pool's hub
+abbrev pub HubOfPool : Type 0
+HubOfPool =
+    (tables : Tables) → Good tables → (address : Ip4) (n : ℕ) (pool : Pool) →
+    pool_in tables n ≡ Some pool → IsTrue (has_address pool address)
+    → hub_of tables address ≡ Some (pool_hub_in tables n)
+
+-- a lease has its hub's site, and its address lies in one pool
 abbrev pub LeasesStand : Type 0
 LeasesStand =
     (tables : Tables) → Good tables → (address : Ip4) (lease : Lease) →
     lease_in tables address ≡ Some lease
-    → IsSome (site_in tables) × LiesInOnePool tables address
+    → IsSome (site_of tables address) × LiesInOnePool tables address
 
 -- good tables have no bad key
 abbrev pub GoodHaveNoBadKey : Type 0

@@ -5,7 +5,7 @@
 ghost use Rattle.off_table_laws.specs.Laws.{StepKeepsGood, RefusedChangesNothing, OneLeaseAModem};
 ghost use Rattle.off_table_laws.specs.Laws.{OwnersHold, PoolsAreApart, ModemsStand, AddOnsStand};
 ghost use Rattle.off_table_laws.specs.Laws.{LeasesStand, GoodHaveNoBadKey, OneJudgement};
-ghost use Rattle.off_table_laws.specs.Laws.{SeenAsTheyStand};
+ghost use Rattle.off_table_laws.specs.Laws.{SeenAsTheyStand, HubOfPool};
 
 /// What a clerk's command leaves of good tables is good, for each command that is sound, an import
 /// too. The premise that a new site's secret has at most 64 bytes holds of each site that a program
@@ -44,8 +44,13 @@ pub fn an_add_on_has_its_subscriber()
     ensures { AddOnsStand }
 {}
 
-/// In good tables with a lease there is a site, and the lease's address lies in one pool and in no
-/// other.
+/// In good tables an address of a pool has the pool's hub.
+pub fn an_address_has_its_pools_hub()
+    ensures { HubOfPool }
+{}
+
+/// In good tables the hub of a lease's address has its site, and the address lies in one pool and in
+/// no other.
 pub fn a_lease_lies_in_one_pool()
     ensures { LeasesStand }
 {}

@@ -6,14 +6,13 @@ use Rattle.off_base.specs.declared.octets.NoMemory.{NoMemory}
 use Rattle.off_base.specs.declared.addresses.Ip4.{Ip4}
 use Rattle.off_base.specs.declared.addresses.Peer.{Peer}
 use Rattle.off_base.specs.declared.macs.Mac.{Mac}
-use Rattle.off_defs.specs.declared.tables.Site.{Site}
 use Rattle.off_defs.specs.declared.tables.Modem.{Modem}
 use Rattle.off_defs.specs.declared.tables.Lease.{Lease}
 use Rattle.off_defs.specs.State.{Tables, Said, Transfer}
-use Rattle.off_account_rules.specs.Rows.{passes, site_in, lease_in}
+use Rattle.off_account_rules.specs.Rows.{passes, lease_in, hub_of}
 use Rattle.off_file_rules.specs.Profile.{profile_in}
 use Rattle.off_file_laws.specs.Laws.{SpellsProfile}
-use Rattle.off_file_laws.proofs.LawLemmas.{profiles_spell, files_are_short}
+use Rattle.off_file_laws.proofs.LawLemmas.{profiles_spell, built_short}
 use Rattle.off_outside.specs.KeeperSeen.{KeeperSeen}
 use Rattle.off_outside.specs.KeeperCalls.{Looks, Reads, NotDone, Spent}
 use Rattle.off_outside.specs.declared.keeper.KeepErr.{KeepErr}
@@ -23,7 +22,7 @@ use Rattle.off_packets.specs.Packets.{Meant, Acknowledges, GivesUp, packet_of}
 use Rattle.off_packets.specs.declared.packets.Options.{Options}
 use Rattle.off_transfer_rules.specs.Transfers.{Transfers, has_no_room, is_at_last}
 use Rattle.off_transfer_rules.specs.View.{View, view, owner_by, holder, is_own_name, agrees}
-use Rattle.off_transfer_rules.specs.Steps.{Way, Given, gives, GivesBy, Repeats, Finishes, GoesOn, BreaksOff, Ignores, Accepts, TftpStep, way, way_of, way_anew, way_for_modem, way_for_holder, no_lease, no_longer_agreed, file_not_found, too_many_transfers, way_of_request, way_of_last, way_of_acknowledgement, is_repeated, ended, Denial, Denies}
+use Rattle.off_transfer_rules.specs.Steps.{Way, Given, gives, GivesBy, Repeats, Finishes, GoesOn, BreaksOff, Ignores, Accepts, TftpStep, way, way_of, way_anew, way_for_modem, way_for_holder, file_not_found, too_many_transfers, way_of_request, way_of_last, way_of_acknowledgement, is_repeated, ended, Denial, Denies}
 use Rattle.off_packets.specs.declared.faults.PacketFault.{PacketFault}
 use Rattle.off_transfer_rules.specs.declared.words.TftpWord.{TftpWord}
 use Rattle.off_transfer_rules.specs.declared.words.TftpWord.TheVariants as word
@@ -34,10 +33,11 @@ use Rattle.off_tftp.specs.Built.{CanBuild}
 use Rattle.off_kept.specs.Entries.{Entries}
 use Rattle.off_kept.specs.Right.{AllRight}
 use Rattle.off_tftp.specs.Saying.{says_more}
+use Rattle.off_tftp.specs.Calls.{asks_by_name, FewUnlessNamed, FewUnlessNamedAt}
 use Rattle.off_tftp.specs.Deciding.{Does, Serves, Decides, KeepsNothing, after_change, kept_behind, items_of, given_by, refusal_of}
 use Rattle.off_tftp.specs.declared.gathering.Seen.{Seen}
 use Rattle.off_tftp.specs.Keeping.{entry_for, kept_by, kept_after, is_kept, AnswersKeeping, BeginsFor, FewWhereBegun}
-use Rattle.off_tftp.specs.Seen.{held_by, view_of, view_with, without_profile, names_file, seen_for, CanServe, Shows}
+use Rattle.off_tftp.specs.Seen.{held_by, view_at, view_of, view_with, without_profile, names_file, seen_for, CanServe, Shows}
 use Rattle.off_tftp.proofs.BodyLemmas.{repeat_keeps, acknowledgement_keeps, after_right, few_begun}
 use Rattle.off_tftp.specs.Stages.{repeats, lacks_room_by, stage_of}
 
@@ -72,20 +72,24 @@ if_settled step (Err err) Q is q = tt
 
 -- ---- tables have a file where they have a profile
 
-served_by : (t : Tables) (owner : Option Mac) (now : ℕ) (ip : Ip4) (site : Site) (profile : List Tree) → site_in t ≡ Some site → option_and_then (profile_in t) owner ≡ Some profile
-    → CanBuild site.secret profile now ip
-served_by t None now ip site profile s p = cc
-served_by t (Some mac) now ip site profile s p =
+served_by : (t : Tables) (owner : Option Mac) (now : ℕ) (ip : Ip4) (secret : List ℕ) (profile : List Tree) → option_and_then (profile_in t) owner ≡ Some profile → CanBuild secret profile now ip
+served_by t None now ip secret profile p = cc
+served_by t (Some mac) now ip secret profile p =
     let spells : SpellsProfile profile = profiles_spell t mac profile p in
     record {
       fits = spells.fits;
       neither = spells.neither;
-      short = λ file built. files_are_short t mac now ip file (record { site = site; profile = profile; site_is = s; profile_is = p; built = built });
+      short = λ file built. built_short t mac now ip secret profile file p built;
     }
 
-pub can_serve : (t : Tables) (now : ℕ) (ip : Ip4) → CanServe (view t ip) now ip
-unfolding view
-can_serve t now ip = λ site profile s p. served_by t (owner_by (lease_in t ip)) now ip site profile s p
+pub can_serve : (t : Tables) (hub : Option ℕ) (now : ℕ) (ip : Ip4) → CanServe (view_at t hub ip) now ip
+unfolding view_at
+can_serve t hub now ip = λ site profile s p. served_by t (owner_by (lease_in t ip)) now ip site.secret profile p
+
+-- the hub of the address gives what the tables have by themselves
+pub own_view : (t : Tables) (hub : Option ℕ) (ip : Ip4) → hub ≡ hub_of t ip → view_at t hub ip ≡ view t ip
+unfolding view_at view
+own_view t hub ip is = ap (λ (h : Option ℕ). view_at t h ip) is
 
 -- ---- one way
 
@@ -233,41 +237,41 @@ module _ (now : ℕ) (old : Transfers) (from : Peer) (bytes : List ℕ) where
 
   -- ---- the whole
 
-  pub decides_by : (t : Tables) (meant : Result Meant PacketFault) (d : Decision) → packet_of bytes ≡ meant
-      → Serves (view t from.ip) now old from bytes (way_of (view t from.ip) now from.ip (has_no_room old) bytes (map.get old from) meant) d → Decides t now old from bytes d
+  pub decides_by : (v : View) (meant : Result Meant PacketFault) (d : Decision) → packet_of bytes ≡ meant
+      → Serves v now old from bytes (way_of v now from.ip (has_no_room old) bytes (map.get old from) meant) d → Decides v now old from bytes d
   unfolding way
-  decides_by t meant d is served =
-      subst (λ (m : Result Meant PacketFault). ServesSo (view t from.ip) (way_of (view t from.ip) now from.ip (has_no_room old) bytes (map.get old from) m) d) (sym is) served
+  decides_by v meant d is served =
+      subst (λ (m : Result Meant PacketFault). ServesSo v (way_of v now from.ip (has_no_room old) bytes (map.get old from) m) d) (sym is) served
 
-  pub deny_decides : (t : Tables) (meant : Result Meant PacketFault) (denial : Denial) (step : Result Decision NoMemory) → packet_of bytes ≡ meant
-      → way_of (view t from.ip) now from.ip (has_no_room old) bytes (map.get old from) meant ≡ Denies denial
-      → IfOk step (λ d. d ≡ refusal_of from denial) → IfOk step (λ d. Decides t now old from bytes d)
-  deny_decides t meant denial (Ok d) is denied refuses =
-      decides_by t meant d is
-      (subst (λ (e : Decision). ServesSo (view t from.ip) (way_of (view t from.ip) now from.ip (has_no_room old) bytes (map.get old from) meant) e) (sym refuses)
-      (serves_as (view t from.ip) (Denies denial) (way_of (view t from.ip) now from.ip (has_no_room old) bytes (map.get old from) meant) (refusal_of from denial) (sym denied)
+  pub deny_decides : (v : View) (meant : Result Meant PacketFault) (denial : Denial) (step : Result Decision NoMemory) → packet_of bytes ≡ meant
+      → way_of v now from.ip (has_no_room old) bytes (map.get old from) meant ≡ Denies denial
+      → IfOk step (λ d. d ≡ refusal_of from denial) → IfOk step (λ d. Decides v now old from bytes d)
+  deny_decides v meant denial (Ok d) is denied refuses =
+      decides_by v meant d is
+      (subst (λ (e : Decision). ServesSo v (way_of v now from.ip (has_no_room old) bytes (map.get old from) meant) e) (sym refuses)
+      (serves_as v (Denies denial) (way_of v now from.ip (has_no_room old) bytes (map.get old from) meant) (refusal_of from denial) (sym denied)
       (record { does = refl; keeps = λ entries. refl })))
-  deny_decides t meant denial (Err err) is denied refuses = tt
+  deny_decides v meant denial (Err err) is denied refuses = tt
 
-  pub leave_decides : (t : Tables) → packet_of bytes ≡ Ok GivesUp → Decides t now old from bytes (record { word = word.PeerError; sent = None; change = change.Ends })
-  leave_decides t is = decides_by t (Ok GivesUp) (record { word = word.PeerError; sent = None; change = change.Ends }) is (record { does = refl; keeps = λ entries. refl })
+  pub leave_decides : (v : View) → packet_of bytes ≡ Ok GivesUp → Decides v now old from bytes (record { word = word.PeerError; sent = None; change = change.Ends })
+  leave_decides v is = decides_by v (Ok GivesUp) (record { word = word.PeerError; sent = None; change = change.Ends }) is (record { does = refl; keeps = λ entries. refl })
 
-  pub acknowledgement_decides : (t : Tables) (number : ℕ) (meant : Result Meant PacketFault) (d : Decision) → packet_of bytes ≡ meant
-      → way_of_acknowledgement (view t from.ip) now from.ip number (map.get old from) ≡ way_of (view t from.ip) now from.ip (has_no_room old) bytes (map.get old from) meant
-      → KeepsNothing d → Does (view t from.ip) now old from bytes (way_of_acknowledgement (view t from.ip) now from.ip number (map.get old from)) d
-      → Decides t now old from bytes d
-  acknowledgement_decides t number meant d is same bare does =
-      decides_by t meant d is
-      (serves_as (view t from.ip) (way_of_acknowledgement (view t from.ip) now from.ip number (map.get old from)) _ d same
+  pub acknowledgement_decides : (v : View) (number : ℕ) (meant : Result Meant PacketFault) (d : Decision) → packet_of bytes ≡ meant
+      → way_of_acknowledgement v now from.ip number (map.get old from) ≡ way_of v now from.ip (has_no_room old) bytes (map.get old from) meant
+      → KeepsNothing d → Does v now old from bytes (way_of_acknowledgement v now from.ip number (map.get old from)) d
+      → Decides v now old from bytes d
+  acknowledgement_decides v number meant d is same bare does =
+      decides_by v meant d is
+      (serves_as v (way_of_acknowledgement v now from.ip number (map.get old from)) _ d same
       (record {
         does = does;
-        keeps = λ entries. bare entries ∙ sym (acknowledgement_keeps (view t from.ip) (view t from.ip) entries now from.ip number (map.get old from));
+        keeps = λ entries. bare entries ∙ sym (acknowledgement_keeps v v entries now from.ip number (map.get old from));
       }))
 
   -- ---- what is decided is said and done
 
   answers_all : (t : Tables) (new : Transfers) (said after : Said) (kept keeps : Entries) (d : Decision) (word : TftpWord) → word ≡ d.word → new ≡ after_change d.change now old from
-      → keeps ≡ kept_behind d.change kept → after ≡ says_more said (items_of d.sent) → Decides t now old from bytes d → AllRight t kept
+      → keeps ≡ kept_behind d.change kept → after ≡ says_more said (items_of d.sent) → Decides (view t from.ip) now old from bytes d → AllRight t kept
       → AnswersKeeping t now old new from bytes said after kept keeps word
   unfolding TftpStep
   answers_all t new said after kept keeps d word named changed keeps_is says decides right =
@@ -284,13 +288,15 @@ module _ (now : ℕ) (old : Transfers) (from : Peer) (bytes : List ℕ) where
         right = subst (AllRight t) (sym all_is) (after_right t now old from bytes kept right);
       }
 
-  pub carry_answers : {a b : KeeperSeen} (new : Transfers) (said after : Said) (kept keeps : Entries) (d : Decision) (result : Result TftpWord KeepErr) → IfErr result (λ err. err ≡ Memory)
+  pub carry_answers : {a b : KeeperSeen} (hub : Option ℕ) (new : Transfers) (said after : Said) (kept keeps : Entries) (d : Decision) (result : Result TftpWord KeepErr) → IfErr result (λ err. err ≡ Memory)
       → IfOk result (λ word. word ≡ d.word) → OnOk result (new ≡ after_change d.change now old from) → OnOk result (keeps ≡ kept_behind d.change kept)
-      → OnOk result (after ≡ says_more said (items_of d.sent)) → Reads (λ t. AllRight t kept → Decides t now old from bytes d) a b
-      → Looks result a b (λ word t. AllRight t kept → AnswersKeeping t now old new from bytes said after kept keeps word)
-  carry_answers {a} {b} new said after kept keeps d (Ok word) err named changed keeps_is says reads =
-      reads_as reads (λ t decides right. answers_all t new said after kept keeps d word named changed keeps_is says (decides right) right)
-  carry_answers {a} {b} new said after kept keeps d (Err err) is named changed keeps_is says reads = subst (λ (e : KeepErr). NotDone e a b) (sym is) (reads_forgotten reads)
+      → OnOk result (after ≡ says_more said (items_of d.sent)) → Reads (λ t. AllRight t kept → Decides (view_at t hub from.ip) now old from bytes d) a b
+      → Looks result a b (λ word t. hub ≡ hub_of t from.ip → AllRight t kept → AnswersKeeping t now old new from bytes said after kept keeps word)
+  carry_answers {a} {b} hub new said after kept keeps d (Ok word) err named changed keeps_is says reads =
+      reads_as reads
+      (λ t decides own right. answers_all t new said after kept keeps d word named changed keeps_is says
+      (subst (λ (v : View). Decides v now old from bytes d) (own_view t hub from.ip own) (decides right)) right)
+  carry_answers {a} {b} hub new said after kept keeps d (Err err) is named changed keeps_is says reads = subst (λ (e : KeepErr). NotDone e a b) (sym is) (reads_forgotten reads)
 
 -- ---- with what the calls took
 
@@ -307,10 +313,14 @@ few_settled a b bytes entries now lease after step (Ok d) is begins spent =
     few_begun bytes entries now lease (after d) (subst (λ (r : Result Decision NoMemory). IfOk r (λ e. BeginsFor (held_by now lease) bytes (after e))) is begins) spent
 few_settled a b bytes entries now lease after step (Err err) is begins spent = tt
 
-pub acknowledged_looks : (a b : KeeperSeen) (now : ℕ) (old : Transfers) (from : Peer) (bytes : List ℕ) (number : ℕ) (kept : Entries) (result : Result Decision KeepErr)
+-- a wrong name by the tables is one by what was told
+pub few_own : {a b : KeeperSeen} (now : ℕ) (hub : Option ℕ) (ip : Ip4) (bytes : List ℕ) → FewUnlessNamedAt now hub ip bytes a b → FewUnlessNamed now hub ip bytes a b
+few_own now hub ip bytes few = λ t told own unnamed. few t told (ap (λ (v : View). asks_by_name now ip v (packet_of bytes)) (own_view t hub ip own) ∙ unnamed)
+
+pub acknowledged_looks : (a b : KeeperSeen) (now : ℕ) (old : Transfers) (from : Peer) (bytes : List ℕ) (number : ℕ) (kept : Entries) (v : Tables → View) (result : Result Decision KeepErr)
     → packet_of bytes ≡ Ok (Acknowledges number) → IfOk result KeepsNothing
-    → Looks result a b (λ d t. Does (view t from.ip) now old from bytes (way_of_acknowledgement (view t from.ip) now from.ip number (map.get old from)) d)
-    → Looks result a b (λ d t. AllRight t kept → Decides t now old from bytes d)
-acknowledged_looks a b now old from bytes number kept (Ok d) is bare looks =
-    reads_as looks (λ t does right. acknowledgement_decides now old from bytes t number (Ok (Acknowledges number)) d is refl bare does)
-acknowledged_looks a b now old from bytes number kept (Err err) is bare looks = looks
+    → Looks result a b (λ d t. Does (v t) now old from bytes (way_of_acknowledgement (v t) now from.ip number (map.get old from)) d)
+    → Looks result a b (λ d t. AllRight t kept → Decides (v t) now old from bytes d)
+acknowledged_looks a b now old from bytes number kept v (Ok d) is bare looks =
+    reads_as looks (λ t does right. acknowledgement_decides now old from bytes (v t) number (Ok (Acknowledges number)) d is refl bare does)
+acknowledged_looks a b now old from bytes number kept v (Err err) is bare looks = looks

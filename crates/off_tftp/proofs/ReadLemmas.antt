@@ -10,15 +10,15 @@ use Rattle.off_defs.specs.Bounds.{add_on_numbers}
 use Rattle.off_defs.specs.declared.tables.Site.{Site}
 use Rattle.off_defs.specs.declared.tables.Modem.{Modem}
 use Rattle.off_defs.specs.declared.tables.Lease.{Lease}
-use Rattle.off_account_rules.specs.Rows.{site_in, modem_in, lease_in, add_on_in}
+use Rattle.off_account_rules.specs.Rows.{hub_in, modem_in, lease_in, add_on_in}
 use Rattle.off_file_rules.specs.Profile.{numbered_add_on, profile_in}
-use Rattle.off_transfer_rules.specs.View.{View, view, owner_by}
+use Rattle.off_transfer_rules.specs.View.{View, owner_by}
 use Rattle.off_tftp.specs.Listed.{with_add_on}
 use Rattle.off_tftp.specs.declared.gathering.Seen.{Seen}
 use Rattle.off_tftp.specs.Keeping.{is_kept, entry_for, FewWhereKept}
 use Rattle.off_transfer_rules.specs.Transfers.{is_at_last}
 use Rattle.off_tftp.specs.Calls.{acknowledgement_calls}
-use Rattle.off_tftp.specs.Seen.{view_of, without_profile, names_file, seen_for, Shows}
+use Rattle.off_tftp.specs.Seen.{view_at, view_of, without_profile, names_file, seen_for, Shows}
 use Rattle.off_kept.specs.declared.bodies.KeptBody.{KeptBody}
 use Rattle.off_kept.specs.Entries.{Entries}
 use Rattle.off_defs.specs.State.{Tables, Transfer}
@@ -75,13 +75,13 @@ no_entry (Some modem) = refl
 abbrev seen_by : Option Site → Option Lease → Option Modem → Option (List Tree) → View
 seen_by site lease modem profile = record { site = site; lease = lease; modem = modem; profile = profile }
 
-pub look_is : (t : Tables) (ip : Ip4) (site : Option Site) (lease : Option Lease) (owner : Option Mac) (modem : Option Modem) → site ≡ site_in t → lease ≡ lease_in t ip → owner ≡ owner_by lease
-    → modem ≡ option_and_then (modem_in t) owner → seen_by site lease modem None ≡ without_profile (view t ip)
-unfolding view
-look_is t ip site lease owner modem s l o m =
+pub look_is : (t : Tables) (hub : Option ℕ) (ip : Ip4) (site : Option Site) (lease : Option Lease) (owner : Option Mac) (modem : Option Modem) → site ≡ option_and_then (hub_in t) hub
+    → lease ≡ lease_in t ip → owner ≡ owner_by lease → modem ≡ option_and_then (modem_in t) owner → seen_by site lease modem None ≡ without_profile (view_at t hub ip)
+unfolding view_at
+look_is t hub ip site lease owner modem s l o m =
     ap (λ (x : Option Site). seen_by x lease modem None) s
-    ∙ ap (λ (x : Option Modem). seen_by (site_in t) lease x None) (m ∙ ap (option_and_then (modem_in t)) o)
-    ∙ ap (λ (x : Option Lease). seen_by (site_in t) x (option_and_then (modem_in t) (owner_by x)) None) l
+    ∙ ap (λ (x : Option Modem). seen_by (option_and_then (hub_in t) hub) lease x None) (m ∙ ap (option_and_then (modem_in t)) o)
+    ∙ ap (λ (x : Option Lease). seen_by (option_and_then (hub_in t) hub) x (option_and_then (modem_in t) (owner_by x)) None) l
 
 -- a name that is right by what was seen is right by the tables
 pub is_named : {P : Type 0} (seen : Seen) (v : View) (now : ℕ) (ip : Ip4) (name : List ℕ) → view_of seen ≡ without_profile v
@@ -123,16 +123,16 @@ shows_named seen v now ip name is right entry =
 abbrev pub seen_with : Seen → Option KeptBody → Seen
 seen_with seen body = record seen { body = body }
 
-pub shows_body : (t : Tables) (ip : Ip4) (seen : Seen) (owner : Option Mac) (body : Option KeptBody) (now : ℕ) (name : List ℕ) → owner ≡ owner_by seen.lease
-    → view_of seen ≡ without_profile (view t ip) → names_file now ip name (view_of seen) ≡ true
+pub shows_body : (t : Tables) (hub : Option ℕ) (ip : Ip4) (seen : Seen) (owner : Option Mac) (body : Option KeptBody) (now : ℕ) (name : List ℕ) → owner ≡ owner_by seen.lease
+    → view_of seen ≡ without_profile (view_at t hub ip) → names_file now ip name (view_of seen) ≡ true
     → (seen.modem ≡ option_and_then (modem_in t) owner → body ≡ entry_for seen.modem (option_and_then (profile_in t) owner))
-    → Shows (seen_with seen body) (seen_for now ip name (view t ip))
-unfolding view
-shows_body t ip seen owner body now name owned is right made =
+    → Shows (seen_with seen body) (seen_for now ip name (view_at t hub ip))
+unfolding view_at
+shows_body t hub ip seen owner body now name owned is right made =
     let lease : seen.lease ≡ lease_in t ip = ap (λ (v : View). v.lease) is in
     let modem : seen.modem ≡ option_and_then (modem_in t) (owner_by (lease_in t ip)) = ap (λ (v : View). v.modem) is in
     let owns : owner ≡ owner_by (lease_in t ip) = owned ∙ ap (λ (l : Option Lease). owner_by l) lease in
-    shows_named (seen_with seen body) (view t ip) now ip name is right
+    shows_named (seen_with seen body) (view_at t hub ip) now ip name is right
     (made (modem ∙ ap (option_and_then (modem_in t)) (sym owns))
     ∙ (ap (λ (o : Option Mac). entry_for seen.modem (option_and_then (profile_in t) o)) owns
     ∙ ap (λ (m : Option Modem). entry_for m (option_and_then (profile_in t) (owner_by (lease_in t ip)))) modem))
@@ -142,10 +142,10 @@ shows_body t ip seen owner body now name owned is right made =
 pub few_always : {a b : KeeperSeen} (ip : Ip4) (entries : Entries) → Spent 3 a b → FewWhereKept ip entries a b
 few_always ip entries spent = λ t told is. spent
 
-pub few_behind : {a b c : KeeperSeen} (ip : Ip4) (entries : Entries) (seen : Seen) (owner : Option Mac) → owner ≡ owner_by seen.lease
-    → Reads (λ t. view_of seen ≡ without_profile (view t ip)) a b → Spent 3 a b → (is_kept owner entries ≡ true → Spent 0 b c) → FewWhereKept ip entries a c
-unfolding view
-few_behind ip entries seen owner owned reads spent more = λ t told is.
+pub few_behind : {a b c : KeeperSeen} (hub : Option ℕ) (ip : Ip4) (entries : Entries) (seen : Seen) (owner : Option Mac) → owner ≡ owner_by seen.lease
+    → Reads (λ t. view_of seen ≡ without_profile (view_at t hub ip)) a b → Spent 3 a b → (is_kept owner entries ≡ true → Spent 0 b c) → FewWhereKept ip entries a c
+unfolding view_at
+few_behind hub ip entries seen owner owned reads spent more = λ t told is.
     let lease : seen.lease ≡ lease_in t ip = ap (λ (v : View). v.lease) (reads.tables t told).1 in
     spent_then spent (more (ap (λ (o : Option Mac). is_kept o entries) (owned ∙ ap (λ (l : Option Lease). owner_by l) lease) ∙ is))
 

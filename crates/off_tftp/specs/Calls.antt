@@ -1,15 +1,16 @@
--- How many calls of the keeper a datagram may need. A read request needs the lease of its address,
--- the modem, the site, the subscriber, the class, and eight add-ons; the acknowledgement of a block
--- that isn't the last needs the first three; all others none.
+-- How many calls of the keeper a datagram may need. A read request needs the site of its address's
+-- hub, the lease of the address, the modem, the subscriber, the class, and eight add-ons; the
+-- acknowledgement of a block that isn't the last needs the first three; all others none.
 use Rattle.std.specs.Prelude.{◌≡◌, ℕ, ◌==◌, Bool, false, List, Option, Some, None, Result, Ok, Err, if◌then◌else◌}
 use Rattle.std.specs.FinMap as map
 use Rattle.off_base.specs.declared.addresses.Peer.{Peer}
 use Rattle.off_base.specs.declared.addresses.Ip4.{Ip4}
 use Rattle.off_defs.specs.State.{Tables, Transfer}
+use Rattle.off_account_rules.specs.Rows.{hub_of}
 use Rattle.off_outside.specs.KeeperSeen.{KeeperSeen}
 use Rattle.off_outside.specs.KeeperCalls.{Spent}
 use Rattle.off_transfer_rules.specs.View.{View, view}
-use Rattle.off_tftp.specs.Seen.{names_file}
+use Rattle.off_tftp.specs.Seen.{view_at, names_file}
 use Rattle.off_packets.specs.Packets.{Meant, Reads, Writes, Acknowledges, GivesUp, IsOther, packet_of}
 use Rattle.off_transfer_rules.specs.Steps.{is_repeated}
 use Rattle.off_transfer_rules.specs.Transfers.{Transfers, is_at_last}
@@ -36,9 +37,10 @@ abbrev pub datagram_calls : Transfers → Peer → List ℕ → ℕ
 datagram_calls transfers from bytes = calls_by bytes (map.get transfers from) (packet_of bytes)
 
 -- A request for a file by another name than its modem's asks three calls at most, whatever else.
-abbrev pub FewWhereUnnamed : ℕ → Ip4 → List ℕ → KeeperSeen → KeeperSeen → Type 0
-FewWhereUnnamed now ip name old new =
-    (t : Tables) → old.tables t → names_file now ip name (view t ip) ≡ false → Spent 3 old new
+abbrev pub FewWhereUnnamed : ℕ → Option ℕ → Ip4 → List ℕ → KeeperSeen → KeeperSeen → Type 0
+FewWhereUnnamed now hub ip name old new =
+    (t : Tables) → old.tables t → names_file now ip name (view_at t hub ip) ≡ false →
+    Spent 3 old new
 
 -- a packet that asks for the file of the modem to which the address is bound, by its name
 abbrev pub asks_by_name : ℕ → Ip4 → View → Result Meant PacketFault → Bool
@@ -50,7 +52,13 @@ asks_by_name now ip v (Ok IsOther) = false
 asks_by_name now ip v (Err fault) = false
 
 -- every other packet asks three calls at most
-abbrev pub FewUnlessNamed : ℕ → Ip4 → List ℕ → KeeperSeen → KeeperSeen → Type 0
-FewUnlessNamed now ip bytes old new =
-    (t : Tables) → old.tables t → asks_by_name now ip (view t ip) (packet_of bytes) ≡ false
-    → Spent 3 old new
+abbrev pub FewUnlessNamedAt : ℕ → Option ℕ → Ip4 → List ℕ → KeeperSeen → KeeperSeen → Type 0
+FewUnlessNamedAt now hub ip bytes old new =
+    (t : Tables) → old.tables t
+    → asks_by_name now ip (view_at t hub ip) (packet_of bytes) ≡ false → Spent 3 old new
+
+-- and so by the tables themselves, where the hub is the address's own
+abbrev pub FewUnlessNamed : ℕ → Option ℕ → Ip4 → List ℕ → KeeperSeen → KeeperSeen → Type 0
+FewUnlessNamed now hub ip bytes old new =
+    (t : Tables) → old.tables t → hub ≡ hub_of t ip
+    → asks_by_name now ip (view t ip) (packet_of bytes) ≡ false → Spent 3 old new

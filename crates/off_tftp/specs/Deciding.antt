@@ -3,13 +3,13 @@ use Rattle.std.specs.Prelude.{◌≡◌, ℕ, List, [], ◌∷◌, false, Option
 use Rattle.std.specs.FinMap as map
 use Rattle.off_base.specs.declared.addresses.Peer.{Peer}
 use Rattle.off_defs.specs.declared.results.Sent.{Sent}
-use Rattle.off_defs.specs.State.{Tables, Transfer}
+use Rattle.off_defs.specs.State.{Transfer}
 use Rattle.off_kept.specs.declared.bodies.KeptBody.{KeptBody}
 use Rattle.off_kept.specs.Entries.{Entries, with_first}
 use Rattle.off_packets.specs.declared.packets.Options.{Options}
 use Rattle.off_packets.specs.Replies.{error_packet}
 use Rattle.off_transfer_rules.specs.Transfers.{Transfers, asked_again, gone_on, is_at_last, first_word, last_packet, packet_to}
-use Rattle.off_transfer_rules.specs.View.{View, view}
+use Rattle.off_transfer_rules.specs.View.{View}
 use Rattle.off_transfer_rules.specs.Steps.{Denial, Way, Given, GivesBy, gives, way}
 use Rattle.off_transfer_rules.specs.Steps.{illegal_operation, access_violation, octet_only, no_lease, no_longer_agreed, file_not_found, too_many_transfers, unknown_transfer}
 use Rattle.off_tftp.specs.Kept.{HasPlaceFor, changed}
@@ -99,8 +99,7 @@ pub record Serves (v : View) (now : ℕ) (transfers : Transfers) (from : Peer) (
   pub does : Does v now transfers from bytes way d
   pub keeps : (entries : Entries) → kept_behind d.change entries ≡ kept_by v way entries
 
--- a datagram over the tables
-abbrev pub Decides : Tables → ℕ → Transfers → Peer → List ℕ → Decision → Type 0
-Decides tables now transfers from bytes d =
-    Serves (view tables from.ip) now transfers from bytes
-    (way (view tables from.ip) now transfers from bytes) d
+-- a datagram, by what there is for its peer
+abbrev pub Decides : View → ℕ → Transfers → Peer → List ℕ → Decision → Type 0
+Decides v now transfers from bytes d =
+    Serves v now transfers from bytes (way v now transfers from bytes) d

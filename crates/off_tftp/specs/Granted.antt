@@ -1,5 +1,5 @@
 -- What a request asks, and what was found for it.
-use Rattle.std.specs.Prelude.{◌≡◌, ℕ, Option, MatchOption}
+use Rattle.std.specs.Prelude.{◌≡◌, ℕ}
 use Rattle.off_base.specs.declared.macs.Mac.{Mac}
 use Rattle.off_defs.specs.State.{Transfer}
 use Rattle.off_transfer_rules.specs.Transfers.{begun}

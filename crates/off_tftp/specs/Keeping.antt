@@ -25,7 +25,7 @@ is_kept None entries = false
 is_kept (Some mac) entries = is_some (kept_of mac entries)
 
 -- Where the entry is kept of the modem that owns the address in the tables, its file is read from
--- there: the lease of the address, the modem and the site are all that is asked for.
+-- there: the site, the lease of the address and the modem are all that is asked for.
 abbrev pub FewWhereKept : Ip4 → Entries → KeeperSeen → KeeperSeen → Type 0
 FewWhereKept ip entries old new =
     (t : Tables) → old.tables t → is_kept (owner_by (lease_in t ip)) entries ≡ true →

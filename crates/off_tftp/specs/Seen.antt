@@ -7,13 +7,20 @@ use Rattle.off_defs.specs.declared.tables.Site.{Site}
 use Rattle.off_defs.specs.declared.tables.Subscriber.{Subscriber}
 use Rattle.off_defs.specs.declared.tables.Class.{Class}
 use Rattle.off_defs.specs.declared.tables.Lease.{Lease}
-use Rattle.off_account_rules.specs.Rows.{passes}
+use Rattle.off_defs.specs.State.{Tables}
+use Rattle.off_account_rules.specs.Rows.{passes, hub_in, lease_in}
 use Rattle.off_lease_rules.specs.Free.{has_ended}
 use Rattle.off_file_rules.specs.Profile.{profile_of}
-use Rattle.off_transfer_rules.specs.View.{View, bound_to, holder, is_own_name}
+use Rattle.off_transfer_rules.specs.View.{View, view_by, bound_to, holder, is_own_name}
 use Rattle.off_tftp.specs.Built.{CanBuild}
 use Rattle.off_tftp.specs.Keeping.{entry_for}
 use Rattle.off_tftp.specs.declared.gathering.Seen.{Seen}
+
+-- What the tables have for an address, with the site of a hub that is told with it. Where it's the
+-- hub of the address, it's what the tables have by themselves.
+unfoldable pub view_at : Tables → Option ℕ → Ip4 → View
+view_at tables hub ip =
+    view_by tables (option_and_then (hub_in tables) hub) (lease_in tables ip)
 
 -- all of it but the profile: of that the spelling is seen, which may have been kept
 abbrev pub view_of : Seen → View

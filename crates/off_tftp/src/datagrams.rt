@@ -7,14 +7,15 @@ ghost use Rattle.off_packets.specs.Packets.{Reads, packet_of};
 ghost use Rattle.off_transfer_rules.specs.Steps.{way_of_request, way_of_last};
 ghost use Rattle.off_transfer_rules.specs.Steps.{way_of_acknowledgement};
 ghost use Rattle.off_transfer_rules.specs.Transfers.{has_no_room, is_at_last};
-ghost use Rattle.off_transfer_rules.specs.View.{view};
+ghost use Rattle.off_account_rules.specs.Rows.{hub_of};
 ghost use Rattle.off_kept.specs.Right.{AllRight};
 ghost use Rattle.off_outside.specs.declared.keeper.KeepErr.TheVariants.{Memory};
 ghost use Rattle.off_outside.specs.KeeperCalls.{Looks, Spent};
 ghost use Rattle.off_tftp.specs.Calls.{datagram_calls, reading_calls, acknowledgement_calls};
-ghost use Rattle.off_tftp.specs.Calls.{FewWhereUnnamed, FewUnlessNamed};
+ghost use Rattle.off_tftp.specs.Calls.{FewWhereUnnamed, FewUnlessNamed, FewUnlessNamedAt};
 ghost use Rattle.off_tftp.specs.Keeping.{FewWhereKept, FewWhereBegun, AnswersKeeping};
 ghost use Rattle.off_tftp.specs.Saying.{says_more};
+ghost use Rattle.off_tftp.specs.Seen.{view_at};
 ghost use Rattle.off_tftp.specs.Deciding.{Does, Serves, Decides, CanBe, KeepsNothing};
 ghost use Rattle.off_tftp.specs.Deciding.{after_change, kept_behind, items_of};
 
@@ -34,6 +35,10 @@ use std::alloc::Global;
 impl Transfers {
     /// What a peer's datagram does at a moment, and the word with which the log has it.
     ///
+    /// `hub` is the hub of the peer's address, by the pool in which it lies, and `None` where it
+    /// lies in none. Whoever calls knows it without reading; here it's one call less where there is
+    /// none.
+    ///
     /// The tables needn't be good: an impossible row is taken as one that isn't there. The bodies
     /// in `kept` are to be right by them, and are so again. A request that is accepted puts its
     /// modem's first, and nothing else changes `kept`. The rows of which a body is made are read
@@ -47,18 +52,19 @@ impl Transfers {
         alloc: Global,
         keeper: &mut K,
         kept: &mut Kept,
+        hub: Option<u32>,
         now: Moment,
         from: Peer,
         bytes: &[u8],
         out: &mut Replies,
     ) -> Result<TftpWord, KeepErr>
         ensures told { Looks result (K.seen keeper.old) (K.seen keeper.new)
-            (λ word t. AllRight t kept.old → AnswersKeeping t now.0 self.old self.new from
-            bytes.now out.old out.new kept.old kept.new word) }
+            (λ word t. hub ≡ hub_of t from.ip → AllRight t kept.old → AnswersKeeping t now.0
+            self.old self.new from bytes.now out.old out.new kept.old kept.new word) }
         ensures spent { Spent (datagram_calls self.old from bytes.now)
             (K.seen keeper.old) (K.seen keeper.new) }
         ensures few { FewWhereKept from.ip kept.old (K.seen keeper.old) (K.seen keeper.new) }
-        ensures few_unnamed { FewUnlessNamed now.0 from.ip bytes.now
+        ensures few_unnamed { FewUnlessNamed now.0 hub from.ip bytes.now
             (K.seen keeper.old) (K.seen keeper.new) }
         ensures few_begun { FewWhereBegun from bytes.now self.new kept.old
             (K.seen keeper.old) (K.seen keeper.new) }
@@ -68,6 +74,7 @@ impl Transfers {
     {
         let datagram = Datagram {
             from,
+            hub,
             at: now,
             bytes,
         };
@@ -85,15 +92,17 @@ impl Transfers {
         datagram: &Datagram<'_>,
     ) -> Result<Decision, KeepErr>
         ensures told { Looks result (K.seen keeper.old) (K.seen keeper.new)
-            (λ d t. AllRight t kept.now → Decides t datagram.now.at.0 self.now
-            datagram.now.from datagram.now.bytes.now d) }
+            (λ d t. AllRight t kept.now
+            → Decides (view_at t datagram.now.hub datagram.now.from.ip) datagram.now.at.0
+            self.now datagram.now.from datagram.now.bytes.now d) }
         ensures able { IfOk result (λ d. CanBe d.change self.now datagram.now.from) }
         ensures spent { Spent (datagram_calls self.now datagram.now.from datagram.now.bytes.now)
             (K.seen keeper.old) (K.seen keeper.new) }
         ensures few { FewWhereKept datagram.now.from.ip kept.now
             (K.seen keeper.old) (K.seen keeper.new) }
-        ensures few_unnamed { FewUnlessNamed datagram.now.at.0 datagram.now.from.ip
-            datagram.now.bytes.now (K.seen keeper.old) (K.seen keeper.new) }
+        ensures few_unnamed { FewUnlessNamedAt datagram.now.at.0 datagram.now.hub
+            datagram.now.from.ip datagram.now.bytes.now
+            (K.seen keeper.old) (K.seen keeper.new) }
         ensures few_before { FewWhereBegun datagram.now.from datagram.now.bytes.now self.now
             kept.now (K.seen keeper.old) (K.seen keeper.new) }
         ensures few_begun { IfOk result (λ d. FewWhereBegun datagram.now.from
@@ -101,11 +110,17 @@ impl Transfers {
             (after_change d.change datagram.now.at.0 self.now datagram.now.from) kept.now
             (K.seen keeper.old) (K.seen keeper.new)) }
     {
-        let Datagram { from, at, bytes } = *datagram;
+        let Datagram {
+            from,
+            hub,
+            at,
+            bytes,
+        } = *datagram;
         match read_packet(bytes) {
             Ok(Packet::Read { name, options }) => {
                 let request = Request {
                     from,
+                    hub,
                     at,
                     bytes,
                     name,
@@ -113,7 +128,7 @@ impl Transfers {
                 };
                 self.on_request(alloc, keeper, kept, &request)
             }
-            Ok(Packet::Ack(number)) => self.on_acknowledgement(alloc, keeper, at, from, number),
+            Ok(Packet::Ack(number)) => self.on_acknowledgement(alloc, keeper, datagram, number),
             Ok(Packet::Error) => Ok(Decision {
                 word: TftpWord::PeerError,
                 sent: None,
@@ -139,9 +154,10 @@ impl Transfers {
         requires read { packet_of request.now.bytes.now
             ≡ Ok (Reads request.now.name.now request.now.options) }
         ensures told { Looks result (K.seen keeper.old) (K.seen keeper.new)
-            (λ d t. AllRight t kept.now → Serves (view t request.now.from.ip)
-            request.now.at.0 self.now request.now.from request.now.bytes.now
-            (way_of_request (view t request.now.from.ip) request.now.at.0 request.now.from.ip
+            (λ d t. AllRight t kept.now
+            → let v = view_at t request.now.hub request.now.from.ip in
+            Serves v request.now.at.0 self.now request.now.from request.now.bytes.now
+            (way_of_request v request.now.at.0 request.now.from.ip
             (has_no_room self.now) request.now.bytes.now request.now.name.now
             request.now.options (map.get self.now request.now.from)) d) }
         ensures able { IfOk result (λ d. CanBe d.change self.now request.now.from) }
@@ -150,8 +166,8 @@ impl Transfers {
             (K.seen keeper.old) (K.seen keeper.new) }
         ensures few { FewWhereKept request.now.from.ip kept.now
             (K.seen keeper.old) (K.seen keeper.new) }
-        ensures few_unnamed { FewWhereUnnamed request.now.at.0 request.now.from.ip
-            request.now.name.now (K.seen keeper.old) (K.seen keeper.new) }
+        ensures few_unnamed { FewWhereUnnamed request.now.at.0 request.now.hub
+            request.now.from.ip request.now.name.now (K.seen keeper.old) (K.seen keeper.new) }
         ensures few_before { FewWhereBegun request.now.from request.now.bytes.now self.now
             kept.now (K.seen keeper.old) (K.seen keeper.new) }
         ensures few_begun { IfOk result (λ d. FewWhereBegun request.now.from
@@ -159,11 +175,11 @@ impl Transfers {
             (after_change d.change request.now.at.0 self.now request.now.from) kept.now
             (K.seen keeper.old) (K.seen keeper.new)) }
     {
-        let Request { from, at, name, .. } = *request;
+        let from = request.from;
         if self.repeats(from, request.bytes) {
             return settled(self.repeat(alloc, from));
         }
-        let seen = look_for_file(alloc, keeper, kept, at, from.ip, name)?;
+        let seen = look_for_file(alloc, keeper, kept, request)?;
         settled(self.open(alloc, &seen, request))
     }
 
@@ -173,19 +189,21 @@ impl Transfers {
         &self,
         alloc: Global,
         keeper: &mut K,
-        now: Moment,
-        from: Peer,
+        datagram: &Datagram<'_>,
         number: u16,
     ) -> Result<Decision, KeepErr>
-        ensures told { (bytes : List ℕ) → Looks result (K.seen keeper.old) (K.seen keeper.new)
-            (λ d t. Does (view t from.ip) now.0 self.now from bytes
-            (way_of_acknowledgement (view t from.ip) now.0 from.ip number (map.get self.now from))
-            d) }
+        ensures told { Looks result (K.seen keeper.old) (K.seen keeper.new)
+            (λ d t. let v = view_at t datagram.now.hub datagram.now.from.ip in
+            Does v datagram.now.at.0 self.now datagram.now.from datagram.now.bytes.now
+            (way_of_acknowledgement v datagram.now.at.0 datagram.now.from.ip number
+            (map.get self.now datagram.now.from)) d) }
         ensures bare { IfOk result KeepsNothing }
-        ensures able { IfOk result (λ d. CanBe d.change self.now from) }
-        ensures spent { Spent (acknowledgement_calls number (map.get self.now from))
+        ensures able { IfOk result (λ d. CanBe d.change self.now datagram.now.from) }
+        ensures spent { Spent
+            (acknowledgement_calls number (map.get self.now datagram.now.from))
             (K.seen keeper.old) (K.seen keeper.new) }
     {
+        let from = datagram.from;
         match self.stage_of(from, number) {
             Stage::Unknown => settled(refuse(alloc, from, Refusal::Unknown)),
             Stage::Stale => Ok(Decision {
@@ -198,7 +216,7 @@ impl Transfers {
                 sent: None,
                 change: Change::Ends,
             }),
-            Stage::Next => self.on_next(alloc, keeper, now, from),
+            Stage::Next => self.on_next(alloc, keeper, datagram),
         }
     }
 
@@ -208,20 +226,21 @@ impl Transfers {
         &self,
         alloc: Global,
         keeper: &mut K,
-        now: Moment,
-        from: Peer,
+        datagram: &Datagram<'_>,
     ) -> Result<Decision, KeepErr>
-        requires { IfSome (map.get self.now from) (λ x. is_at_last x ≡ false) }
-        ensures told { (bytes : List ℕ) → Looks result (K.seen keeper.old) (K.seen keeper.new)
-            (λ d t. IfSome (map.get self.now from)
-            (λ x. Does (view t from.ip) now.0 self.now from bytes
-            (way_of_last (view t from.ip) now.0 from.ip x) d)) }
+        requires { IfSome (map.get self.now datagram.now.from) (λ x. is_at_last x ≡ false) }
+        ensures told { Looks result (K.seen keeper.old) (K.seen keeper.new)
+            (λ d t. let v = view_at t datagram.now.hub datagram.now.from.ip in
+            IfSome (map.get self.now datagram.now.from)
+            (λ x. Does v datagram.now.at.0 self.now datagram.now.from datagram.now.bytes.now
+            (way_of_last v datagram.now.at.0 datagram.now.from.ip x) d)) }
         ensures bare { IfOk result KeepsNothing }
-        ensures able { IfOk result (λ d. CanBe d.change self.now from) }
+        ensures able { IfOk result (λ d. CanBe d.change self.now datagram.now.from) }
         ensures spent { Spent 3 (K.seen keeper.old) (K.seen keeper.new) }
     {
-        let seen = look(alloc, keeper, from.ip)?;
-        settled(self.go_on_or_break(alloc, &seen, now, from))
+        let Datagram { from, hub, at, .. } = *datagram;
+        let seen = look(alloc, keeper, hub, from.ip)?;
+        settled(self.go_on_or_break(alloc, &seen, at, from))
     }
 
     // Says what was decided, and does it: both, or neither.

@@ -3,11 +3,11 @@
 ghost use Rattle.std.specs.Prelude.{◌≡◌, ◌++◌, ◌∷◌, [], None, Ok, option_and_then, IfOk};
 ghost use Rattle.std.specs.Prelude.{true, option_map, MatchResult};
 ghost use Rattle.off_defs.specs.declared.tables.Modem.{Modem as ModemSeen};
-ghost use Rattle.off_account_rules.specs.Rows.{modem_in};
+ghost use Rattle.off_account_rules.specs.Rows.{hub_in, modem_in};
 ghost use Rattle.off_file_rules.specs.Profile.{profile_at, profile_in, add_ons_in};
-ghost use Rattle.off_transfer_rules.specs.View.{view, owner_by};
+ghost use Rattle.off_transfer_rules.specs.View.{owner_by};
 ghost use Rattle.off_kept.specs.Right.{AllRight};
-ghost use Rattle.off_tftp.specs.Seen.{view_of, without_profile, seen_for, IsNamed, Shows};
+ghost use Rattle.off_tftp.specs.Seen.{view_at, view_of, without_profile, seen_for, IsNamed, Shows};
 ghost use Rattle.off_tftp.specs.Seen.{profile_from};
 ghost use Rattle.off_tftp.specs.Calls.{FewWhereUnnamed};
 ghost use Rattle.off_tftp.specs.Keeping.{FewWhereKept, is_kept, entry_for};
@@ -17,18 +17,19 @@ ghost use Rattle.off_outside.specs.KeeperCalls.{Looks, Spent};
 
 use crate::bodies::kept_or_built;
 use crate::judging::names_file;
-use off_base::{Ip4, Mac, Moment, Settings};
+use crate::requests::Request;
+use off_base::{Ip4, Mac, Settings};
 use off_defs::{ADD_ONS, Class, Lease, Modem, Site, Subscriber};
 use off_files::{AddOns, profile_of};
 use off_kept::{Kept, KeptBody};
 use off_outside::{KeepErr, Keeper};
 use off_readers::{
-    owner_of, read_add_on, read_class, read_lease, read_modem, read_site, read_subscriber,
+    owner_of, read_add_on, read_class, read_hub, read_lease, read_modem, read_subscriber,
 };
 use std::alloc::Global;
 
-/// The site, the lease of the peer's address, of the modem that owns it the row, and the body of
-/// its file with the row's numbers.
+/// The site of the hub, the lease of the peer's address, of the modem that owns it the row, and the
+/// body of its file with the row's numbers.
 #[derive(Drop)]
 pub(crate) struct Seen {
     pub(crate) site: Option<Site>,
@@ -39,13 +40,18 @@ pub(crate) struct Seen {
 
 /// All of it but the body. It's three calls.
 #[tactic(auto, using(crate::proofs::ReadLemmas::readings))]
-pub(crate) fn look<K: Keeper>(alloc: Global, keeper: &mut K, ip: Ip4) -> Result<Seen, KeepErr>
+pub(crate) fn look<K: Keeper>(
+    alloc: Global,
+    keeper: &mut K,
+    hub: Option<u32>,
+    ip: Ip4,
+) -> Result<Seen, KeepErr>
     ensures told { Looks result (K.seen keeper.old) (K.seen keeper.new)
-        (λ seen t. view_of seen ≡ without_profile (view t ip)) }
+        (λ seen t. view_of seen ≡ without_profile (view_at t hub ip)) }
     ensures bare { IfOk result (λ seen. seen.body ≡ None) }
     ensures spent { Spent 3 (K.seen keeper.old) (K.seen keeper.new) }
 {
-    let site = read_site(alloc, keeper)?;
+    let site = read_site(alloc, keeper, hub)?;
     let lease = read_lease(alloc, keeper, ip)?;
     let modem = read_owner(alloc, keeper, owner_by(lease))?;
     Ok(Seen {
@@ -63,28 +69,48 @@ pub(crate) fn look_for_file<K: Keeper>(
     alloc: Global,
     keeper: &mut K,
     kept: &Kept,
-    now: Moment,
-    ip: Ip4,
-    name: &[u8],
+    request: &Request<'_>,
 ) -> Result<Seen, KeepErr>
     ensures told { Looks result (K.seen keeper.old) (K.seen keeper.new)
-        (λ seen t. AllRight t kept.now → Shows seen (seen_for now.0 ip name.now (view t ip))) }
-    ensures named { IfOk result (λ seen. IsNamed now.0 ip name.now seen) }
+        (λ seen t. AllRight t kept.now
+        → Shows seen (seen_for request.now.at.0 request.now.from.ip request.now.name.now
+        (view_at t request.now.hub request.now.from.ip))) }
+    ensures named { IfOk result
+        (IsNamed request.now.at.0 request.now.from.ip request.now.name.now) }
     ensures spent { Spent 13 (K.seen keeper.old) (K.seen keeper.new) }
-    ensures few { FewWhereKept ip kept.now (K.seen keeper.old) (K.seen keeper.new) }
-    ensures few_unnamed { FewWhereUnnamed now.0 ip name.now
+    ensures few { FewWhereKept request.now.from.ip kept.now
         (K.seen keeper.old) (K.seen keeper.new) }
+    ensures few_unnamed { FewWhereUnnamed request.now.at.0 request.now.hub request.now.from.ip
+        request.now.name.now (K.seen keeper.old) (K.seen keeper.new) }
     ensures few_seen { IfOk result (λ seen. is_kept (owner_by seen.lease) kept.now ≡ true
         → Spent 3 (K.seen keeper.old) (K.seen keeper.new)) }
 {
-    let mut seen = look(alloc, keeper, ip)?;
-    if !names_file(&seen, now, ip, name) {
+    let ip = request.from.ip;
+    let mut seen = look(alloc, keeper, request.hub, ip)?;
+    if !names_file(&seen, request.at, ip, request.name) {
         return Ok(seen);
     }
     let owner = owner_by(seen.lease);
     let body = body_for(alloc, keeper, kept, &seen.site, owner, &seen.modem)?;
     seen.body = body;
     Ok(seen)
+}
+
+// The site of a hub. Where there's no hub there is none, and no call is made.
+#[tactic(auto, using(crate::proofs::ReadLemmas::readings))]
+fn read_site<K: Keeper>(
+    alloc: Global,
+    keeper: &mut K,
+    hub: Option<u32>,
+) -> Result<Option<Site>, KeepErr>
+    ensures told { Looks result (K.seen keeper.old) (K.seen keeper.new)
+        (λ site t. site ≡ option_and_then (hub_in t) hub) }
+    ensures spent { Spent 1 (K.seen keeper.old) (K.seen keeper.new) }
+{
+    match hub {
+        Some(n) => read_hub(alloc, keeper, n),
+        None => Ok(None),
+    }
 }
 
 fn owner_by(lease: Option<Lease>) -> Option<Mac>

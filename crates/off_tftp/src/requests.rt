@@ -4,10 +4,11 @@ use crate::files::File;
 use off_base::{Ip4, Mac, Moment, Peer, Secret};
 use off_packets::Options;
 
-/// A datagram: from whom it is, when it came, and its bytes.
+/// A datagram: from whom it is, the hub of that address, when it came, and its bytes.
 #[derive(Clone, Copy)]
 pub(crate) struct Datagram<'a> {
     pub(crate) from: Peer,
+    pub(crate) hub: Option<u32>,
     pub(crate) at: Moment,
     pub(crate) bytes: &'a [u8],
 }
@@ -16,6 +17,7 @@ pub(crate) struct Datagram<'a> {
 #[derive(Clone, Copy)]
 pub(crate) struct Request<'a> {
     pub(crate) from: Peer,
+    pub(crate) hub: Option<u32>,
     pub(crate) at: Moment,
     pub(crate) bytes: &'a [u8],
     pub(crate) name: &'a [u8],

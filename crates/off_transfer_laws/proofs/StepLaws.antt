@@ -1,5 +1,5 @@
 -- The laws of datagrams.
-use Rattle.std.proofs.Common.{if◌then◌else◌, ◌≡◌, ◌≢◌, ℕ, suc, ◌+◌, ◌-◌, ◌≤◌, Bool, true, false, cond, nat_le, List, [], is_some, Option, Some, None, refl, sym, ap, subst, ◌∙◌, inl, inr, arith}
+use Rattle.std.proofs.Common.{if◌then◌else◌, ◌≡◌, ◌≢◌, ℕ, suc, ◌+◌, ◌-◌, ◌≤◌, Bool, true, false, cond, nat_le, List, [], is_some, refl, sym, ap, subst, ◌∙◌, inl, inr, arith}
 use Rattle.std.proofs.lemmas.Bool.{leb-false, and_parts, eq-eqb}
 use Rattle.std.specs.FinMap as map
 use Rattle.off_base.specs.declared.addresses.Ip4.{Ip4}
@@ -8,7 +8,6 @@ use Rattle.off_base.specs.declared.macs.Mac.{Mac}
 use Rattle.off_defs.specs.State.{Tables, Transfer}
 use Rattle.off_account_rules.specs.Rows.{passes, lease_in}
 use Rattle.off_packets.specs.Packets.{has_option}
-use Rattle.off_packets.specs.declared.packets.Options.{Options}
 use Rattle.off_transfer_rules.specs.View.{View, view, is_of_subscriber, is_own_name, IsBuiltBy}
 use Rattle.off_transfer_rules.specs.Transfers.{Transfers, has_no_room, first_word, begun, gone_on, asked_again}
 use Rattle.off_transfer_rules.specs.Steps.{Way, Denies, Repeats, Accepts, Ignores, Finishes, BreaksOff, GoesOn, Leaves, way, Given, gives, error_to, last_to, GivesBy, TftpStep, no_longer_agreed}

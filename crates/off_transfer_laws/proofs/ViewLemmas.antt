@@ -19,7 +19,7 @@ use Rattle.off_defs.specs.declared.tables.Lease.{Lease}
 use Rattle.off_defs.specs.State.{Tables}
 use Rattle.off_mic.specs.Mic.{Sealed}
 use Rattle.off_mic.proofs.SealLemmas.{sealed_is_one}
-use Rattle.off_account_rules.specs.Rows.{passes, site_in, modem_in, lease_in, subscriber_in, class_in}
+use Rattle.off_account_rules.specs.Rows.{passes, site_of, modem_in, lease_in, subscriber_in, class_in}
 use Rattle.off_account_rules.specs.Good.{owner_of, is_mac, Good}
 use Rattle.off_file_rules.specs.Name.{name_of}
 use Rattle.off_file_rules.specs.Profile.{profile_of, add_ons_in, profile_at, profile_in}
@@ -97,7 +97,7 @@ pub profile_seen : (t : Tables) (ip : Ip4) (mac : Mac) → owner_by (lease_in t 
 unfolding view
 profile_seen t ip mac owner = ap (option_and_then (profile_in t)) owner
 
-pub site_seen : (t : Tables) (ip : Ip4) → (view t ip).site ≡ site_in t
+pub site_seen : (t : Tables) (ip : Ip4) → (view t ip).site ≡ site_of t ip
 unfolding view
 site_seen t ip = refl
 
@@ -202,7 +202,7 @@ some_is : {A : Type 0} (o : Option A) (P : Type 0) → is_some o ≡ true → ((
 some_is None P e more = cc
 some_is (Some a) P e more = more a refl
 
-file_there : (t : Tables) (mac : Mac) (now : ℕ) (ip : Ip4) (site : Site) → site_in t ≡ Some site → is_some (profile_in t mac) ≡ true → (file : List ℕ) × IsFile t mac now ip file
+file_there : (t : Tables) (mac : Mac) (now : ℕ) (ip : Ip4) (site : Site) → site_of t ip ≡ Some site → is_some (profile_in t mac) ≡ true → (file : List ℕ) × IsFile t mac now ip file
 unfolding profile_in
 file_there t mac now ip site site_is e =
     then_some (λ (modem : Modem). profile_at t modem.subscriber modem.class) (modem_in t mac) ((file : List ℕ) × IsFile t mac now ip file) e

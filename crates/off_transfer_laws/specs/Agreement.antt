@@ -7,7 +7,7 @@ use Rattle.off_defs.specs.declared.tables.Modem.{Modem}
 use Rattle.off_defs.specs.declared.tables.Lease.{Lease}
 use Rattle.off_defs.specs.declared.tables.Hold.TheVariants.{Bound}
 use Rattle.off_defs.specs.State.{Tables}
-use Rattle.off_account_rules.specs.Rows.{site_in, modem_in, lease_in}
+use Rattle.off_account_rules.specs.Rows.{site_of, modem_in, lease_in}
 use Rattle.off_file_rules.specs.Name.{name_of}
 
 -- the address is bound to the modem by a lease that hasn't ended, the modem is the subscriber's,
@@ -22,5 +22,5 @@ pub record Agreement (tables : Tables) (now : ℕ) (ip : Ip4) (name : List ℕ) 
   pub live : now < lease.expiry.0
   pub modem_is : modem_in tables mac ≡ Some modem
   pub owned : modem.subscriber ≡ owner
-  pub site_is : site_in tables ≡ Some site
+  pub site_is : site_of tables ip ≡ Some site
   pub named : name ≡ name_of site.secret mac ip

@@ -6,7 +6,7 @@ use Rattle.off_base.specs.declared.addresses.Peer.{Peer}
 use Rattle.off_base.specs.declared.macs.Mac.{Mac}
 use Rattle.off_defs.specs.declared.tables.Modem.{Modem}
 use Rattle.off_defs.specs.State.{Tables}
-use Rattle.off_account_rules.specs.Rows.{site_in, subscriber_in, add_on_in, modem_in, class_in, lease_in}
+use Rattle.off_account_rules.specs.Rows.{site_of, subscriber_in, add_on_in, modem_in, class_in, lease_in}
 use Rattle.off_transfer_rules.specs.View.{owner_by}
 use Rattle.off_transfer_rules.specs.Transfers.{Transfers}
 use Rattle.off_transfer_rules.specs.Steps.{Given, TftpStep}
@@ -20,7 +20,7 @@ abbrev pub IsOwner : Tables → Ip4 → Mac → Type 0
 IsOwner tables ip mac = owner_by (lease_in tables ip) ≡ Some mac
 
 pub record SameRows (tables other : Tables) (ip : Ip4) : Type 0 where
-  pub sites : site_in tables ≡ site_in other
+  pub sites : site_of tables ip ≡ site_of other ip
   pub leases : lease_in tables ip ≡ lease_in other ip
   pub modems : (mac : Mac) → IsOwner tables ip mac → modem_in tables mac ≡ modem_in other mac
   pub others : (mac : Mac) (modem : Modem) → IsOwner tables ip mac

@@ -1,6 +1,6 @@
 -- Worked examples, evaluated: the definitions say what was meant. A modem asks for its file in
 -- blocks of 44 bytes, and acknowledges each; meanwhile its row changes, or nothing comes for a while.
-use Rattle.std.proofs.Common.{◌≡◌, ℕ, ◌+◌, List, [], ◌∷◌, ◌++◌, true, false, pos, Option, Some, None, Ok, Err, refl, codes, option_and_then}
+use Rattle.std.proofs.Common.{◌≡◌, ℕ, ◌+◌, List, [], ◌∷◌, ◌++◌, true, false, pos, Option, Some, None, Ok, refl, codes, option_and_then}
 use Rattle.std.specs.Fmt.{digits}
 use Rattle.md5.specs.Md5.{block_words, rounds, compress, hash_after, digest_bytes, md5}
 use Rattle.hex.proofs.OnLiterals.{hex_on_literals}
@@ -14,7 +14,7 @@ use Rattle.off_defs.specs.State.{Transfer}
 use Rattle.off_mic.specs.Hmac.{hmac}
 use Rattle.off_file_rules.specs.Name.{name_of}
 use Rattle.off_base.specs.Number.{number_read}
-use Rattle.off_packets.specs.Packets.{Reads, Writes, Acknowledges, GivesUp, packet_of, no_options, only_size}
+use Rattle.off_packets.specs.Packets.{Reads, Acknowledges, packet_of, no_options, only_size}
 use Rattle.off_transfer_rules.specs.View.{View}
 use Rattle.off_transfer_rules.specs.Transfers.{size_for, begun, last_packet, gone_on, sent_again}
 use Rattle.off_transfer_rules.specs.Steps.{Denies, Repeats, Accepts, Ignores, Finishes, BreaksOff, GoesOn, no_lease, file_not_found, too_many_transfers, unknown_transfer, way_of}

@@ -1,7 +1,7 @@
 -- A worked example of a whole file and its blocks, evaluated: that of modem 02aabbccddee at
 -- 10.64.0.10 in November 2023, whose class has a flow of each direction with a greatest rate. The
 -- bytes are another program's.
-use Rattle.std.proofs.Common.{◌≡◌, ℕ, List, [], ◌∷◌, ◌++◌, true, Some, refl, codes}
+use Rattle.std.proofs.Common.{◌≡◌, ℕ, List, [], ◌∷◌, ◌++◌, true, refl, codes}
 use Rattle.md5.specs.Md5.{block_words, rounds, compress, hash_after, digest_bytes, md5}
 use Rattle.off_base.specs.Tree.{Tree, leaf, group, no_more, followed, spelling}
 use Rattle.off_mic.specs.Hmac.{hmac}

@@ -11,14 +11,14 @@ use Rattle.off_defs.specs.declared.tables.Lease.{Lease}
 use Rattle.off_defs.specs.declared.tables.Hold.{Hold}
 use Rattle.off_defs.specs.declared.tables.Hold.TheVariants.{Bound}
 use Rattle.off_defs.specs.State.{Tables}
-use Rattle.off_account_rules.specs.Rows.{passes, site_in, modem_in, lease_in}
+use Rattle.off_account_rules.specs.Rows.{passes, site_of, modem_in, lease_in}
 use Rattle.off_account_rules.specs.Good.{owner_of, is_mac}
 use Rattle.off_file_rules.specs.Name.{name_of}
 use Rattle.off_file_rules.specs.Profile.{profile_in}
 use Rattle.off_file_rules.specs.File.{IsBuilt}
 use Rattle.off_lease_rules.specs.Free.{has_ended}
 
--- the site, the lease of the address, and of the modem that owns it the row and the profile
+-- the site of the address's hub, the lease of the address, and of the modem that owns it the row and the profile
 pub record View : Type 0 where
   pub site : Option Site
   pub lease : Option Lease
@@ -28,16 +28,16 @@ pub record View : Type 0 where
 abbrev pub owner_by : Option Lease → Option Mac
 owner_by lease = option_and_then (λ lease. owner_of lease.hold) lease
 
-abbrev pub view_by : Tables → Option Lease → View
-view_by tables lease = record {
-  site = site_in tables;
+abbrev pub view_by : Tables → Option Site → Option Lease → View
+view_by tables site lease = record {
+  site = site;
   lease = lease;
   modem = option_and_then (modem_in tables) (owner_by lease);
   profile = option_and_then (profile_in tables) (owner_by lease);
 }
 
 unfoldable pub view : Tables → Ip4 → View
-view tables ip = view_by tables (lease_in tables ip)
+view tables ip = view_by tables (site_of tables ip) (lease_in tables ip)
 
 -- the modem to which the address is bound, by a lease that hasn't ended
 abbrev pub bound_to : Hold → Option Mac

@@ -1,5 +1,6 @@
 use Rattle.off_accounts.proofs.ImportLemmas.{sound_rows, import_answers}
 use Rattle.off_accounts.proofs.GoodLemmas.{decided_good}
+use Rattle.off_accounts.proofs.CommandWalks.{import_walks}
 use Rattle.off_accounts.proofs.commands.decide.Goals as goal
 
 pub import-verdict-requires-clause-sound : goal.import-verdict-requires-clause-sound
@@ -15,3 +16,6 @@ returns-clause-good g c = decided_good _ c.args.users.now _ _ _ _ _ c.requires.s
 
 pub returns-in_default-clause-good : goal.returns-in_default-clause-good
 returns-in_default-clause-good g c = decided_good _ c.args.users.now _ _ _ _ _ c.requires.sound c.decide.ensures.told
+
+pub returns-clause-walks : goal.returns-clause-walks
+returns-clause-walks g c = import_walks c.args.c.now c.in-Import.kind c.in-Import.batch c.in-Import.digest c.in-Import.rows _ _ c.in-Import.is

@@ -2,5 +2,5 @@ use Rattle.off_outside.proofs.KeeperLemmas.{reads_none}
 use Rattle.off_accounts.proofs.DropLemmas.{nothing_lost}
 use Rattle.off_accounts.proofs.dropping.with_drops.Goals as goal
 
-pub returns-in_default : goal.returns-in_default
-returns-in_default g c = reads_none (λ t. nothing_lost c.args.old c.args.new c.args.write c.new-writes.result c.push.new.self t c.in_default.is c.new-writes.ensures c.in_ok-push.ensures.ok)
+pub returns-in_default-clause-told : goal.returns-in_default-clause-told
+returns-in_default-clause-told g c = reads_none (λ t. nothing_lost c.args.old c.args.new c.args.write c.new-writes.result c.push.new.self t c.in_default.is c.new-writes.ensures c.in_ok-push.ensures.ok)

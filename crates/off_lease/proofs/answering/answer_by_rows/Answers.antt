@@ -1,9 +1,8 @@
 use Rattle.std.proofs.Common.{◌≡◌, true}
 use Rattle.off_defs.specs.State.{Tables}
-use Rattle.off_account_rules.specs.Rows.{site_in}
 use Rattle.off_runs.specs.Held.{StandsFor}
 use Rattle.off_runs.specs.Leases.{ground}
-use Rattle.off_lease_rules.specs.Asking.{is_discover}
+use Rattle.off_asking.specs.Asking.{is_discover}
 use Rattle.off_lease_rules.specs.Free.{chosen_in, pool_for}
 use Rattle.off_lease_rules.specs.Steps.{lease_step, settled_in, refuses}
 use Rattle.off_lease_rules.specs.declared.results.LeaseStep.{LeaseStep}
@@ -17,9 +16,9 @@ returns-in-Some-clause-told g c =
     let now = c.args.now.0 in
     let m = c.args.m.now in
     let case = c.in_ok-case.case in
-    looks_settled c.refuse.result c.kept.result (λ (step : LeaseStep) (t : Tables). StandsFor c.args.runs.now (ground t) now → c.args.site ≡ site_in t → step ≡ lease_step t now m) (refuses m (knowing case.site) c.in-Some.word) c.kept.ensures c.refuse.ensures
+    looks_settled c.refuse.result c.kept.result (λ (step : LeaseStep) (t : Tables). StandsFor c.args.runs.now (ground t) now → step ≡ lease_step t now m) (refuses m (knowing case.site) c.in-Some.word) c.kept.ensures c.refuse.ensures
     c.in_ok-case.ensures.told
-    (λ t seen stands same. rows_refuse t now m c.args.site case c.in-Some.word (seen stands.keeps same) c.in_ok-case.ensures.site c.requires c.in-Some.ensures)
+    (λ t seen stands. rows_refuse t now m case c.in-Some.word (seen stands.keeps) c.requires c.in-Some.ensures)
 
 pub returns-in-None-clause-told : goal.returns-in-None-clause-told
 returns-in-None-clause-told g c =
@@ -27,8 +26,8 @@ returns-in-None-clause-told g c =
     let m = c.args.m.now in
     let case = c.in_ok-case.case in
     looks_then _ c.answer_case.result (λ (step : LeaseStep) (t : Tables). StandsFor c.args.runs.now (ground t) now → (is_discover m ≡ true → case.pool ≡ pool_for t m) → step ≡ settled_in t now m case (chosen_in t now m case))
-    (λ (step : LeaseStep) (t : Tables). StandsFor c.args.runs.now (ground t) now → c.args.site ≡ site_in t → step ≡ lease_step t now m) c.in_ok-case.ensures.told c.answer_case.ensures.told
-    (λ step t seen is stands same. rows_accept t now m case step (seen stands.keeps same) (is stands (asked_pool t m case (seen stands.keeps same))))
+    (λ (step : LeaseStep) (t : Tables). StandsFor c.args.runs.now (ground t) now → step ≡ lease_step t now m) c.in_ok-case.ensures.told c.answer_case.ensures.told
+    (λ step t seen is stands. rows_accept t now m case step (seen stands.keeps) (is stands (asked_pool t m case (seen stands.keeps))))
 
 pub returns-in-Some-clause-spent : goal.returns-in-Some-clause-spent
 returns-in-Some-clause-spent g c = gathered_enough c.args.m.now c.in_ok-case.ensures.spent

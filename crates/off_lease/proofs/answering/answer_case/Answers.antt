@@ -2,7 +2,7 @@ use Rattle.std.proofs.Common.{◌≡◌, ℕ, true, ap, ◌∙◌}
 use Rattle.off_defs.specs.State.{Tables}
 use Rattle.off_runs.specs.Held.{StandsFor}
 use Rattle.off_runs.specs.Leases.{ground}
-use Rattle.off_lease_rules.specs.Asking.{is_discover}
+use Rattle.off_asking.specs.Asking.{is_discover}
 use Rattle.off_lease_rules.specs.Free.{chosen_in, pool_for}
 use Rattle.off_lease_rules.specs.Steps.{settled, settled_in}
 use Rattle.off_lease_rules.specs.declared.results.LeaseStep.{LeaseStep}

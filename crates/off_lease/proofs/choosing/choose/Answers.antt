@@ -3,7 +3,7 @@ use Rattle.std.specs.List.{find}
 use Rattle.off_base.specs.declared.addresses.Ip4.{Ip4}
 use Rattle.off_account_rules.specs.Rows.{pools}
 use Rattle.off_defs.specs.declared.tables.Pool.{Pool}
-use Rattle.off_lease_rules.specs.Asking.{is_discover, at_address, named_address, claimed}
+use Rattle.off_asking.specs.Asking.{is_discover, at_address, named_address, claimed}
 use Rattle.off_lease_rules.specs.Free.{choice}
 use Rattle.off_lease.specs.Stages.{IsBehind}
 use Rattle.off_lease.proofs.PoolLemmas.{discovered}

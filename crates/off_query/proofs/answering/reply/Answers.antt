@@ -1,4 +1,4 @@
-use Rattle.std.proofs.Common.{◌≡◌, sym, ap, ◌∙◌}
+use Rattle.std.proofs.Common.{◌≡◌}
 use Rattle.off_defs.specs.State.{Tables}
 use Rattle.off_query_rules.specs.Answers.{settled, query_step}
 use Rattle.off_query_rules.specs.declared.results.QueryStep.{QueryStep}

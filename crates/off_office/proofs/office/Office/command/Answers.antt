@@ -27,3 +27,14 @@ returns-in_err-settle-clause-spent g c = done_spent _ _ _ _ _ _ c.plan.ensures.s
 
 pub returns-clause-good : goal.returns-clause-good
 returns-clause-good g c = command_fits _ _ _ _ _ _ _ c.requires.sound (returns-clause-told g c)
+
+pub returns-clause-walks : goal.returns-clause-walks
+returns-clause-walks g c =
+    λ t told. done_spent _ _ _ _ _ _ (c.plan.ensures.walks t told) c.settle.ensures.spent c.in_ok-planned.ensures.commits
+
+pub returns-in_err-planned-clause-walks : goal.returns-in_err-planned-clause-walks
+returns-in_err-planned-clause-walks g c = λ t told. decided_spent _ _ _ _ (c.plan.ensures.walks t told)
+
+pub returns-in_err-settle-clause-walks : goal.returns-in_err-settle-clause-walks
+returns-in_err-settle-clause-walks g c =
+    λ t told. done_spent _ _ _ _ _ _ (c.plan.ensures.walks t told) c.settle.ensures.spent c.in_ok-planned.ensures.commits

@@ -11,7 +11,7 @@ pub returns-clause-told : goal.returns-clause-told
 returns-clause-told g c = elim c.match-on_datagram.branch [
   | in-Ok w ↦
       packet_told _ c.on_datagram.result w.in-Ok.word c.args.from c.args.bytes.now (the_view c.self.inside) c.args.self.now c.on_datagram.new.self c.on_datagram.new.kept
-      c.args.out.now c.on_datagram.new.out c.match-on_datagram.out _ _ w.result-is w.in-Ok.is c.on_datagram.ensures.told c.self.view_is c.requires
+      c.args.out.now c.on_datagram.new.out c.match-on_datagram.out c.hub_around-hub.result _ _ w.result-is w.in-Ok.is c.hub_around-hub.ensures c.on_datagram.ensures.told c.self.view_is c.requires
       (w.out-is ∙ w.say_word.ensures)
   | in-Err w ↦ packet_not_told _ c.on_datagram.result w.in-Err.err _ _ _ _ w.result-is w.in-Err.is c.on_datagram.ensures.told
 ]

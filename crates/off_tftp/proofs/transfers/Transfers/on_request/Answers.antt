@@ -1,7 +1,7 @@
-use Rattle.std.proofs.Common.{◌∙◌, sym, refl}
+use Rattle.std.proofs.Common.{◌∙◌, sym}
 use Rattle.std.specs.FinMap as map
 use Rattle.off_transfer_rules.specs.Transfers.{has_no_room}
-use Rattle.off_transfer_rules.specs.View.{view}
+use Rattle.off_tftp.specs.Seen.{view_at}
 use Rattle.off_tftp.proofs.DoesLemmas.{looks_settled, looks_at_once, if_ok_as, if_ok_under, repeat_serves, open_does, can_serve, few_settled}
 use Rattle.off_tftp.specs.Deciding.{after_change}
 use Rattle.off_tftp.specs.declared.deciding.Decision.{Decision}
@@ -12,15 +12,15 @@ pub returns-then-repeats-clause-told : goal.returns-then-repeats-clause-told
 returns-then-repeats-clause-told g c =
     looks_at_once _ c.repeat.result c.settled.result _ c.settled.ensures
     (λ t. if_ok_as c.repeat.result _ _
-    (repeat_serves c.args.request.now.at.0 c.args.self.now c.args.request.now.from c.args.request.now.bytes.now (view t c.args.request.now.from.ip) c.args.request.now.from.ip (has_no_room c.args.self.now) c.args.request.now.name.now c.args.request.now.options
-    (map.get c.args.self.now c.args.request.now.from) c.repeat.result (sym c.repeats.ensures ∙ c.if-repeats.true) (c.repeat.ensures.done (view t c.args.request.now.from.ip) c.args.request.now.at.0 c.args.request.now.bytes.now) c.repeat.ensures.bare)
+    (repeat_serves c.args.request.now.at.0 c.args.self.now c.args.request.now.from c.args.request.now.bytes.now (view_at t c.args.request.now.hub c.args.request.now.from.ip) c.args.request.now.from.ip (has_no_room c.args.self.now) c.args.request.now.name.now c.args.request.now.options
+    (map.get c.args.self.now c.args.request.now.from) c.repeat.result (sym c.repeats.ensures ∙ c.if-repeats.true) (c.repeat.ensures.done (view_at t c.args.request.now.hub c.args.request.now.from.ip) c.args.request.now.at.0 c.args.request.now.bytes.now) c.repeat.ensures.bare)
     (λ d served right. served))
 
 pub returns-clause-told : goal.returns-clause-told
 returns-clause-told g c =
     looks_settled c.open.result c.settled-2.result _ c.settled-2.ensures c.in_ok-seen.ensures.told
-    (λ t shows. if_ok_under c.open.result _ (λ right. open_does c.args.request.now.at.0 c.args.self.now c.args.request.now.from c.args.request.now.bytes.now (view t c.args.request.now.from.ip) c.in_ok-seen.seen c.args.request.now.from.ip (has_no_room c.args.self.now)
-    c.args.request.now.name.now c.args.request.now.options (map.get c.args.self.now c.args.request.now.from) c.open.result (sym c.repeats.ensures ∙ c.if-repeats.false) (shows right) (can_serve t c.args.request.now.at.0 c.args.request.now.from.ip) c.open.ensures.done))
+    (λ t shows. if_ok_under c.open.result _ (λ right. open_does c.args.request.now.at.0 c.args.self.now c.args.request.now.from c.args.request.now.bytes.now (view_at t c.args.request.now.hub c.args.request.now.from.ip) c.in_ok-seen.seen c.args.request.now.from.ip (has_no_room c.args.self.now)
+    c.args.request.now.name.now c.args.request.now.options (map.get c.args.self.now c.args.request.now.from) c.open.result (sym c.repeats.ensures ∙ c.if-repeats.false) (shows right) (can_serve t c.args.request.now.hub c.args.request.now.at.0 c.args.request.now.from.ip) c.open.ensures.done))
 
 pub returns-then-repeats-clause-few_unnamed : goal.returns-then-repeats-clause-few_unnamed
 returns-then-repeats-clause-few_unnamed g c = λ t told unnamed. few_none _

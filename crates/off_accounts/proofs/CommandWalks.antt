@@ -1,0 +1,126 @@
+-- How many calls a command that walks makes.
+use Rattle.std.proofs.Common.{◌≡◌, ℕ, ◌+◌, ◌*◌, ◌≤◌, Option, Some, None, IfSome, List, refl, sym, ap, subst, arith}
+use Rattle.off_defs.specs.declared.keys.Key.{Key}
+use Rattle.off_defs.specs.declared.keys.Key.TheVariants as key
+use Rattle.off_defs.specs.declared.tables.Pool.{Pool}
+use Rattle.off_defs.specs.declared.orders.Command.{Command}
+use Rattle.off_defs.specs.declared.orders.ImportRow.{ImportRow}
+use Rattle.off_defs.specs.declared.tables.ImportKind.{ImportKind}
+use Rattle.off_defs.specs.declared.orders.Command.TheVariants.{SetSite, PutSubscriber, PutAddOn, PutModem, PutClass, PutPool, Remove, Show, Import}
+use Rattle.off_defs.specs.State.{Tables}
+use Rattle.off_outside.specs.KeeperSeen.{KeeperSeen}
+use Rattle.off_outside.specs.KeeperCalls.{Reads, Spent}
+use Rattle.off_outside.proofs.KeeperLemmas.{spent_then, spent_within}
+use Rattle.off_base.specs.declared.moments.Moment.{Moment}
+use Rattle.off_account_rules.specs.declared.counts.Counts.{Counts}
+use Rattle.off_accounts.specs.declared.subject.Subject.{Subject}
+use Rattle.off_accounts.specs.declared.testing.Test.{Test}
+use Rattle.off_account_rules.specs.Rows.{pool_in}
+use Rattle.off_accounts.specs.Tests.{tests_of, live_test, calls_for_subject}
+use Rattle.off_accounts.specs.Deciding.{calls_to_count}
+use Rattle.off_accounts.specs.Walking.{is_of_pool, rows_at, lease_calls, walking_calls, WalksWithin, test_calls, tests_calls, drop_calls, IsPoolAt}
+
+live_calls : (at : Moment) (old new : Option Pool) (t : Tables) → test_calls t (live_test at old new) ≡ lease_calls old t
+live_calls at None new t = refl
+live_calls at (Some old) new t = refl
+
+if_spent : (most : Option ℕ) (k : ℕ) {a b : KeeperSeen} → IfSome most (λ n. k ≤ n) → Spent k a b → IfSome most (λ n. Spent n a b)
+if_spent None k fits spent = tt
+if_spent (Some n) k fits spent = spent_within spent fits
+
+-- what the subject asks alone
+pub first_walks : (c : Command) {a b : KeeperSeen} → Spent (calls_for_subject c) a b → WalksWithin c a b
+first_walks (SetSite site) spent t told = tt
+first_walks (PutSubscriber n subscriber) spent t told = tt
+first_walks (PutAddOn n number settings) spent t told = tt
+first_walks (PutModem mac modem) spent t told = tt
+first_walks (PutClass n class) spent t told = tt
+first_walks (PutPool n pool) spent t told = spent_within spent (omega arith)
+first_walks (Remove key.Site) spent t told = tt
+first_walks (Remove (key.Subscriber n)) spent t told = tt
+first_walks (Remove (key.AddOn n number)) spent t told = tt
+first_walks (Remove (key.Modem mac)) spent t told = tt
+first_walks (Remove (key.Class n)) spent t told = tt
+first_walks (Remove (key.Pool n)) spent t told = spent_within spent (omega arith)
+first_walks (Remove (key.Lease address)) spent t told = tt
+first_walks (Remove (key.Held mac)) spent t told = tt
+first_walks (Remove (key.Batch n)) spent t told = tt
+first_walks (Remove (key.Hub n)) spent t told = tt
+first_walks (Remove (key.PoolHub n)) spent t told = tt
+first_walks (Remove (key.DevicePool n)) spent t told = tt
+first_walks (Remove (key.Device address)) spent t told = tt
+first_walks (Show shown) spent t told = tt
+first_walks (Import kind batch digest rows) spent t told = tt
+
+-- twice the pools and twice the leases
+sum_put : (p l m : ℕ) → l ≡ m → 1 + ((0 + (p + (p + (l + (0 + 0))))) + (l + 0)) ≤ 1 + 2 * p + 2 * m
+sum_put p l m same = omega (arith, same)
+
+sum_removed : (l m : ℕ) → l ≡ m → 1 + ((0 + (l + (0 + (0 + (0 + 0))))) + (l + 0)) ≤ 1 + 2 * m
+sum_removed l m same = omega (arith, same)
+
+module _ (counts : Counts) (at : Moment) (subject : Subject) where
+  abbrev all_calls : Command → Tables → ℕ
+  all_calls c t = calls_for_subject c + (tests_calls t (tests_of counts at subject c) + (drop_calls c subject.pool t + calls_to_count c))
+
+  fits_in : (c : Command) (t : Tables) → IsPoolAt c subject t → IfSome (walking_calls c t) (λ n. all_calls c t ≤ n)
+  fits_in (SetSite site) t is = tt
+  fits_in (PutSubscriber n subscriber) t is = tt
+  fits_in (PutAddOn n number settings) t is = tt
+  fits_in (PutModem mac modem) t is = tt
+  fits_in (PutClass n class) t is = tt
+  fits_in (PutPool n pool) t is =
+      subst (λ (l : ℕ). 1 + ((0 + ((rows_at is_of_pool t + 1) + ((rows_at is_of_pool t + 1) + (l + (0 + 0))))) + (lease_calls subject.pool t + 0)) ≤ 1 + 2 * (rows_at is_of_pool t + 1) + 2 * lease_calls (pool_in t n) t)
+      (sym (live_calls at subject.pool (Some pool) t))
+      (sum_put (rows_at is_of_pool t + 1) (lease_calls subject.pool t) (lease_calls (pool_in t n) t) (ap (λ (o : Option Pool). lease_calls o t) is))
+  fits_in (Remove key.Site) t is = tt
+  fits_in (Remove (key.Subscriber n)) t is = tt
+  fits_in (Remove (key.AddOn n number)) t is = tt
+  fits_in (Remove (key.Modem mac)) t is = tt
+  fits_in (Remove (key.Class n)) t is = tt
+  fits_in (Remove (key.Pool n)) t is =
+      subst (λ (l : ℕ). 1 + ((0 + (l + (0 + (0 + (0 + 0))))) + (lease_calls subject.pool t + 0)) ≤ 1 + 2 * lease_calls (pool_in t n) t)
+      (sym (live_calls at subject.pool None t))
+      (sum_removed (lease_calls subject.pool t) (lease_calls (pool_in t n) t) (ap (λ (o : Option Pool). lease_calls o t) is))
+  fits_in (Remove (key.Lease address)) t is = tt
+  fits_in (Remove (key.Held mac)) t is = tt
+  fits_in (Remove (key.Batch n)) t is = tt
+  fits_in (Remove (key.Hub n)) t is = tt
+  fits_in (Remove (key.PoolHub n)) t is = tt
+  fits_in (Remove (key.DevicePool n)) t is = tt
+  fits_in (Remove (key.Device address)) t is = tt
+  fits_in (Show shown) t is = tt
+  fits_in (Import kind batch digest rows) t is = tt
+
+  module _ (c : Command) (tests : List Test) (are : tests ≡ tests_of counts at subject c) where
+    test_size : (t : Tables) → tests_calls t tests ≡ tests_calls t (tests_of counts at subject c)
+    test_size t = ap (tests_calls t) are
+
+    -- the command ends behind its tests, behind what is dropped, or behind what is counted
+    pub tests_walk : {a b d : KeeperSeen} → Spent (calls_for_subject c) a b → Reads (IsPoolAt c subject) a b → ((t : Tables) → b.tables t → Spent (tests_calls t tests) b d) → WalksWithin c a d
+    tests_walk first pool tested t told =
+        let at_pool = pool.tables t told in
+        if_spent (walking_calls c t) (all_calls c t) (fits_in c t at_pool.1) (spent_within (spent_then first (tested t at_pool.0)) (omega (arith, test_size t)))
+
+    pub drops_walk : {Q : Tables → Type 0} {a b d e : KeeperSeen} → Spent (calls_for_subject c) a b → Reads (IsPoolAt c subject) a b → ((t : Tables) → b.tables t → Spent (tests_calls t tests) b d) → Reads Q b d
+        → ((t : Tables) → d.tables t → Spent (drop_calls c subject.pool t) d e) → WalksWithin c a e
+    drops_walk first pool tested passed dropped t told =
+        let at_pool = pool.tables t told in
+        let behind_tests = passed.tables t at_pool.0 in
+        if_spent (walking_calls c t) (all_calls c t) (fits_in c t at_pool.1)
+        (spent_within (spent_then first (spent_then (tested t at_pool.0) (dropped t behind_tests.0))) (omega (arith, test_size t)))
+
+    pub counts_walk : {Q : Tables → Type 0} {a b d e f : KeeperSeen} → Spent (calls_for_subject c) a b → Reads (IsPoolAt c subject) a b → ((t : Tables) → b.tables t → Spent (tests_calls t tests) b d) → Reads Q b d
+        → ((t : Tables) → d.tables t → Spent (drop_calls c subject.pool t) d e) → Spent (calls_to_count c) e f → WalksWithin c a f
+    counts_walk first pool tested passed dropped last t told =
+        let at_pool = pool.tables t told in
+        let behind_tests = passed.tables t at_pool.0 in
+        if_spent (walking_calls c t) (all_calls c t) (fits_in c t at_pool.1)
+        (spent_within (spent_then first (spent_then (tested t at_pool.0) (spent_then (dropped t behind_tests.0) last))) (omega (arith, test_size t)))
+
+-- commands that walk over no pools and leases
+pub show_walks : (c : Command) (shown : Key) (a b : KeeperSeen) → c ≡ Show shown → WalksWithin c a b
+show_walks c shown a b is = subst (λ (d : Command). WalksWithin d a b) (sym is) (λ t told. tt)
+
+pub import_walks : (c : Command) (kind : ImportKind) (batch : ℕ) (digest : List ℕ) (rows : List ImportRow) (a b : KeeperSeen) → c ≡ Import kind batch digest rows → WalksWithin c a b
+import_walks c kind batch digest rows a b is = subst (λ (d : Command). WalksWithin d a b) (sym is) (λ t told. tt)

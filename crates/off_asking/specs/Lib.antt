@@ -1,0 +1,5 @@
+pub mod Asking
+pub mod Said
+pub mod Choice
+pub mod Claims
+pub mod Sending

@@ -1,9 +1,0 @@
-use Rattle.std.proofs.Common.{not, ap, ◌∙◌}
-use Rattle.off_lease.proofs.CaseLemmas.{first_six}
-use Rattle.off_lease.proofs.ruling.first_refusal.Goals as goal
-
-pub returns : goal.returns
-returns c =
-    c.first_broken.ensures
-    ∙ first_six c.args.m.now c.args.site.now c.is_none.result (not c.is_served.result) c.has_no_form.result c.has_cut_part.result c.relays_another.result c.is_no_modem.result c.is_none.ensures (ap not c.is_served.ensures)
-    c.has_no_form.ensures c.has_cut_part.ensures c.relays_another.ensures c.is_no_modem.ensures
