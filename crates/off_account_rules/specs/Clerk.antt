@@ -1,6 +1,6 @@
 -- What a clerk's command does. Its rules are tested in order, and the first that is broken is the
 -- answer; then nothing changes. Else the command's writes are done, all of them.
-use Rattle.std.specs.Prelude.{ℕ, ◌+◌, ◌==◌, Bool, true, false, not, ◌&&◌, nat_le, nat_lt, List, [], ◌∷◌, ◌++◌, length, map, Option, Some, None, is_none, option_map, option_and_then, Result, Ok, Err}
+use Rattle.std.specs.Prelude.{ℕ, ◌+◌, ◌==◌, Bool, true, false, not, ◌&&◌, nat_le, nat_lt, List, [], ◌∷◌, ◌++◌, length, map, Option, Some, None, is_none, option_map, option_and_then, Result, Ok, Err, if◌then◌else◌}
 use Rattle.std.specs.List.{find, filter, flat_map, list_any}
 use Rattle.std.specs.Ordering.{eq_by_cmp, nat_cmp}
 use Rattle.std.specs.Cmp.Lexicographic.{slice_cmp}
@@ -13,7 +13,6 @@ use Rattle.off_defs.specs.Bounds.{add_on_numbers}
 use Rattle.off_defs.specs.declared.keys.Key.{Key}
 use Rattle.off_defs.specs.declared.keys.Key.TheVariants as key
 use Rattle.off_defs.specs.declared.tables.Row.{Row}
-use Rattle.off_defs.specs.declared.shown.ShownRow.{ShownRow}
 use Rattle.off_defs.specs.declared.tables.Row.TheVariants as row
 use Rattle.off_defs.specs.declared.tables.Pool.{Pool}
 use Rattle.off_defs.specs.declared.tables.Lease.{Lease}
@@ -21,13 +20,13 @@ use Rattle.off_defs.specs.declared.tables.Batch.{Batch}
 use Rattle.off_defs.specs.declared.tables.ImportKind.{ImportKind}
 use Rattle.off_defs.specs.declared.tables.ImportKind.TheVariants as import
 use Rattle.off_defs.specs.declared.orders.Kind.{Kind}
-use Rattle.off_defs.specs.declared.orders.Kind.TheVariants.{Subscribers, AddOns, Modems, Classes, Pools, Batches}
+use Rattle.off_defs.specs.declared.orders.Kind.TheVariants.{Subscribers, AddOns, Modems, Classes, Pools, Batches, Hubs}
 use Rattle.off_defs.specs.declared.orders.Command.{Command}
-use Rattle.off_defs.specs.declared.orders.Command.TheVariants.{SetSite, PutSubscriber, PutAddOn, PutModem, PutClass, PutPool, Remove, Show, Import}
+use Rattle.off_defs.specs.declared.orders.Command.TheVariants.{PutHub, PutSubscriber, PutAddOn, PutModem, PutClass, PutPool, Remove, Show, Import}
 use Rattle.off_defs.specs.declared.orders.ImportRow.{ImportRow}
 use Rattle.off_defs.specs.declared.orders.ImportRow.TheVariants as imported
 use Rattle.off_defs.specs.declared.orders.Reply.{Reply}
-use Rattle.off_defs.specs.declared.orders.Reply.TheVariants.{Done, Shown, Rows}
+use Rattle.off_defs.specs.declared.orders.Reply.TheVariants.{Done, Shown, ShownPool, Rows}
 use Rattle.off_defs.specs.declared.orders.Write.{Write}
 use Rattle.off_defs.specs.declared.orders.Write.TheVariants.{Put, Drop}
 use Rattle.off_defs.specs.declared.rules.Rule.{Rule}
@@ -35,7 +34,7 @@ use Rattle.off_defs.specs.declared.rules.Rule.TheVariants as rule
 use Rattle.off_defs.specs.Shown.{shown_row}
 use Rattle.off_defs.specs.State.{Tables}
 use Rattle.off_defs.specs.Tables.{write_all}
-use Rattle.off_account_rules.specs.Rows.{is_offset, is_lease_time, has_pool_size, seen_at, subscriber_in, class_in, pool_in, batch_in, modems, pools, leases, has_address, overlaps, count_of}
+use Rattle.off_account_rules.specs.Rows.{is_offset, is_lease_time, has_pool_size, seen_at, hub_in, subscriber_in, class_in, pool_in, pool_hub_in, batch_in, as_pool, modems, pools, leases, has_address, overlaps, count_of}
 use Rattle.off_account_rules.specs.Good.{owner_of}
 
 -- there may be only so many rows of a kind
@@ -46,6 +45,7 @@ limit_of Modems = 200000
 limit_of Classes = 1000
 limit_of Pools = 64
 limit_of Batches = 100000
+limit_of Hubs = 64
 
 -- the limit is broken by a key that is new, where there are as many rows as there may be
 abbrev pub limit : Tables → Key → Kind → Option Rule
@@ -58,6 +58,9 @@ no_subscriber tables n = when (is_none (subscriber_in tables n)) rule.NoSubscrib
 
 abbrev pub no_class : Tables → ℕ → Option Rule
 no_class tables n = when (is_none (class_in tables n)) rule.NoClass
+
+abbrev pub no_hub : Tables → ℕ → Option Rule
+no_hub tables n = when (is_none (hub_in tables n)) rule.NoHub
 
 abbrev pub no_row : Tables → Key → Option Rule
 no_row tables key = when (is_none (seen_at tables key)) rule.NoRow
@@ -77,6 +80,12 @@ pool_overlap tables n pool =
 abbrev pub relay_taken : Tables → ℕ → Pool → Option Rule
 relay_taken tables n pool =
     option_map (λ other. rule.RelayTaken other.0) (find (is_other_with_relay n pool) (pools tables))
+
+-- the least pool whose hub it is
+abbrev pub hub_in_use : Tables → ℕ → Option Rule
+hub_in_use tables hub =
+    option_map (λ entry. rule.HubInUse entry.0)
+    (find (λ entry. pool_hub_in tables entry.0 == hub) (pools tables))
 
 -- what a pool gives up where another one or none takes its place, and the leases that are lost by
 -- it
@@ -117,18 +126,19 @@ removal_rules tables now key.Site = no_row tables key.Site ∷ []
 removal_rules tables now (key.Lease address) = no_row tables (key.Lease address) ∷ []
 removal_rules tables now (key.Held mac) = no_row tables (key.Held mac) ∷ []
 removal_rules tables now (key.Batch n) = no_row tables (key.Batch n) ∷ []
-removal_rules tables now (key.Hub n) = no_row tables (key.Hub n) ∷ []
+removal_rules tables now (key.Hub n) = no_row tables (key.Hub n) ∷ hub_in_use tables n ∷ []
 removal_rules tables now (key.PoolHub n) = no_row tables (key.PoolHub n) ∷ []
 removal_rules tables now (key.DevicePool n) = no_row tables (key.DevicePool n) ∷ []
 removal_rules tables now (key.Device address) = no_row tables (key.Device address) ∷ []
 
 -- the rules of a command in their order. An import has rules for each of its rows, below
 abbrev pub rules_of : Tables → ℕ → Command → List (Option Rule)
-rules_of tables now (SetSite site) =
+rules_of tables now (PutHub n site) =
     when (site.server.0 == 0) (rule.Site 1)
     ∷ when (length site.secret == 0) (rule.Site 2)
     ∷ when (not (is_lease_time site.lease)) (rule.Site 3)
     ∷ when (not (is_offset site.offset)) (rule.Site 4)
+    ∷ limit tables (key.Hub n) Hubs
     ∷ []
 rules_of tables now (PutSubscriber n subscriber) = limit tables (key.Subscriber n) Subscribers ∷ []
 rules_of tables now (PutAddOn n number settings) =
@@ -140,10 +150,11 @@ rules_of tables now (PutModem mac modem) =
 rules_of tables now (PutClass n class) =
     option_map rule.Tree (first_fault tree.Class class.settings)
     ∷ limit tables (key.Class n) Classes ∷ []
-rules_of tables now (PutPool n pool) =
+rules_of tables now (PutPool n pool hub) =
     when (not (has_pool_size pool)) rule.PoolSize
     ∷ pool_overlap tables n pool
     ∷ relay_taken tables n pool
+    ∷ no_hub tables hub
     ∷ pool_has_leases tables now n (Some pool)
     ∷ limit tables (key.Pool n) Pools
     ∷ []
@@ -163,10 +174,15 @@ lease_drops entry = Drop (key.Lease entry.0) ∷ held_drop (owner_of entry.1.hol
 abbrev pub add_on_keys : ℕ → List Key
 add_on_keys n = map (key.AddOn n) add_on_numbers
 
+-- a pool's hub has a row where it isn't the hub 0
+abbrev pub pool_hub_write : ℕ → ℕ → Write
+pool_hub_write n hub =
+    if hub == 0 then Drop (key.PoolHub n) else Put (key.PoolHub n) (row.PoolHub hub)
+
 abbrev pub removal_writes : Tables → Key → List Write
 removal_writes tables (key.Subscriber n) = Drop (key.Subscriber n) ∷ map Drop (add_on_keys n)
 removal_writes tables (key.Pool n) =
-    Drop (key.Pool n) ∷ flat_map lease_drops (lost_leases tables n None)
+    Drop (key.Pool n) ∷ Drop (key.PoolHub n) ∷ flat_map lease_drops (lost_leases tables n None)
 removal_writes tables (key.AddOn n number) = Drop (key.AddOn n number) ∷ []
 removal_writes tables (key.Modem mac) = Drop (key.Modem mac) ∷ []
 removal_writes tables (key.Class n) = Drop (key.Class n) ∷ []
@@ -181,14 +197,15 @@ removal_writes tables (key.Device address) = Drop (key.Device address) ∷ []
 
 -- what a command writes that no rule refuses
 abbrev pub writes_of : Tables → Command → List Write
-writes_of tables (SetSite site) = Put key.Site (row.Site site) ∷ []
+writes_of tables (PutHub n site) = Put (key.Hub n) (row.Site site) ∷ []
 writes_of tables (PutSubscriber n subscriber) =
     Put (key.Subscriber n) (row.Subscriber subscriber) ∷ []
 writes_of tables (PutAddOn n number settings) = Put (key.AddOn n number) (row.AddOn settings) ∷ []
 writes_of tables (PutModem mac modem) = Put (key.Modem mac) (row.Modem modem) ∷ []
 writes_of tables (PutClass n class) = Put (key.Class n) (row.Class class) ∷ []
-writes_of tables (PutPool n pool) =
-    Put (key.Pool n) (row.Pool pool) ∷ flat_map lease_drops (lost_leases tables n (Some pool))
+writes_of tables (PutPool n pool hub) =
+    Put (key.Pool n) (row.Pool pool) ∷ pool_hub_write n hub
+    ∷ flat_map lease_drops (lost_leases tables n (Some pool))
 writes_of tables (Remove removed) = removal_writes tables removed
 writes_of tables (Show shown) = []
 writes_of tables (Import kind batch digest rows) = []
@@ -217,10 +234,15 @@ abbrev pub by_rule : ℕ → Accepted → Option Rule → Decision
 by_rule at wanted None = Ok wanted
 by_rule at wanted (Some broken) = Err (refusal at broken)
 
--- a row that clerks aren't shown is none to them
-abbrev pub shown : Key → Option ShownRow → Decision
-shown key None = Err (refusal 0 rule.NoRow)
-shown key (Some held) = Ok (accepted [] (Shown key held))
+-- A pool is shown with its hub. A row that clerks aren't shown is none to them
+abbrev pub shown_as : Tables → Key → Row → Option Reply
+shown_as tables (key.Pool n) held =
+    option_map (λ pool. ShownPool n pool (pool_hub_in tables n)) (as_pool held)
+shown_as tables key held = option_map (Shown key) (shown_row held)
+
+abbrev pub shown : Option Reply → Decision
+shown None = Err (refusal 0 rule.NoRow)
+shown (Some reply) = Ok (accepted [] reply)
 
 -- An import stands for the commands that put its rows, in order, each over the tables that those
 -- before it left; all are done, or none.
@@ -282,7 +304,7 @@ import_decided tables now kind batch digest rows None =
 
 -- what becomes of a command
 abbrev pub decided : Tables → ℕ → Command → Decision
-decided tables now (Show key) = shown key (option_and_then shown_row (seen_at tables key))
+decided tables now (Show key) = shown (option_and_then (shown_as tables key) (seen_at tables key))
 decided tables now (Import kind batch digest rows) =
     import_decided tables now kind batch digest rows (batch_in tables batch)
 decided tables now command =

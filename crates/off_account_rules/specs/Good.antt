@@ -1,8 +1,8 @@
--- When tables are good: each key's row is possible and stands in the right relations to the other
--- rows. Here rows are read as they are, also impossible ones, so that the least bad key is named
--- and not one that stands on it.
-use Rattle.std.specs.Prelude.{◌≡◌, ◌==◌, Bool, true, false, not, ◌&&◌, ◌||◌, IsTrue, List, Option, Some, None, is_some, option_and_then}
-use Rattle.std.specs.List.{filter_map, list_all, count_by}
+-- When tables open, and when they are good: each key's row is possible and stands in the right
+-- relations to the other rows. Here rows are read as they are, also impossible ones, so that the
+-- least bad key is named and not one that stands on it.
+use Rattle.std.specs.Prelude.{◌≡◌, ◌==◌, Bool, true, false, not, ◌&&◌, ◌||◌, IsTrue, List, Option, Some, None, is_some, option_map, option_and_then}
+use Rattle.std.specs.List.{filter_map, find, list_all, list_any, count_by}
 use Rattle.std.specs.Ordering.{eq_by_cmp, nat_cmp}
 use Rattle.std.specs.Cmp.Lexicographic.{slice_cmp}
 use Rattle.std.specs.declared.cmp.Ordering.TheVariants.{Less}
@@ -22,7 +22,7 @@ use Rattle.off_defs.specs.State.{Tables}
 use Rattle.off_defs.specs.Tables.{row_at}
 use Rattle.off_defs.specs.declared.tables.Modem.{Modem}
 use Rattle.off_defs.specs.declared.tables.Lease.{Lease}
-use Rattle.off_account_rules.specs.Rows.{passes, is_possible, has_address, overlaps, as_modem, as_pool, as_lease, as_held}
+use Rattle.off_account_rules.specs.Rows.{passes, is_possible, has_address, overlaps, as_modem, as_pool, as_lease, as_held, as_pool_hub, number_or_0}
 
 abbrev pub is_there : Tables → Key → Bool
 is_there tables key = is_some (row_at tables key)
@@ -39,6 +39,33 @@ raw_pools tables = filter_map raw_pool_of (map.entries tables)
 abbrev pub is_apart : ℕ → Pool → ℕ × Pool → Bool
 is_apart n pool other =
     (other.0 == n) || (not (overlaps pool other.1) && not (other.1.relay.0 == pool.relay.0))
+
+-- An office of earlier days had one site. Its row counts as that of the hub 0, and stands where no
+-- row is of hubs.
+abbrev pub is_of_hubs : Key → Bool
+is_of_hubs (key.Hub n) = true
+is_of_hubs (key.PoolHub n) = true
+is_of_hubs other = false
+
+abbrev pub names_hubs : Tables → Bool
+names_hubs tables = list_any (λ entry. is_of_hubs entry.0) (map.entries tables)
+
+abbrev pub is_hub_there : Tables → ℕ → Bool
+is_hub_there tables n = is_there tables (key.Hub n) || ((n == 0) && is_there tables key.Site)
+
+-- the number of a pool's hub
+abbrev pub stored_hub : Tables → ℕ → ℕ
+stored_hub tables n = number_or_0 (option_and_then as_pool_hub (row_at tables (key.PoolHub n)))
+
+-- the hub of an address: that of a pool in which it lies
+abbrev pub stored_hub_of : Tables → Ip4 → Option ℕ
+stored_hub_of tables address =
+    option_map (λ entry. stored_hub tables entry.0)
+    (find (λ entry. has_address entry.1 address) (raw_pools tables))
+
+-- a pool that names a hub is there, and so is the hub
+abbrev pub pool_hub_stands : Tables → ℕ → ℕ → Bool
+pool_hub_stands tables n hub = is_there tables (key.Pool n) && is_hub_there tables hub
 
 -- how many pools have the address
 abbrev pub pools_around : Tables → Ip4 → ℕ
@@ -80,16 +107,17 @@ abbrev pub modem_stands : Tables → Modem → Bool
 modem_stands tables modem =
     is_there tables (key.Subscriber modem.subscriber) && is_there tables (key.Class modem.class)
 
--- a lease has its site and its one pool, and its owner holds its address
+-- a lease has its one pool and that pool's hub, and its owner holds its address
 abbrev pub lease_stands : Tables → Ip4 → Lease → Bool
 lease_stands tables address lease =
-    is_there tables key.Site && ((pools_around tables address == 1)
+    (pools_around tables address == 1)
+    && (passes (is_hub_there tables) (stored_hub_of tables address)
     && owner_holds tables address (owner_of lease.hold))
 
 -- an add-on has its subscriber; no pool has an address or the relay of another; who holds an
 -- address owns its lease
 abbrev pub stands_right : Tables → Key → Row → Bool
-stands_right tables key.Site held = true
+stands_right tables key.Site held = not (names_hubs tables)
 stands_right tables (key.Subscriber n) held = true
 stands_right tables (key.AddOn n number) held = is_there tables (key.Subscriber n)
 stands_right tables (key.Modem mac) held = passes (modem_stands tables) (as_modem held)
@@ -99,9 +127,9 @@ stands_right tables (key.Pool n) held =
 stands_right tables (key.Lease address) held = passes (lease_stands tables address) (as_lease held)
 stands_right tables (key.Held mac) held = passes (owns tables mac) (as_held held)
 stands_right tables (key.Batch n) held = true
+stands_right tables (key.Hub n) held = true
+stands_right tables (key.PoolHub n) held = passes (pool_hub_stands tables n) (as_pool_hub held)
 -- no tables have these yet
-stands_right tables (key.Hub n) held = false
-stands_right tables (key.PoolHub n) held = false
 stands_right tables (key.DevicePool n) held = false
 stands_right tables (key.Device address) held = false
 
@@ -112,8 +140,14 @@ keeps tables key held = is_possible key held && stands_right tables key held
 abbrev pub Keeps : Tables → Key → Type 0
 Keeps tables key = (held : Row) → row_at tables key ≡ Some held → IsTrue (keeps tables key held)
 
-abbrev pub Good : Tables → Type 0
-Good tables = (key : Key) → Keeps tables key
+-- tables that an office opens
+abbrev pub Opens : Tables → Type 0
+Opens tables = (key : Key) → Keeps tables key
+
+-- tables over which an office works: the site of earlier days, if there was one, is the hub 0
+pub record Good (tables : Tables) : Type 0 where
+  pub opens : Opens tables
+  pub no_site : row_at tables key.Site ≡ None
 
 -- a key whose row breaks its line, and all keys below it keep theirs
 pub record IsLeastBad (tables : Tables) (bad : Key) : Type 0 where
@@ -122,7 +156,7 @@ pub record IsLeastBad (tables : Tables) (bad : Key) : Type 0 where
   pub breaks : keeps tables bad held ≡ false
   pub least : (key : Key) → key_cmp key bad ≡ Less → Keeps tables key
 
--- what a test of the tables says: they are good, or this is their least bad key
+-- what a test of the tables says: they open, or this is their least bad key
 abbrev pub Judged : Tables → Option Key → Type 0
-Judged tables None = Good tables
+Judged tables None = Opens tables
 Judged tables (Some key) = IsLeastBad tables key

@@ -1,3 +1,4 @@
 pub mod Rows
 pub mod Good
+pub mod Migration
 pub mod Clerk

@@ -1,7 +1,7 @@
 -- Rows of the tables, by kind. A row is possible at a key where it's of the key's kind and its own
 -- values are in their ranges, whatever the other rows are. Whoever reads a row takes an impossible
 -- one as one that isn't there; only the test of good tables doesn't.
-use Rattle.std.specs.Prelude.{ℕ, zero, suc, ℤ, pos, neg_ℤ, ◌-◌, ◌==◌, Bool, true, false, not, ◌&&◌, nat_le, nat_lt, int_le, min, max, List, length, Option, Some, None, is_some, is_none, option_map, option_and_then, if◌then◌else◌}
+use Rattle.std.specs.Prelude.{ℕ, ℤ, pos, neg_ℤ, ◌-◌, ◌==◌, Bool, true, false, not, ◌&&◌, nat_le, nat_lt, int_le, min, max, List, length, Option, Some, None, is_some, is_none, option_map, option_and_then, if◌then◌else◌}
 use Rattle.std.specs.List.{filter_map, find, count_by}
 use Rattle.std.specs.Int.{is_in_range}
 use Rattle.std.specs.Option.{option_map_or}
@@ -25,7 +25,7 @@ use Rattle.off_defs.specs.declared.tables.Pool.{Pool}
 use Rattle.off_defs.specs.declared.tables.Lease.{Lease}
 use Rattle.off_defs.specs.declared.tables.Batch.{Batch}
 use Rattle.off_defs.specs.declared.orders.Kind.{Kind}
-use Rattle.off_defs.specs.declared.orders.Kind.TheVariants.{Subscribers, AddOns, Modems, Classes, Pools, Batches}
+use Rattle.off_defs.specs.declared.orders.Kind.TheVariants.{Subscribers, AddOns, Modems, Classes, Pools, Batches, Hubs}
 use Rattle.off_defs.specs.State.{Tables}
 use Rattle.off_defs.specs.Tables.{row_at}
 use Rattle.off_account_rules.specs.declared.counts.Counts.{Counts}
@@ -120,9 +120,10 @@ is_possible (key.Pool n) held = passes pool_fits (as_pool held)
 is_possible (key.Lease address) held = is_some (as_lease held)
 is_possible (key.Held mac) held = is_some (as_held held)
 is_possible (key.Batch n) held = is_some (as_batch held)
+is_possible (key.Hub n) held = passes site_fits (as_site held)
+-- a pool without a row has the hub 0
+is_possible (key.PoolHub n) held = passes (λ hub. not (hub == 0)) (as_pool_hub held)
 -- the office has no use for these yet: whoever reads one takes it as one that isn't there
-is_possible (key.Hub n) held = false
-is_possible (key.PoolHub n) held = false
 is_possible (key.DevicePool n) held = false
 is_possible (key.Device address) held = false
 
@@ -134,13 +135,9 @@ possible key (Some row) = if is_possible key row then Some row else None
 abbrev pub seen_at : Tables → Key → Option Row
 seen_at tables key = possible key (row_at tables key)
 
--- A hub's row is its site. The hub 0 has the one row of a site as yet, and no other hub has a row.
-abbrev pub hub_key : ℕ → Key
-hub_key zero = key.Site
-hub_key (suc n) = key.Hub (suc n)
-
+-- a hub's row is its site
 abbrev pub hub_in : Tables → ℕ → Option Site
-hub_in tables n = option_and_then as_site (seen_at tables (hub_key n))
+hub_in tables n = option_and_then as_site (seen_at tables (key.Hub n))
 
 abbrev pub subscriber_in : Tables → ℕ → Option Subscriber
 subscriber_in tables n = option_and_then as_subscriber (seen_at tables (key.Subscriber n))
@@ -231,7 +228,7 @@ kind_counted (key.Pool n) = Some Pools
 kind_counted (key.Lease address) = None
 kind_counted (key.Held mac) = None
 kind_counted (key.Batch n) = Some Batches
-kind_counted (key.Hub n) = None
+kind_counted (key.Hub n) = Some Hubs
 kind_counted (key.PoolHub n) = None
 kind_counted (key.DevicePool n) = None
 kind_counted (key.Device address) = None
@@ -243,6 +240,7 @@ kind_number Modems = 3
 kind_number Classes = 4
 kind_number Pools = 5
 kind_number Batches = 6
+kind_number Hubs = 7
 
 -- How many possible rows there are of a kind
 abbrev pub is_of_kind : Kind → Key → Bool
@@ -255,8 +253,8 @@ is_counted kind entry = is_of_kind kind entry.0 && is_possible entry.0 entry.1
 abbrev pub count_of : Kind → Tables → ℕ
 count_of kind tables = count_by (is_counted kind) (map.entries tables)
 
--- All counts as the office keeps them. There are fewer keys of each kind but the last than 2^64; so
--- many batches or more count as 2^64 - 1.
+-- All counts as the office keeps them. There are fewer keys of each kind than 2^64, but for
+-- batches: so many or more count as 2^64 - 1.
 abbrev pub counts_of : Tables → Counts
 counts_of tables = record {
   subscribers = count_of Subscribers tables;
@@ -265,4 +263,5 @@ counts_of tables = record {
   classes = count_of Classes tables;
   pools = count_of Pools tables;
   batches = min greatest_u64 (count_of Batches tables);
+  hubs = count_of Hubs tables;
 }

@@ -7,4 +7,5 @@ pub struct Counts {
     pub classes: u64,
     pub pools: u64,
     pub batches: u64,
+    pub hubs: u64,
 }

@@ -4,7 +4,7 @@ use off_base::{Ip4, Mac};
 /// their numbers.
 #[derive(Clone, Copy, Debug, PartialEq, Eq, PartialOrd, Ord)]
 pub enum Key {
-    /// The office's one site.
+    /// The one site of an office of earlier days. When an office opens, it becomes the hub 0.
     Site,
     /// A subscriber, by number.
     Subscriber(u32),
@@ -24,7 +24,7 @@ pub enum Key {
     Batch(u64),
     /// A hub, by number.
     Hub(u32),
-    /// The hub of a pool of addresses, by the pool's number.
+    /// The hub of a pool of addresses, by the pool's number. A pool without one has the hub 0.
     PoolHub(u32),
     /// A pool of addresses for devices behind modems, by number.
     DevicePool(u32),

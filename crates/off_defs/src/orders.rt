@@ -30,7 +30,8 @@ pub type ImportRows = Items<ImportRow>;
 /// What a clerk wants done.
 #[derive(Drop)]
 pub enum Command {
-    SetSite(Site),
+    /// Puts the hub of this number.
+    PutHub(u32, Site),
     /// Puts the subscriber of this number.
     PutSubscriber(u32, Subscriber),
     /// Puts an add-on: the subscriber's number, the add-on's own, and its settings.
@@ -39,8 +40,8 @@ pub enum Command {
     PutModem(Mac, Modem),
     /// Puts the class of this number.
     PutClass(u32, Class),
-    /// Puts the pool of this number.
-    PutPool(u32, Pool),
+    /// Puts the pool of this number, and the number of its hub.
+    PutPool(u32, Pool, u32),
     /// Removes the row of a key.
     Remove(Key),
     /// Shows the row of a key.
@@ -60,8 +61,10 @@ pub enum Command {
 #[derive(Drop)]
 pub enum Reply {
     Done,
-    /// The row of the key.
+    /// The row of the key, but for a pool.
     Shown(Key, ShownRow),
+    /// The pool of this number, with the number of its hub.
+    ShownPool { pool: u32, row: Pool, hub: u32 },
     /// How many rows the import put.
     Rows(u32),
 }
@@ -75,4 +78,5 @@ pub enum Kind {
     Classes,
     Pools,
     Batches,
+    Hubs,
 }

@@ -1,6 +1,7 @@
 use off_base::{Ip4, Mac, Moment, Secret, Settings, Short};
 
-/// What the office knows of its own site.
+/// What the modems of one hub share: the office's address there, the secret of their CMTS, and what
+/// their leases and files say of the place.
 #[derive(Drop)]
 pub struct Site {
     /// The office's own address.

@@ -22,6 +22,6 @@ pub use possible::{has_pool_size, is_lease_time, is_offset, is_possible};
 pub use reading::{has_row, read_row};
 pub use rows::{
     read_add_on, read_batch, read_class, read_held, read_hub, read_lease, read_modem, read_pool,
-    read_pool_hub, read_subscriber,
+    read_pool_hub, read_site, read_subscriber,
 };
 pub use walking::next_behind;

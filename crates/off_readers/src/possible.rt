@@ -1,9 +1,10 @@
-ghost use Rattle.std.specs.Prelude.{◌≡◌, ◌&&◌, nat_le};
+ghost use Rattle.std.specs.Prelude.{◌≡◌, ◌==◌, ◌&&◌, not, nat_le};
 ghost use Rattle.off_defs.specs.Bounds.{last_add_on};
 ghost use Rattle.off_account_rules.specs.Rows.{passes, is_possible, site_fits, is_offset, is_lease_time};
 ghost use Rattle.off_account_rules.specs.Rows.{subscriber_fits, class_is_good, add_on_is_good};
 ghost use Rattle.off_account_rules.specs.Rows.{has_pool_size, pool_fits};
 ghost use Rattle.off_account_rules.specs.Rows.{as_site, as_subscriber, as_add_on, as_class, as_pool};
+ghost use Rattle.off_account_rules.specs.Rows.{as_pool_hub};
 
 use off_base::Settings;
 use off_defs::{
@@ -37,7 +38,9 @@ pub fn is_possible(key: &Key, row: &Row) -> bool
         Key::Lease(_) => matches!(row, Row::Lease(_)),
         Key::Held(_) => matches!(row, Row::Held(_)),
         Key::Batch(_) => matches!(row, Row::Batch(_)),
-        Key::Hub(_) | Key::PoolHub(_) | Key::DevicePool(_) | Key::Device(_) => false,
+        Key::Hub(_) => is_possible_site(row),
+        Key::PoolHub(_) => is_possible_pool_hub(row),
+        Key::DevicePool(_) | Key::Device(_) => false,
     }
 }
 
@@ -83,6 +86,15 @@ fn is_possible_pool(row: &Row) -> bool
 {
     match row {
         Row::Pool(pool) => pool_fits(pool),
+        _ => false,
+    }
+}
+
+fn is_possible_pool_hub(row: &Row) -> bool
+    ensures { result ≡ passes (λ hub. not (hub == 0)) (as_pool_hub row.now) }
+{
+    match row {
+        Row::PoolHub(hub) => *hub != 0,
         _ => false,
     }
 }

@@ -2,12 +2,12 @@
 //! impossible row as none.
 
 ghost use Rattle.std.specs.Prelude.{◌≡◌, option_and_then};
-ghost use Rattle.off_account_rules.specs.Rows.{hub_key, hub_in, pool_hub_in, number_or_0};
+ghost use Rattle.off_account_rules.specs.Rows.{hub_in, pool_hub_in, number_or_0};
 ghost use Rattle.off_account_rules.specs.Rows.{subscriber_in, add_on_in, modem_in, class_in};
 ghost use Rattle.off_account_rules.specs.Rows.{pool_in, lease_in, held_in, batch_in};
 ghost use Rattle.off_account_rules.specs.Rows.{as_site, as_subscriber, as_add_on, as_modem, as_class};
 ghost use Rattle.off_account_rules.specs.Rows.{as_pool, as_pool_hub, as_lease, as_held, as_batch};
-ghost use Rattle.off_outside.specs.KeeperCalls.{Looks, WasCounted};
+ghost use Rattle.off_outside.specs.KeeperCalls.{Looks, Spent, WasCounted};
 
 use crate::reading::read_row;
 use off_base::{Ip4, Mac, Settings};
@@ -21,16 +21,23 @@ pub fn read_hub<K: Keeper>(alloc: Global, keeper: &mut K, n: u32) -> Result<Opti
         (λ site t. site ≡ hub_in t n) }
     ensures counted { WasCounted (K.seen keeper.old) (K.seen keeper.new) }
 {
-    Ok(as_site(read_row(alloc, keeper, &hub_key(n))?))
+    Ok(as_site(read_row(alloc, keeper, &Key::Hub(n))?))
 }
 
-// The hub 0 has the one row of a site as yet.
-fn hub_key(n: u32) -> Key
-    ensures { result ≡ hub_key n }
+/// The site of a hub that there may be. Where there is no hub, no call is made.
+#[tactic(auto, using(off_outside::proofs::KeeperLemmas::reads_as))]
+pub fn read_site<K: Keeper>(
+    alloc: Global,
+    keeper: &mut K,
+    hub: Option<u32>,
+) -> Result<Option<Site>, KeepErr>
+    ensures told { Looks result (K.seen keeper.old) (K.seen keeper.new)
+        (λ site t. site ≡ option_and_then (hub_in t) hub) }
+    ensures spent { Spent 1 (K.seen keeper.old) (K.seen keeper.new) }
 {
-    match n {
-        0 => Key::Site,
-        _ => Key::Hub(n),
+    match hub {
+        Some(n) => read_hub(alloc, keeper, n),
+        None => Ok(None),
     }
 }
 

@@ -36,5 +36,11 @@ add_on_text = refl
 lease_stays : is_sound (Remove (key.Lease (record { 0 = 1 }))) ≡ false
 lease_stays = refl
 
+hub_goes : is_sound (Remove (key.Hub 1)) ≡ true
+hub_goes = refl
+
+earlier_site_hidden : is_sound (Show key.Site) ≡ false
+earlier_site_hidden = refl
+
 lease_shown : is_sound (Show (key.Lease (record { 0 = 1 }))) ≡ true
 lease_shown = refl

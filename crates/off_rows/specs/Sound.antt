@@ -13,7 +13,7 @@ use Rattle.off_defs.specs.declared.tables.ImportKind.TheVariants.{Subscribers, M
 use Rattle.off_defs.specs.declared.orders.ImportRow.{ImportRow}
 use Rattle.off_defs.specs.declared.orders.ImportRow.TheVariants as row
 use Rattle.off_defs.specs.declared.orders.Command.{Command}
-use Rattle.off_defs.specs.declared.orders.Command.TheVariants.{SetSite, PutSubscriber, PutAddOn, PutModem, PutClass, PutPool, Remove, Show, Import}
+use Rattle.off_defs.specs.declared.orders.Command.TheVariants.{PutHub, PutSubscriber, PutAddOn, PutModem, PutClass, PutPool, Remove, Show, Import}
 
 -- behind a modem may be 1 to 254 devices
 abbrev pub is_sound_subscriber : Subscriber → Bool
@@ -38,14 +38,14 @@ is_removable key.Site = false
 is_removable (key.Lease address) = false
 is_removable (key.Held mac) = false
 is_removable (key.Batch number) = false
-is_removable (key.Hub number) = false
+is_removable (key.Hub number) = true
 is_removable (key.PoolHub pool) = false
 is_removable (key.DevicePool number) = false
 is_removable (key.Device address) = false
 
--- the rows that a clerk is shown: these, the site and the leases
+-- the rows that a clerk is shown: these, and the leases
 abbrev pub is_shown : Key → Bool
-is_shown key.Site = true
+is_shown key.Site = false
 is_shown (key.Lease address) = true
 is_shown (key.Subscriber number) = is_removable (key.Subscriber number)
 is_shown (key.AddOn subscriber number) = is_removable (key.AddOn subscriber number)
@@ -54,7 +54,7 @@ is_shown (key.Class number) = is_removable (key.Class number)
 is_shown (key.Pool number) = is_removable (key.Pool number)
 is_shown (key.Held mac) = false
 is_shown (key.Batch number) = false
-is_shown (key.Hub number) = false
+is_shown (key.Hub number) = is_removable (key.Hub number)
 is_shown (key.PoolHub pool) = false
 is_shown (key.DevicePool number) = false
 is_shown (key.Device address) = false
@@ -67,12 +67,12 @@ is_row_of Modems (row.Subscriber number subscriber) = false
 is_row_of Modems (row.Modem mac modem) = true
 
 abbrev pub is_sound : Command → Bool
-is_sound (SetSite site) = true
+is_sound (PutHub number site) = true
 is_sound (PutSubscriber number subscriber) = is_sound_subscriber subscriber
 is_sound (PutAddOn subscriber number settings) = is_add_on_number number
 is_sound (PutModem mac modem) = true
 is_sound (PutClass number class) = true
-is_sound (PutPool number pool) = is_sound_pool pool
+is_sound (PutPool number pool hub) = is_sound_pool pool
 is_sound (Remove removed) = is_removable removed
 is_sound (Show shown) = is_shown shown
 -- an import has at most 2,000 rows, all of its kind

@@ -18,12 +18,12 @@ pub fn sound(c: &Command) -> bool
     ensures { result ≡ is_sound c.now }
 {
     match c {
-        Command::SetSite(_) => true,
+        Command::PutHub(_, _) => true,
         Command::PutSubscriber(_, subscriber) => has_devices(subscriber),
         Command::PutAddOn(_, number, _) => is_add_on(*number),
         Command::PutModem(_, _) => true,
         Command::PutClass(_, _) => true,
-        Command::PutPool(_, pool) => has_network(pool),
+        Command::PutPool(_, pool, _) => has_network(pool),
         Command::Remove(key) => can_remove(key),
         Command::Show(key) => can_show(key),
         Command::Import { kind, rows, .. } => rows.len() <= MOST_ROWS && are_all(*kind, rows),
@@ -61,7 +61,7 @@ fn can_remove(key: &Key) -> bool
         Key::Lease(_) => false,
         Key::Held(_) => false,
         Key::Batch(_) => false,
-        Key::Hub(_) => false,
+        Key::Hub(_) => true,
         Key::PoolHub(_) => false,
         Key::DevicePool(_) => false,
         Key::Device(_) => false,
@@ -72,7 +72,6 @@ fn can_show(key: &Key) -> bool
     ensures { result ≡ is_shown key.now }
 {
     match key {
-        Key::Site => true,
         Key::Lease(_) => true,
         _ => can_remove(key),
     }
