@@ -1,26 +1,27 @@
--- Good tables, by the marks of all rows.
-use Rattle.std.proofs.Common.{◌≡◌, ℕ, ◌+◌, ◌^◌, ◌<◌, ◌≤◌, min, true, false, inl, inr, ◌&&◌, Option, Some, None, Result, Ok, Err, IfOk, IfErr, Bool, List, [], ◌∷◌, map, length, count_by, cond, refl, sym, ap, subst, ◌∙◌, arith}
+-- Tables that open, by the marks of all rows.
+use Rattle.std.proofs.Common.{◌≡◌, ℕ, ◌+◌, ◌^◌, ◌<◌, ◌≤◌, min, true, false, inl, inr, ◌&&◌, Option, Some, None, Result, Ok, Err, IfOk, IfErr, Bool, List, [], ◌∷◌, map, length, count_by, cond, refl, sym, ap, subst, ◌∙◌, arith, ◌||◌, option_map}
 use Rattle.std.proofs.lemmas.List.Sums.{sum_by-cons}
-use Rattle.std.specs.List.{filter_map, cons_option}
+use Rattle.std.specs.List.{filter_map, cons_option, list_any, find}
 use Rattle.std.specs.Prelude.{slice_index_or}
 use Rattle.std.specs.declared.cmp.Ordering.TheVariants.{Less, Equal}
 use Rattle.std.specs.Cmp.{tied_itself}
 use Rattle.std.specs.FinMap as map_of
 use Rattle.off_base.specs.Number.{greatest_u64}
+use Rattle.off_base.specs.declared.addresses.Ip4.{Ip4}
 use Rattle.off_defs.specs.declared.keys.Key.{Key}
 use Rattle.off_defs.specs.declared.keys.Key.TheVariants as key
 use Rattle.off_defs.specs.declared.tables.Row.{Row}
 use Rattle.off_defs.specs.declared.tables.Row.TheVariants as row
 use Rattle.off_defs.specs.declared.tables.Pool.{Pool}
 use Rattle.off_defs.specs.declared.orders.Kind.{Kind}
-use Rattle.off_defs.specs.declared.orders.Kind.TheVariants.{Subscribers, AddOns, Modems, Classes, Pools, Batches}
+use Rattle.off_defs.specs.declared.orders.Kind.TheVariants.{Subscribers, AddOns, Modems, Classes, Pools, Batches, Hubs}
 use Rattle.off_defs.specs.Keys.{key_cmp}
 use Rattle.off_defs.specs.State.{Tables}
 use Rattle.off_defs.specs.Tables.{row_at}
 use Rattle.off_defs.proofs.KeyLemmas.{key_total, key_exact}
 use Rattle.off_account_rules.specs.declared.counts.Counts.{Counts}
-use Rattle.off_account_rules.specs.Rows.{is_possible, count_of, counts_of}
-use Rattle.off_account_rules.specs.Good.{raw_pool_of, raw_pools, stands_right, keeps, Judged}
+use Rattle.off_account_rules.specs.Rows.{is_possible, count_of, counts_of, has_address, passes}
+use Rattle.off_account_rules.specs.Good.{raw_pool_of, raw_pools, stands_right, keeps, Judged, is_of_hubs, names_hubs, stored_hub, stored_hub_of, is_hub_there}
 use Rattle.off_outside.specs.declared.keeper.KeepErr.{KeepErr}
 use Rattle.off_outside.specs.declared.keeper.KeepErr.TheVariants as keep
 use Rattle.off_outside.specs.KeeperSeen.{KeeperSeen}
@@ -71,16 +72,26 @@ marked kind t marks n are is = is ∙ ap (λ (v : List Mark). count_by (is_marke
 pub counts_are : (marks : List Mark) (counts : Counts) → counts.batches < 2 ^ 64
     → counts.subscribers ≡ count_by (is_marked Subscribers) marks → counts.addons ≡ count_by (is_marked AddOns) marks → counts.modems ≡ count_by (is_marked Modems) marks
     → counts.classes ≡ count_by (is_marked Classes) marks → counts.pools ≡ count_by (is_marked Pools) marks → counts.batches ≡ count_by (is_marked Batches) marks
+    → counts.hubs ≡ count_by (is_marked Hubs) marks
     → (t : Tables) → marks ≡ marks_of t → counts ≡ counts_of t
-counts_are marks counts small a b c d e f t are =
+counts_are marks counts small a b c d e f h t are =
     let fa = marked Subscribers t marks counts.subscribers are a in
     let fb = marked AddOns t marks counts.addons are b in
     let fc = marked Modems t marks counts.modems are c in
     let fd = marked Classes t marks counts.classes are d in
     let fe = marked Pools t marks counts.pools are e in
     let ff = marked Batches t marks counts.batches are f in
+    let fh = marked Hubs t marks counts.hubs are h in
     let capped : counts.batches ≡ min greatest_u64 (count_of Batches t) = omega (arith, small, ff) in
-    λ i. record { subscribers = fa i; addons = fb i; modems = fc i; classes = fd i; pools = fe i; batches = capped i }
+    λ i. record { subscribers = fa i; addons = fb i; modems = fc i; classes = fd i; pools = fe i; batches = capped i; hubs = fh i }
+
+-- hubs are named where their marks are
+any_marked : (es : List (Key × Row)) → list_any (λ (m : Mark). is_of_hubs m.key) (map mark_of es) ≡ list_any (λ (e : Key × Row). is_of_hubs e.0) es
+any_marked [] = refl
+any_marked (e ∷ es) = ap (λ b. is_of_hubs e.0 || b) (any_marked es)
+
+pub names_marked : (marks : List Mark) (b : Bool) → b ≡ list_any (λ (m : Mark). is_of_hubs m.key) marks → (t : Tables) → marks ≡ marks_of t → b ≡ names_hubs t
+names_marked marks b is t are = is ∙ ap (λ (v : List Mark). list_any (λ (m : Mark). is_of_hubs m.key) v) are ∙ any_marked (map_of.entries t)
 
 -- ---- a row by its mark
 
@@ -135,7 +146,17 @@ stands t (key.AddOn n i) r = refl
 stands t (key.Class n) r = refl
 stands t (key.Batch n) r = refl
 stands t (key.Hub n) r = refl
-stands t (key.PoolHub n) r = refl
+stands t (key.PoolHub n) (row.Modem modem) = refl
+stands t (key.PoolHub n) (row.Site site) = refl
+stands t (key.PoolHub n) (row.Subscriber subscriber) = refl
+stands t (key.PoolHub n) (row.AddOn settings) = refl
+stands t (key.PoolHub n) (row.Class class) = refl
+stands t (key.PoolHub n) (row.Pool pool) = refl
+stands t (key.PoolHub n) (row.Lease lease) = refl
+stands t (key.PoolHub n) (row.Held address) = refl
+stands t (key.PoolHub n) (row.Batch batch) = refl
+stands t (key.PoolHub n) (row.PoolHub hub) = refl
+stands t (key.PoolHub n) (row.Device lease) = refl
 stands t (key.DevicePool n) r = refl
 stands t (key.Device a) r = refl
 
@@ -232,3 +253,15 @@ pub looked : {A : Type 0} (P : A → Tables → Type 0) (marks lent : List Mark)
     → IfOk q (λ x. (t : Tables) → lent ≡ marks_of t → P x t) → IfErr q (λ err. err ≡ keep.Memory) → Looks q a b P
 looked P marks lent (Ok x) a b reads is ok none = reads_as reads (λ t are. ok t (is ∙ are))
 looked P marks lent (Err err) a b reads same none is = subst (λ (e : KeepErr). NotDone e a b) (sym is) (reads_forgotten reads)
+
+-- the hub of an address, by the number of its first pool
+mapped_by : (o : Option (ℕ × Pool)) (n : ℕ) (f : ℕ → ℕ) → Some n ≡ option_map (λ (x : ℕ × Pool). x.0) o → option_map (λ (x : ℕ × Pool). f x.0) o ≡ Some (f n)
+mapped_by None n f e = cc
+mapped_by (Some x) n f e = let same : x.0 ≡ n = cc in ap (λ k. Some (f k)) same
+
+pub hub_by : (pools : List (ℕ × Pool)) (t : Tables) (address : Ip4) (number hub : ℕ) (b : Bool) → Some number ≡ option_map (λ (x : ℕ × Pool). x.0) (find (λ (x : ℕ × Pool). has_address x.1 address) pools)
+    → pools ≡ raw_pools t → hub ≡ stored_hub t number → b ≡ is_hub_there t hub → b ≡ passes (is_hub_there t) (stored_hub_of t address)
+hub_by pools t address number hub b found pooled is there =
+    there ∙ ap (is_hub_there t) is
+    ∙ ap (passes (is_hub_there t)) (sym (ap (λ (ps : List (ℕ × Pool)). option_map (λ (x : ℕ × Pool). stored_hub t x.0) (find (λ (x : ℕ × Pool). has_address x.1 address) ps)) (sym pooled)
+    ∙ mapped_by (find (λ (x : ℕ × Pool). has_address x.1 address) pools) number (stored_hub t) found))

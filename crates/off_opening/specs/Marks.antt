@@ -28,7 +28,7 @@ tie_of (row.Pool pool) = tie.Pool pool
 tie_of (row.Lease lease) = tie.Lease (owner_of lease.hold)
 tie_of (row.Held address) = tie.Held address
 tie_of (row.Batch batch) = tie.Free
-tie_of (row.PoolHub hub) = tie.Free
+tie_of (row.PoolHub hub) = tie.PoolHub hub
 tie_of (row.Device lease) = tie.Free
 
 abbrev pub mark_of : Key × Row → Mark

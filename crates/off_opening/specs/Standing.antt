@@ -1,13 +1,13 @@
--- Good tables by what is kept of each row.
-use Rattle.std.specs.Prelude.{◌≡◌, ℕ, ◌==◌, Bool, true, false, ◌&&◌, Option}
+-- Tables that open, by what is kept of each row.
+use Rattle.std.specs.Prelude.{◌≡◌, ℕ, ◌==◌, Bool, true, false, not, ◌&&◌, Option}
 use Rattle.std.specs.List.{list_all}
 use Rattle.off_base.specs.declared.addresses.Ip4.{Ip4}
 use Rattle.off_base.specs.declared.macs.Mac.{Mac}
 use Rattle.off_defs.specs.declared.keys.Key.{Key}
 use Rattle.off_defs.specs.declared.keys.Key.TheVariants as key
 use Rattle.off_defs.specs.State.{Tables}
-use Rattle.off_account_rules.specs.Rows.{counts_of}
-use Rattle.off_account_rules.specs.Good.{raw_pools, is_there, is_apart, pools_around, owner_holds, owns, Good, IsLeastBad}
+use Rattle.off_account_rules.specs.Rows.{passes, counts_of}
+use Rattle.off_account_rules.specs.Good.{raw_pools, names_hubs, is_there, is_hub_there, pool_hub_stands, stored_hub_of, is_apart, pools_around, owner_holds, owns, Opens, IsLeastBad}
 use Rattle.off_users.specs.Users.{StandsFor}
 use Rattle.off_opening.specs.declared.marks.Mark.{Mark}
 use Rattle.off_opening.specs.declared.marks.Tie.{Tie}
@@ -20,15 +20,16 @@ abbrev pub modem_tied : Tables → ℕ → ℕ → Bool
 modem_tied tables subscriber class =
     is_there tables (key.Subscriber subscriber) && is_there tables (key.Class class)
 
--- a lease has its site and its one pool, and its owner holds its address
+-- a lease has its one pool and that pool's hub, and its owner holds its address
 abbrev pub lease_tied : Tables → Ip4 → Option Mac → Bool
 lease_tied tables address owner =
-    is_there tables key.Site
-    && ((pools_around tables address == 1) && owner_holds tables address owner)
+    (pools_around tables address == 1)
+    && (passes (is_hub_there tables) (stored_hub_of tables address)
+    && owner_holds tables address owner)
 
 -- a row stands in the right relations to the other rows, by what is compared with them
 abbrev pub tie_stands : Tables → Key → Tie → Bool
-tie_stands tables key.Site held = true
+tie_stands tables key.Site held = not (names_hubs tables)
 tie_stands tables (key.Subscriber n) held = true
 tie_stands tables (key.AddOn n number) held = is_there tables (key.Subscriber n)
 tie_stands tables (key.Modem mac) (tie.Modem subscriber class) = modem_tied tables subscriber class
@@ -41,7 +42,8 @@ tie_stands tables (key.Lease address) held = false
 tie_stands tables (key.Held mac) (tie.Held address) = owns tables mac address
 tie_stands tables (key.Held mac) held = false
 tie_stands tables (key.Batch n) held = true
-tie_stands tables (key.Hub n) held = false
+tie_stands tables (key.Hub n) held = true
+tie_stands tables (key.PoolHub n) (tie.PoolHub hub) = pool_hub_stands tables n hub
 tie_stands tables (key.PoolHub n) held = false
 tie_stands tables (key.DevicePool n) held = false
 tie_stands tables (key.Device address) held = false
@@ -50,9 +52,9 @@ tie_stands tables (key.Device address) held = false
 abbrev pub is_kept : Tables → Mark → Bool
 is_kept tables mark = mark.fits && tie_stands tables mark.key mark.tie
 
--- what an opening says of the tables: this is their least bad key; or they are good, these are
--- their counts, and this is what their modems name
-abbrev pub Opens : Tables → Opening → Type 0
-Opens tables (opening.Bad key) = IsLeastBad tables key
-Opens tables (opening.Good counts users) =
-    Good tables × (counts ≡ counts_of tables) × StandsFor users tables
+-- what an opening says of the tables: this is their least bad key; or they open, these are their
+-- counts, and this is what their modems name
+abbrev pub OpensAs : Tables → Opening → Type 0
+OpensAs tables (opening.Bad key) = IsLeastBad tables key
+OpensAs tables (opening.Open counts users) =
+    Opens tables × (counts ≡ counts_of tables) × StandsFor users tables

@@ -35,6 +35,7 @@ pub(crate) fn counts_in(marks: &[Mark]) -> Counts
         classes: count_in(marks, Kind::Classes),
         pools: count_in(marks, Kind::Pools),
         batches: count_in(marks, Kind::Batches),
+        hubs: count_in(marks, Kind::Hubs),
     }
 }
 
@@ -58,5 +59,6 @@ fn is_of_kind(kind: Kind, key: Key) -> bool
         Kind::Classes => matches!(key, Key::Class(_)),
         Kind::Pools => matches!(key, Key::Pool(_)),
         Kind::Batches => matches!(key, Key::Batch(_)),
+        Kind::Hubs => matches!(key, Key::Hub(_)),
     }
 }

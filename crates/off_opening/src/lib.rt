@@ -7,10 +7,12 @@
 
 mod counting;
 mod marks;
+mod migrating;
 mod opening;
 mod standing;
 mod using;
 
 pub use counting::count_rows;
+pub use migrating::read_migration;
 pub use opening::{Opening, first_bad, open_tables};
 pub use using::read_users;

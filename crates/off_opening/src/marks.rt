@@ -29,6 +29,8 @@ pub(crate) enum Tie {
     Lease(Option<Mac>),
     /// The address that a modem holds.
     Held(Ip4),
+    /// The hub that a pool names.
+    PoolHub(u32),
 }
 
 /// A row, as the test of the tables keeps it.
@@ -100,10 +102,11 @@ fn tie_of(row: &Row) -> Tie
         Row::Pool(pool) => Tie::Pool(*pool),
         Row::Lease(lease) => Tie::Lease(owner_of(lease.hold)),
         Row::Held(address) => Tie::Held(*address),
+        Row::PoolHub(hub) => Tie::PoolHub(*hub),
         Row::Site(_) | Row::Subscriber(_) | Row::AddOn(_) | Row::Class(_) | Row::Batch(_) => {
             Tie::Free
         }
-        Row::PoolHub(_) | Row::Device(_) => Tie::Free,
+        Row::Device(_) => Tie::Free,
     }
 }
 

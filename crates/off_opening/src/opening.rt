@@ -1,9 +1,9 @@
 ghost use Rattle.std.specs.Prelude.{◌≡◌, IfOk, IfErr};
 ghost use Rattle.off_defs.specs.State.{Tables};
 ghost use Rattle.off_outside.specs.KeeperCalls.{Looks, WalksOnce};
-ghost use Rattle.off_account_rules.specs.Good.{raw_pools, Good, Judged};
+ghost use Rattle.off_account_rules.specs.Good.{raw_pools, Opens, Judged};
 ghost use Rattle.off_opening.specs.Marks.{marks_of};
-ghost use Rattle.off_opening.specs.Standing.{Opens};
+ghost use Rattle.off_opening.specs.Standing.{OpensAs};
 
 use crate::counting::counts_in;
 use crate::marks::{Mark, NumberedPool, pools_in, read_marks};
@@ -18,10 +18,10 @@ use std::alloc::Global;
 /// What the tables are when the office opens.
 #[derive(Drop)]
 pub enum Opening {
-    /// They aren't good, and this is the least key whose row is bad.
+    /// They don't open, and this is the least key whose row is bad.
     Bad(Key),
-    /// They are good, have so many rows of each kind, and their modems use what they use.
-    Good(Counts, Users),
+    /// They open, have so many rows of each kind, and their modems use what they use.
+    Open(Counts, Users),
 }
 
 /// Tests the tables, counts their rows and notes what their modems name, in one walk over them. It
@@ -32,15 +32,14 @@ pub enum Opening {
 /// the number of rows times its logarithm, and as the number of leases times the number of pools.
 pub fn open_tables<K: Keeper>(alloc: Global, keeper: &mut K) -> Result<Opening, KeepErr>
     ensures told { Looks result (K.seen keeper.old) (K.seen keeper.new)
-        (λ opening t. Opens t opening) }
+        (λ opening t. OpensAs t opening) }
     ensures walks { WalksOnce (K.seen keeper.old) (K.seen keeper.new) }
 {
     let marks = read_marks(alloc, keeper)?;
     opening_of(alloc, marks.as_slice())
 }
 
-/// The least key whose row breaks its line of good tables, or `None` where the tables are good. It
-/// changes nothing.
+/// The least key whose row is bad, or `None` where the tables open. It changes nothing.
 ///
 /// An error is that of `open_tables`.
 pub fn first_bad<K: Keeper>(alloc: Global, keeper: &mut K) -> Result<Option<Key>, KeepErr>
@@ -54,24 +53,24 @@ pub fn first_bad<K: Keeper>(alloc: Global, keeper: &mut K) -> Result<Option<Key>
 
 // What tables are that have these marks.
 fn opening_of(alloc: Global, marks: &[Mark]) -> Result<Opening, KeepErr>
-    ensures ok { IfOk result (λ opening. (t : Tables) → marks.now ≡ marks_of t → Opens t opening) }
+    ensures ok { IfOk result (λ opening. (t : Tables) → marks.now ≡ marks_of t → OpensAs t opening) }
     ensures err { IfErr result (λ err. err ≡ KeepErr.Memory) }
 {
     match bad_in(alloc, marks) {
         Ok(Some(key)) => Ok(Opening::Bad(key)),
-        Ok(None) => good_opening(alloc, marks),
+        Ok(None) => open_with(alloc, marks),
         Err(err) => Err(err),
     }
 }
 
-// What good tables are.
-fn good_opening(alloc: Global, marks: &[Mark]) -> Result<Opening, KeepErr>
-    ensures ok { IfOk result (λ opening. (t : Tables) → marks.now ≡ marks_of t → Good t
-        → Opens t opening) }
+// What tables are that open.
+fn open_with(alloc: Global, marks: &[Mark]) -> Result<Opening, KeepErr>
+    ensures ok { IfOk result (λ opening. (t : Tables) → marks.now ≡ marks_of t → Opens t
+        → OpensAs t opening) }
     ensures err { IfErr result (λ err. err ≡ KeepErr.Memory) }
 {
     let users = users_in(alloc, marks)?;
-    Ok(Opening::Good(counts_in(marks), users))
+    Ok(Opening::Open(counts_in(marks), users))
 }
 
 // The least key whose row breaks its line, in tables that have these marks.

@@ -1,11 +1,15 @@
 //! Whether a row stands in the right relations to the other rows, by the marks of them all.
 
-ghost use Rattle.std.specs.Prelude.{◌≡◌, ◌==◌, ◌&&◌, count_by, IsTrue};
-ghost use Rattle.std.specs.List.{list_all};
+ghost use Rattle.std.specs.Prelude.{◌≡◌, ◌==◌, ◌&&◌, ℕ, count_by, IsTrue};
+ghost use Rattle.std.specs.List.{list_all, list_any, find};
+ghost use Rattle.off_opening.specs.declared.marks.Mark.{Mark};
 ghost use Rattle.off_defs.specs.State.{Tables};
 ghost use Rattle.off_account_rules.specs.Rows.{passes, has_address};
 ghost use Rattle.off_account_rules.specs.Good.{raw_pools, is_there, is_apart, is_mac};
-ghost use Rattle.off_account_rules.specs.Good.{owner_holds, owns};
+ghost use Rattle.off_account_rules.specs.Good.{owner_holds, owns, is_of_hubs, names_hubs, is_hub_there};
+ghost use Rattle.off_account_rules.specs.Good.{pool_hub_stands, stored_hub, stored_hub_of};
+ghost use Rattle.off_defs.specs.declared.tables.Pool.{Pool};
+ghost use Rattle.std.specs.Option.{option_map};
 ghost use Rattle.off_opening.specs.Marks.{marks_of};
 ghost use Rattle.off_opening.specs.Standing.{tie_stands, lease_tied, modem_tied, is_kept};
 
@@ -28,7 +32,8 @@ fn stands_right(marks: &[Mark], pools: &[NumberedPool], mark: &Mark) -> bool
         → result ≡ tie_stands t mark.now.key mark.now.tie }
 {
     match mark.key {
-        Key::Site | Key::Subscriber(_) | Key::Class(_) | Key::Batch(_) => true,
+        Key::Site => !name_hubs(marks),
+        Key::Subscriber(_) | Key::Class(_) | Key::Batch(_) | Key::Hub(_) => true,
         Key::AddOn(subscriber, _) => is_there(marks, Key::Subscriber(subscriber)),
         Key::Modem(_) => match mark.tie {
             Tie::Modem(subscriber, class) => modem_stands(marks, subscriber, class),
@@ -46,7 +51,11 @@ fn stands_right(marks: &[Mark], pools: &[NumberedPool], mark: &Mark) -> bool
             Tie::Held(address) => owns(marks, mac, address),
             _ => false,
         },
-        Key::Hub(_) | Key::PoolHub(_) | Key::DevicePool(_) | Key::Device(_) => false,
+        Key::PoolHub(number) => match mark.tie {
+            Tie::PoolHub(hub) => pool_hub_stands(marks, number, hub),
+            _ => false,
+        },
+        Key::DevicePool(_) | Key::Device(_) => false,
     }
 }
 
@@ -54,6 +63,71 @@ fn is_there(marks: &[Mark], key: Key) -> bool
     ensures { (t : Tables) → marks.now ≡ marks_of t → result ≡ is_there t key }
 {
     tie_at(marks, key).is_some()
+}
+
+// Whether there is a hub, or a pool names one.
+fn name_hubs(marks: &[Mark]) -> bool
+    ensures { (t : Tables) → marks.now ≡ marks_of t → result ≡ names_hubs t }
+{
+    any_of_hubs(marks)
+}
+
+fn any_of_hubs(marks: &[Mark]) -> bool
+    ensures { result ≡ list_any (λ (mark : Mark). is_of_hubs mark.key) marks.now }
+{
+    marks.iter().any(is_of_hubs)
+}
+
+fn is_of_hubs(mark: &Mark) -> bool
+    ensures { result ≡ is_of_hubs mark.now.key }
+{
+    matches!(mark.key, Key::Hub(_) | Key::PoolHub(_))
+}
+
+// The site of earlier days counts as the hub 0.
+fn is_hub_there(marks: &[Mark], hub: u32) -> bool
+    ensures { (t : Tables) → marks.now ≡ marks_of t → result ≡ is_hub_there t hub }
+{
+    is_there(marks, Key::Hub(hub)) || (hub == 0 && is_there(marks, Key::Site))
+}
+
+// A pool names a hub that is there.
+fn pool_hub_stands(marks: &[Mark], number: u32, hub: u32) -> bool
+    ensures { (t : Tables) → marks.now ≡ marks_of t → result ≡ pool_hub_stands t number hub }
+{
+    is_there(marks, Key::Pool(number)) && is_hub_there(marks, hub)
+}
+
+// The number of a pool's hub.
+fn stored_hub(marks: &[Mark], number: u32) -> u32
+    ensures { (t : Tables) → marks.now ≡ marks_of t → result ≡ stored_hub t number }
+{
+    match tie_at(marks, Key::PoolHub(number)) {
+        Some(Tie::PoolHub(hub)) => hub,
+        _ => 0,
+    }
+}
+
+// The first pool that has the address.
+fn pool_with(pools: &[NumberedPool], address: Ip4) -> Option<u32>
+    ensures { result ≡ option_map (λ (other : ℕ × Pool). other.0)
+        (find (λ (other : ℕ × Pool). has_address other.1 address) pools.now) }
+{
+    match pools.iter().find(|other| has_address(&other.pool, address)) {
+        Some(other) => Some(other.number),
+        None => None,
+    }
+}
+
+// Whether the hub of an address is there.
+fn has_hub(marks: &[Mark], pools: &[NumberedPool], address: Ip4) -> bool
+    ensures { (t : Tables) → marks.now ≡ marks_of t → pools.now ≡ raw_pools t
+        → result ≡ passes (is_hub_there t) (stored_hub_of t address) }
+{
+    match pool_with(pools, address) {
+        Some(number) => is_hub_there(marks, stored_hub(marks, number)),
+        None => false,
+    }
 }
 
 // A modem has its subscriber and its class.
@@ -76,12 +150,14 @@ fn is_apart(number: u32, pool: &Pool, other: &NumberedPool) -> bool
     other.number == number || (!overlaps(pool, &other.pool) && other.pool.relay.0 != pool.relay.0)
 }
 
-// A lease has its site and its one pool, and who has it holds its address.
+// A lease has its one pool and that pool's hub, and who has it holds its address.
 fn lease_stands(marks: &[Mark], pools: &[NumberedPool], address: Ip4, owner: Option<Mac>) -> bool
     ensures { (t : Tables) → marks.now ≡ marks_of t → pools.now ≡ raw_pools t
         → result ≡ lease_tied t address owner }
 {
-    is_there(marks, Key::Site) && is_in_one(pools, address) && owner_holds(marks, address, owner)
+    is_in_one(pools, address)
+        && has_hub(marks, pools, address)
+        && owner_holds(marks, address, owner)
 }
 
 // Whether exactly one pool has the address.

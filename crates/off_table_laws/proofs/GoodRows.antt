@@ -1,5 +1,5 @@
--- Good tables, said of the rows alone: no list of entries, no count. `Judging` has that both say the same.
-use Rattle.std.proofs.Common.{◌≡◌, ℕ, true, Some, is_some}
+-- Tables that open, said of the rows alone: no list of entries, no count. `Judging` has that both say the same.
+use Rattle.std.proofs.Common.{◌≡◌, ℕ, Bool, true, ◌&&◌, ◌||◌, eqb, Option, Some, None, is_some, option_and_then}
 use Rattle.off_base.specs.declared.addresses.Ip4.{Ip4}
 use Rattle.off_base.specs.declared.macs.Mac.{Mac}
 use Rattle.off_defs.specs.declared.keys.Key.{Key}
@@ -9,7 +9,7 @@ use Rattle.off_defs.specs.declared.tables.Row.TheVariants as row
 use Rattle.off_defs.specs.declared.tables.Modem.{Modem}
 use Rattle.off_defs.specs.declared.tables.Pool.{Pool}
 use Rattle.off_defs.specs.declared.tables.Lease.{Lease}
-use Rattle.off_account_rules.specs.Rows.{is_possible, has_address}
+use Rattle.off_account_rules.specs.Rows.{is_possible, has_address, as_pool_hub, number_or_0}
 use Rattle.off_account_rules.specs.Good.{is_apart, owner_of}
 use Rattle.off_table_laws.proofs.Rows.{Rows}
 
@@ -39,13 +39,29 @@ OwnedBy rows mac address =
       owner : owner_of lease.hold ≡ Some mac;
     }
 
+-- a hub is there, or the site that counts as the hub 0; and the number of a pool's hub
+abbrev pub hub_there : Rows → ℕ → Bool
+hub_there rows n = is_some (rows (key.Hub n)) || (eqb n 0 && is_some (rows key.Site))
+
+abbrev pub HubThere : Rows → ℕ → Type 0
+HubThere rows n = hub_there rows n ≡ true
+
+abbrev pub hub_in_row : Option Row → ℕ
+hub_in_row o = number_or_0 (option_and_then as_pool_hub o)
+
+abbrev pub hub_at : Rows → ℕ → ℕ
+hub_at rows n = hub_in_row (rows (key.PoolHub n))
+
 pub record GoodRows (rows : Rows) : Type 0 where
   pub possible : Possible rows
   pub add_on : (n k : ℕ) (held : Row) → rows (key.AddOn n k) ≡ Some held → Has rows (key.Subscriber n)
   pub subscriber : (mac : Mac) (modem : Modem) → rows (key.Modem mac) ≡ Some (row.Modem modem) → Has rows (key.Subscriber modem.subscriber)
   pub class : (mac : Mac) (modem : Modem) → rows (key.Modem mac) ≡ Some (row.Modem modem) → Has rows (key.Class modem.class)
   pub apart : (n : ℕ) (pool : Pool) (m : ℕ) (other : Pool) → rows (key.Pool n) ≡ Some (row.Pool pool) → rows (key.Pool m) ≡ Some (row.Pool other) → is_apart n pool (m, other) ≡ true
-  pub site : (address : Ip4) (lease : Lease) → rows (key.Lease address) ≡ Some (row.Lease lease) → Has rows key.Site
+  pub site_alone : (held : Row) → rows key.Site ≡ Some held → (n : ℕ) → (rows (key.Hub n) ≡ None) × (rows (key.PoolHub n) ≡ None)
+  pub pool_hub : (n hub : ℕ) → rows (key.PoolHub n) ≡ Some (row.PoolHub hub) → Has rows (key.Pool n) × HubThere rows hub
+  pub lease_hub : (address : Ip4) (lease : Lease) → rows (key.Lease address) ≡ Some (row.Lease lease) → (n : ℕ) (pool : Pool) → rows (key.Pool n) ≡ Some (row.Pool pool)
+      → has_address pool address ≡ true → HubThere rows (hub_at rows n)
   pub one_pool : (address : Ip4) (lease : Lease) → rows (key.Lease address) ≡ Some (row.Lease lease) → OnePool rows address
   pub holder : (address : Ip4) (lease : Lease) (mac : Mac) → rows (key.Lease address) ≡ Some (row.Lease lease) → owner_of lease.hold ≡ Some mac → rows (key.Held mac) ≡ Some (row.Held address)
   pub owner : (mac : Mac) (address : Ip4) → rows (key.Held mac) ≡ Some (row.Held address) → OwnedBy rows mac address

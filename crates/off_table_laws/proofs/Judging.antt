@@ -1,6 +1,6 @@
--- Tables are good exactly where their rows are.
-use Rattle.std.proofs.Common.{◌≡◌, ℕ, true, ◌&&◌, eqb, Option, Some, None, option_and_then, refl, sym, ap, subst, ◌∙◌}
-use Rattle.std.proofs.lemmas.Bool.{and_parts, and_from, eqb-true, eq-eqb}
+-- Tables open exactly where their rows are good.
+use Rattle.std.proofs.Common.{◌≡◌, ℕ, true, false, not, ◌&&◌, eqb, Option, Some, None, option_map, option_and_then, refl, sym, ap, subst, ◌∙◌}
+use Rattle.std.proofs.lemmas.Bool.{and_parts, and_from, not-true, eqb-true, eq-eqb}
 use Rattle.std.specs.List.{list_all}
 use Rattle.std.specs.FinMap as map
 use Rattle.off_base.specs.declared.addresses.Ip4.{Ip4}
@@ -16,10 +16,10 @@ use Rattle.off_defs.specs.State.{Tables}
 use Rattle.off_defs.specs.Tables.{row_at}
 use Rattle.off_defs.proofs.TableLemmas.{same_key, own_key}
 use Rattle.off_account_rules.specs.Rows.{passes, is_possible, has_address, as_lease, as_held}
-use Rattle.off_account_rules.specs.Good.{is_address, is_there, raw_pool_of, raw_pools, is_apart, pools_around, owner_of, is_mac, holds, owner_holds, owns, stands_right, Good}
-use Rattle.off_table_laws.proofs.ListLemmas.{In, Distinct, all_in, in_all, one_counted, counted_one, in_made, made_in, distinct_made}
+use Rattle.off_account_rules.specs.Good.{is_address, is_there, raw_pool_of, raw_pools, is_apart, pools_around, owner_of, is_mac, holds, owner_holds, owns, is_of_hubs, names_hubs, is_hub_there, stored_hub, stored_hub_of, stands_right, Opens}
+use Rattle.off_table_laws.proofs.ListLemmas.{In, Distinct, all_in, in_all, none_in, any_none, some_found, one_counted, counted_one, in_made, made_in, distinct_made}
 use Rattle.off_table_laws.proofs.EntryRows.{row_in, in_row, distinct_entries}
-use Rattle.off_table_laws.proofs.GoodRows.{OnePool, OwnedBy, GoodRows}
+use Rattle.off_table_laws.proofs.GoodRows.{OnePool, OwnedBy, hub_at, GoodRows}
 
 -- pools of the list are the rows of pools
 raw_made : (q : Key) (held : Row) (n : ℕ) (pool : Pool) → raw_pool_of (q, held) ≡ Some (n, pool) → (q ≡ key.Pool n) × (held ≡ row.Pool pool)
@@ -106,35 +106,65 @@ row_owns t mac address o =
     ∙ ap (λ (r : Option Mac). passes (is_mac mac) r) o.owner
     ∙ mac_own mac
 
--- the parts of a lease's line
-lease_line : (t : Tables) → Good t → (address : Ip4) (lease : Lease) → row_at t (key.Lease address) ≡ Some (row.Lease lease)
-    → (is_there t key.Site ≡ true) × (pools_around t address ≡ 1) × (owner_holds t address (owner_of lease.hold) ≡ true)
-lease_line t g address lease e =
-    let all = and_parts (is_there t key.Site) (eqb (pools_around t address) 1 && owner_holds t address (owner_of lease.hold)) (g (key.Lease address) (row.Lease lease) e) in
-    let rest = and_parts (eqb (pools_around t address) 1) (owner_holds t address (owner_of lease.hold)) all.1 in
-    (all.0, eqb-true (pools_around t address) 1 rest.0, rest.1)
+-- the hub of an address is that of its one pool
+pub hub_of_one : (t : Tables) (address : Ip4) (n : ℕ) (pool : Pool) → OnePool (row_at t) address → row_at t (key.Pool n) ≡ Some (row.Pool pool) → has_address pool address ≡ true
+    → stored_hub_of t address ≡ Some (hub_at (row_at t) n)
+hub_of_one t address n pool one there within =
+    let f = some_found (λ (other : ℕ × Pool). has_address other.1 address) (raw_pools t) (n, pool) (pool_in_raw t n pool there) within in
+    let first = one.only f.0.0 f.0.1 (raw_in_pool t f.0.0 f.0.1 f.2) f.3 in
+    let second = one.only n pool there within in
+    ap (option_map (λ (entry : ℕ × Pool). stored_hub t entry.0)) f.1 ∙ ap (λ m. Some (stored_hub t m)) (first ∙ sym second)
 
-modem_line : (t : Tables) → Good t → (mac : Mac) (modem : Modem) → row_at t (key.Modem mac) ≡ Some (row.Modem modem)
+-- the site of earlier days stands alone
+named_row : (t : Tables) (q : Key) (held : Row) → names_hubs t ≡ false → is_of_hubs q ≡ true → row_at t q ≡ Some held → ⊥
+named_row t q held none names e = let no = none_in (λ (e : Key × Row). is_of_hubs e.0) (map.entries t) none (q, held) (row_in t q held e) in cc
+
+no_row_at : (o : Option Row) → ((held : Row) → o ≡ Some held → ⊥) → o ≡ None
+no_row_at None h = refl
+no_row_at (Some held) h = absurd (h held refl)
+
+not_named : (t : Tables) → ((n : ℕ) → (row_at t (key.Hub n) ≡ None) × (row_at t (key.PoolHub n) ≡ None)) → (q : Key) (held : Row) → In (q, held) (map.entries t) → is_of_hubs q ≡ false
+not_named t alone (key.Hub n) held i = let there = in_row t (key.Hub n) held i in let none = (alone n).0 in cc
+not_named t alone (key.PoolHub n) held i = let there = in_row t (key.PoolHub n) held i in let none = (alone n).1 in cc
+not_named t alone q held i = refl
+
+-- the parts of a lease's line
+lease_line : (t : Tables) → Opens t → (address : Ip4) (lease : Lease) → row_at t (key.Lease address) ≡ Some (row.Lease lease)
+    → (pools_around t address ≡ 1) × (passes (is_hub_there t) (stored_hub_of t address) ≡ true) × (owner_holds t address (owner_of lease.hold) ≡ true)
+lease_line t g address lease e =
+    let all = and_parts (eqb (pools_around t address) 1) (passes (is_hub_there t) (stored_hub_of t address) && owner_holds t address (owner_of lease.hold)) (g (key.Lease address) (row.Lease lease) e) in
+    let rest = and_parts (passes (is_hub_there t) (stored_hub_of t address)) (owner_holds t address (owner_of lease.hold)) all.1 in
+    (eqb-true (pools_around t address) 1 all.0, rest.0, rest.1)
+
+modem_line : (t : Tables) → Opens t → (mac : Mac) (modem : Modem) → row_at t (key.Modem mac) ≡ Some (row.Modem modem)
     → (is_there t (key.Subscriber modem.subscriber) ≡ true) × (is_there t (key.Class modem.class) ≡ true)
 modem_line t g mac modem e = and_parts (is_there t (key.Subscriber modem.subscriber)) (is_there t (key.Class modem.class)) (g (key.Modem mac) (row.Modem modem) e)
 
-pool_line : (t : Tables) → Good t → (n : ℕ) (pool : Pool) → row_at t (key.Pool n) ≡ Some (row.Pool pool) → list_all (is_apart n pool) (raw_pools t) ≡ true
+pool_line : (t : Tables) → Opens t → (n : ℕ) (pool : Pool) → row_at t (key.Pool n) ≡ Some (row.Pool pool) → list_all (is_apart n pool) (raw_pools t) ≡ true
 pool_line t g n pool e = (and_parts (is_possible (key.Pool n) (row.Pool pool)) (list_all (is_apart n pool) (raw_pools t)) (g (key.Pool n) (row.Pool pool) e)).1
 
-pub good_rows : (t : Tables) → Good t → GoodRows (row_at t)
+pub good_rows : (t : Tables) → Opens t → GoodRows (row_at t)
 good_rows t g = record {
   possible = λ q held e. (and_parts (is_possible q held) (stands_right t q held) (g q held e)).0;
   add_on = λ n k held e. (and_parts (is_possible (key.AddOn n k) held) (stands_right t (key.AddOn n k) held) (g (key.AddOn n k) held e)).1;
   subscriber = λ mac modem e. (modem_line t g mac modem e).0;
   class = λ mac modem e. (modem_line t g mac modem e).1;
   apart = λ n pool m other e f. all_in (is_apart n pool) (raw_pools t) (pool_line t g n pool e) (m, other) (pool_in_raw t m other f);
-  site = λ address lease e. (lease_line t g address lease e).0;
-  one_pool = λ address lease e. around_one t address (lease_line t g address lease e).1;
+  site_alone = λ held e n.
+      let none = not-true (names_hubs t) (and_parts (is_possible key.Site held) (stands_right t key.Site held) (g key.Site held e)).1 in
+      (no_row_at (row_at t (key.Hub n)) (λ other f. named_row t (key.Hub n) other none refl f), no_row_at (row_at t (key.PoolHub n)) (λ other f. named_row t (key.PoolHub n) other none refl f));
+  pool_hub = λ n hub e.
+      let line = (and_parts (is_possible (key.PoolHub n) (row.PoolHub hub)) (stands_right t (key.PoolHub n) (row.PoolHub hub)) (g (key.PoolHub n) (row.PoolHub hub) e)).1 in
+      and_parts (is_there t (key.Pool n)) (is_hub_there t hub) line;
+  lease_hub = λ address lease e n pool there within.
+      let line = lease_line t g address lease e in
+      sym (ap (passes (is_hub_there t)) (hub_of_one t address n pool (around_one t address line.0) there within)) ∙ line.1;
+  one_pool = λ address lease e. around_one t address (lease_line t g address lease e).0;
   holder = λ address lease mac e o. holds_row t address mac (ap (owner_holds t address) (sym o) ∙ (lease_line t g address lease e).2);
   owner = λ mac address e. owns_row t mac address (g (key.Held mac) (row.Held address) e);
 }
 
-pub good_tables : (t : Tables) → GoodRows (row_at t) → Good t
+pub good_tables : (t : Tables) → GoodRows (row_at t) → Opens t
 good_tables t g q held e = and_from (is_possible q held) (stands_right t q held) (g.possible q held e) (right q held e)
   where
     owner_right : (address : Ip4) (o : Option Mac) → ((mac : Mac) → o ≡ Some mac → row_at t (key.Held mac) ≡ Some (row.Held address)) → owner_holds t address o ≡ true
@@ -146,18 +176,20 @@ good_tables t g q held e = and_from (is_possible q held) (stands_right t q held)
     right (key.Modem mac) (row.Modem modem) e = and_from _ _ (g.subscriber mac modem e) (g.class mac modem e)
     right (key.Pool n) (row.Pool pool) e = in_all (is_apart n pool) (raw_pools t) (λ x i. g.apart n pool x.0 x.1 e (raw_in_pool t x.0 x.1 i))
     right (key.Lease address) (row.Lease lease) e =
-        and_from _ _ (g.site address lease e)
-        (and_from _ _ (eq-eqb _ _ (one_around t address (g.one_pool address lease e))) (owner_right address (owner_of lease.hold) (λ mac o. g.holder address lease mac e o)))
+        let one = g.one_pool address lease e in
+        and_from _ _ (eq-eqb _ _ (one_around t address one))
+        (and_from _ _ (ap (passes (is_hub_there t)) (hub_of_one t address one.number one.pool one one.there one.within) ∙ g.lease_hub address lease e one.number one.pool one.there one.within) (owner_right address (owner_of lease.hold) (λ mac o. g.holder address lease mac e o)))
     right (key.Held mac) (row.Held address) e = row_owns t mac address (g.owner mac address e)
     right (key.Modem mac) held e = let fits = g.possible (key.Modem mac) held e in cc
     right (key.Pool n) held e = let fits = g.possible (key.Pool n) held e in cc
     right (key.Lease address) held e = let fits = g.possible (key.Lease address) held e in cc
     right (key.Held mac) held e = let fits = g.possible (key.Held mac) held e in cc
-    right key.Site held e = refl
+    right (key.PoolHub n) (row.PoolHub hub) e = let p = g.pool_hub n hub e in and_from _ _ p.0 p.1
+    right (key.PoolHub n) held e = let fits = g.possible (key.PoolHub n) held e in cc
+    right key.Site held e = ap not (any_none (λ (e : Key × Row). is_of_hubs e.0) (map.entries t) (λ x i. not_named t (g.site_alone held e) x.0 x.1 i))
+    right (key.Hub n) held e = refl
     right (key.Subscriber n) held e = refl
     right (key.Class n) held e = refl
     right (key.Batch n) held e = refl
-    right (key.Hub n) held e = let fits = g.possible (key.Hub n) held e in cc
-    right (key.PoolHub n) held e = let fits = g.possible (key.PoolHub n) held e in cc
     right (key.DevicePool n) held e = let fits = g.possible (key.DevicePool n) held e in cc
     right (key.Device a) held e = let fits = g.possible (key.Device a) held e in cc

@@ -11,5 +11,7 @@ pub mod LostLeases
 pub mod Reading
 pub mod ClerkSteps
 pub mod StepLaws
+pub mod MadeLemmas
+pub mod MigrationLemmas
 pub mod TableLaws
 pub mod Examples

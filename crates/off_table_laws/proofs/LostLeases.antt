@@ -25,7 +25,7 @@ use Rattle.off_table_laws.proofs.ListLemmas.{In, in_any, any_none, kept_in, in_k
 use Rattle.off_table_laws.proofs.EntryRows.{row_in, in_row}
 use Rattle.off_table_laws.proofs.Rows.{Rows, drop_row, rows_after}
 use Rattle.off_table_laws.proofs.GoodRows.{GoodRows}
-use Rattle.off_table_laws.proofs.PoolLemmas.{set_pool, unless_lost, without_lost}
+use Rattle.off_table_laws.proofs.PoolLemmas.{set_both, unless_lost, without_lost}
 
 pub rows_append : (rows : Rows) (one other : List Write) → rows_after rows (one ++ other) ≡ rows_after (rows_after rows one) other
 rows_append rows [] other = refl
@@ -59,7 +59,7 @@ is_owner mac (Some other) = eq_by_cmp key_cmp (key.Held mac) (key.Held other)
 is_by : Mac → Ip4 × Lease → Bool
 is_by mac entry = is_owner mac (owner_of entry.1.hold)
 
-is_other : Key → Bool
+unfoldable pub is_other : Key → Bool
 is_other (key.Lease address) = false
 is_other (key.Held mac) = false
 is_other q = true
@@ -71,7 +71,7 @@ step_other rows address owner (key.Held mac) h = cc
 step_other rows address None q h = refl
 step_other rows address (Some mac) q h = refl
 
-drops_other : (rows : Rows) (es : List (Ip4 × Lease)) (q : Key) → is_other q ≡ true → rows_after rows (flat_map lease_drops es) q ≡ rows q
+pub drops_other : (rows : Rows) (es : List (Ip4 × Lease)) (q : Key) → is_other q ≡ true → rows_after rows (flat_map lease_drops es) q ≡ rows q
 drops_other rows [] q h = refl
 drops_other rows (e ∷ es) q h =
     ap (λ (r : Rows). r q) (rows_append (drop_row rows (key.Lease e.0)) (held_drop (owner_of e.1.hold)) (flat_map lease_drops es))
@@ -139,7 +139,7 @@ is_by_same : (mac : Mac) (entry : Ip4 × Lease) → is_by mac entry ≡ true →
 unfolding is_by
 is_by_same mac entry e = owner_same mac (owner_of entry.1.hold) e
 
-module _ (t : Tables) (g : GoodRows (row_at t)) (n : ℕ) (new : Option Pool) where
+module _ (t : Tables) (g : GoodRows (row_at t)) (n : ℕ) (new : Option Pool) (hub : ℕ) where
   -- the test by which lost leases are chosen
   in_lost : (address : Ip4) (lease : Lease) → row_at t (key.Lease address) ≡ Some (row.Lease lease) → gives_up (pool_in t n) new address ≡ true → In (address, lease) (lost_leases t n new)
   in_lost address lease there h = in_kept (λ (entry : Ip4 × Lease). gives_up (pool_in t n) new entry.0) (leases t) (address, lease) (lease_in_all t address lease there) h
@@ -183,11 +183,11 @@ module _ (t : Tables) (g : GoodRows (row_at t)) (n : ℕ) (new : Option Pool) wh
   held_left mac (Some (row.Held address)) e = ap (λ b. cond b None (Some (row.Held address))) (lost_held mac address e)
   held_left mac (Some held) e = let p = g.possible (key.Held mac) held e in cc
 
-  each_left : (q : Key) → rows_after (set_pool (row_at t) n new) (flat_map lease_drops (lost_leases t n new)) q ≡ without_lost (gives_up (pool_in t n) new) (set_pool (row_at t) n new) q
+  each_left : (q : Key) → rows_after (set_both (row_at t) n new hub) (flat_map lease_drops (lost_leases t n new)) q ≡ without_lost (gives_up (pool_in t n) new) (set_both (row_at t) n new hub) q
   unfolding is_other
-  each_left (key.Lease address) = drops_lease (set_pool (row_at t) n new) (lost_leases t n new) address ∙ lease_left address (row_at t (key.Lease address)) refl
-  each_left (key.Held mac) = drops_held (set_pool (row_at t) n new) (lost_leases t n new) mac ∙ held_left mac (row_at t (key.Held mac)) refl
-  each_left q = drops_other (set_pool (row_at t) n new) (lost_leases t n new) q refl
+  each_left (key.Lease address) = drops_lease (set_both (row_at t) n new hub) (lost_leases t n new) address ∙ lease_left address (row_at t (key.Lease address)) refl
+  each_left (key.Held mac) = drops_held (set_both (row_at t) n new hub) (lost_leases t n new) mac ∙ held_left mac (row_at t (key.Held mac)) refl
+  each_left q = drops_other (set_both (row_at t) n new hub) (lost_leases t n new) q refl
 
-  pub lost_left : rows_after (set_pool (row_at t) n new) (flat_map lease_drops (lost_leases t n new)) ≡ without_lost (gives_up (pool_in t n) new) (set_pool (row_at t) n new)
+  pub lost_left : rows_after (set_both (row_at t) n new hub) (flat_map lease_drops (lost_leases t n new)) ≡ without_lost (gives_up (pool_in t n) new) (set_both (row_at t) n new hub)
   lost_left = λ i q. each_left q i

@@ -1,6 +1,6 @@
 -- Good rows stay good where a pool is put or removed, and the leases that lose their pool by it are dropped with the rows of who holds them.
-use Rattle.std.proofs.Common.{◌≡◌, ℕ, Bool, true, false, cond, not, eqb, leb, min, max, Option, Some, None, option_map, inl, inr, refl, sym, ap, ◌∙◌, arith}
-use Rattle.std.proofs.lemmas.Bool.{and_parts, and_from, and_cases, or_left, or_right, eqb-false, ne_eqb, eq-eqb, leb-true, leb-false, le-leb, lt-leb, cases_eq, not_from_false, not-false}
+use Rattle.std.proofs.Common.{◌≡◌, ℕ, Bool, true, false, cond, not, eqb, leb, min, max, Option, Some, None, is_some, option_map, inl, inr, refl, sym, ap, ◌∙◌, arith}
+use Rattle.std.proofs.lemmas.Bool.{and_parts, and_from, and_cases, or_left, or_right, eqb-false, ne_eqb, eq-eqb, eqb-true, leb-true, leb-false, le-leb, lt-leb, cases_eq, not_from_false, not-false}
 use Rattle.std.specs.Ordering.{eq_by_cmp}
 use Rattle.off_base.specs.declared.addresses.Ip4.{Ip4}
 use Rattle.off_defs.specs.declared.keys.Key.{Key}
@@ -14,11 +14,21 @@ use Rattle.off_account_rules.specs.Rows.{is_possible, has_address, overlaps, poo
 use Rattle.off_account_rules.specs.Good.{is_apart}
 use Rattle.off_account_rules.specs.Clerk.{gives_up}
 use Rattle.off_table_laws.proofs.Rows.{Rows}
-use Rattle.off_table_laws.proofs.GoodRows.{OnePool, GoodRows}
+use Rattle.off_table_laws.proofs.GoodRows.{Has, OnePool, hub_there, HubThere, hub_in_row, hub_at, GoodRows}
 
 -- the rows where a pool is put, or removed
 abbrev pub set_pool : Rows → ℕ → Option Pool → Rows
 set_pool rows n new q = cond (eq_by_cmp key_cmp q (key.Pool n)) (option_map row.Pool new) (rows q)
+
+-- and where the pool's hub is named, which isn't where it's the hub 0
+abbrev pub hub_kept : ℕ → Option Row
+hub_kept hub = cond (eqb hub 0) None (Some (row.PoolHub hub))
+
+abbrev pub set_hub : Rows → ℕ → ℕ → Rows
+set_hub rows n hub q = cond (eq_by_cmp key_cmp q (key.PoolHub n)) (hub_kept hub) (rows q)
+
+abbrev pub set_both : Rows → ℕ → Option Pool → ℕ → Rows
+set_both rows n new hub = set_hub (set_pool rows n new) n hub
 
 -- the rows without the leases of lost addresses, and without the rows of who holds them
 abbrev pub unless_lost : (Ip4 → Bool) → Option Row → Option Row
@@ -70,6 +80,40 @@ module _ (rows : Rows) (n : ℕ) (new : Option Pool) where
         | false ↦ λ t. refl
       ] refl
 
+module _ (rows : Rows) (n hub : ℕ) where
+  hub_case : (q : Key) (held : Row) (P : Type 0) → set_hub rows n hub q ≡ Some held
+      → (q ≡ key.PoolHub n → hub_kept hub ≡ Some held → P) → ((q ≡ key.PoolHub n → ⊥) → rows q ≡ Some held → P) → P
+  hub_case q held P e at_key other =
+      elim (eq_by_cmp key_cmp q (key.PoolHub n)) as (λ b. eq_by_cmp key_cmp q (key.PoolHub n) ≡ b → cond b (hub_kept hub) (rows q) ≡ Some held → P) [
+        | true ↦ λ t f. at_key (same_key q (key.PoolHub n) t) f
+        | false ↦ λ t f. other (λ same. let u : eq_by_cmp key_cmp q (key.PoolHub n) ≡ true = ap (λ k. eq_by_cmp key_cmp k (key.PoolHub n)) same ∙ own_key (key.PoolHub n) in cc) f
+      ] refl e
+
+  hub_here : set_hub rows n hub (key.PoolHub n) ≡ hub_kept hub
+  hub_here = ap (λ b. cond b (hub_kept hub) (rows (key.PoolHub n))) (own_key (key.PoolHub n))
+
+  hub_other : (q : Key) → (q ≡ key.PoolHub n → ⊥) → set_hub rows n hub q ≡ rows q
+  hub_other q apart =
+      elim (eq_by_cmp key_cmp q (key.PoolHub n)) as (λ b. eq_by_cmp key_cmp q (key.PoolHub n) ≡ b → cond b (hub_kept hub) (rows q) ≡ rows q) [
+        | true ↦ λ t. absurd (apart (same_key q (key.PoolHub n) t))
+        | false ↦ λ t. refl
+      ] refl
+
+-- a hub that is named isn't the hub 0
+hub_named : (hub : ℕ) (held : Row) → hub_kept hub ≡ Some held → (held ≡ row.PoolHub hub) × (eqb hub 0 ≡ false)
+hub_named hub held e =
+    elim (eqb hub 0) as (λ b. cond b None (Some (row.PoolHub hub)) ≡ Some held → (held ≡ row.PoolHub hub) × (b ≡ false)) [
+      | true ↦ λ f. cc
+      | false ↦ λ f. (cc, refl)
+    ] e
+
+hub_kept_is : (hub : ℕ) → hub_in_row (hub_kept hub) ≡ hub
+hub_kept_is hub =
+    elim (eqb hub 0) as (λ b. eqb hub 0 ≡ b → hub_in_row (cond b None (Some (row.PoolHub hub))) ≡ hub) [
+      | true ↦ λ e. sym (eqb-true hub 0 e)
+      | false ↦ λ e. refl
+    ] refl
+
 pool_mapped : (new : Option Pool) (held : Row) → option_map row.Pool new ≡ Some held → (pool : Pool) × (new ≡ Some pool) × (row.Pool pool ≡ held)
 pool_mapped None held e = cc
 pool_mapped (Some pool) held e = (pool, refl, cc)
@@ -118,19 +162,29 @@ stays_within old (Some pool) address h g = (
   ],
 )
 
-module _ (rows : Rows) (g : GoodRows rows) (n : ℕ) (old new : Option Pool) where
+some_new : (new : Option Pool) (hub : ℕ) → (new ≡ None → hub ≡ 0) → eqb hub 0 ≡ false → (pool : Pool) × (new ≡ Some pool)
+some_new None hub unnamed not_0 = absurd (eqb-false hub 0 not_0 (unnamed refl))
+some_new (Some pool) hub unnamed not_0 = (pool, refl)
+
+module _ (rows : Rows) (g : GoodRows rows) (n : ℕ) (old new : Option Pool) (hub : ℕ) where
   pub pool_changed : ((pool : Pool) → rows (key.Pool n) ≡ Some (row.Pool pool) → old ≡ Some pool)
       → ((pool : Pool) → new ≡ Some pool → pool_fits pool ≡ true)
       → ((pool : Pool) → new ≡ Some pool → IsApart rows n pool)
-      → GoodRows (without_lost (gives_up old new) (set_pool rows n new))
-  pool_changed was fits apart =
+      → ((pool : Pool) → new ≡ Some pool → HubThere rows hub)
+      → (new ≡ None → hub ≡ 0)
+      → rows key.Site ≡ None
+      → GoodRows (without_lost (gives_up old new) (set_both rows n new hub))
+  pool_changed was fits apart there_is unnamed no_site =
       let lost : Ip4 → Bool = gives_up old new in
-      let set : Rows = set_pool rows n new in
+      let pooled : Rows = set_pool rows n new in
+      let set : Rows = set_both rows n new hub in
       record {
         possible = λ q held e.
-            set_case rows n new q held (is_possible q held ≡ true) (left_lost lost set q held e)
+            hub_case pooled n hub q held (is_possible q held ≡ true) (left_lost lost set q held e)
+            (λ is f. let p = hub_named hub held f in ap (λ k. is_possible k held) is ∙ ap (is_possible (key.PoolHub n)) p.0 ∙ ap not p.1)
+            (λ _ e. set_case rows n new q held (is_possible q held ≡ true) e
             (λ is f. let p = pool_mapped new held f in ap (λ k. is_possible k held) is ∙ ap (is_possible (key.Pool n)) (sym p.2) ∙ fits p.0 p.1)
-            (λ _ f. g.possible q held f);
+            (λ _ f. g.possible q held f));
         add_on = g.add_on;
         subscriber = g.subscriber;
         class = g.class;
@@ -143,7 +197,28 @@ module _ (rows : Rows) (g : GoodRows rows) (n : ℕ) (old new : Option Pool) whe
             (λ too f. let a = apart other (pool_same new other f) k pool (λ same. away (ap key.Pool same)) e in
             both_apart k pool m other (turned other pool a.0) (eqb_turned pool.relay.0 other.relay.0 a.1))
             (λ _ f. g.apart k pool m other e f));
-        site = λ address lease e. g.site address lease (kept (lost address) (rows (key.Lease address)) (row.Lease lease) e).0;
+        site_alone = λ held e m. let f : rows key.Site ≡ Some held = e in cc;
+        pool_hub = λ m other e.
+            hub_case pooled n hub (key.PoolHub m) (row.PoolHub other) (Has set (key.Pool m) × HubThere set other) e
+            (λ is f.
+            let p = hub_named hub (row.PoolHub other) f in
+            let same : other ≡ hub = let q = p.0 in cc in
+            let here : m ≡ n = cc in
+            let pool = some_new new hub unnamed p.1 in (
+              ap (λ k. is_some (set_pool rows n new (key.Pool k))) here ∙ ap is_some (set_here rows n new) ∙ ap (λ o. is_some (option_map row.Pool o)) pool.1,
+              ap (hub_there rows) same ∙ there_is pool.0 pool.1,
+            ))
+            (λ away f. let p = g.pool_hub m other f in (ap is_some (set_other rows n new (key.Pool m) (λ is. away (let k : m ≡ n = cc in ap key.PoolHub k))) ∙ p.0, p.1));
+        lease_hub = λ address lease e m pool f w.
+            let k = kept (lost address) (rows (key.Lease address)) (row.Lease lease) e in
+            set_case rows n new (key.Pool m) (row.Pool pool) (HubThere set (hub_at set m)) f
+            (λ is h.
+            let here : m ≡ n = cc in
+            ap (λ x. hub_there rows (hub_at set x)) here ∙ ap (λ o. hub_there rows (hub_in_row o)) (hub_here pooled n hub) ∙ ap (hub_there rows) (hub_kept_is hub)
+            ∙ there_is pool (pool_same new pool h))
+            (λ away h.
+            ap (λ o. hub_there rows (hub_in_row o)) (hub_other pooled n hub (key.PoolHub m) (λ is. away (let k : m ≡ n = cc in ap key.Pool k)))
+            ∙ g.lease_hub address lease k.0 m pool h w);
         one_pool = λ address lease e.
             let k = kept (lost address) (rows (key.Lease address)) (row.Lease lease) e in
             let one = g.one_pool address lease k.0 in

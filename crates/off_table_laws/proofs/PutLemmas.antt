@@ -1,5 +1,7 @@
 -- Good rows stay good where a row is put that is possible and whose own line holds, but for pools: those are in `PoolLemmas`.
-use Rattle.std.proofs.Common.{◌≡◌, ℕ, true, refl, subst}
+use Rattle.std.proofs.Common.{◌≡◌, ℕ, true, false, cond, ◌&&◌, ◌||◌, eqb, Some, None, is_some, refl, subst}
+use Rattle.std.specs.Ordering.{eq_by_cmp}
+use Rattle.off_defs.specs.Keys.{key_cmp}
 use Rattle.off_base.specs.Tree.{Tree}
 use Rattle.std.proofs.Common.{List}
 use Rattle.off_base.specs.declared.macs.Mac.{Mac}
@@ -12,18 +14,27 @@ use Rattle.off_defs.specs.declared.tables.Class.{Class}
 use Rattle.off_defs.specs.declared.tables.Batch.{Batch}
 use Rattle.off_account_rules.specs.Rows.{is_possible}
 use Rattle.off_table_laws.proofs.Rows.{Rows, put_row}
-use Rattle.off_table_laws.proofs.GoodRows.{Has, GoodRows}
+use Rattle.off_table_laws.proofs.GoodRows.{Has, hub_there, hub_at, GoodRows}
 use Rattle.off_table_laws.proofs.RowChanges.{put_case, has_put, possible_put}
 
 module _ (rows : Rows) (g : GoodRows rows) where
-  pub put_site : (site : Site) → is_possible key.Site (row.Site site) ≡ true → GoodRows (put_row rows key.Site (row.Site site))
-  put_site site fits = record {
-    possible = possible_put rows key.Site (row.Site site) g.possible fits;
+  hub_put : (n : ℕ) (site : Site) (h : ℕ) → hub_there rows h ≡ true → hub_there (put_row rows (key.Hub n) (row.Site site)) h ≡ true
+  hub_put n site h there =
+      elim (eq_by_cmp key_cmp (key.Hub h) (key.Hub n)) as (λ b. is_some (cond b (Some (row.Site site)) (rows (key.Hub h))) || (eqb h 0 && is_some (rows key.Site)) ≡ true) [
+        | true ↦ refl
+        | false ↦ there
+      ]
+
+  pub put_hub : (n : ℕ) (site : Site) → is_possible (key.Hub n) (row.Site site) ≡ true → rows key.Site ≡ None → GoodRows (put_row rows (key.Hub n) (row.Site site))
+  put_hub n site fits none = record {
+    possible = possible_put rows (key.Hub n) (row.Site site) g.possible fits;
     add_on = g.add_on;
     subscriber = g.subscriber;
     class = g.class;
     apart = g.apart;
-    site = λ address lease e. refl;
+    site_alone = λ held e m. let f : rows key.Site ≡ Some held = e in cc;
+    pool_hub = λ m hub e. let p = g.pool_hub m hub e in (p.0, hub_put n site hub p.1);
+    lease_hub = λ address lease e m pool f w. hub_put n site (hub_at rows m) (g.lease_hub address lease e m pool f w);
     one_pool = g.one_pool;
     holder = g.holder;
     owner = g.owner;
@@ -39,7 +50,9 @@ module _ (rows : Rows) (g : GoodRows rows) where
         subscriber = λ mac modem e. more (key.Subscriber modem.subscriber) (g.subscriber mac modem e);
         class = g.class;
         apart = g.apart;
-        site = g.site;
+        site_alone = g.site_alone;
+        pool_hub = g.pool_hub;
+        lease_hub = g.lease_hub;
         one_pool = g.one_pool;
         holder = g.holder;
         owner = g.owner;
@@ -54,7 +67,9 @@ module _ (rows : Rows) (g : GoodRows rows) where
     subscriber = g.subscriber;
     class = g.class;
     apart = g.apart;
-    site = g.site;
+    site_alone = g.site_alone;
+    pool_hub = g.pool_hub;
+    lease_hub = g.lease_hub;
     one_pool = g.one_pool;
     holder = g.holder;
     owner = g.owner;
@@ -70,7 +85,9 @@ module _ (rows : Rows) (g : GoodRows rows) where
     class = λ other held e. put_case rows (key.Modem mac) (row.Modem modem) (key.Modem other) (row.Modem held) (Has rows (key.Class held.class)) e
         (λ is same. subst (λ (m : Modem). Has rows (key.Class m.class)) (let e : modem ≡ held = cc in e) class) (g.class other held);
     apart = g.apart;
-    site = g.site;
+    site_alone = g.site_alone;
+    pool_hub = g.pool_hub;
+    lease_hub = g.lease_hub;
     one_pool = g.one_pool;
     holder = g.holder;
     owner = g.owner;
@@ -83,7 +100,9 @@ module _ (rows : Rows) (g : GoodRows rows) where
     subscriber = g.subscriber;
     class = λ mac modem e. has_put rows (key.Class n) (row.Class class) (key.Class modem.class) (g.class mac modem e);
     apart = g.apart;
-    site = g.site;
+    site_alone = g.site_alone;
+    pool_hub = g.pool_hub;
+    lease_hub = g.lease_hub;
     one_pool = g.one_pool;
     holder = g.holder;
     owner = g.owner;
@@ -96,7 +115,9 @@ module _ (rows : Rows) (g : GoodRows rows) where
     subscriber = g.subscriber;
     class = g.class;
     apart = g.apart;
-    site = g.site;
+    site_alone = g.site_alone;
+    pool_hub = g.pool_hub;
+    lease_hub = g.lease_hub;
     one_pool = g.one_pool;
     holder = g.holder;
     owner = g.owner;

@@ -3,16 +3,13 @@ use Rattle.std.proofs.Common.{◌≡◌, ℕ, ◌+◌, true, leb, Option, Some, 
 use Rattle.std.proofs.lemmas.Bool.{and_parts}
 use Rattle.std.specs.List.{list_all}
 use Rattle.off_base.specs.Choices.{first_there}
-use Rattle.off_defs.specs.declared.keys.Key.{Key}
 use Rattle.off_defs.specs.declared.keys.Key.TheVariants as key
-use Rattle.off_defs.specs.declared.tables.Row.{Row}
-use Rattle.off_defs.specs.declared.shown.ShownRow.{ShownRow}
 use Rattle.off_defs.specs.declared.tables.Row.TheVariants as row
 use Rattle.off_defs.specs.declared.tables.Batch.{Batch}
 use Rattle.off_defs.specs.declared.tables.ImportKind.{ImportKind}
 use Rattle.off_defs.specs.declared.tables.ImportKind.TheVariants as import
 use Rattle.off_defs.specs.declared.orders.Command.{Command}
-use Rattle.off_defs.specs.declared.orders.Command.TheVariants.{SetSite, PutSubscriber, PutAddOn, PutModem, PutClass, PutPool, Remove, Show, Import}
+use Rattle.off_defs.specs.declared.orders.Command.TheVariants.{PutHub, PutSubscriber, PutAddOn, PutModem, PutClass, PutPool, Remove, Show, Import}
 use Rattle.off_defs.specs.declared.orders.ImportRow.{ImportRow}
 use Rattle.off_defs.specs.declared.orders.ImportRow.TheVariants as imported
 use Rattle.off_defs.specs.declared.orders.Reply.{Reply}
@@ -21,13 +18,12 @@ use Rattle.off_defs.specs.declared.orders.Kind.TheVariants.{Batches}
 use Rattle.off_defs.specs.declared.orders.Write.{Write}
 use Rattle.off_defs.specs.declared.orders.Write.TheVariants.{Put}
 use Rattle.off_defs.specs.declared.rules.Rule.{Rule}
-use Rattle.off_defs.specs.Shown.{shown_row}
 use Rattle.off_defs.specs.State.{Tables}
 use Rattle.off_defs.specs.Tables.{row_at, written, write_all}
 use Rattle.off_rows.specs.Sound.{is_sound, is_row_of}
 use Rattle.off_account_rules.specs.Rows.{seen_at, batch_in}
 use Rattle.off_account_rules.specs.Good.{Good}
-use Rattle.off_account_rules.specs.Clerk.{Refusal, Decision, accepted, by_rule, shown, limit, rules_of, writes_of, command_of, then_writes, unless_broken, rows_written, batch_row, imported_as, import_decided, decided, stepped_by, clerk_step}
+use Rattle.off_account_rules.specs.Clerk.{Refusal, Decision, accepted, by_rule, shown_as, shown, limit, rules_of, writes_of, command_of, then_writes, unless_broken, rows_written, batch_row, imported_as, import_decided, decided, stepped_by, clerk_step}
 use Rattle.off_table_laws.specs.Laws.{secret_fits, StepKeepsGood, RefusedChangesNothing}
 use Rattle.off_table_laws.proofs.Rows as rows
 use Rattle.off_table_laws.proofs.Rows.{all_written}
@@ -42,9 +38,9 @@ ruled : (t : Tables) (writes : List Write) (reply : Reply) (broken : Option Rule
 ruled t writes reply None good h = h refl
 ruled t writes reply (Some broken) good h = good
 
-seen_good : (t : Tables) (q : Key) (o : Option ShownRow) → Good t → Good (stepped_by t (shown q o)).tables
-seen_good t q None good = good
-seen_good t q (Some held) good = good
+seen_good : (t : Tables) (o : Option Reply) → Good t → Good (stepped_by t (shown o)).tables
+seen_good t None good = good
+seen_good t (Some reply) good = good
 
 writes_append : (t : Tables) (one other : List Write) → write_all t (one ++ other) ≡ write_all (write_all t one) other
 writes_append t [] other = refl
@@ -83,8 +79,12 @@ import_good now kind (first ∷ rest) t at all good sound e =
 
 batch_good : (t : Tables) (n : ℕ) (batch : Batch) → Good t → Good (write_all t (Put (key.Batch n) (row.Batch batch) ∷ []))
 batch_good t n batch good =
-    good_tables (write_all t (Put (key.Batch n) (row.Batch batch) ∷ []))
-    (subst (λ (all : rows.Rows). GoodRows all) (sym (all_written t (Put (key.Batch n) (row.Batch batch) ∷ []))) (put_batch (row_at t) (good_rows t good) n batch))
+    let after = all_written t (Put (key.Batch n) (row.Batch batch) ∷ []) in
+    record {
+      opens = good_tables (write_all t (Put (key.Batch n) (row.Batch batch) ∷ []))
+          (subst (λ (all : rows.Rows). GoodRows all) (sym after) (put_batch (row_at t) (good_rows t good.opens) n batch));
+      no_site = ap (λ (all : rows.Rows). all key.Site) after ∙ good.no_site;
+    }
 
 imported_good : (t : Tables) (kind : ImportKind) (batch : ℕ) (digest : List ℕ) (rows : List ImportRow) (result : Result (List Write) Refusal) → Good t
     → ((writes : List Write) → result ≡ Ok writes → Good (write_all t writes)) → Good (stepped_by t (imported_as t kind batch digest rows result)).tables
@@ -104,17 +104,17 @@ decided_good t now kind batch digest rows None good sound =
     imported_good t kind batch digest rows (rows_written t now 1 rows) good (λ writes e. import_good now kind rows t 1 writes good sound e)
 
 step_good : (t : Tables) (now : ℕ) (command : Command) → is_sound command ≡ true → secret_fits command ≡ true → Good t → Good (stepped_by t (decided t now command)).tables
-step_good t now (Show q) sound short good = seen_good t q (option_and_then shown_row (seen_at t q)) good
+step_good t now (Show q) sound short good = seen_good t (option_and_then (shown_as t q) (seen_at t q)) good
 step_good t now (Import kind batch digest rows) sound short good =
     decided_good t now kind batch digest rows (batch_in t batch) good (and_parts (leb (length rows) 2000) (list_all (is_row_of kind) rows) sound).1
-step_good t now (SetSite site) sound short good = ruled t (writes_of t (SetSite site)) Done (first_there (rules_of t now (SetSite site))) good (command_good t now (SetSite site) sound short good)
+step_good t now (PutHub n site) sound short good = ruled t (writes_of t (PutHub n site)) Done (first_there (rules_of t now (PutHub n site))) good (command_good t now (PutHub n site) sound short good)
 step_good t now (PutSubscriber n subscriber) sound short good =
     ruled t (writes_of t (PutSubscriber n subscriber)) Done (first_there (rules_of t now (PutSubscriber n subscriber))) good (command_good t now (PutSubscriber n subscriber) sound short good)
 step_good t now (PutAddOn n number settings) sound short good =
     ruled t (writes_of t (PutAddOn n number settings)) Done (first_there (rules_of t now (PutAddOn n number settings))) good (command_good t now (PutAddOn n number settings) sound short good)
 step_good t now (PutModem mac modem) sound short good = ruled t (writes_of t (PutModem mac modem)) Done (first_there (rules_of t now (PutModem mac modem))) good (command_good t now (PutModem mac modem) sound short good)
 step_good t now (PutClass n class) sound short good = ruled t (writes_of t (PutClass n class)) Done (first_there (rules_of t now (PutClass n class))) good (command_good t now (PutClass n class) sound short good)
-step_good t now (PutPool n pool) sound short good = ruled t (writes_of t (PutPool n pool)) Done (first_there (rules_of t now (PutPool n pool))) good (command_good t now (PutPool n pool) sound short good)
+step_good t now (PutPool n pool hub) sound short good = ruled t (writes_of t (PutPool n pool hub)) Done (first_there (rules_of t now (PutPool n pool hub))) good (command_good t now (PutPool n pool hub) sound short good)
 step_good t now (Remove removed) sound short good = ruled t (writes_of t (Remove removed)) Done (first_there (rules_of t now (Remove removed))) good (command_good t now (Remove removed) sound short good)
 
 pub step_keeps_good : StepKeepsGood

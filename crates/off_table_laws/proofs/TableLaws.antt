@@ -1,5 +1,5 @@
 -- What is known of good tables, and of what a test says of tables.
-use Rattle.std.proofs.Common.{◌≡◌, ℕ, Bool, true, false, not, ◌&&◌, eqb, List, Option, Some, None, is_some, option_map, option_and_then, inl, inr, refl, sym, ap, subst, ◌∙◌}
+use Rattle.std.proofs.Common.{◌≡◌, ℕ, Bool, true, false, not, ◌&&◌, ◌||◌, eqb, List, Option, Some, None, is_some, option_map, option_and_then, inl, inr, refl, sym, ap, subst, ◌∙◌}
 use Rattle.std.proofs.lemmas.Bool.{or_cases, and_parts, not-true, eqb-true}
 use Rattle.std.specs.Ordering.{ordering_reverse}
 use Rattle.std.specs.declared.cmp.Ordering.TheVariants.{Less, Equal, Greater}
@@ -15,11 +15,11 @@ use Rattle.off_defs.specs.Keys.{key_cmp}
 use Rattle.off_defs.specs.State.{Tables}
 use Rattle.off_defs.specs.Tables.{row_at}
 use Rattle.off_defs.proofs.KeyLemmas.{key_total, key_exact}
-use Rattle.off_account_rules.specs.Rows.{is_possible, possible, overlaps, as_site, as_subscriber, as_add_on, as_class, as_pool_hub, number_or_0, hub_in, pool_hub_in, site_of, lease_in, has_address, pools}
+use Rattle.off_account_rules.specs.Rows.{is_possible, possible, overlaps, as_site, as_subscriber, as_add_on, as_class, hub_in, pool_hub_in, site_of, lease_in, has_address, pools}
 use Rattle.off_account_rules.specs.Good.{owner_of, Good, Keeps, IsLeastBad}
-use Rattle.off_table_laws.specs.Laws.{owner_in, OneLeaseAModem, OwnersHold, PoolsAreApart, ModemsStand, AddOnsStand, HubOfPool, LeasesStand, GoodHaveNoBadKey, OneJudgement, SeenAsTheyStand}
+use Rattle.off_table_laws.specs.Laws.{owner_in, OneLeaseAModem, OwnersHold, PoolsAreApart, ModemsStand, AddOnsStand, HubOfPool, LeasesStand, OpeningHaveNoBadKey, OneJudgement, SeenAsTheyStand}
 use Rattle.off_table_laws.proofs.ListLemmas.{In, some_found}
-use Rattle.off_table_laws.proofs.GoodRows.{Has, GoodRows}
+use Rattle.off_table_laws.proofs.GoodRows.{Has, hub_in_row, hub_at, GoodRows}
 use Rattle.off_table_laws.proofs.Judging.{good_rows, pool_in_raw, raw_in_pool}
 use Rattle.off_table_laws.proofs.PoolLemmas.{share}
 use Rattle.off_table_laws.proofs.Reading.{seen_row, modem_row, lease_row, held_row, pool_row, row_lease, row_held, row_pool, pools_raw}
@@ -34,7 +34,7 @@ owner_held t g mac address e = let o = owned (lease_in t address) mac e in g.hol
 
 pub one_lease_a_modem : OneLeaseAModem
 one_lease_a_modem t good mac one other p q =
-    let g = good_rows t good in
+    let g = good_rows t good.opens in
     let a = owner_held t g mac one p in
     let b = owner_held t g mac other q in
     cc
@@ -46,13 +46,13 @@ held_owner t g mac address e =
 
 pub owners_hold : OwnersHold
 owners_hold t good mac address =
-    let g = good_rows t good in
+    let g = good_rows t good.opens in
     (λ e. row_held t mac address (owner_held t g mac address e), λ e. held_owner t g mac address (held_row t mac address e))
 
 -- pools that have an address in common are one
 pub pools_are_apart : PoolsAreApart
 pools_are_apart t good address n m pool other p q v w =
-    let g = good_rows t good in
+    let g = good_rows t good.opens in
     elim (or_cases (eqb m n) (not (overlaps pool other) && not (eqb other.relay.0 pool.relay.0)) (g.apart n pool m other (pool_row t n pool p) (pool_row t m other q))) as (λ c. n ≡ m) [
       | inl same ↦ sym (eqb-true m n same)
       | inr apart ↦
@@ -70,9 +70,9 @@ class_read : (n : ℕ) (held : Row) → is_possible (key.Class n) held ≡ true 
 class_read n (row.Class class) h = refl
 class_read n held h = cc
 
-site_read : (held : Row) → is_possible key.Site held ≡ true → is_some (as_site held) ≡ true
-site_read (row.Site site) h = refl
-site_read held h = cc
+site_read : (n : ℕ) (held : Row) → is_possible (key.Hub n) held ≡ true → is_some (as_site held) ≡ true
+site_read n (row.Site site) h = refl
+site_read n held h = cc
 
 read_there : {A : Type 0} (f : Row → Option A) (o : Option Row) → is_some o ≡ true → ((held : Row) → o ≡ Some held → is_some (f held) ≡ true) → is_some (option_and_then f o) ≡ true
 read_there f None there h = cc
@@ -85,7 +85,7 @@ read_of t g q f kind there =
 
 pub modems_stand : ModemsStand
 modems_stand t good mac modem e =
-    let g = good_rows t good in
+    let g = good_rows t good.opens in
     let at_row = modem_row t mac modem e in (
       read_of t g (key.Subscriber modem.subscriber) as_subscriber (subscriber_read modem.subscriber) (g.subscriber mac modem at_row),
       read_of t g (key.Class modem.class) as_class (class_read modem.class) (g.class mac modem at_row),
@@ -97,14 +97,14 @@ some_row q f (Some held) x e = (held, refl)
 
 pub add_ons_stand : AddOnsStand
 add_ons_stand t good n number settings e =
-    let g = good_rows t good in
+    let g = good_rows t good.opens in
     let at_row = some_row (key.AddOn n number) as_add_on (row_at t (key.AddOn n number)) settings e in
     read_of t g (key.Subscriber n) as_subscriber (subscriber_read n) (g.add_on n number at_row.0 at_row.1)
 
 -- in good tables the hub of an address is that of its pool
 pub hub_of_pool : HubOfPool
 hub_of_pool t good address n pool e w =
-    let g = good_rows t good in
+    let g = good_rows t good.opens in
     let all = pools_raw t g.possible in
     let i = subst (λ (ps : List (ℕ × Pool)). In (n, pool) ps) (sym all) (pool_in_raw t n pool (pool_row t n pool e)) in
     let f = some_found (λ (entry : ℕ × Pool). has_address entry.1 address) (pools t) (n, pool) i w in
@@ -112,26 +112,29 @@ hub_of_pool t good address n pool e w =
     let same = pools_are_apart t good address f.0.0 n f.0.1 pool (row_pool t g.possible f.0.0 f.0.1 there) e f.3 w in
     ap (option_map (λ (entry : ℕ × Pool). pool_hub_in t entry.0)) f.1 ∙ ap (λ m. Some (pool_hub_in t m)) same
 
--- no row of a pool's hub is possible as yet
-no_hub_read : (n : ℕ) (o : Option Row) → number_or_0 (option_and_then as_pool_hub (possible (key.PoolHub n) o)) ≡ 0
-no_hub_read n None = refl
-no_hub_read n (Some held) = refl
+no_old_site : (b : Bool) (o : Option Row) → o ≡ None → b && is_some o ≡ false
+no_old_site true o e = ap is_some e
+no_old_site false o e = refl
 
-pub no_hub_named : (t : Tables) (n : ℕ) → pool_hub_in t n ≡ 0
-no_hub_named t n = no_hub_read n (row_at t (key.PoolHub n))
+hub_is_there : (o s : Bool) → s ≡ false → o || s ≡ true → o ≡ true
+hub_is_there true s off h = refl
+hub_is_there false s off h = let both = off in cc
 
 -- the hub of a leased address is there
 site_there : (t : Tables) → Good t → (address : Ip4) (lease : Lease) → row_at t (key.Lease address) ≡ Some (row.Lease lease) → is_some (site_of t address) ≡ true
 site_there t good address lease e =
-    let g = good_rows t good in
+    let g = good_rows t good.opens in
     let one = g.one_pool address lease e in
     let hub = hub_of_pool t good address one.number one.pool (row_pool t g.possible one.number one.pool one.there) one.within in
-    ap (λ (o : Option ℕ). is_some (option_and_then (hub_in t) o)) hub ∙ ap (λ m. is_some (hub_in t m)) (no_hub_named t one.number)
-    ∙ read_of t g key.Site as_site site_read (g.site address lease e)
+    let line = g.lease_hub address lease e one.number one.pool one.there one.within in
+    let n = ap hub_in_row (seen_row t g.possible (key.PoolHub one.number)) in
+    let there = hub_is_there _ _ (no_old_site (eqb (hub_at (row_at t) one.number) 0) (row_at t key.Site) good.no_site) line in
+    ap (λ (o : Option ℕ). is_some (option_and_then (hub_in t) o)) hub ∙ ap (λ m. is_some (hub_in t m)) n
+    ∙ read_of t g (key.Hub (hub_at (row_at t) one.number)) as_site (site_read (hub_at (row_at t) one.number)) there
 
 pub leases_stand : LeasesStand
 leases_stand t good address lease e =
-    let g = good_rows t good in
+    let g = good_rows t good.opens in
     let at_row = lease_row t address lease e in
     let one = g.one_pool address lease at_row in (
       site_there t good address lease at_row,
@@ -145,9 +148,9 @@ leases_stand t good address lease e =
     )
 
 -- what a test says
-pub good_have_no_bad_key : GoodHaveNoBadKey
-good_have_no_bad_key t bad good least =
-    let keep = good bad least.held least.there in
+pub opening_have_no_bad_key : OpeningHaveNoBadKey
+opening_have_no_bad_key t bad opens least =
+    let keep = opens bad least.held least.there in
     let broken = least.breaks in
     cc
 
@@ -164,9 +167,9 @@ least_same t one other p q =
 
 pub one_judgement : OneJudgement
 one_judgement t None None p q = refl
-one_judgement t None (Some bad) p q = absurd (good_have_no_bad_key t bad p q)
-one_judgement t (Some bad) None p q = absurd (good_have_no_bad_key t bad q p)
+one_judgement t None (Some bad) p q = absurd (opening_have_no_bad_key t bad p q)
+one_judgement t (Some bad) None p q = absurd (opening_have_no_bad_key t bad q p)
 one_judgement t (Some one) (Some other) p q = ap Some (least_same t one other p q)
 
 pub seen_as_they_stand : SeenAsTheyStand
-seen_as_they_stand t good = let g = good_rows t good in (seen_row t g.possible, pools_raw t g.possible)
+seen_as_they_stand t good = let g = good_rows t good.opens in (seen_row t g.possible, pools_raw t g.possible)

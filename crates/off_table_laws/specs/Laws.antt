@@ -8,18 +8,19 @@ use Rattle.off_defs.specs.declared.tables.Modem.{Modem}
 use Rattle.off_defs.specs.declared.tables.Pool.{Pool}
 use Rattle.off_defs.specs.declared.tables.Lease.{Lease}
 use Rattle.off_defs.specs.declared.orders.Command.{Command}
-use Rattle.off_defs.specs.declared.orders.Command.TheVariants.{SetSite}
+use Rattle.off_defs.specs.declared.orders.Command.TheVariants.{PutHub}
 use Rattle.off_defs.specs.State.{Tables}
 use Rattle.off_defs.specs.Tables.{row_at}
 use Rattle.off_rows.specs.Sound.{is_sound}
 use Rattle.off_account_rules.specs.Rows.{has_address, seen_at, hub_of, site_of, pool_hub_in, subscriber_in, add_on_in, modem_in, class_in, pool_in, lease_in, held_in, pools}
-use Rattle.off_account_rules.specs.Good.{owner_of, raw_pools, Good, IsLeastBad, Judged}
+use Rattle.off_account_rules.specs.Good.{owner_of, raw_pools, Opens, Good, IsLeastBad, Judged}
+use Rattle.off_account_rules.specs.Migration.{migrated}
 use Rattle.off_account_rules.specs.Clerk.{Refusal, clerk_step}
 
 -- A site's secret has at most 64 bytes, by its type. But a law ranges over lists of any length, and
 -- no rule of a command refuses a longer one, so the law of steps has this as a premise.
 abbrev pub secret_fits : Command → Bool
-secret_fits (SetSite site) = nat_le (length site.secret) 64
+secret_fits (PutHub n site) = nat_le (length site.secret) 64
 secret_fits command = true
 
 -- what a command leaves of good tables is good
@@ -95,9 +96,26 @@ LeasesStand =
     lease_in tables address ≡ Some lease
     → IsSome (site_of tables address) × LiesInOnePool tables address
 
--- good tables have no bad key
-abbrev pub GoodHaveNoBadKey : Type 0
-GoodHaveNoBadKey = (tables : Tables) (bad : Key) → Good tables → IsLeastBad tables bad → ⊥
+-- tables that open are good as soon as the site of earlier days is the hub 0; good ones stay
+abbrev pub MigratedAreGood : Type 0
+MigratedAreGood = (tables : Tables) → Opens tables → Good (migrated tables)
+
+abbrev pub GoodStay : Type 0
+GoodStay = (tables : Tables) → Good tables → migrated tables ≡ tables
+
+-- pools, their hubs' numbers, leases and who holds them are the same in both
+pub record KeepsLeases (old new : Tables) : Type 0 where
+  pub pools : pools new ≡ pools old
+  pub hubs : (n : ℕ) → pool_hub_in new n ≡ pool_hub_in old n
+  pub leases : (address : Ip4) → lease_in new address ≡ lease_in old address
+  pub holders : (mac : Mac) → held_in new mac ≡ held_in old mac
+
+abbrev pub MigrationKeepsLeases : Type 0
+MigrationKeepsLeases = (tables : Tables) → KeepsLeases tables (migrated tables)
+
+-- tables that open have no bad key
+abbrev pub OpeningHaveNoBadKey : Type 0
+OpeningHaveNoBadKey = (tables : Tables) (bad : Key) → Opens tables → IsLeastBad tables bad → ⊥
 
 -- a test of tables has one answer
 abbrev pub OneJudgement : Type 0

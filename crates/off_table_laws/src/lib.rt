@@ -4,8 +4,9 @@
 
 ghost use Rattle.off_table_laws.specs.Laws.{StepKeepsGood, RefusedChangesNothing, OneLeaseAModem};
 ghost use Rattle.off_table_laws.specs.Laws.{OwnersHold, PoolsAreApart, ModemsStand, AddOnsStand};
-ghost use Rattle.off_table_laws.specs.Laws.{LeasesStand, GoodHaveNoBadKey, OneJudgement};
-ghost use Rattle.off_table_laws.specs.Laws.{SeenAsTheyStand, HubOfPool};
+ghost use Rattle.off_table_laws.specs.Laws.{LeasesStand, OpeningHaveNoBadKey, OneJudgement};
+ghost use Rattle.off_table_laws.specs.Laws.{SeenAsTheyStand, HubOfPool, MigratedAreGood, GoodStay};
+ghost use Rattle.off_table_laws.specs.Laws.{MigrationKeepsLeases};
 
 /// What a clerk's command leaves of good tables is good, for each command that is sound, an import
 /// too. The premise that a new site's secret has at most 64 bytes holds of each site that a program
@@ -49,18 +50,33 @@ pub fn an_address_has_its_pools_hub()
     ensures { HubOfPool }
 {}
 
-/// In good tables the hub of a lease's address has its site, and the address lies in one pool and in
-/// no other.
+/// In good tables the hub of a lease's address has its site, and the address lies in one pool, in no
+/// other.
 pub fn a_lease_lies_in_one_pool()
     ensures { LeasesStand }
 {}
 
-/// Good tables have no least bad key.
-pub fn good_tables_have_no_bad_key()
-    ensures { GoodHaveNoBadKey }
+/// Tables that open are good as soon as the site of earlier days is the hub 0.
+pub fn migrated_tables_are_good()
+    ensures { MigratedAreGood }
 {}
 
-/// A test of tables has one answer: that they are good, or their least bad key.
+/// Good tables have nothing to migrate.
+pub fn good_tables_stay()
+    ensures { GoodStay }
+{}
+
+/// Pools, their hubs' numbers, leases and who holds them are the same after the migration as before.
+pub fn the_migration_keeps_leases()
+    ensures { MigrationKeepsLeases }
+{}
+
+/// Tables that open have no least bad key.
+pub fn opening_tables_have_no_bad_key()
+    ensures { OpeningHaveNoBadKey }
+{}
+
+/// A test of tables has one answer: that they open, or their least bad key.
 pub fn tables_have_one_judgement()
     ensures { OneJudgement }
 {}
