@@ -1,5 +1,5 @@
 -- The counts behind each command whose rules are passed.
-use Rattle.std.proofs.Common.{◌≡◌, ℕ, ◌-◌, Bool, true, Option, Some, None, is_some, List, [], ◌∷◌, count_by, refl, sym, ap, subst, ◌∙◌}
+use Rattle.std.proofs.Common.{◌≡◌, ℕ, ◌-◌, ◌≤◌, length, Bool, true, Option, Some, None, is_some, List, [], ◌∷◌, count_by, refl, sym, ap, subst, ◌∙◌}
 use Rattle.off_base.specs.Choices.{first_there}
 use Rattle.off_base.specs.Tree.{Tree}
 use Rattle.off_defs.specs.declared.keys.Key.{Key}
@@ -14,23 +14,24 @@ use Rattle.off_defs.specs.declared.tables.Site.{Site}
 use Rattle.off_base.specs.declared.macs.Mac.{Mac}
 use Rattle.off_defs.specs.declared.rules.Rule.{Rule}
 use Rattle.off_defs.specs.declared.orders.Kind.{Kind}
-use Rattle.off_defs.specs.declared.orders.Kind.TheVariants.{Subscribers, AddOns, Modems, Classes, Pools}
+use Rattle.off_defs.specs.declared.orders.Kind.TheVariants.{Subscribers, AddOns, Modems, Classes, Pools, Hubs}
 use Rattle.off_defs.specs.declared.orders.Command.{Command}
-use Rattle.off_defs.specs.declared.orders.Command.TheVariants.{SetSite, PutSubscriber, PutAddOn, PutModem, PutClass, PutPool, Remove}
+use Rattle.off_defs.specs.declared.orders.Command.TheVariants.{PutHub, PutSubscriber, PutAddOn, PutModem, PutClass, PutPool, Remove}
 use Rattle.off_defs.specs.State.{Tables}
 use Rattle.off_defs.specs.Tables.{with_row, without}
 use Rattle.off_rows.specs.Sound.{is_add_on_number, is_sound_pool, is_sound_subscriber}
 use Rattle.off_account_rules.specs.declared.counts.Counts.{Counts}
 use Rattle.off_account_rules.specs.Rows.{seen_at, is_possible, is_of_kind, counts_of}
-use Rattle.off_account_rules.specs.Clerk.{limit, rules_of, lost_leases, add_on_keys}
+use Rattle.off_account_rules.specs.Clerk.{limit, rules_of, lost_leases, lease_drops, add_on_keys}
 use Rattle.off_accounts.specs.declared.subject.Subject.{Subject}
 use Rattle.off_accounts.specs.Changes.{count_in, with_count, counts_put, counts_drop}
 use Rattle.off_accounts.specs.Tests.{limit_rule}
 use Rattle.off_accounts.specs.After.{CountsAfter, CountsAfterRemoval}
-use Rattle.off_accounts.proofs.CountsLemmas.{kept, counts_with, counts_with_other}
+use Rattle.off_accounts.proofs.CountsLemmas.{kept, counts_with, counts_without_other}
 use Rattle.off_accounts.proofs.LimitLemmas.{limit_is}
+use Rattle.std.specs.List.{flat_map}
 use Rattle.off_accounts.proofs.RemovalLemmas.{drop_counts, lease_counts, subscriber_counts}
-use Rattle.off_accounts.proofs.PlanLemmas.{no_kind, good_add_on, good_class, good_pool}
+use Rattle.off_accounts.proofs.PlanLemmas.{no_kind, hub_counts, good_add_on, good_class, good_hub, good_pool}
 
 -- all rules are passed
 abbrev Whole : List (Option Rule) → Type 0
@@ -75,14 +76,16 @@ module _ (counts after : Counts) (subject : Subject) (t : Tables) where
       let passed = unbroken (rules_of t now (PutClass n class)) none in
       put_after Classes (key.Class n) (row.Class class) t counts after subject.is_there (λ m. refl) refl (good_class n class passed.0) stands.0 agree passed.1.0 put
 
-  pub pool_put : (n : ℕ) (pool : Pool) → is_sound_pool pool ≡ true → PutSays counts Pools subject.is_there after → CountsAfter counts subject (PutPool n pool) t after
-  pool_put n pool sound put now agree stands none =
-      let passed = unbroken (rules_of t now (PutPool n pool)) none in
-      put_after Pools (key.Pool n) (row.Pool pool) t counts after subject.is_there (λ m. refl) refl (good_pool n pool sound passed.0) stands.0 agree passed.1.1.1.1.0 put
-      ∙ sym (lease_counts (lost_leases t n (Some pool)) (with_row t (key.Pool n) (row.Pool pool)))
+  pub pool_put : (n : ℕ) (pool : Pool) (hub : ℕ) → is_sound_pool pool ≡ true → PutSays counts Pools subject.is_there after → CountsAfter counts subject (PutPool n pool hub) t after
+  pool_put n pool hub sound put now agree stands none =
+      let passed = unbroken (rules_of t now (PutPool n pool hub)) none in
+      put_after Pools (key.Pool n) (row.Pool pool) t counts after subject.is_there (λ m. refl) refl (good_pool n pool sound passed.0) stands.0 agree passed.1.1.1.1.1.0 put
+      ∙ sym (hub_counts n hub (flat_map lease_drops (lost_leases t n (Some pool))) (with_row t (key.Pool n) (row.Pool pool)) (lease_counts (lost_leases t n (Some pool))))
 
-  pub site_put : (site : Site) → after ≡ counts → CountsAfter counts subject (SetSite site) t after
-  site_put site same now agree stands none = same ∙ agree ∙ sym (counts_with_other key.Site (row.Site site) t no_kind)
+  pub hub_put : (n : ℕ) (site : Site) → length site.secret ≤ 64 → PutSays counts Hubs subject.is_there after → CountsAfter counts subject (PutHub n site) t after
+  hub_put n site fits put now agree stands none =
+      let passed = unbroken (rules_of t now (PutHub n site)) none in
+      put_after Hubs (key.Hub n) (row.Site site) t counts after subject.is_there (λ m. refl) refl (good_hub n site fits passed.0 passed.1.0 passed.1.1.0 passed.1.1.1.0) stands.0 agree passed.1.1.1.1.0 put
 
 module _ (counts after : Counts) (t : Tables) where
   pub add_on_removed : (n number : ℕ) → after ≡ counts_drop AddOns true counts → CountsAfterRemoval counts (key.AddOn n number) t after
@@ -96,7 +99,11 @@ module _ (counts after : Counts) (t : Tables) where
 
   pub pool_removed : (n : ℕ) → after ≡ counts_drop Pools true counts → CountsAfterRemoval counts (key.Pool n) t after
   pool_removed n less agree there =
-      drop_counts Pools (key.Pool n) t counts after (λ m. refl) refl there less agree ∙ sym (lease_counts (lost_leases t n None) (without t (key.Pool n)))
+      drop_counts Pools (key.Pool n) t counts after (λ m. refl) refl there less agree
+      ∙ sym (lease_counts (lost_leases t n None) (without (without t (key.Pool n)) (key.PoolHub n)) ∙ counts_without_other (key.PoolHub n) (without t (key.Pool n)) (no_kind n))
+
+  pub hub_removed : (n : ℕ) → after ≡ counts_drop Hubs true counts → CountsAfterRemoval counts (key.Hub n) t after
+  hub_removed n less agree there = drop_counts Hubs (key.Hub n) t counts after (λ m. refl) refl there less agree
 
   pub subscriber_removed : (n lost : ℕ) (less : Counts) → lost ≡ count_by (λ key. is_some (seen_at t key)) (add_on_keys n) → less ≡ counts_drop Subscribers true counts
       → after ≡ with_count AddOns (count_in AddOns less - lost) less → CountsAfterRemoval counts (key.Subscriber n) t after

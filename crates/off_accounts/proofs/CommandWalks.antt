@@ -1,12 +1,12 @@
 -- How many calls a command that walks makes.
-use Rattle.std.proofs.Common.{◌≡◌, ℕ, ◌+◌, ◌*◌, ◌≤◌, Option, Some, None, IfSome, List, refl, sym, ap, subst, arith}
+use Rattle.std.proofs.Common.{◌≡◌, ℕ, ◌+◌, ◌*◌, ◌≤◌, true, false, Option, Some, None, is_some, IfSome, List, refl, sym, ap, subst, ◌∙◌, arith}
 use Rattle.off_defs.specs.declared.keys.Key.{Key}
 use Rattle.off_defs.specs.declared.keys.Key.TheVariants as key
 use Rattle.off_defs.specs.declared.tables.Pool.{Pool}
 use Rattle.off_defs.specs.declared.orders.Command.{Command}
 use Rattle.off_defs.specs.declared.orders.ImportRow.{ImportRow}
 use Rattle.off_defs.specs.declared.tables.ImportKind.{ImportKind}
-use Rattle.off_defs.specs.declared.orders.Command.TheVariants.{SetSite, PutSubscriber, PutAddOn, PutModem, PutClass, PutPool, Remove, Show, Import}
+use Rattle.off_defs.specs.declared.orders.Command.TheVariants.{PutHub, PutSubscriber, PutAddOn, PutModem, PutClass, PutPool, Remove, Show, Import}
 use Rattle.off_defs.specs.State.{Tables}
 use Rattle.off_outside.specs.KeeperSeen.{KeeperSeen}
 use Rattle.off_outside.specs.KeeperCalls.{Reads, Spent}
@@ -16,9 +16,9 @@ use Rattle.off_account_rules.specs.declared.counts.Counts.{Counts}
 use Rattle.off_accounts.specs.declared.subject.Subject.{Subject}
 use Rattle.off_accounts.specs.declared.testing.Test.{Test}
 use Rattle.off_account_rules.specs.Rows.{pool_in}
-use Rattle.off_accounts.specs.Tests.{tests_of, live_test, calls_for_subject}
-use Rattle.off_accounts.specs.Deciding.{calls_to_count}
-use Rattle.off_accounts.specs.Walking.{is_of_pool, rows_at, lease_calls, walking_calls, WalksWithin, test_calls, tests_calls, drop_calls, IsPoolAt}
+use Rattle.off_accounts.specs.Tests.{tests_of, live_test, calls_for_subject, lookups, any_searches}
+use Rattle.off_accounts.specs.Deciding.{most_calls, calls_to_show, calls_to_count}
+use Rattle.off_accounts.specs.Walking.{is_of_pool, rows_at, hub_calls, lease_calls, walking_calls, WalksWithin, test_calls, tests_calls, drop_calls, IsPoolAt}
 
 live_calls : (at : Moment) (old new : Option Pool) (t : Tables) → test_calls t (live_test at old new) ≡ lease_calls old t
 live_calls at None new t = refl
@@ -28,14 +28,22 @@ if_spent : (most : Option ℕ) (k : ℕ) {a b : KeeperSeen} → IfSome most (λ 
 if_spent None k fits spent = tt
 if_spent (Some n) k fits spent = spent_within spent fits
 
+when_spent : (most : Option ℕ) (k : ℕ) {a b : KeeperSeen} → IfSome most (λ n. k ≤ n) → (is_some most ≡ true → Spent k a b) → IfSome most (λ n. Spent n a b)
+when_spent None k fits spent = tt
+when_spent (Some n) k fits spent = spent_within (spent refl) fits
+
+one_shown : (shown : Key) → 1 ≤ calls_to_show shown
+one_shown (key.Pool n) = omega arith
+one_shown _ = omega arith
+
 -- what the subject asks alone
 pub first_walks : (c : Command) {a b : KeeperSeen} → Spent (calls_for_subject c) a b → WalksWithin c a b
-first_walks (SetSite site) spent t told = tt
+first_walks (PutHub n site) spent t told = tt
 first_walks (PutSubscriber n subscriber) spent t told = tt
 first_walks (PutAddOn n number settings) spent t told = tt
 first_walks (PutModem mac modem) spent t told = tt
 first_walks (PutClass n class) spent t told = tt
-first_walks (PutPool n pool) spent t told = spent_within spent (omega arith)
+first_walks (PutPool n pool hub) spent t told = spent_within spent (omega arith)
 first_walks (Remove key.Site) spent t told = tt
 first_walks (Remove (key.Subscriber n)) spent t told = tt
 first_walks (Remove (key.AddOn n number)) spent t told = tt
@@ -45,7 +53,7 @@ first_walks (Remove (key.Pool n)) spent t told = spent_within spent (omega arith
 first_walks (Remove (key.Lease address)) spent t told = tt
 first_walks (Remove (key.Held mac)) spent t told = tt
 first_walks (Remove (key.Batch n)) spent t told = tt
-first_walks (Remove (key.Hub n)) spent t told = tt
+first_walks (Remove (key.Hub n)) spent t told = spent_within spent (omega arith)
 first_walks (Remove (key.PoolHub n)) spent t told = tt
 first_walks (Remove (key.DevicePool n)) spent t told = tt
 first_walks (Remove (key.Device address)) spent t told = tt
@@ -53,24 +61,27 @@ first_walks (Show shown) spent t told = tt
 first_walks (Import kind batch digest rows) spent t told = tt
 
 -- twice the pools and twice the leases
-sum_put : (p l m : ℕ) → l ≡ m → 1 + ((0 + (p + (p + (l + (0 + 0))))) + (l + 0)) ≤ 1 + 2 * p + 2 * m
+sum_put : (p l m : ℕ) → l ≡ m → 1 + ((0 + (p + (p + (1 + (l + (0 + 0)))))) + (l + 0)) ≤ 2 + 2 * p + 2 * m
 sum_put p l m same = omega (arith, same)
 
-sum_removed : (l m : ℕ) → l ≡ m → 1 + ((0 + (l + (0 + (0 + (0 + 0))))) + (l + 0)) ≤ 1 + 2 * m
+sum_removed : (l m : ℕ) → l ≡ m → 1 + ((0 + (l + (0 + (0 + (0 + (0 + 0)))))) + (l + 0)) ≤ 1 + 2 * m
 sum_removed l m same = omega (arith, same)
+
+sum_of_hub : (h : ℕ) → 1 + ((0 + (h + (0 + (0 + (0 + (0 + 0)))))) + (0 + 0)) ≤ 1 + h
+sum_of_hub h = omega arith
 
 module _ (counts : Counts) (at : Moment) (subject : Subject) where
   abbrev all_calls : Command → Tables → ℕ
   all_calls c t = calls_for_subject c + (tests_calls t (tests_of counts at subject c) + (drop_calls c subject.pool t + calls_to_count c))
 
   fits_in : (c : Command) (t : Tables) → IsPoolAt c subject t → IfSome (walking_calls c t) (λ n. all_calls c t ≤ n)
-  fits_in (SetSite site) t is = tt
+  fits_in (PutHub n site) t is = tt
   fits_in (PutSubscriber n subscriber) t is = tt
   fits_in (PutAddOn n number settings) t is = tt
   fits_in (PutModem mac modem) t is = tt
   fits_in (PutClass n class) t is = tt
-  fits_in (PutPool n pool) t is =
-      subst (λ (l : ℕ). 1 + ((0 + ((rows_at is_of_pool t + 1) + ((rows_at is_of_pool t + 1) + (l + (0 + 0))))) + (lease_calls subject.pool t + 0)) ≤ 1 + 2 * (rows_at is_of_pool t + 1) + 2 * lease_calls (pool_in t n) t)
+  fits_in (PutPool n pool hub) t is =
+      subst (λ (l : ℕ). 1 + ((0 + ((rows_at is_of_pool t + 1) + ((rows_at is_of_pool t + 1) + (1 + (l + (0 + 0)))))) + (lease_calls subject.pool t + 0)) ≤ 2 + 2 * (rows_at is_of_pool t + 1) + 2 * lease_calls (pool_in t n) t)
       (sym (live_calls at subject.pool (Some pool) t))
       (sum_put (rows_at is_of_pool t + 1) (lease_calls subject.pool t) (lease_calls (pool_in t n) t) (ap (λ (o : Option Pool). lease_calls o t) is))
   fits_in (Remove key.Site) t is = tt
@@ -79,22 +90,76 @@ module _ (counts : Counts) (at : Moment) (subject : Subject) where
   fits_in (Remove (key.Modem mac)) t is = tt
   fits_in (Remove (key.Class n)) t is = tt
   fits_in (Remove (key.Pool n)) t is =
-      subst (λ (l : ℕ). 1 + ((0 + (l + (0 + (0 + (0 + 0))))) + (lease_calls subject.pool t + 0)) ≤ 1 + 2 * lease_calls (pool_in t n) t)
+      subst (λ (l : ℕ). 1 + ((0 + (l + (0 + (0 + (0 + (0 + 0)))))) + (lease_calls subject.pool t + 0)) ≤ 1 + 2 * lease_calls (pool_in t n) t)
       (sym (live_calls at subject.pool None t))
       (sum_removed (lease_calls subject.pool t) (lease_calls (pool_in t n) t) (ap (λ (o : Option Pool). lease_calls o t) is))
   fits_in (Remove (key.Lease address)) t is = tt
   fits_in (Remove (key.Held mac)) t is = tt
   fits_in (Remove (key.Batch n)) t is = tt
-  fits_in (Remove (key.Hub n)) t is = tt
+  fits_in (Remove (key.Hub n)) t is = sum_of_hub (hub_calls t)
   fits_in (Remove (key.PoolHub n)) t is = tt
   fits_in (Remove (key.DevicePool n)) t is = tt
   fits_in (Remove (key.Device address)) t is = tt
   fits_in (Show shown) t is = tt
   fits_in (Import kind batch digest rows) t is = tt
 
+  -- where no test walks, there are so many calls in all
+  few_in : (c : Command) → is_some (most_calls c) ≡ true → any_searches (tests_of counts at subject c) ≡ false
+  few_in (PutHub n site) some = refl
+  few_in (PutSubscriber n subscriber) some = refl
+  few_in (PutAddOn n number settings) some = refl
+  few_in (PutModem mac modem) some = refl
+  few_in (PutClass n class) some = refl
+  few_in (PutPool n pool hub) some = cc
+  few_in (Remove key.Site) some = refl
+  few_in (Remove (key.Subscriber n)) some = refl
+  few_in (Remove (key.AddOn n number)) some = refl
+  few_in (Remove (key.Modem mac)) some = refl
+  few_in (Remove (key.Class n)) some = refl
+  few_in (Remove (key.Pool n)) some = cc
+  few_in (Remove (key.Lease address)) some = refl
+  few_in (Remove (key.Held mac)) some = refl
+  few_in (Remove (key.Batch n)) some = refl
+  few_in (Remove (key.Hub n)) some = cc
+  few_in (Remove (key.PoolHub n)) some = refl
+  few_in (Remove (key.DevicePool n)) some = refl
+  few_in (Remove (key.Device address)) some = refl
+  few_in (Show shown) some = refl
+  few_in (Import kind batch digest rows) some = refl
+
+  most_in : (c : Command) → IfSome (most_calls c) (λ n. calls_for_subject c + (lookups (tests_of counts at subject c) + (0 + calls_to_count c)) ≤ n)
+  most_in (PutHub n site) = omega arith
+  most_in (PutSubscriber n subscriber) = omega arith
+  most_in (PutAddOn n number settings) = omega arith
+  most_in (PutModem mac modem) = omega arith
+  most_in (PutClass n class) = omega arith
+  most_in (PutPool n pool hub) = tt
+  most_in (Remove key.Site) = omega arith
+  most_in (Remove (key.Subscriber n)) = omega arith
+  most_in (Remove (key.AddOn n number)) = omega arith
+  most_in (Remove (key.Modem mac)) = omega arith
+  most_in (Remove (key.Class n)) = omega arith
+  most_in (Remove (key.Pool n)) = tt
+  most_in (Remove (key.Lease address)) = omega arith
+  most_in (Remove (key.Held mac)) = omega arith
+  most_in (Remove (key.Batch n)) = omega arith
+  most_in (Remove (key.Hub n)) = tt
+  most_in (Remove (key.PoolHub n)) = omega arith
+  most_in (Remove (key.DevicePool n)) = omega arith
+  most_in (Remove (key.Device address)) = omega arith
+  most_in (Show shown) = one_shown shown
+  most_in (Import kind batch digest rows) = tt
+
   module _ (c : Command) (tests : List Test) (are : tests ≡ tests_of counts at subject c) where
     test_size : (t : Tables) → tests_calls t tests ≡ tests_calls t (tests_of counts at subject c)
     test_size t = ap (tests_calls t) are
+
+    pub few_spent : {a b d e f : KeeperSeen} → Spent (calls_for_subject c) a b → (any_searches tests ≡ false → Spent (lookups tests) b d) → (is_some (most_calls c) ≡ true → Spent 0 d e)
+        → Spent (calls_to_count c) e f → IfSome (most_calls c) (λ n. Spent n a f)
+    few_spent first tested written counted =
+        let size : lookups tests ≡ lookups (tests_of counts at subject c) = ap lookups are in
+        when_spent (most_calls c) (calls_for_subject c + (lookups (tests_of counts at subject c) + (0 + calls_to_count c))) (most_in c)
+        (λ some. spent_within (spent_then first (spent_then (tested (ap any_searches are ∙ few_in c some)) (spent_then (written some) counted))) (omega (arith, size)))
 
     -- the command ends behind its tests, behind what is dropped, or behind what is counted
     pub tests_walk : {a b d : KeeperSeen} → Spent (calls_for_subject c) a b → Reads (IsPoolAt c subject) a b → ((t : Tables) → b.tables t → Spent (tests_calls t tests) b d) → WalksWithin c a d

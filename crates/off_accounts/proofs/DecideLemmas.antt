@@ -5,7 +5,7 @@ use Rattle.off_defs.specs.declared.rules.Rule.{Rule}
 use Rattle.off_defs.specs.declared.orders.Write.{Write}
 use Rattle.off_defs.specs.declared.orders.Reply.TheVariants.{Done}
 use Rattle.off_defs.specs.declared.orders.Command.{Command}
-use Rattle.off_defs.specs.declared.orders.Command.TheVariants.{SetSite, PutSubscriber, PutAddOn, PutModem, PutClass, PutPool, Remove, Show, Import}
+use Rattle.off_defs.specs.declared.orders.Command.TheVariants.{PutHub, PutSubscriber, PutAddOn, PutModem, PutClass, PutPool, Remove, Show, Import}
 use Rattle.off_defs.specs.State.{Tables}
 use Rattle.off_defs.specs.Tables.{write_all}
 use Rattle.off_account_rules.specs.declared.counts.Counts.{Counts}
@@ -33,12 +33,12 @@ is_show command = false
 
 -- commands that change the tables, but for imports, are decided by their rules
 pub by_rules : (c : Command) → is_import c ≡ false → is_show c ≡ false → IsByRules c
-by_rules (SetSite site) e f = λ t now. refl
+by_rules (PutHub n site) e f = λ t now. refl
 by_rules (PutSubscriber n subscriber) e f = λ t now. refl
 by_rules (PutAddOn n number settings) e f = λ t now. refl
 by_rules (PutModem mac modem) e f = λ t now. refl
 by_rules (PutClass n class) e f = λ t now. refl
-by_rules (PutPool n pool) e f = λ t now. refl
+by_rules (PutPool n pool hub) e f = λ t now. refl
 by_rules (Remove removed) e f = λ t now. refl
 by_rules (Show shown) e f = cc
 by_rules (Import kind batch digest rows) e f = cc

@@ -84,8 +84,8 @@ none_kept [] = refl
 none_kept (x ∷ xs) = none_kept xs
 
 -- without a pool before nothing is lost
-pub nothing_lost : (old new : Option Pool) (write : Write) (start writes : List Write) (t : Tables) → old ≡ None → start ≡ [] → writes ≡ start ++ write ∷ []
-    → writes ≡ write ∷ flat_map lease_drops (lost_from old new t)
-nothing_lost old new write start writes t none empty is =
-    is ∙ ap (λ (v : List Write). v ++ write ∷ []) empty
-    ∙ sym (ap (λ o. write ∷ flat_map lease_drops (lost_from o new t)) none ∙ ap (λ (v : List (Ip4 × Lease)). write ∷ flat_map lease_drops v) (none_kept (leases t)))
+pub nothing_lost : (old new : Option Pool) (write hub : Write) (start one writes : List Write) (t : Tables) → old ≡ None → start ≡ [] → one ≡ start ++ write ∷ [] → writes ≡ one ++ hub ∷ []
+    → writes ≡ write ∷ hub ∷ flat_map lease_drops (lost_from old new t)
+nothing_lost old new write hub start one writes t none empty first is =
+    is ∙ ap (λ (v : List Write). v ++ hub ∷ []) first ∙ ap (λ (v : List Write). (v ++ write ∷ []) ++ hub ∷ []) empty
+    ∙ sym (ap (λ o. write ∷ hub ∷ flat_map lease_drops (lost_from o new t)) none ∙ ap (λ (v : List (Ip4 × Lease)). write ∷ hub ∷ flat_map lease_drops v) (none_kept (leases t)))

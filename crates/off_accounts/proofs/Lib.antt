@@ -17,5 +17,7 @@ mod RowsLemmas
 mod ImportLemmas
 pub mod GoodLemmas
 pub mod WalkedLemmas
+pub mod HubLemmas
+pub mod ShowLemmas
 pub mod AskedLemmas
 pub mod CommandWalks

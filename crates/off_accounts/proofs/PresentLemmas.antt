@@ -9,8 +9,8 @@ use Rattle.off_defs.specs.declared.rules.Rule.{Rule}
 use Rattle.off_defs.specs.declared.rules.Rule.TheVariants as rule
 use Rattle.off_defs.specs.State.{Tables}
 use Rattle.off_defs.specs.Tables.{row_at}
-use Rattle.off_account_rules.specs.Rows.{possible, seen_at, as_subscriber, as_class, subscriber_fits, class_is_good}
-use Rattle.off_account_rules.specs.Clerk.{no_row, no_subscriber, no_class}
+use Rattle.off_account_rules.specs.Rows.{possible, seen_at, as_site, as_subscriber, as_class, site_fits, subscriber_fits, class_is_good}
+use Rattle.off_account_rules.specs.Clerk.{no_row, no_subscriber, no_class, no_hub}
 
 pub absent : {X : Type 0} (o : Option X) → is_none o ≡ not (is_some o)
 absent None = refl
@@ -28,6 +28,12 @@ class_absent n (Some (row.Class c)) =
     elim (class_is_good c.settings) as (λ b. is_none (option_and_then as_class (cond b (Some (row.Class c)) None)) ≡ not (is_some (cond b (Some (row.Class c)) None))) [ true ↦ refl | false ↦ refl ]
 class_absent n (Some _) = refl
 
+hub_absent : (n : ℕ) (o : Option Row) → is_none (option_and_then as_site (possible (key.Hub n) o)) ≡ not (is_some (possible (key.Hub n) o))
+hub_absent n None = refl
+hub_absent n (Some (row.Site s)) =
+    elim (site_fits s) as (λ b. is_none (option_and_then as_site (cond b (Some (row.Site s)) None)) ≡ not (is_some (cond b (Some (row.Site s)) None))) [ true ↦ refl | false ↦ refl ]
+hub_absent n (Some _) = refl
+
 pub row_is : (k : Key) (t : Tables) (there : Bool) → there ≡ is_some (seen_at t k) → when (not there) rule.NoRow ≡ no_row t k
 row_is k t there says = ap (λ b. when (not b) rule.NoRow) says ∙ ap (λ b. when b rule.NoRow) (sym (absent (seen_at t k)))
 
@@ -44,3 +50,8 @@ pub class_is : (n : ℕ) (t : Tables) (there : Bool) (broken : Option Rule) → 
     → broken ≡ no_class t n
 class_is n t there broken says is =
     is ∙ ap (λ b. when (not b) rule.NoClass) says ∙ ap (λ b. when b rule.NoClass) (sym (class_absent n (row_at t (key.Class n))))
+
+pub hub_is : (n : ℕ) (t : Tables) (there : Bool) (broken : Option Rule) → there ≡ is_some (seen_at t (key.Hub n)) → broken ≡ when (not there) rule.NoHub
+    → broken ≡ no_hub t n
+hub_is n t there broken says is =
+    is ∙ ap (λ b. when (not b) rule.NoHub) says ∙ ap (λ b. when b rule.NoHub) (sym (hub_absent n (row_at t (key.Hub n))))

@@ -8,7 +8,7 @@ use Rattle.off_defs.specs.declared.keys.Key.{Key}
 use Rattle.off_defs.specs.declared.keys.Key.TheVariants.{Subscriber, AddOn, Lease, Held}
 use Rattle.off_defs.specs.declared.tables.Lease.{Lease as LeaseRow}
 use Rattle.off_defs.specs.declared.orders.Kind.{Kind}
-use Rattle.off_defs.specs.declared.orders.Kind.TheVariants.{Subscribers, AddOns, Modems, Classes, Pools, Batches}
+use Rattle.off_defs.specs.declared.orders.Kind.TheVariants.{Subscribers, AddOns, Modems, Classes, Pools, Batches, Hubs}
 use Rattle.off_defs.specs.declared.orders.Write.{Write}
 use Rattle.off_defs.specs.declared.orders.Write.TheVariants.{Drop}
 use Rattle.off_defs.specs.Keys.{key_cmp}
@@ -36,6 +36,7 @@ no_kind_of_lease a Modems = refl
 no_kind_of_lease a Classes = refl
 no_kind_of_lease a Pools = refl
 no_kind_of_lease a Batches = refl
+no_kind_of_lease a Hubs = refl
 
 no_kind_of_held : (mac : Mac) (kind : Kind) → is_of_kind kind (Held mac) ≡ false
 no_kind_of_held a Subscribers = refl
@@ -44,6 +45,7 @@ no_kind_of_held a Modems = refl
 no_kind_of_held a Classes = refl
 no_kind_of_held a Pools = refl
 no_kind_of_held a Batches = refl
+no_kind_of_held a Hubs = refl
 
 held_counts : (owner : Option Mac) (t : Tables) (more : List Write) → ((u : Tables) → counts_of (write_all u more) ≡ counts_of u) → counts_of (write_all t (held_drop owner ++ more)) ≡ counts_of t
 held_counts None t more rest = rest t

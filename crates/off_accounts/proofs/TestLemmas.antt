@@ -1,5 +1,5 @@
 -- The tests of a command say what its rules say.
-use Rattle.std.proofs.Common.{◌≡◌, ℕ, zero, suc, ◌+◌, ◌==◌, Bool, true, false, cond, ◌||◌, count_by, arith, not, option_map, Option, Some, None, List, [], ◌∷◌, ◌++◌, map, refl, sym, ap, ◌∙◌}
+use Rattle.std.proofs.Common.{◌≡◌, ℕ, zero, suc, ◌+◌, ◌==◌, Bool, true, false, cond, ◌||◌, count_by, arith, not, option_map, Option, Some, None, List, [], ◌∷◌, ◌++◌, length, map, refl, sym, ap, ◌∙◌}
 use Rattle.std.specs.List.{list_any}
 use Rattle.std.proofs.lemmas.Bool.{eqb-true}
 use Rattle.std.proofs.lemmas.List.Sums.{sum_by-cons}
@@ -12,15 +12,15 @@ use Rattle.off_defs.specs.declared.keys.Key.TheVariants as key
 use Rattle.off_defs.specs.declared.tables.Pool.{Pool}
 use Rattle.off_defs.specs.declared.rules.Rule.{Rule}
 use Rattle.off_defs.specs.declared.rules.Rule.TheVariants as rule
-use Rattle.off_defs.specs.declared.orders.Kind.TheVariants.{Subscribers, AddOns, Modems, Classes, Pools}
+use Rattle.off_defs.specs.declared.orders.Kind.TheVariants.{Subscribers, AddOns, Modems, Classes, Pools, Hubs}
 use Rattle.off_defs.specs.declared.orders.Command.{Command}
-use Rattle.off_defs.specs.declared.orders.Command.TheVariants.{SetSite, PutSubscriber, PutAddOn, PutModem, PutClass, PutPool, Remove, Show, Import}
+use Rattle.off_defs.specs.declared.orders.Command.TheVariants.{PutHub, PutSubscriber, PutAddOn, PutModem, PutClass, PutPool, Remove, Show, Import}
 use Rattle.off_defs.specs.State.{Tables}
 use Rattle.off_tree.specs.declared.tables.Kind.TheVariants as tree
 use Rattle.off_tree.specs.Fault.{first_fault}
 use Rattle.off_account_rules.specs.declared.counts.Counts.{Counts}
-use Rattle.off_account_rules.specs.Rows.{has_pool_size, counts_of, modems}
-use Rattle.off_account_rules.specs.Clerk.{limit, no_subscriber, no_class, no_row, pool_overlap, relay_taken, pool_has_leases, has_modems, class_in_use, rules_of, removal_rules}
+use Rattle.off_account_rules.specs.Rows.{has_pool_size, is_lease_time, is_offset, counts_of, modems}
+use Rattle.off_account_rules.specs.Clerk.{limit, no_subscriber, no_class, no_hub, no_row, hub_in_use, pool_overlap, relay_taken, pool_has_leases, has_modems, class_in_use, rules_of, removal_rules}
 use Rattle.off_accounts.specs.declared.subject.Subject.{Subject}
 use Rattle.off_accounts.specs.Searches.{live_lost}
 use Rattle.off_accounts.specs.Tests.{says, SubjectStands, IsSubject, live_test, tests_of, removal_tests}
@@ -72,51 +72,57 @@ use_says : {X : Type 0} (test : X → Bool) (broken : Rule) (uses : ℕ) (xs : L
 use_says test broken uses xs is = ap (λ n. when (not (n == 0)) broken) is ∙ ap (λ b. when b broken) (any_counted test xs)
 
 module _ (now : Moment) (subject : Subject) (t : Tables) where
-  row_alone : (removed : Key) → SubjectStands t removed subject → first_there (when (not subject.is_there) rule.NoRow ∷ nones 4) ≡ first_there (no_row t removed ∷ [])
-  row_alone removed stands = ap (λ (r : Option Rule). first_there (r ∷ nones 4)) (row_is removed t subject.is_there stands.0) ∙ padded (no_row t removed ∷ []) 4
+  row_alone : (removed : Key) → SubjectStands t removed subject → first_there (when (not subject.is_there) rule.NoRow ∷ nones 5) ≡ first_there (no_row t removed ∷ [])
+  row_alone removed stands = ap (λ (r : Option Rule). first_there (r ∷ nones 5)) (row_is removed t subject.is_there stands.0) ∙ padded (no_row t removed ∷ []) 5
 
   removal_says : (removed : Key) → SubjectStands t removed subject → first_there (map (says t) (removal_tests now subject removed)) ≡ first_there (removal_rules t now.0 removed)
   removal_says (key.Subscriber n) stands =
-      ap (λ (r : Option Rule). first_there (r ∷ when (not (subject.uses == 0)) rule.HasModems ∷ nones 3)) (row_is (key.Subscriber n) t subject.is_there stands.0)
-      ∙ ap (λ (r : Option Rule). first_there (no_row t (key.Subscriber n) ∷ r ∷ nones 3)) (use_says (λ (entry : Mac × Modem). entry.1.subscriber == n) rule.HasModems subject.uses (modems t) stands.2)
-      ∙ padded (no_row t (key.Subscriber n) ∷ has_modems t n ∷ []) 3
+      ap (λ (r : Option Rule). first_there (r ∷ when (not (subject.uses == 0)) rule.HasModems ∷ nones 4)) (row_is (key.Subscriber n) t subject.is_there stands.0)
+      ∙ ap (λ (r : Option Rule). first_there (no_row t (key.Subscriber n) ∷ r ∷ nones 4)) (use_says (λ (entry : Mac × Modem). entry.1.subscriber == n) rule.HasModems subject.uses (modems t) stands.2)
+      ∙ padded (no_row t (key.Subscriber n) ∷ has_modems t n ∷ []) 4
   removal_says (key.Class n) stands =
-      ap (λ (r : Option Rule). first_there (r ∷ when (not (subject.uses == 0)) rule.ClassInUse ∷ nones 3)) (row_is (key.Class n) t subject.is_there stands.0)
-      ∙ ap (λ (r : Option Rule). first_there (no_row t (key.Class n) ∷ r ∷ nones 3)) (use_says (λ (entry : Mac × Modem). entry.1.class == n) rule.ClassInUse subject.uses (modems t) stands.2)
-      ∙ padded (no_row t (key.Class n) ∷ class_in_use t n ∷ []) 3
+      ap (λ (r : Option Rule). first_there (r ∷ when (not (subject.uses == 0)) rule.ClassInUse ∷ nones 4)) (row_is (key.Class n) t subject.is_there stands.0)
+      ∙ ap (λ (r : Option Rule). first_there (no_row t (key.Class n) ∷ r ∷ nones 4)) (use_says (λ (entry : Mac × Modem). entry.1.class == n) rule.ClassInUse subject.uses (modems t) stands.2)
+      ∙ padded (no_row t (key.Class n) ∷ class_in_use t n ∷ []) 4
   removal_says (key.Pool n) stands =
-      ap (λ (r : Option Rule). first_there (r ∷ says t (live_test now subject.pool None) ∷ nones 3)) (row_is (key.Pool n) t subject.is_there stands.0)
-      ∙ ap (λ (r : Option Rule). first_there (no_row t (key.Pool n) ∷ r ∷ nones 3)) (live_says now n None subject t stands)
-      ∙ padded (no_row t (key.Pool n) ∷ pool_has_leases t now.0 n None ∷ []) 3
+      ap (λ (r : Option Rule). first_there (r ∷ says t (live_test now subject.pool None) ∷ nones 4)) (row_is (key.Pool n) t subject.is_there stands.0)
+      ∙ ap (λ (r : Option Rule). first_there (no_row t (key.Pool n) ∷ r ∷ nones 4)) (live_says now n None subject t stands)
+      ∙ padded (no_row t (key.Pool n) ∷ pool_has_leases t now.0 n None ∷ []) 4
   removal_says key.Site stands = row_alone key.Site stands
   removal_says (key.AddOn n number) stands = row_alone (key.AddOn n number) stands
   removal_says (key.Modem mac) stands = row_alone (key.Modem mac) stands
   removal_says (key.Lease address) stands = row_alone (key.Lease address) stands
   removal_says (key.Held mac) stands = row_alone (key.Held mac) stands
   removal_says (key.Batch n) stands = row_alone (key.Batch n) stands
-  removal_says (key.Hub n) stands = row_alone (key.Hub n) stands
+  removal_says (key.Hub n) stands =
+      ap (λ (r : Option Rule). first_there (r ∷ hub_in_use t n ∷ nones 4)) (row_is (key.Hub n) t subject.is_there stands.0)
+      ∙ padded (no_row t (key.Hub n) ∷ hub_in_use t n ∷ []) 4
   removal_says (key.PoolHub n) stands = row_alone (key.PoolHub n) stands
   removal_says (key.DevicePool n) stands = row_alone (key.DevicePool n) stands
   removal_says (key.Device address) stands = row_alone (key.Device address) stands
 
   pub tests_say : (counts : Counts) (c : Command) → counts ≡ counts_of t → IsSubject c subject t → first_there (map (says t) (tests_of counts now subject c)) ≡ first_there (rules_of t now.0 c)
-  tests_say counts (SetSite site) agree stands = padded (rules_of t now.0 (SetSite site)) 1
+  tests_say counts (PutHub n site) agree stands =
+      ap (λ (r : Option Rule). first_there (when (site.server.0 == 0) (rule.Site 1) ∷ when (length site.secret == 0) (rule.Site 2)
+      ∷ when (not (is_lease_time site.lease)) (rule.Site 3) ∷ when (not (is_offset site.offset)) (rule.Site 4) ∷ r ∷ nones 1))
+      (limit_is (key.Hub n) Hubs counts t subject.is_there stands.0 agree)
+      ∙ padded (rules_of t now.0 (PutHub n site)) 1
   tests_say counts (PutSubscriber n subscriber) agree stands =
-      ap (λ (r : Option Rule). first_there (r ∷ nones 4)) (limit_is (key.Subscriber n) Subscribers counts t subject.is_there stands.0 agree)
-      ∙ padded (limit t (key.Subscriber n) Subscribers ∷ []) 4
+      ap (λ (r : Option Rule). first_there (r ∷ nones 5)) (limit_is (key.Subscriber n) Subscribers counts t subject.is_there stands.0 agree)
+      ∙ padded (limit t (key.Subscriber n) Subscribers ∷ []) 5
   tests_say counts (PutAddOn n number settings) agree stands =
-      ap (λ (r : Option Rule). first_there (no_subscriber t n ∷ option_map rule.Tree (first_fault tree.AddOn settings) ∷ r ∷ nones 2)) (limit_is (key.AddOn n number) AddOns counts t subject.is_there stands.0 agree)
-      ∙ padded (rules_of t now.0 (PutAddOn n number settings)) 2
+      ap (λ (r : Option Rule). first_there (no_subscriber t n ∷ option_map rule.Tree (first_fault tree.AddOn settings) ∷ r ∷ nones 3)) (limit_is (key.AddOn n number) AddOns counts t subject.is_there stands.0 agree)
+      ∙ padded (rules_of t now.0 (PutAddOn n number settings)) 3
   tests_say counts (PutModem mac modem) agree stands =
-      ap (λ (r : Option Rule). first_there (no_subscriber t modem.subscriber ∷ no_class t modem.class ∷ r ∷ nones 2)) (limit_is (key.Modem mac) Modems counts t subject.is_there stands.0 agree)
-      ∙ padded (rules_of t now.0 (PutModem mac modem)) 2
+      ap (λ (r : Option Rule). first_there (no_subscriber t modem.subscriber ∷ no_class t modem.class ∷ r ∷ nones 3)) (limit_is (key.Modem mac) Modems counts t subject.is_there stands.0 agree)
+      ∙ padded (rules_of t now.0 (PutModem mac modem)) 3
   tests_say counts (PutClass n class) agree stands =
-      ap (λ (r : Option Rule). first_there (option_map rule.Tree (first_fault tree.Class class.settings) ∷ r ∷ nones 3)) (limit_is (key.Class n) Classes counts t subject.is_there stands.0 agree)
-      ∙ padded (rules_of t now.0 (PutClass n class)) 3
-  tests_say counts (PutPool n pool) agree stands =
-      ap (λ (r : Option Rule). first_there (when (not (has_pool_size pool)) rule.PoolSize ∷ pool_overlap t n pool ∷ relay_taken t n pool ∷ says t (live_test now subject.pool (Some pool)) ∷ r ∷ []))
+      ap (λ (r : Option Rule). first_there (option_map rule.Tree (first_fault tree.Class class.settings) ∷ r ∷ nones 4)) (limit_is (key.Class n) Classes counts t subject.is_there stands.0 agree)
+      ∙ padded (rules_of t now.0 (PutClass n class)) 4
+  tests_say counts (PutPool n pool hub) agree stands =
+      ap (λ (r : Option Rule). first_there (when (not (has_pool_size pool)) rule.PoolSize ∷ pool_overlap t n pool ∷ relay_taken t n pool ∷ no_hub t hub ∷ says t (live_test now subject.pool (Some pool)) ∷ r ∷ []))
       (limit_is (key.Pool n) Pools counts t subject.is_there stands.0 agree)
-      ∙ ap (λ (r : Option Rule). first_there (when (not (has_pool_size pool)) rule.PoolSize ∷ pool_overlap t n pool ∷ relay_taken t n pool ∷ r ∷ limit t (key.Pool n) Pools ∷ []))
+      ∙ ap (λ (r : Option Rule). first_there (when (not (has_pool_size pool)) rule.PoolSize ∷ pool_overlap t n pool ∷ relay_taken t n pool ∷ no_hub t hub ∷ r ∷ limit t (key.Pool n) Pools ∷ []))
       (live_says now n (Some pool) subject t stands)
   tests_say counts (Remove removed) agree stands = removal_says removed stands
   tests_say counts (Show shown) agree stands = row_alone shown stands

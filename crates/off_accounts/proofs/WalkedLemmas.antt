@@ -48,10 +48,13 @@ few looks keep (e ∷ es) =
       | false ↦ let rest = few looks keep es in omega (arith, rest, counted_at looks e es)
     ]
 
-pub walk_begins : (looks : Key → Bool) (place : Key) (a : KeeperSeen) → Walked looks place a a
-walk_begins looks place a t told = (omega arith, let less = few looks (is_after (Some place)) (map.entries t) in omega (arith, less))
+pub few_left : (looks : Key → Bool) (place : Key) (t : Tables) → left_at looks place t ≤ rows_at looks t
+few_left looks place t = few looks (is_after (Some place)) (map.entries t)
 
-one_left : (looks : Key → Bool) (place : Key) (entry : Key × Row) (t : Tables) → looks entry.0 ≡ true → Some entry ≡ next_entry (Some place) t
+pub walk_begins : (looks : Key → Bool) (place : Key) (a : KeeperSeen) → Walked looks place a a
+walk_begins looks place a t told = (omega arith, let less = few_left looks place t in omega (arith, less))
+
+pub one_left : (looks : Key → Bool) (place : Key) (entry : Key × Row) (t : Tables) → looks entry.0 ≡ true → Some entry ≡ next_entry (Some place) t
     → left_at looks place t ≡ 1 + left_at looks entry.0 t
 one_left looks place entry t is next =
     ap (λ (v : List (Key × Row)). count_keys looks v) (next_of (Some place) entry t (sym next))

@@ -1,7 +1,7 @@
 -- What `decide` says of an import besides what it says of each command.
 use Rattle.std.specs.Prelude.{◌≡◌, ℕ, ◌+◌, ◌*◌, Option, Some, None, length, IsTrue}
 use Rattle.off_defs.specs.declared.orders.Command.{Command}
-use Rattle.off_defs.specs.declared.orders.Command.TheVariants.{SetSite, PutSubscriber, PutAddOn, PutModem, PutClass, PutPool, Remove, Show, Import}
+use Rattle.off_defs.specs.declared.orders.Command.TheVariants.{PutHub, PutSubscriber, PutAddOn, PutModem, PutClass, PutPool, Remove, Show, Import}
 use Rattle.off_defs.specs.declared.orders.Reply.TheVariants.{Rows}
 use Rattle.off_defs.specs.State.{Tables}
 use Rattle.off_defs.specs.Tables.{write_all}
@@ -16,12 +16,12 @@ use Rattle.off_accounts.specs.declared.results.Planned.{Planned}
 -- an import that is done is answered with a number of rows
 abbrev pub AnswersImport : Command → Planned → Type 0
 AnswersImport (Import kind batch digest rows) planned = (n : ℕ) × (planned.reply ≡ Rows n)
-AnswersImport (SetSite site) planned = Unit {0}
+AnswersImport (PutHub n site) planned = Unit {0}
 AnswersImport (PutSubscriber n subscriber) planned = Unit {0}
 AnswersImport (PutAddOn n number settings) planned = Unit {0}
 AnswersImport (PutModem mac modem) planned = Unit {0}
 AnswersImport (PutClass n class) planned = Unit {0}
-AnswersImport (PutPool n pool) planned = Unit {0}
+AnswersImport (PutPool n pool hub) planned = Unit {0}
 AnswersImport (Remove key) planned = Unit {0}
 AnswersImport (Show key) planned = Unit {0}
 
@@ -35,11 +35,11 @@ KeepsGood counts users command planned old =
 -- how many calls of the keeper an import makes at most: one for its batch, and three for each row
 abbrev pub most_import_calls : Command → Option ℕ
 most_import_calls (Import kind batch digest rows) = Some (1 + 3 * length rows)
-most_import_calls (SetSite site) = None
+most_import_calls (PutHub n site) = None
 most_import_calls (PutSubscriber n subscriber) = None
 most_import_calls (PutAddOn n number settings) = None
 most_import_calls (PutModem mac modem) = None
 most_import_calls (PutClass n class) = None
-most_import_calls (PutPool n pool) = None
+most_import_calls (PutPool n pool hub) = None
 most_import_calls (Remove key) = None
 most_import_calls (Show key) = None

@@ -2,11 +2,13 @@
 use Rattle.std.specs.Prelude.{◌≡◌, ℕ, Bool, true, false, IsTrue, [], Option, Some, None, Result, Ok, Err}
 use Rattle.off_base.specs.Choices.{first_there}
 use Rattle.off_defs.specs.declared.orders.Command.{Command}
-use Rattle.off_defs.specs.declared.orders.Command.TheVariants.{SetSite, PutSubscriber, PutAddOn, PutModem, PutClass, PutPool, Remove, Show, Import}
+use Rattle.off_defs.specs.declared.orders.Command.TheVariants.{PutHub, PutSubscriber, PutAddOn, PutModem, PutClass, PutPool, Remove, Show, Import}
 use Rattle.off_defs.specs.declared.keys.Key.{Key}
 use Rattle.off_defs.specs.declared.keys.Key.TheVariants as key
-use Rattle.off_defs.specs.declared.orders.Reply.TheVariants.{Done, Shown}
+use Rattle.off_defs.specs.declared.orders.Reply.TheVariants.{Done, Shown, ShownPool}
 use Rattle.off_defs.specs.declared.tables.Row.{Row}
+use Rattle.off_defs.specs.declared.tables.Row.TheVariants as row
+use Rattle.off_defs.specs.declared.tables.Pool.{Pool}
 use Rattle.off_defs.specs.declared.shown.ShownRow.{ShownRow}
 use Rattle.off_defs.specs.declared.orders.Reply.{Reply}
 use Rattle.off_defs.specs.Shown.{shown_row}
@@ -28,12 +30,12 @@ use Rattle.off_accounts.specs.declared.results.AccountErr.TheVariants.{Refused, 
 -- imports are decided elsewhere
 abbrev pub is_import : Command → Bool
 is_import (Import kind batch digest rows) = true
-is_import (SetSite site) = false
+is_import (PutHub n site) = false
 is_import (PutSubscriber n subscriber) = false
 is_import (PutAddOn n number settings) = false
 is_import (PutModem mac modem) = false
 is_import (PutClass n class) = false
-is_import (PutPool n pool) = false
+is_import (PutPool n pool hub) = false
 is_import (Remove key) = false
 is_import (Show key) = false
 
@@ -49,20 +51,25 @@ most_calls_removing (key.Pool n) = None
 most_calls_removing (key.Lease address) = Some 1
 most_calls_removing (key.Held mac) = Some 1
 most_calls_removing (key.Batch n) = Some 1
-most_calls_removing (key.Hub n) = Some 1
+most_calls_removing (key.Hub n) = None
 most_calls_removing (key.PoolHub n) = Some 1
 most_calls_removing (key.DevicePool n) = Some 1
 most_calls_removing (key.Device address) = Some 1
 
+-- a pool is shown with its hub, which is a call of its own
+abbrev pub calls_to_show : Key → ℕ
+calls_to_show (key.Pool n) = 2
+calls_to_show other = 1
+
 abbrev pub most_calls : Command → Option ℕ
-most_calls (SetSite site) = Some 0
+most_calls (PutHub n site) = Some 1
 most_calls (PutSubscriber n subscriber) = Some 1
 most_calls (PutAddOn n number settings) = Some 2
 most_calls (PutModem mac modem) = Some 3
 most_calls (PutClass n class) = Some 1
-most_calls (PutPool n pool) = None
+most_calls (PutPool n pool hub) = None
 most_calls (Remove removed) = most_calls_removing removed
-most_calls (Show shown) = Some 1
+most_calls (Show shown) = Some (calls_to_show shown)
 most_calls (Import kind batch digest rows) = None
 
 -- how many of them are made to count what is gone
@@ -83,12 +90,12 @@ calls_to_count_removed (key.Device address) = 0
 
 abbrev pub calls_to_count : Command → ℕ
 calls_to_count (Remove removed) = calls_to_count_removed removed
-calls_to_count (SetSite site) = 0
+calls_to_count (PutHub n site) = 0
 calls_to_count (PutSubscriber n subscriber) = 0
 calls_to_count (PutAddOn n number settings) = 0
 calls_to_count (PutModem mac modem) = 0
 calls_to_count (PutClass n class) = 0
-calls_to_count (PutPool n pool) = 0
+calls_to_count (PutPool n pool hub) = 0
 calls_to_count (Show shown) = 0
 calls_to_count (Import kind batch digest rows) = 0
 
@@ -133,7 +140,8 @@ NotDecided counts users now command (Refused row broken) old new =
 NotDecided counts users now command Failed old new = NotDone keeper.Failed old new
 NotDecided counts users now command Memory old new = NotDone keeper.Memory old new
 
--- the row of a key as a clerk is shown it, which is of the key's kind
+-- the row of a key as a clerk is shown it, which is of the key's kind; a pool with the number of its
+-- hub
 pub record ShowsRow (key : Key) (reply : Reply) : Type 0 where
   pub held : Row
   pub seen : ShownRow
@@ -141,16 +149,26 @@ pub record ShowsRow (key : Key) (reply : Reply) : Type 0 where
   pub seen_is : shown_row held ≡ Some seen
   pub answers : reply ≡ Shown key seen
 
+pub record ShowsPool (n : ℕ) (reply : Reply) : Type 0 where
+  pub pool : Pool
+  pub hub : ℕ
+  pub possible : IsTrue (is_possible (key.Pool n) (row.Pool pool))
+  pub answers : reply ≡ ShownPool n pool hub
+
+abbrev pub ShowsAt : Key → Reply → Type 0
+ShowsAt (key.Pool n) reply = ShowsPool n reply
+ShowsAt other reply = ShowsRow other reply
+
 -- What a command is answered that is done, whatever the tables: one that shows a row shows it, and
 -- then nothing is written; any other just says that it was done. What an import answers, the crate
 -- of imports says.
 abbrev pub AnswersCommand : Command → Planned → Type 0
-AnswersCommand (Show key) planned = ShowsRow key planned.reply × (planned.writes ≡ [])
+AnswersCommand (Show key) planned = ShowsAt key planned.reply × (planned.writes ≡ [])
 AnswersCommand (Import kind batch digest rows) planned = Unit {0}
-AnswersCommand (SetSite site) planned = planned.reply ≡ Done
+AnswersCommand (PutHub n site) planned = planned.reply ≡ Done
 AnswersCommand (PutSubscriber n subscriber) planned = planned.reply ≡ Done
 AnswersCommand (PutAddOn n number settings) planned = planned.reply ≡ Done
 AnswersCommand (PutModem mac modem) planned = planned.reply ≡ Done
 AnswersCommand (PutClass n class) planned = planned.reply ≡ Done
-AnswersCommand (PutPool n pool) planned = planned.reply ≡ Done
+AnswersCommand (PutPool n pool hub) planned = planned.reply ≡ Done
 AnswersCommand (Remove key) planned = planned.reply ≡ Done

@@ -1,5 +1,5 @@
 -- What is looked for among the tables' entries, so that a rule can be tested.
-use Rattle.std.specs.Prelude.{ℕ, Bool, ◌&&◌, Option, Some, None, List, [], option_map, cond}
+use Rattle.std.specs.Prelude.{ℕ, ◌==◌, Bool, ◌&&◌, Option, Some, None, List, [], option_map, cond, if◌then◌else◌}
 use Rattle.std.specs.List.{find, filter}
 use Rattle.std.specs.FinMap as map
 use Rattle.off_base.specs.declared.addresses.Ip4.{Ip4}
@@ -12,7 +12,7 @@ use Rattle.off_defs.specs.declared.orders.Write.{Write}
 use Rattle.off_defs.specs.declared.rules.Rule.{Rule}
 use Rattle.off_defs.specs.declared.rules.Rule.TheVariants as rule
 use Rattle.off_defs.specs.State.{Tables}
-use Rattle.off_account_rules.specs.Rows.{passes, pool_of, lease_of, leases}
+use Rattle.off_account_rules.specs.Rows.{passes, pool_of, lease_of, pools, leases, pool_hub_in}
 use Rattle.off_account_rules.specs.Clerk.{is_other_overlapping, is_other_with_relay, gives_up, is_live, lease_drops}
 use Rattle.off_accounts.specs.declared.lost.Lost.{Lost}
 use Rattle.off_accounts.specs.declared.searching.Sought.{Sought}
@@ -44,6 +44,21 @@ abbrev pub live_lost : ℕ → Option Pool → Option Pool → Tables → Option
 live_lost now old new t =
     option_map (λ (entry : Ip4 × Lease). rule.PoolHasLeases entry.0)
     (find (is_live now) (lost_from old new t))
+
+-- the least pool whose hub it is, and the number of a pool where it is
+abbrev pub is_pool_of : Tables → ℕ → ℕ × Pool → Bool
+is_pool_of t hub entry = pool_hub_in t entry.0 == hub
+
+abbrev pub least_of : Tables → ℕ → Option ℕ
+least_of t hub = option_map (λ (entry : ℕ × Pool). entry.0) (find (is_pool_of t hub) (pools t))
+
+abbrev pub of_hub_in : Tables → ℕ → Option ℕ → Option ℕ
+of_hub_in t hub None = None
+of_hub_in t hub (Some n) = if pool_hub_in t n == hub then Some n else None
+
+-- the rule that a hub that a pool has isn't removed
+abbrev pub hub_rule : Option ℕ → Option Rule
+hub_rule found = option_map rule.HubInUse found
 
 -- the number of a pool, and the address of a lease
 abbrev pub pool_number : Option Key → Option ℕ

@@ -12,19 +12,19 @@ use Rattle.off_defs.specs.declared.rules.Rule.TheVariants as rule
 use Rattle.off_base.specs.declared.moments.Moment.{Moment}
 use Rattle.off_defs.specs.declared.tables.Site.{Site}
 use Rattle.off_defs.specs.declared.orders.Kind.{Kind}
-use Rattle.off_defs.specs.declared.orders.Kind.TheVariants.{Subscribers, AddOns, Modems, Classes, Pools}
+use Rattle.off_defs.specs.declared.orders.Kind.TheVariants.{Subscribers, AddOns, Modems, Classes, Pools, Hubs}
 use Rattle.off_defs.specs.declared.orders.Command.{Command}
-use Rattle.off_defs.specs.declared.orders.Command.TheVariants.{SetSite, PutSubscriber, PutAddOn, PutModem, PutClass, PutPool, Remove, Show, Import}
+use Rattle.off_defs.specs.declared.orders.Command.TheVariants.{PutHub, PutSubscriber, PutAddOn, PutModem, PutClass, PutPool, Remove, Show, Import}
 use Rattle.off_defs.specs.State.{Tables}
 use Rattle.off_account_rules.specs.declared.counts.Counts.{Counts}
 use Rattle.off_account_rules.specs.Rows.{seen_at, as_pool, is_lease_time, is_offset, has_pool_size}
-use Rattle.off_account_rules.specs.Clerk.{limit_of, no_subscriber, no_class, pool_overlap, relay_taken}
+use Rattle.off_account_rules.specs.Clerk.{limit_of, no_subscriber, no_class, no_hub, hub_in_use, pool_overlap, relay_taken}
 use Rattle.off_users.specs.Users.{subscriber_uses, class_uses}
 use Rattle.off_accounts.specs.declared.subject.Subject.{Subject}
 use Rattle.off_accounts.specs.declared.searching.Sought.{Sought}
 use Rattle.off_accounts.specs.declared.searching.Sought.TheVariants.{Overlapping, WithRelay, LiveLost}
 use Rattle.off_accounts.specs.declared.testing.Test.{Test}
-use Rattle.off_accounts.specs.declared.testing.Test.TheVariants.{Tested, HasSubscriber, HasClass, FindsNone}
+use Rattle.off_accounts.specs.declared.testing.Test.TheVariants.{Tested, HasSubscriber, HasClass, HasHub, FindsNone, HasNoPool}
 use Rattle.off_accounts.specs.Changes.{count_in}
 use Rattle.off_accounts.specs.Searches.{live_lost, pool_number, lease_address}
 
@@ -44,20 +44,26 @@ abbrev pub says : Tables → Test → Option Rule
 says t (Tested broken) = broken
 says t (HasSubscriber n) = no_subscriber t n
 says t (HasClass n) = no_class t n
+says t (HasHub n) = no_hub t n
 says t (FindsNone sought) = sought_rule sought t
+says t (HasNoPool hub) = hub_in_use t hub
 
 -- how many keys the tests look up, and whether one of them searches
 abbrev pub looks_up : Test → ℕ
 looks_up (Tested broken) = 0
 looks_up (HasSubscriber n) = 1
 looks_up (HasClass n) = 1
+looks_up (HasHub n) = 1
 looks_up (FindsNone sought) = 0
+looks_up (HasNoPool hub) = 0
 
 abbrev pub searches : Test → Bool
 searches (Tested broken) = false
 searches (HasSubscriber n) = false
 searches (HasClass n) = false
+searches (HasHub n) = false
 searches (FindsNone sought) = true
+searches (HasNoPool hub) = true
 
 -- how many modems name what stands at a key
 abbrev pub uses_at : Tables → Key → ℕ
@@ -83,25 +89,25 @@ SubjectStands t key subject =
     × (subject.uses ≡ uses_at t key)
 
 abbrev pub IsSubject : Command → Subject → Tables → Type 0
-IsSubject (SetSite site) subject t = Unit {0}
+IsSubject (PutHub n site) subject t = SubjectStands t (key.Hub n) subject
 IsSubject (PutSubscriber n subscriber) subject t = SubjectStands t (key.Subscriber n) subject
 IsSubject (PutAddOn n number settings) subject t = SubjectStands t (key.AddOn n number) subject
 IsSubject (PutModem mac modem) subject t = SubjectStands t (key.Modem mac) subject
 IsSubject (PutClass n class) subject t = SubjectStands t (key.Class n) subject
-IsSubject (PutPool n pool) subject t = SubjectStands t (key.Pool n) subject
+IsSubject (PutPool n pool hub) subject t = SubjectStands t (key.Pool n) subject
 IsSubject (Remove removed) subject t = SubjectStands t removed subject
 IsSubject (Show shown) subject t = SubjectStands t shown subject
 IsSubject (Import kind batch digest rows) subject t = Unit {0}
 
 -- how many calls that takes
 abbrev pub calls_for_subject : Command → ℕ
-calls_for_subject (SetSite site) = 0
 calls_for_subject (Import kind batch digest rows) = 0
+calls_for_subject (PutHub n site) = 1
 calls_for_subject (PutSubscriber n subscriber) = 1
 calls_for_subject (PutAddOn n number settings) = 1
 calls_for_subject (PutModem mac modem) = 1
 calls_for_subject (PutClass n class) = 1
-calls_for_subject (PutPool n pool) = 1
+calls_for_subject (PutPool n pool hub) = 1
 calls_for_subject (Remove removed) = 1
 calls_for_subject (Show shown) = 1
 
@@ -131,71 +137,71 @@ live_test now (Some old) new = FindsNone (LiveLost now (record { old = old; new 
 abbrev pub no_test : Test
 no_test = Tested None
 
--- The tests of a command, one for each of its rules, five in all.
+-- The tests of a command, one for each of its rules, six in all; most commands have fewer rules.
+abbrev pub three_tests : Test → Test → Test → List Test
+three_tests first second third = first ∷ second ∷ third ∷ no_test ∷ no_test ∷ no_test ∷ []
+
+abbrev pub two_tests : Test → Test → List Test
+two_tests first second = three_tests first second no_test
+
+abbrev pub one_test : Test → List Test
+one_test first = two_tests first no_test
+
 abbrev pub removal_tests : Moment → Subject → Key → List Test
 removal_tests now subject (key.Subscriber n) =
-    row_test subject ∷ use_test subject rule.HasModems ∷ no_test ∷ no_test ∷ no_test ∷ []
+    two_tests (row_test subject) (use_test subject rule.HasModems)
 removal_tests now subject (key.Class n) =
-    row_test subject ∷ use_test subject rule.ClassInUse ∷ no_test ∷ no_test ∷ no_test ∷ []
+    two_tests (row_test subject) (use_test subject rule.ClassInUse)
 removal_tests now subject (key.Pool n) =
-    row_test subject ∷ live_test now subject.pool None ∷ no_test ∷ no_test ∷ no_test ∷ []
-removal_tests now subject key.Site = row_test subject ∷ no_test ∷ no_test ∷ no_test ∷ no_test ∷ []
-removal_tests now subject (key.AddOn n number) =
-    row_test subject ∷ no_test ∷ no_test ∷ no_test ∷ no_test ∷ []
-removal_tests now subject (key.Modem mac) =
-    row_test subject ∷ no_test ∷ no_test ∷ no_test ∷ no_test ∷ []
-removal_tests now subject (key.Lease address) =
-    row_test subject ∷ no_test ∷ no_test ∷ no_test ∷ no_test ∷ []
-removal_tests now subject (key.Held mac) =
-    row_test subject ∷ no_test ∷ no_test ∷ no_test ∷ no_test ∷ []
-removal_tests now subject (key.Batch n) =
-    row_test subject ∷ no_test ∷ no_test ∷ no_test ∷ no_test ∷ []
-removal_tests now subject (key.Hub n) =
-    row_test subject ∷ no_test ∷ no_test ∷ no_test ∷ no_test ∷ []
-removal_tests now subject (key.PoolHub n) =
-    row_test subject ∷ no_test ∷ no_test ∷ no_test ∷ no_test ∷ []
-removal_tests now subject (key.DevicePool n) =
-    row_test subject ∷ no_test ∷ no_test ∷ no_test ∷ no_test ∷ []
-removal_tests now subject (key.Device address) =
-    row_test subject ∷ no_test ∷ no_test ∷ no_test ∷ no_test ∷ []
+    two_tests (row_test subject) (live_test now subject.pool None)
+removal_tests now subject (key.Hub n) = two_tests (row_test subject) (HasNoPool n)
+removal_tests now subject key.Site = one_test (row_test subject)
+removal_tests now subject (key.AddOn n number) = one_test (row_test subject)
+removal_tests now subject (key.Modem mac) = one_test (row_test subject)
+removal_tests now subject (key.Lease address) = one_test (row_test subject)
+removal_tests now subject (key.Held mac) = one_test (row_test subject)
+removal_tests now subject (key.Batch n) = one_test (row_test subject)
+removal_tests now subject (key.PoolHub n) = one_test (row_test subject)
+removal_tests now subject (key.DevicePool n) = one_test (row_test subject)
+removal_tests now subject (key.Device address) = one_test (row_test subject)
 
-abbrev pub site_tests : Site → List Test
-site_tests site =
+abbrev pub hub_tests : Counts → Subject → Site → List Test
+hub_tests counts subject site =
     Tested (when (site.server.0 == 0) (rule.Site 1))
     ∷ Tested (when (length site.secret == 0) (rule.Site 2))
     ∷ Tested (when (not (is_lease_time site.lease)) (rule.Site 3))
     ∷ Tested (when (not (is_offset site.offset)) (rule.Site 4))
+    ∷ limit_test counts Hubs subject
     ∷ no_test
     ∷ []
 
-abbrev pub pool_tests : Counts → Moment → Subject → ℕ → Pool → List Test
-pool_tests counts now subject n pool =
+abbrev pub pool_tests : Counts → Moment → Subject → ℕ → Pool → ℕ → List Test
+pool_tests counts now subject n pool hub =
     Tested (when (not (has_pool_size pool)) rule.PoolSize)
     ∷ FindsNone (Overlapping n pool)
     ∷ FindsNone (WithRelay n pool)
+    ∷ HasHub hub
     ∷ live_test now subject.pool (Some pool)
     ∷ limit_test counts Pools subject
     ∷ []
 
 abbrev pub tests_of : Counts → Moment → Subject → Command → List Test
-tests_of counts now subject (SetSite site) = site_tests site
+tests_of counts now subject (PutHub n site) = hub_tests counts subject site
 tests_of counts now subject (PutSubscriber n subscriber) =
-    limit_test counts Subscribers subject ∷ no_test ∷ no_test ∷ no_test ∷ no_test ∷ []
+    one_test (limit_test counts Subscribers subject)
 tests_of counts now subject (PutAddOn n number settings) =
-    HasSubscriber n ∷ Tested (option_map rule.Tree (first_fault tree.AddOn settings))
-    ∷ limit_test counts AddOns subject ∷ no_test ∷ no_test ∷ []
+    three_tests (HasSubscriber n) (Tested (option_map rule.Tree (first_fault tree.AddOn settings)))
+    (limit_test counts AddOns subject)
 tests_of counts now subject (PutModem mac modem) =
-    HasSubscriber modem.subscriber ∷ HasClass modem.class ∷ limit_test counts Modems subject
-    ∷ no_test ∷ no_test ∷ []
+    three_tests (HasSubscriber modem.subscriber) (HasClass modem.class)
+    (limit_test counts Modems subject)
 tests_of counts now subject (PutClass n class) =
-    Tested (option_map rule.Tree (first_fault tree.Class class.settings))
-    ∷ limit_test counts Classes subject ∷ no_test ∷ no_test ∷ no_test ∷ []
-tests_of counts now subject (PutPool n pool) = pool_tests counts now subject n pool
+    two_tests (Tested (option_map rule.Tree (first_fault tree.Class class.settings)))
+    (limit_test counts Classes subject)
+tests_of counts now subject (PutPool n pool hub) = pool_tests counts now subject n pool hub
 tests_of counts now subject (Remove removed) = removal_tests now subject removed
-tests_of counts now subject (Show shown) =
-    row_test subject ∷ no_test ∷ no_test ∷ no_test ∷ no_test ∷ []
-tests_of counts now subject (Import kind batch digest rows) =
-    no_test ∷ no_test ∷ no_test ∷ no_test ∷ no_test ∷ []
+tests_of counts now subject (Show shown) = one_test (row_test subject)
+tests_of counts now subject (Import kind batch digest rows) = one_test no_test
 
 -- how many keys the tests look up, in all
 abbrev pub lookups : List Test → ℕ

@@ -6,7 +6,7 @@ use Rattle.off_defs.specs.declared.keys.Key.TheVariants as key
 use Rattle.off_defs.specs.declared.tables.Row.{Row}
 use Rattle.off_defs.specs.declared.tables.Pool.{Pool}
 use Rattle.off_defs.specs.declared.orders.Command.{Command}
-use Rattle.off_defs.specs.declared.orders.Command.TheVariants.{SetSite, PutSubscriber, PutAddOn, PutModem, PutClass, PutPool, Remove, Show, Import}
+use Rattle.off_defs.specs.declared.orders.Command.TheVariants.{PutHub, PutSubscriber, PutAddOn, PutModem, PutClass, PutPool, Remove, Show, Import}
 use Rattle.off_defs.specs.State.{Tables}
 use Rattle.off_defs.specs.Tables.{is_after}
 use Rattle.off_defs.specs.Kinds.{kind_of}
@@ -19,7 +19,7 @@ use Rattle.off_accounts.specs.declared.subject.Subject.{Subject}
 use Rattle.off_accounts.specs.declared.searching.Sought.{Sought}
 use Rattle.off_accounts.specs.declared.searching.Sought.TheVariants.{Overlapping, WithRelay, LiveLost}
 use Rattle.off_accounts.specs.declared.testing.Test.{Test}
-use Rattle.off_accounts.specs.declared.testing.Test.TheVariants.{Tested, HasSubscriber, HasClass, FindsNone}
+use Rattle.off_accounts.specs.declared.testing.Test.TheVariants.{Tested, HasSubscriber, HasClass, HasHub, FindsNone, HasNoPool}
 
 -- ---- what a command asks
 
@@ -44,13 +44,19 @@ abbrev pub lease_calls : Option Pool → Tables → ℕ
 lease_calls None t = 0
 lease_calls (Some pool) t = rows_at (is_lease_in pool) t + 1
 
--- The pool that is at the key is looked up. Two walks over the pools, each of which finds its end,
--- look for one that overlaps and for one with the same relay; two over the leases of the pool that
--- was there, for one that may not be lost, and for those that are.
+-- one walk over the pools, in which the hub of each is looked up
+abbrev pub hub_calls : Tables → ℕ
+hub_calls t = 2 * rows_at is_of_pool t + 1
+
+-- The pool that is at the key is looked up, and the hub that it is to have. Two walks over the
+-- pools, each of which finds its end, look for one that overlaps and for one with the same relay;
+-- two over the leases of the pool that was there, for one that may not be lost, and for those that
+-- are. Where a hub is removed, one walk over the pools looks for one that has it.
 abbrev pub walking_calls : Command → Tables → Option ℕ
-walking_calls (PutPool n pool) t =
-    Some (1 + 2 * (rows_at is_of_pool t + 1) + 2 * lease_calls (pool_in t n) t)
+walking_calls (PutPool n pool hub) t =
+    Some (2 + 2 * (rows_at is_of_pool t + 1) + 2 * lease_calls (pool_in t n) t)
 walking_calls (Remove (key.Pool n)) t = Some (1 + 2 * lease_calls (pool_in t n) t)
+walking_calls (Remove (key.Hub n)) t = Some (1 + hub_calls t)
 walking_calls command t = None
 
 -- a command that walks asks no more, where the tables are told
@@ -100,7 +106,9 @@ abbrev pub test_calls : Tables → Test → ℕ
 test_calls t (Tested broken) = 0
 test_calls t (HasSubscriber n) = 1
 test_calls t (HasClass n) = 1
+test_calls t (HasHub n) = 1
 test_calls t (FindsNone sought) = rows_at (looks_at sought) t + 1
+test_calls t (HasNoPool hub) = hub_calls t
 
 abbrev pub tests_calls : Tables → List Test → ℕ
 tests_calls t [] = 0
@@ -112,7 +120,7 @@ drop_calls_removing (key.Pool n) old t = lease_calls old t
 drop_calls_removing other old t = 0
 
 abbrev pub drop_calls : Command → Option Pool → Tables → ℕ
-drop_calls (PutPool n pool) old t = lease_calls old t
+drop_calls (PutPool n pool hub) old t = lease_calls old t
 drop_calls (Remove removed) old t = drop_calls_removing removed old t
 drop_calls command old t = 0
 
@@ -121,12 +129,12 @@ abbrev pub PoolStands : Tables → Key → Subject → Type 0
 PoolStands t at subject = subject.pool ≡ option_and_then as_pool (seen_at t at)
 
 abbrev pub IsPoolAt : Command → Subject → Tables → Type 0
-IsPoolAt (SetSite site) subject t = Unit {0}
+IsPoolAt (PutHub n site) subject t = PoolStands t (key.Hub n) subject
 IsPoolAt (PutSubscriber n subscriber) subject t = PoolStands t (key.Subscriber n) subject
 IsPoolAt (PutAddOn n number settings) subject t = PoolStands t (key.AddOn n number) subject
 IsPoolAt (PutModem mac modem) subject t = PoolStands t (key.Modem mac) subject
 IsPoolAt (PutClass n class) subject t = PoolStands t (key.Class n) subject
-IsPoolAt (PutPool n pool) subject t = PoolStands t (key.Pool n) subject
+IsPoolAt (PutPool n pool hub) subject t = PoolStands t (key.Pool n) subject
 IsPoolAt (Remove removed) subject t = PoolStands t removed subject
 IsPoolAt (Show shown) subject t = PoolStands t shown subject
 IsPoolAt (Import kind batch digest rows) subject t = Unit {0}

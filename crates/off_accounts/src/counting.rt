@@ -1,17 +1,20 @@
 //! How many rows of each kind there are behind a command, once its rules are passed.
 
-ghost use Rattle.std.specs.Prelude.{◌≡◌, true, is_some, count_by};
+ghost use Rattle.std.specs.Prelude.{◌≡◌, ◌≤◌, true, None, is_some, length, count_by};
+ghost use Rattle.off_defs.specs.declared.orders.Kind.TheVariants.{Hubs};
 ghost use Rattle.off_rows.specs.Sound.{is_sound, is_removable};
 ghost use Rattle.off_account_rules.specs.Rows.{seen_at};
 ghost use Rattle.off_account_rules.specs.Clerk.{add_on_keys};
 ghost use Rattle.off_outside.specs.KeeperCalls.{Looks, Spent};
 ghost use Rattle.off_accounts.specs.Deciding.{calls_to_count, calls_to_count_removed};
 ghost use Rattle.off_accounts.specs.After.{CountsAfter, CountsAfterRemoval};
+ghost use Rattle.off_accounts.specs.Changes.{counts_put};
+ghost use Rattle.off_accounts.specs.Tests.{limit_rule};
 
 use crate::limits::{counts_put, fewer_add_ons, one_less};
 use crate::subject::Subject;
 use off_account_rules::Counts;
-use off_defs::{ADD_ONS, Command, Key, Kind};
+use off_defs::{ADD_ONS, Command, Key, Kind, Site};
 use off_outside::{KeepErr, Keeper};
 use off_readers::has_row;
 use std::alloc::Global;
@@ -31,16 +34,26 @@ pub(crate) fn counts_after<K: Keeper>(
 {
     let is_there = subject.is_there;
     match c {
+        Command::PutHub(_, site) => Ok(counts_put_hub(counts, site, is_there)),
         Command::PutSubscriber(_, _) => Ok(counts_put(counts, Kind::Subscribers, is_there)),
         Command::PutAddOn(_, _, _) => Ok(counts_put(counts, Kind::AddOns, is_there)),
         Command::PutModem(_, _) => Ok(counts_put(counts, Kind::Modems, is_there)),
         Command::PutClass(_, _) => Ok(counts_put(counts, Kind::Classes, is_there)),
-        Command::PutPool(_, _) => Ok(counts_put(counts, Kind::Pools, is_there)),
+        Command::PutPool(_, _, _) => Ok(counts_put(counts, Kind::Pools, is_there)),
         Command::Remove(key) => counts_after_removal(alloc, keeper, counts, key),
-        Command::SetSite(_) => Ok(*counts),
         Command::Show(_) => Ok(*counts),
         Command::Import { .. } => Ok(*counts),
     }
+}
+
+// A hub's row is counted, since it's possible: by its type the site's secret isn't too long.
+fn counts_put_hub(counts: &Counts, site: &Site, is_there: bool) -> Counts
+    ensures put { limit_rule counts.now Hubs is_there ≡ None
+        → result ≡ counts_put Hubs is_there counts.now }
+    ensures fits { length site.now.secret ≤ 64 }
+{
+    let _secret = site.secret.as_slice();
+    counts_put(counts, Kind::Hubs, is_there)
 }
 
 fn counts_after_removal<K: Keeper>(
@@ -64,8 +77,9 @@ fn counts_after_removal<K: Keeper>(
         Key::Modem(_) => Ok(one_less(counts, Kind::Modems)),
         Key::Class(_) => Ok(one_less(counts, Kind::Classes)),
         Key::Pool(_) => Ok(one_less(counts, Kind::Pools)),
+        Key::Hub(_) => Ok(one_less(counts, Kind::Hubs)),
         // A clerk doesn't remove these.
-        Key::Site | Key::Lease(_) | Key::Held(_) | Key::Batch(_) | Key::Hub(_) => unreachable!(),
+        Key::Site | Key::Lease(_) | Key::Held(_) | Key::Batch(_) => unreachable!(),
         Key::PoolHub(_) | Key::DevicePool(_) | Key::Device(_) => unreachable!(),
     }
 }

@@ -1,5 +1,4 @@
 ghost use Rattle.std.specs.Prelude.{◌≡◌, false, IsTrue, MatchResult, IfOk, IfSome};
-ghost use Rattle.off_defs.specs.declared.orders.Command.TheVariants.{Show};
 ghost use Rattle.off_defs.specs.declared.orders.Reply.TheVariants.{Done};
 ghost use Rattle.off_rows.specs.Sound.{is_sound};
 ghost use Rattle.off_account_rules.specs.Rows.{counts_of};
@@ -13,13 +12,13 @@ use crate::counting::counts_after;
 use crate::planning::writes_for;
 use crate::results::{AccountErr, Asked, Planned};
 use crate::ruling::tests_of;
+use crate::showing::show;
 use crate::subject::subject_of;
 use crate::testing::first_broken;
 use off_account_rules::Counts;
 use off_base::Moment;
-use off_defs::{Command, Key, Reply, Rule, ShownRow, Writes};
+use off_defs::{Command, Reply, Rule};
 use off_outside::{KeepErr, Keeper};
-use off_readers::read_row;
 use off_users::Users;
 use std::alloc::Global;
 
@@ -33,8 +32,8 @@ use std::alloc::Global;
 /// A command that needs no walk over pools or leases makes nine calls of the keeper at most, and
 /// three where it doesn't remove a subscriber. One that puts a pool goes over the pools twice at
 /// most. One that removes a pool, or puts one where another was, goes over the leases in the range
-/// of the pool that was there twice at most. How many calls that makes is known over tables that
-/// are told.
+/// of the pool that was there twice at most. One that removes a hub goes over the pools once, and
+/// looks up the hub of each. How many calls that makes is known over tables that are told.
 pub fn decide<K: Keeper>(
     alloc: Global,
     keeper: &mut K,
@@ -96,34 +95,6 @@ fn clerk_answer(verdict: Result<Result<Planned, Rule>, KeepErr>) -> Result<Plann
         Ok(planned) => Ok(planned),
         Err(rule) => Err(AccountErr::Refused { row: 0, rule }),
     }
-}
-
-#[tactic(auto, using(off_outside::proofs::KeeperLemmas::spent_one))]
-fn show<K: Keeper>(
-    alloc: Global,
-    keeper: &mut K,
-    counts: &Counts,
-    users: &Users,
-    now: Moment,
-    key: &Key,
-) -> Result<Result<Planned, Rule>, KeepErr>
-    ensures told { Looks result (K.seen keeper.old) (K.seen keeper.new)
-        (λ verdict t. IsRuling counts.now users.now now.0 (Show key.now) t verdict) }
-    ensures answers { IfOk result (λ verdict. IfOk verdict (λ planned.
-        AnswersCommand (Show key.now) planned)) }
-    ensures spent { Spent 1 (K.seen keeper.old) (K.seen keeper.new) }
-{
-    let Some(row) = read_row(alloc, keeper, key)? else {
-        return Ok(Err(Rule::NoRow));
-    };
-    let Some(row) = ShownRow::of(row) else {
-        return Ok(Err(Rule::NoRow));
-    };
-    Ok(Ok(Planned {
-        writes: Writes::new(alloc),
-        reply: Reply::Shown(*key, row),
-        counts: *counts,
-    }))
 }
 
 // A command that changes the tables: its rules are tested, and then it's planned.

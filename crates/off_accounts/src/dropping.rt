@@ -41,23 +41,25 @@ pub(crate) fn drop_lost<K: Keeper>(
     }
 }
 
-/// A write, and behind it the drops of the leases that are lost where one pool, or none, takes the
-/// place of another one, or none.
+/// A pool's own write and that of its hub, and behind them the drops of the leases that are lost
+/// where one pool, or none, takes the place of another one, or none.
 #[tactic(auto, using(crate::proofs::WalkedLemmas::drop_rules))]
 pub(crate) fn with_drops<K: Keeper>(
     alloc: Global,
     keeper: &mut K,
     write: Write,
+    hub: Write,
     old: Option<Pool>,
     new: Option<Pool>,
 ) -> Result<Writes, KeepErr>
     ensures told { Looks result (K.seen keeper.old) (K.seen keeper.new)
-        (λ writes t. writes ≡ write ∷ flat_map lease_drops (lost_from old new t)) }
+        (λ writes t. writes ≡ write ∷ hub ∷ flat_map lease_drops (lost_from old new t)) }
     ensures walks { (t : Tables) → (K.seen keeper.old).tables t
         → Spent (lease_calls old t) (K.seen keeper.old) (K.seen keeper.new) }
 {
     let mut writes = Writes::new(alloc);
     writes.push(write)?;
+    writes.push(hub)?;
     let Some(old) = old else {
         return Ok(writes);
     };

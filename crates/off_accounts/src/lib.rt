@@ -2,7 +2,9 @@
 //!
 //! A command is decided in three steps: what the tables have at its key (`subject`), the first of
 //! its rules that is broken (`ruling` lists them, `testing` walks them), and what it writes and how
-//! many rows there are then (`planning`, `counting`).
+//! many rows there are then (`planning`, `counting`). Walks over the pools and over the leases are
+//! in `searching`, and the one that looks up the hub of each pool is in `hubs`. One that shows a row
+//! has no other rule than that there is one (`showing`).
 //!
 //! An import stands for the commands that put its rows, each over the tables that those before it
 //! left. Its rows aren't sorted, and the tables aren't written meanwhile: which keys the rows so
@@ -16,6 +18,7 @@ mod commands;
 mod counting;
 mod deciding;
 mod dropping;
+mod hubs;
 mod import_counting;
 mod importing;
 mod judging;
@@ -27,6 +30,7 @@ mod putting;
 mod results;
 mod ruling;
 mod searching;
+mod showing;
 mod subject;
 mod testing;
 mod values;

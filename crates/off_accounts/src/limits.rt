@@ -60,6 +60,7 @@ fn limit_of(kind: Kind) -> u32
         Kind::Classes => 1_000,
         Kind::Pools => 64,
         Kind::Batches => 100_000,
+        Kind::Hubs => 64,
     }
 }
 
@@ -73,6 +74,7 @@ fn count_of(counts: &Counts, kind: Kind) -> u64
         Kind::Classes => counts.classes,
         Kind::Pools => counts.pools,
         Kind::Batches => counts.batches,
+        Kind::Hubs => counts.hubs,
     }
 }
 
@@ -87,6 +89,7 @@ fn with_count(counts: &Counts, kind: Kind, n: u64) -> Counts
         Kind::Classes => changed.classes = n,
         Kind::Pools => changed.pools = n,
         Kind::Batches => changed.batches = n,
+        Kind::Hubs => changed.hubs = n,
     }
     changed
 }

@@ -7,7 +7,7 @@ ghost use Rattle.off_defs.specs.declared.tables.Row.TheVariants as row;
 ghost use Rattle.off_defs.specs.declared.orders.Write.TheVariants.{Drop};
 ghost use Rattle.off_outside.specs.declared.keeper.KeepErr.TheVariants.{Memory};
 ghost use Rattle.off_outside.specs.KeeperCalls.{Looks, Spent};
-ghost use Rattle.off_account_rules.specs.Clerk.{add_on_keys, removal_writes, writes_of};
+ghost use Rattle.off_account_rules.specs.Clerk.{add_on_keys, pool_hub_write, removal_writes, writes_of};
 ghost use Rattle.off_accounts.specs.Deciding.{most_calls, most_calls_removing};
 ghost use Rattle.off_accounts.specs.Tests.{SubjectStands, IsSubject};
 ghost use Rattle.off_accounts.specs.Walking.{drop_calls, drop_calls_removing};
@@ -36,7 +36,10 @@ pub(crate) fn writes_for<K: Keeper>(
         (K.seen keeper.old) (K.seen keeper.new) }
 {
     match c {
-        Command::SetSite(site) => one_write(alloc, Write::Put(Key::Site, Row::Site(site.copy()))),
+        Command::PutHub(n, site) => one_write(
+            alloc,
+            Write::Put(Key::Hub(*n), Row::Site(site.copy())),
+        ),
         Command::PutSubscriber(n, subscriber) => one_write(
             alloc,
             Write::Put(Key::Subscriber(*n), Row::Subscriber(subscriber.copy())),
@@ -53,10 +56,11 @@ pub(crate) fn writes_for<K: Keeper>(
             alloc,
             Write::Put(Key::Class(*n), class_row(class)?),
         ),
-        Command::PutPool(n, pool) => with_drops(
+        Command::PutPool(n, pool, hub) => with_drops(
             alloc,
             keeper,
             Write::Put(Key::Pool(*n), Row::Pool(*pool)),
+            pool_hub_write(*n, *hub),
             subject.pool,
             Some(*pool),
         ),
@@ -81,12 +85,30 @@ fn removal_writes<K: Keeper>(
 {
     match *key {
         Key::Subscriber(n) => subscriber_drops(alloc, n),
-        Key::Pool(_) => with_drops(alloc, keeper, Write::Drop(*key), subject.pool, None),
+        Key::Pool(n) => with_drops(
+            alloc,
+            keeper,
+            Write::Drop(*key),
+            Write::Drop(Key::PoolHub(n)),
+            subject.pool,
+            None,
+        ),
         Key::Site | Key::AddOn(_, _) | Key::Modem(_) => one_write(alloc, Write::Drop(*key)),
         Key::Class(_) | Key::Lease(_) => one_write(alloc, Write::Drop(*key)),
         Key::Held(_) | Key::Batch(_) | Key::Hub(_) => one_write(alloc, Write::Drop(*key)),
         Key::PoolHub(_) | Key::DevicePool(_) => one_write(alloc, Write::Drop(*key)),
         Key::Device(_) => one_write(alloc, Write::Drop(*key)),
+    }
+}
+
+// A pool's hub has a row where it isn't the hub 0.
+fn pool_hub_write(n: u32, hub: u32) -> Write
+    ensures { result ≡ pool_hub_write n hub }
+{
+    if hub == 0 {
+        Write::Drop(Key::PoolHub(n))
+    } else {
+        Write::Put(Key::PoolHub(n), Row::PoolHub(hub))
     }
 }
 

@@ -1,7 +1,8 @@
 //! The rules of each command, in their order.
 
 ghost use Rattle.std.specs.Prelude.{◌≡◌};
-ghost use Rattle.off_accounts.specs.Tests.{tests_of, pool_tests, removal_tests, site_tests};
+ghost use Rattle.off_accounts.specs.Tests.{tests_of, pool_tests, removal_tests, hub_tests};
+ghost use Rattle.off_accounts.specs.Tests.{one_test, two_tests, three_tests};
 ghost use Rattle.off_accounts.specs.Tests.{live_test, limit_test, row_test, use_test};
 
 use crate::limits::limit_rule;
@@ -19,82 +20,90 @@ use off_readers::{has_pool_size, is_lease_time, is_offset};
 const NO_TEST: Test = Test::Tested(None);
 
 /// The tests of a command, one for each of its rules, behind what the tables have at its key.
-pub(crate) fn tests_of(asked: &Asked, subject: &Subject, c: &Command) -> [Test; 5]
+pub(crate) fn tests_of(asked: &Asked, subject: &Subject, c: &Command) -> [Test; 6]
     ensures { result ≡ tests_of asked.now.counts asked.now.at subject.now c.now }
 {
     match c {
-        Command::SetSite(site) => site_tests(site),
-        Command::PutSubscriber(_, _) => [
-            limit_test(asked, Kind::Subscribers, subject),
-            NO_TEST,
-            NO_TEST,
-            NO_TEST,
-            NO_TEST,
-        ],
-        Command::PutAddOn(n, _, settings) => [
+        Command::PutHub(_, site) => hub_tests(asked, subject, site),
+        Command::PutSubscriber(_, _) => one_test(limit_test(asked, Kind::Subscribers, subject)),
+        Command::PutAddOn(n, _, settings) => three_tests(
             Test::HasSubscriber(*n),
             Test::Tested(add_on_fault(settings)),
             limit_test(asked, Kind::AddOns, subject),
-            NO_TEST,
-            NO_TEST,
-        ],
-        Command::PutModem(_, modem) => [
+        ),
+        Command::PutModem(_, modem) => three_tests(
             Test::HasSubscriber(modem.subscriber),
             Test::HasClass(modem.class),
             limit_test(asked, Kind::Modems, subject),
-            NO_TEST,
-            NO_TEST,
-        ],
-        Command::PutClass(_, class) => [
+        ),
+        Command::PutClass(_, class) => two_tests(
             Test::Tested(class_fault(&class.settings)),
             limit_test(asked, Kind::Classes, subject),
-            NO_TEST,
-            NO_TEST,
-            NO_TEST,
-        ],
-        Command::PutPool(n, pool) => pool_tests(asked, subject, *n, pool),
+        ),
+        Command::PutPool(n, pool, hub) => pool_tests(asked, subject, *n, pool, *hub),
         Command::Remove(key) => removal_tests(asked.at, subject, key),
-        Command::Show(_) => [row_test(subject), NO_TEST, NO_TEST, NO_TEST, NO_TEST],
-        Command::Import { .. } => [NO_TEST, NO_TEST, NO_TEST, NO_TEST, NO_TEST],
+        Command::Show(_) => one_test(row_test(subject)),
+        Command::Import { .. } => one_test(NO_TEST),
     }
 }
 
-fn pool_tests(asked: &Asked, subject: &Subject, n: u32, pool: &Pool) -> [Test; 5]
-    ensures { result ≡ pool_tests asked.now.counts asked.now.at subject.now n pool.now }
-{
-    [
-        Test::Tested(unless(has_pool_size(pool), Rule::PoolSize)),
-        Test::FindsNone(Sought::Overlapping(n, *pool)),
-        Test::FindsNone(Sought::WithRelay(n, *pool)),
-        live_test(asked.at, subject.pool, Some(*pool)),
-        limit_test(asked, Kind::Pools, subject),
-    ]
-}
-
-fn removal_tests(at: Moment, subject: &Subject, key: &Key) -> [Test; 5]
-    ensures { result ≡ removal_tests at subject.now key.now }
-{
-    let second = match *key {
-        Key::Subscriber(_) => use_test(subject, Rule::HasModems),
-        Key::Class(_) => use_test(subject, Rule::ClassInUse),
-        Key::Pool(_) => live_test(at, subject.pool, None),
-        Key::Site | Key::AddOn(_, _) | Key::Modem(_) => NO_TEST,
-        Key::Lease(_) | Key::Held(_) | Key::Batch(_) | Key::Hub(_) => NO_TEST,
-        Key::PoolHub(_) | Key::DevicePool(_) | Key::Device(_) => NO_TEST,
-    };
-    [row_test(subject), second, NO_TEST, NO_TEST, NO_TEST]
-}
-
-fn site_tests(site: &Site) -> [Test; 5]
-    ensures { result ≡ site_tests site.now }
+fn hub_tests(asked: &Asked, subject: &Subject, site: &Site) -> [Test; 6]
+    ensures { result ≡ hub_tests asked.now.counts subject.now site.now }
 {
     [
         Test::Tested(unless(site.server.0 != 0, Rule::Site(1))),
         Test::Tested(unless(!site.secret.as_slice().is_empty(), Rule::Site(2))),
         Test::Tested(unless(is_lease_time(site.lease), Rule::Site(3))),
         Test::Tested(unless(is_offset(site.offset), Rule::Site(4))),
+        limit_test(asked, Kind::Hubs, subject),
         NO_TEST,
     ]
+}
+
+fn pool_tests(asked: &Asked, subject: &Subject, n: u32, pool: &Pool, hub: u32) -> [Test; 6]
+    ensures { result ≡ pool_tests asked.now.counts asked.now.at subject.now n pool.now hub }
+{
+    [
+        Test::Tested(unless(has_pool_size(pool), Rule::PoolSize)),
+        Test::FindsNone(Sought::Overlapping(n, *pool)),
+        Test::FindsNone(Sought::WithRelay(n, *pool)),
+        Test::HasHub(hub),
+        live_test(asked.at, subject.pool, Some(*pool)),
+        limit_test(asked, Kind::Pools, subject),
+    ]
+}
+
+fn removal_tests(at: Moment, subject: &Subject, key: &Key) -> [Test; 6]
+    ensures { result ≡ removal_tests at subject.now key.now }
+{
+    let second = match *key {
+        Key::Subscriber(_) => use_test(subject, Rule::HasModems),
+        Key::Class(_) => use_test(subject, Rule::ClassInUse),
+        Key::Pool(_) => live_test(at, subject.pool, None),
+        Key::Hub(n) => Test::HasNoPool(n),
+        Key::Site | Key::AddOn(_, _) | Key::Modem(_) => NO_TEST,
+        Key::Lease(_) | Key::Held(_) | Key::Batch(_) => NO_TEST,
+        Key::PoolHub(_) | Key::DevicePool(_) | Key::Device(_) => NO_TEST,
+    };
+    two_tests(row_test(subject), second)
+}
+
+fn one_test(first: Test) -> [Test; 6]
+    ensures { result ≡ one_test first }
+{
+    two_tests(first, NO_TEST)
+}
+
+fn two_tests(first: Test, second: Test) -> [Test; 6]
+    ensures { result ≡ two_tests first second }
+{
+    three_tests(first, second, NO_TEST)
+}
+
+fn three_tests(first: Test, second: Test, third: Test) -> [Test; 6]
+    ensures { result ≡ three_tests first second third }
+{
+    [first, second, third, NO_TEST, NO_TEST, NO_TEST]
 }
 
 fn limit_test(asked: &Asked, kind: Kind, subject: &Subject) -> Test

@@ -38,12 +38,12 @@ pub(crate) fn subject_of<K: Keeper>(
     ensures spent { Spent (calls_for_subject c.now) (K.seen keeper.old) (K.seen keeper.new) }
 {
     match c {
-        Command::SetSite(_) => Ok(nothing()),
+        Command::PutHub(n, _) => at_key(alloc, keeper, users, &Key::Hub(*n)),
         Command::PutSubscriber(n, _) => at_key(alloc, keeper, users, &Key::Subscriber(*n)),
         Command::PutAddOn(n, number, _) => at_key(alloc, keeper, users, &Key::AddOn(*n, *number)),
         Command::PutModem(mac, _) => at_key(alloc, keeper, users, &Key::Modem(*mac)),
         Command::PutClass(n, _) => at_key(alloc, keeper, users, &Key::Class(*n)),
-        Command::PutPool(n, _) => at_key(alloc, keeper, users, &Key::Pool(*n)),
+        Command::PutPool(n, _, _) => at_key(alloc, keeper, users, &Key::Pool(*n)),
         Command::Remove(key) => at_key(alloc, keeper, users, key),
         Command::Show(key) => at_key(alloc, keeper, users, key),
         Command::Import { .. } => Ok(nothing()),
@@ -92,7 +92,8 @@ fn uses_at(users: &Users, key: &Key) -> u64
     }
 }
 
-fn as_pool(row: &Option<Row>) -> Option<Pool>
+/// The row, where it's a pool.
+pub(crate) fn as_pool(row: &Option<Row>) -> Option<Pool>
     ensures { result ≡ option_and_then as_pool row.now }
 {
     match row {

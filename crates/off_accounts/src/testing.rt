@@ -1,13 +1,14 @@
 ghost use Rattle.std.specs.Prelude.{◌≡◌, false, not, map};
 ghost use Rattle.off_base.specs.Choices.{when, first_there};
 ghost use Rattle.off_outside.specs.KeeperCalls.{Looks, Spent, WasCounted};
-ghost use Rattle.off_account_rules.specs.Clerk.{no_subscriber, no_class};
+ghost use Rattle.off_account_rules.specs.Clerk.{no_subscriber, no_class, no_hub};
 ghost use Rattle.off_accounts.specs.Searches.{pool_number, lease_address};
 ghost use Rattle.off_accounts.specs.Tests.{says, looks_up, searches, lookups, any_searches};
 ghost use Rattle.off_accounts.specs.Tests.{found_rule, sought_rule};
 ghost use Rattle.off_accounts.specs.Walking.{WalksOver, looks_at, test_calls, tests_calls};
 ghost use Rattle.off_defs.specs.State.{Tables};
 
+use crate::hubs::hub_in_use;
 use crate::searching::{Sought, search};
 use off_base::Ip4;
 use off_defs::{Key, Rule};
@@ -24,8 +25,12 @@ pub enum Test {
     HasSubscriber(u32),
     /// There is the class.
     HasClass(u32),
+    /// There is the hub.
+    HasHub(u32),
     /// There is nothing of what is looked for.
     FindsNone(Sought),
+    /// The hub is that of no pool.
+    HasNoPool(u32),
 }
 
 /// The first rule that is broken, in their order, or `None` where none is. What comes behind it
@@ -65,7 +70,9 @@ fn broken_by<K: Keeper>(alloc: Global, keeper: &mut K, test: &Test) -> Result<Op
         Test::Tested(broken) => Ok(broken),
         Test::HasSubscriber(n) => no_subscriber(alloc, keeper, n),
         Test::HasClass(n) => no_class(alloc, keeper, n),
+        Test::HasHub(n) => no_hub(alloc, keeper, n),
         Test::FindsNone(sought) => what_is_found(alloc, keeper, &sought),
+        Test::HasNoPool(hub) => hub_in_use(alloc, keeper, hub),
     }
 }
 
@@ -85,6 +92,15 @@ fn no_class<K: Keeper>(alloc: Global, keeper: &mut K, n: u32) -> Result<Option<R
 {
     let is_there = has_row(alloc, keeper, &Key::Class(n))?;
     Ok(unless(is_there, Rule::NoClass))
+}
+
+fn no_hub<K: Keeper>(alloc: Global, keeper: &mut K, n: u32) -> Result<Option<Rule>, KeepErr>
+    ensures told { Looks result (K.seen keeper.old) (K.seen keeper.new)
+        (λ broken t. broken ≡ no_hub t n) }
+    ensures counted { WasCounted (K.seen keeper.old) (K.seen keeper.new) }
+{
+    let is_there = has_row(alloc, keeper, &Key::Hub(n))?;
+    Ok(unless(is_there, Rule::NoHub))
 }
 
 /// The rule, unless the condition holds.
@@ -127,7 +143,8 @@ fn found_rule(sought: &Sought, found: Option<Key>) -> Option<Rule>
     }
 }
 
-fn pool_number(found: Option<Key>) -> Option<u32>
+/// The number of a pool's key.
+pub(crate) fn pool_number(found: Option<Key>) -> Option<u32>
     ensures { result ≡ pool_number found }
 {
     let Some(key) = found else { return None };

@@ -183,7 +183,7 @@ lasts_stay old new before behind doubt from s (first ∷ turns) to after last la
     )
 
 -- calls that only read, before a run: what was in doubt before them may be so in the run
-lasts_doubt : (opened : Opens) (ends doubt more : Tables → Type 0) (from : ℕ) (s : State) (turns : List Turn) (to : ℕ) (last : State)
+pub lasts_doubt : (opened : Opens) (ends doubt more : Tables → Type 0) (from : ℕ) (s : State) (turns : List Turn) (to : ℕ) (last : State)
     → ((u : Tables) → doubt u → more u) → Lasts opened ends doubt from s turns to last → Lasts opened ends more from s turns to last
 lasts_doubt opened ends doubt more from s [] to last wider lasts = (
   lasts.0,

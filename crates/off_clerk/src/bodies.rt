@@ -3,9 +3,9 @@ ghost use Rattle.serde_json.specs.View.{view};
 ghost use Rattle.off_rows.specs.Sound.{is_sound_subscriber, is_sound_pool};
 ghost use Rattle.off_clerk_rules.specs.Commands.{GivesWanted, GivesFault, object_in, site_in};
 ghost use Rattle.off_clerk_rules.specs.Commands.{subscriber_in};
-ghost use Rattle.off_clerk_rules.specs.Commands.{add_on_in, modem_in, class_in, pool_in};
+ghost use Rattle.off_clerk_rules.specs.Commands.{add_on_in, modem_in, class_in, pool_in, hub_of_pool_in};
 
-use crate::fields::{address, flag, number, offset, relay, secret, small, text};
+use crate::fields::{address, flag, number, number_or, offset, relay, secret, small, text};
 use crate::trees::settings;
 use off_base::Settings;
 use off_clerk_rules::{ClerkErr, CommandErr, Name};
@@ -108,4 +108,11 @@ pub(crate) fn pool_of(body: &Value) -> Result<Pool, ClerkErr>
         router,
         relay,
     })
+}
+
+// The pool's hub, which is the hub 0 where the body names none.
+pub(crate) fn hub_of_pool(body: &Value) -> Result<u32, ClerkErr>
+    ensures { result ≡ hub_of_pool_in (view body.now) }
+{
+    number_or(0, body, Name::Hub)
 }

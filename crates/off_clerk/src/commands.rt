@@ -6,7 +6,9 @@ ghost use Rattle.off_clerk_rules.specs.Commands.{as_import};
 ghost use Rattle.off_clerk_rules.specs.Paths.{IsNamed};
 ghost use Rattle.off_defs.specs.declared.keys.Key.TheVariants as key;
 
-use crate::bodies::{add_on_of, class_of, modem_of, object_of, pool_of, site_of, subscriber_of};
+use crate::bodies::{
+    add_on_of, class_of, hub_of_pool, modem_of, object_of, pool_of, site_of, subscriber_of,
+};
 use crate::paths::{path_of, place_at};
 use off_base::Mac;
 use off_clerk_rules::{ClerkErr, CommandErr, Place};
@@ -83,29 +85,29 @@ fn put(alloc: Global, key: Key, body: &[u8]) -> Result<Command, CommandErr>
     ensures sound { IfOk result (λ command. IsTrue (is_sound command)) }
 {
     match key {
-        Key::Site => put_site(alloc, body),
+        Key::Hub(number) => put_hub(alloc, number, body),
         Key::Subscriber(number) => put_subscriber(alloc, number, body),
         Key::AddOn(owner, number) => put_add_on(alloc, owner, number, body),
         Key::Modem(mac) => put_modem(alloc, mac, body),
         Key::Class(number) => put_class(alloc, number, body),
         Key::Pool(number) => put_pool(alloc, number, body),
+        Key::Site => Err(CommandErr::Fault(ClerkErr::NoMethod)),
         Key::Lease(_) => Err(CommandErr::Fault(ClerkErr::NoMethod)),
         Key::Held(_) => Err(CommandErr::Fault(ClerkErr::NoMethod)),
         Key::Batch(_) => Err(CommandErr::Fault(ClerkErr::NoMethod)),
-        Key::Hub(_) => Err(CommandErr::Fault(ClerkErr::NoMethod)),
         Key::PoolHub(_) => Err(CommandErr::Fault(ClerkErr::NoMethod)),
         Key::DevicePool(_) => Err(CommandErr::Fault(ClerkErr::NoMethod)),
         Key::Device(_) => Err(CommandErr::Fault(ClerkErr::NoMethod)),
     }
 }
 
-fn put_site(alloc: Global, body: &[u8]) -> Result<Command, CommandErr>
-    ensures exact { GivesWanted (put_read key.Site body.now) result }
+fn put_hub(alloc: Global, number: u32, body: &[u8]) -> Result<Command, CommandErr>
+    ensures exact { GivesWanted (put_read (key.Hub number) body.now) result }
     ensures sound { IfOk result (λ command. IsTrue (is_sound command)) }
 {
     let fields = object_of(alloc, body)?;
     let site = site_of(&fields)?;
-    Ok(Command::SetSite(site))
+    Ok(Command::PutHub(number, site))
 }
 
 fn put_subscriber(alloc: Global, number: u32, body: &[u8]) -> Result<Command, CommandErr>
@@ -151,5 +153,6 @@ fn put_pool(alloc: Global, number: u32, body: &[u8]) -> Result<Command, CommandE
 {
     let fields = object_of(alloc, body)?;
     let pool = pool_of(&fields)?;
-    Ok(Command::PutPool(number, pool))
+    let hub = hub_of_pool(&fields)?;
+    Ok(Command::PutPool(number, pool, hub))
 }

@@ -4,8 +4,8 @@ ghost use Rattle.serde_json.specs.Find.{get, as_bool};
 ghost use Rattle.off_clerk_rules.specs.declared.faults.ClerkErr.TheVariants.{Field};
 ghost use Rattle.off_clerk_rules.specs.Names.{name_text};
 ghost use Rattle.off_clerk_rules.specs.Paths.{last_number};
-ghost use Rattle.off_clerk_rules.specs.Fields.{field_in, number_in, offset_in, text_in, address_in};
-ghost use Rattle.off_clerk_rules.specs.Fields.{relay_in, hex_in};
+ghost use Rattle.off_clerk_rules.specs.Fields.{field_in, field_or, number_in, offset_in, text_in};
+ghost use Rattle.off_clerk_rules.specs.Fields.{address_in, relay_in, hex_in};
 
 use crate::paths::LAST_NUMBER;
 use crate::values::{address_of, flag_of, number_of, offset_of, relay_of, secret_of, text_of};
@@ -26,6 +26,19 @@ pub(crate) fn number(body: &Value, name: Name) -> Result<u32, ClerkErr>
     ensures { result ≡ field_in name (number_in 0 last_number) (view body.now) }
 {
     match number_of(member(body, name)?, 0, LAST_NUMBER) {
+        Some(number) => Ok(number as u32),
+        None => Err(ClerkErr::Value(name)),
+    }
+}
+
+// A number of 32 bits that may be missing.
+pub(crate) fn number_or(default: u32, body: &Value, name: Name) -> Result<u32, ClerkErr>
+    ensures { result ≡ field_or default name (number_in 0 last_number) (view body.now) }
+{
+    let Ok(value) = member(body, name) else {
+        return Ok(default);
+    };
+    match number_of(value, 0, LAST_NUMBER) {
         Some(number) => Ok(number as u32),
         None => Err(ClerkErr::Value(name)),
     }

@@ -4,7 +4,7 @@ ghost use Rattle.std.specs.List.{position};
 ghost use Rattle.off_base.specs.Number.{number_read};
 ghost use Rattle.off_defs.specs.Bounds.{last_add_on};
 ghost use Rattle.off_clerk_rules.specs.Paths.{path_of, length_before, read_behind, last_number};
-ghost use Rattle.off_clerk_rules.specs.Paths.{add_on_named, site_at, subscriber_at, add_on_at};
+ghost use Rattle.off_clerk_rules.specs.Paths.{add_on_named, site_at, hub_at, subscriber_at, add_on_at};
 ghost use Rattle.off_clerk_rules.specs.Paths.{modem_at, class_at, pool_at, lease_at, place_at};
 ghost use Rattle.off_clerk_rules.specs.Paths.{import_named, subscribers_at, modems_at};
 ghost use Rattle.off_clerk_rules.specs.Paths.{only_shown, kept, removable, IsNamed};
@@ -29,6 +29,7 @@ pub(crate) fn place_at(path: &[u8]) -> Option<Place>
     ensures named { IfSome result IsNamed }
 {
     site_at(path)
+        .or(hub_at(path))
         .or(subscriber_at(path))
         .or(add_on_at(path))
         .or(modem_at(path))
@@ -117,15 +118,29 @@ fn add_on_of(text: &[u8]) -> Option<u8>
     }
 }
 
+// The site of an office of earlier days is its hub 0.
 fn site_at(path: &[u8]) -> Option<Place>
     ensures exact { result ≡ site_at path.now }
     ensures named { IfSome result IsNamed }
 {
     if path == b"/site".as_slice() {
-        Some(kept(Key::Site))
+        Some(kept(Key::Hub(0)))
     } else {
         None
     }
+}
+
+fn hub_at(path: &[u8]) -> Option<Place>
+    ensures exact { result ≡ hub_at path.now }
+    ensures named { IfSome result IsNamed }
+{
+    let Some(text) = read_behind(b"/hubs/", path) else {
+        return None;
+    };
+    let Some(number) = number_of(text) else {
+        return None;
+    };
+    Some(removable(Key::Hub(number)))
 }
 
 fn subscriber_at(path: &[u8]) -> Option<Place>

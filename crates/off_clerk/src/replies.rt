@@ -1,6 +1,7 @@
 ghost use Rattle.std.specs.Prelude.{◌≡◌, ◌++◌, codes, decimal, IfOk, OnOk};
 ghost use Rattle.off_defs.specs.declared.shown.ShownRow.TheVariants as row;
-ghost use Rattle.off_clerk_rules.specs.Replies.{reply_text, row_text, owner_text, state_text};
+ghost use Rattle.off_clerk_rules.specs.Replies.{reply_text, row_text, pool_text, rest_of_pool};
+ghost use Rattle.off_clerk_rules.specs.Replies.{owner_text, state_text};
 
 use crate::arrays::push_settings;
 use crate::texts::{push_address, push_flag, push_mac, push_number, push_signed, push_text};
@@ -9,7 +10,7 @@ use off_defs::{Class, Hold, Lease, Modem, Pool, Reply, ShownRow, Site, Subscribe
 use std::alloc::Global;
 
 /// The reply as a JSON object (RFC 8259) without white space, its keys in ascending order:
-/// `{"ok":true}`, the number of an import's rows, or the fields of a row. A site's secret isn't
+/// `{"ok":true}`, the number of an import's rows, or the fields of a row. A hub's secret isn't
 /// shown.
 ///
 /// The only error is want of memory.
@@ -19,6 +20,7 @@ pub fn reply_json(alloc: Global, r: &Reply) -> Result<Bytes, NoMemory>
     match r {
         Reply::Done => done_json(alloc),
         Reply::Shown(_, row) => row_json(alloc, row),
+        Reply::ShownPool { row, hub, .. } => pool_json(alloc, row, *hub),
         Reply::Rows(count) => count_json(alloc, *count),
     }
 }
@@ -50,7 +52,7 @@ fn row_json(alloc: Global, row: &ShownRow) -> Result<Bytes, NoMemory>
         ShownRow::AddOn(settings) => add_on_json(alloc, settings),
         ShownRow::Modem(modem) => modem_json(alloc, modem),
         ShownRow::Class(class) => class_json(alloc, class),
-        ShownRow::Pool(pool) => pool_json(alloc, pool),
+        ShownRow::Pool(pool) => lone_pool_json(alloc, pool),
         ShownRow::Lease(lease) => lease_json(alloc, lease),
     }
 }
@@ -121,22 +123,42 @@ fn class_json(alloc: Global, class: &Class) -> Result<Bytes, NoMemory>
     Ok(text)
 }
 
-fn pool_json(alloc: Global, pool: &Pool) -> Result<Bytes, NoMemory>
+fn pool_json(alloc: Global, pool: &Pool, hub: u32) -> Result<Bytes, NoMemory>
+    ensures { IfOk result (λ text. text ≡ pool_text pool.now hub) }
+{
+    let mut text = Bytes::new(alloc);
+    text.push_all(b"{\"first\":\"")?;
+    push_address(&mut text, pool.first)?;
+    text.push_all(b"\",\"hub\":")?;
+    push_number(&mut text, u64::from(hub))?;
+    push_rest_of_pool(&mut text, pool)?;
+    Ok(text)
+}
+
+// Without its hub.
+fn lone_pool_json(alloc: Global, pool: &Pool) -> Result<Bytes, NoMemory>
     ensures { IfOk result (λ text. text ≡ row_text (row.Pool pool.now)) }
 {
     let mut text = Bytes::new(alloc);
     text.push_all(b"{\"first\":\"")?;
     push_address(&mut text, pool.first)?;
-    text.push_all(b"\",\"last\":\"")?;
-    push_address(&mut text, pool.last)?;
-    text.push_all(b"\",\"prefix\":")?;
-    push_number(&mut text, u64::from(pool.prefix))?;
-    text.push_all(b",\"relay\":\"")?;
-    push_address(&mut text, pool.relay)?;
-    text.push_all(b"\",\"router\":\"")?;
-    push_address(&mut text, pool.router)?;
-    text.push_all(b"\"}")?;
+    text.push_all(b"\"")?;
+    push_rest_of_pool(&mut text, pool)?;
     Ok(text)
+}
+
+fn push_rest_of_pool(text: &mut Bytes, pool: &Pool) -> Result<(), NoMemory>
+    ensures { OnOk result (text.new ≡ text.old ++ rest_of_pool pool.now) }
+{
+    text.push_all(b",\"last\":\"")?;
+    push_address(text, pool.last)?;
+    text.push_all(b"\",\"prefix\":")?;
+    push_number(text, u64::from(pool.prefix))?;
+    text.push_all(b",\"relay\":\"")?;
+    push_address(text, pool.relay)?;
+    text.push_all(b"\",\"router\":\"")?;
+    push_address(text, pool.router)?;
+    text.push_all(b"\"}")
 }
 
 fn lease_json(alloc: Global, lease: &Lease) -> Result<Bytes, NoMemory>

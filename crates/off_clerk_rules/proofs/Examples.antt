@@ -1,5 +1,6 @@
 -- Worked examples of the definitions.
 use Rattle.std.proofs.Common.{◌≡◌, [], ◌∷◌, true, refl, codes, Ok, Err}
+use Rattle.std.specs.Prelude.{neg_ℤ, pos}
 use Rattle.std.specs.Str.{is_utf8, chars}
 use Rattle.std.specs.Fmt.{digits}
 use Rattle.hex.specs.Hex.{encode_with, decode_pairs}
@@ -7,14 +8,15 @@ use Rattle.csv.specs.Machine.{next_record}
 use Rattle.csv.specs.Reading.{records_from, strip_bom}
 use Rattle.md5.specs.Md5.{block_words, rounds, compress, hash_after, digest_bytes, md5}
 use Rattle.serde_json.proofs.OnLiterals.{serde_json_on_literals}
-use Rattle.off_base.specs.AddressText.{ip_of, mac_of}
+use Rattle.off_base.specs.AddressText.{ip_of, ip_text_of, mac_of}
 use Rattle.off_base.specs.Number.{number_read}
 use Rattle.off_base.specs.Tree.{leaf, group, followed, no_more}
 use Rattle.off_defs.specs.declared.keys.Key.TheVariants as key
+use Rattle.off_defs.specs.declared.tables.Pool.{Pool}
 use Rattle.off_defs.specs.declared.tables.ImportKind.TheVariants.{Subscribers}
 use Rattle.off_defs.specs.declared.shown.ShownRow.TheVariants as row
-use Rattle.off_defs.specs.declared.orders.Command.TheVariants.{PutSubscriber, PutAddOn, Remove, Import}
-use Rattle.off_defs.specs.declared.orders.Reply.TheVariants.{Shown}
+use Rattle.off_defs.specs.declared.orders.Command.TheVariants.{PutHub, PutSubscriber, PutAddOn, PutPool, Remove, Show, Import}
+use Rattle.off_defs.specs.declared.orders.Reply.TheVariants.{Shown, ShownPool}
 use Rattle.off_defs.specs.declared.rules.Rule.TheVariants as rule
 use Rattle.off_import_rules.specs.declared.faults.ImportFault.TheVariants as import
 use Rattle.off_clerk_rules.specs.declared.names.Name.TheVariants as field
@@ -42,6 +44,28 @@ an_add_on_is_removed : command_read (codes "DELETE") (codes "/subscribers/007/ad
 unfolding number_read
 an_add_on_is_removed = refl
 
+a_hub_in_use : fault_text (fault.Rule 0 (rule.HubInUse 2)) ≡ codes "{\"at\":\"2\",\"fault\":\"hub-in-use\"}"
+unfolding digits
+a_hub_in_use = refl
+
+a_hub_that_is_not_there : fault_text (fault.Rule 0 rule.NoHub) ≡ codes "{\"fault\":\"no-hub\"}"
+a_hub_that_is_not_there = refl
+
+abbrev second_pool : Pool
+second_pool = record { first = record { 0 = 172032010 }; last = record { 0 = 172032099 }; prefix = 24; router = record { 0 = 172032001 }; relay = record { 0 = 172032001 } }
+
+a_pool_is_shown_with_its_hub : reply_text (ShownPool 2 second_pool 1)
+    ≡ codes "{\"first\":\"10.65.0.10\",\"hub\":1,\"last\":\"10.65.0.99\",\"prefix\":24,\"relay\":\"10.65.0.1\",\"router\":\"10.65.0.1\"}"
+unfolding digits ip_text_of
+a_pool_is_shown_with_its_hub = refl
+
+the_site_is_the_hub_0 : command_read (codes "GET") (codes "/site") [] ≡ Ok (Show (key.Hub 0))
+the_site_is_the_hub_0 = refl
+
+a_hub_is_removed : command_read (codes "DELETE") (codes "/hubs/0") [] ≡ Ok (Remove (key.Hub 0))
+unfolding number_read
+a_hub_is_removed = refl
+
 a_site_is_not_removed : command_read (codes "DELETE") (codes "/site") [] ≡ Err NoMethod
 a_site_is_not_removed = refl
 
@@ -53,6 +77,23 @@ a_subscriber_is_put : command_read (codes "PUT") (codes "/subscribers/7") (codes
     ≡ Ok (PutSubscriber 7 (record { active = true; cpes = 2; name = codes "Ann" }))
 unfolding number_read is_utf8 chars serde_json_on_literals
 a_subscriber_is_put = refl
+
+the_site_is_put_as_the_hub_0 : command_read (codes "PUT") (codes "/site") (codes "{\"server\":\"10.0.0.3\",\"secret\":\"6f74\",\"offset\":-3600,\"lease\":86400,\"log\":\"0.0.0.0\"}")
+    ≡ Ok (PutHub 0 (record { server = record { 0 = 167772163 }; secret = codes "ot"; offset = neg_ℤ (pos 3600); lease = 86400; log = record { 0 = 0 } }))
+unfolding number_read is_utf8 chars decode_pairs ip_of digits serde_json_on_literals
+the_site_is_put_as_the_hub_0 = refl
+
+a_pool_names_its_hub : command_read (codes "PUT") (codes "/pools/2") (codes "{\"first\":\"10.65.0.10\",\"last\":\"10.65.0.99\",\"prefix\":24,\"router\":\"10.65.0.1\",\"relay\":\"10.65.0.1\",\"hub\":1}") ≡ Ok (PutPool 2 second_pool 1)
+unfolding number_read is_utf8 chars ip_of digits serde_json_on_literals
+a_pool_names_its_hub = refl
+
+a_pool_that_names_none : command_read (codes "PUT") (codes "/pools/2") (codes "{\"first\":\"10.65.0.10\",\"last\":\"10.65.0.99\",\"prefix\":24,\"router\":\"10.65.0.1\",\"relay\":\"10.65.0.1\"}") ≡ Ok (PutPool 2 second_pool 0)
+unfolding number_read is_utf8 chars ip_of digits serde_json_on_literals
+a_pool_that_names_none = refl
+
+no_hub_below_zero : command_read (codes "PUT") (codes "/pools/2") (codes "{\"first\":\"10.65.0.10\",\"last\":\"10.65.0.99\",\"prefix\":24,\"router\":\"10.65.0.1\",\"relay\":\"10.65.0.1\",\"hub\":-1}") ≡ Err (Value field.Hub)
+unfolding number_read is_utf8 chars ip_of digits serde_json_on_literals
+no_hub_below_zero = refl
 
 no_devices : command_read (codes "PUT") (codes "/subscribers/8") (codes "{\"active\":true,\"cpes\":0,\"name\":\"\"}") ≡ Err (Value field.Cpes)
 unfolding number_read is_utf8 chars serde_json_on_literals

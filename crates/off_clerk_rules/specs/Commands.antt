@@ -15,13 +15,13 @@ use Rattle.off_defs.specs.declared.tables.Class.{Class}
 use Rattle.off_defs.specs.declared.tables.Pool.{Pool}
 use Rattle.off_defs.specs.declared.tables.ImportKind.{ImportKind}
 use Rattle.off_defs.specs.declared.orders.Command.{Command}
-use Rattle.off_defs.specs.declared.orders.Command.TheVariants.{SetSite, PutSubscriber, PutAddOn, PutModem, PutClass, PutPool, Remove, Show}
+use Rattle.off_defs.specs.declared.orders.Command.TheVariants.{PutHub, PutSubscriber, PutAddOn, PutModem, PutClass, PutPool, Remove, Show}
 use Rattle.off_import_rules.specs.Reading.{import_in}
 use Rattle.off_import_rules.specs.declared.faults.ImportFault.{ImportFault}
 use Rattle.off_clerk_rules.specs.Paths.{path_of, place_at, last_number}
 use Rattle.off_clerk_rules.specs.declared.places.Place.{Place}
 use Rattle.off_clerk_rules.specs.declared.places.Place.TheVariants as at
-use Rattle.off_clerk_rules.specs.Fields.{field_in, number_in, offset_in, text_in, address_in, relay_in, hex_in, settings_in}
+use Rattle.off_clerk_rules.specs.Fields.{field_in, field_or, number_in, offset_in, text_in, address_in, relay_in, hex_in, settings_in}
 use Rattle.off_clerk_rules.specs.declared.names.Name.TheVariants as field
 use Rattle.off_clerk_rules.specs.declared.faults.ClerkErr.{ClerkErr}
 use Rattle.off_clerk_rules.specs.declared.faults.ClerkErr.TheVariants.{NoPath, NoMethod, NotJson, Import}
@@ -77,6 +77,10 @@ pool_in body = do
   relay ← field_in field.Relay relay_in body
   Ok (record { first = first; last = last; prefix = prefix; router = router; relay = relay })
 
+-- a pool's hub is the last field of its body
+abbrev pub hub_of_pool_in : Data → Result ℕ ClerkErr
+hub_of_pool_in body = field_or 0 field.Hub (number_in 0 last_number) body
+
 -- a body is one JSON object (RFC 8259) in UTF-8
 abbrev pub object_if : Option Data → Result Data ClerkErr
 object_if None = Err NotJson
@@ -90,10 +94,10 @@ object_in body = object_if (json_in body)
 
 -- what a PUT (RFC 9110, section 9.3.4) of a row means
 abbrev pub put_read : Key → List ℕ → Result Command ClerkErr
-put_read key.Site body = do
+put_read (key.Hub number) body = do
   fields ← object_in body
   site ← site_in fields
-  Ok (SetSite site)
+  Ok (PutHub number site)
 put_read (key.Subscriber number) body = do
   fields ← object_in body
   subscriber ← subscriber_in fields
@@ -113,11 +117,12 @@ put_read (key.Class number) body = do
 put_read (key.Pool number) body = do
   fields ← object_in body
   pool ← pool_in fields
-  Ok (PutPool number pool)
+  hub ← hub_of_pool_in fields
+  Ok (PutPool number pool hub)
+put_read key.Site body = Err NoMethod
 put_read (key.Lease address) body = Err NoMethod
 put_read (key.Held mac) body = Err NoMethod
 put_read (key.Batch number) body = Err NoMethod
-put_read (key.Hub number) body = Err NoMethod
 put_read (key.PoolHub pool) body = Err NoMethod
 put_read (key.DevicePool number) body = Err NoMethod
 put_read (key.Device address) body = Err NoMethod

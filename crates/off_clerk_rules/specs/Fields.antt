@@ -1,7 +1,7 @@
 -- The fields of a body: a member of a JSON object (RFC 8259), read as a value of a kind and range.
 -- What JSON is, is `serde_json`'s own definition: a whole number is an integer without fraction and
 -- exponent, and of two members with one key the last counts.
-use Rattle.std.specs.Prelude.{ℕ, zero, suc, ◌-◌, ◌*◌, ◌^◌, ◌==◌, Bool, not, List, [], ◌∷◌, length, codes, nat_le, ℤ, pos, negsuc, Option, Some, None, option_map, option_and_then, ok_or, Result, Err, if◌then◌else◌}
+use Rattle.std.specs.Prelude.{ℕ, zero, suc, ◌-◌, ◌*◌, ◌^◌, ◌==◌, Bool, not, List, [], ◌∷◌, length, codes, nat_le, ℤ, pos, negsuc, Option, Some, None, option_map, option_and_then, ok_or, Result, Ok, Err, if◌then◌else◌}
 use Rattle.std.specs.Int.{is_in_range}
 use Rattle.std.specs.Result.{result_ok}
 use Rattle.hex.specs.Hex.{decode_of}
@@ -23,10 +23,14 @@ abbrev pub member_in : {A : Type 0} → Result A ClerkErr → Name → (Data →
 member_in missing which read None = missing
 member_in missing which read (Some held) = ok_or (read held) (Value which)
 
--- a field that must be there. Where one may be missing, `Ok` of its default stands in place of this
--- fault
+-- a field that must be there
 abbrev pub field_in : {A : Type 0} → Name → (Data → Option A) → Data → Result A ClerkErr
 field_in which read body = member_in (Err (Field which)) which read (get (name_text which) body)
+
+-- a field that may be missing: then it has this value
+abbrev pub field_or : {A : Type 0} → A → Name → (Data → Option A) → Data → Result A ClerkErr
+field_or default which read body =
+    member_in (Ok default) which read (get (name_text which) body)
 
 -- a whole number within bounds
 abbrev pub number_in : ℕ → ℕ → Data → Option ℕ

@@ -29,7 +29,7 @@ abbrev pub read_behind : {A : Type 0} → List ℕ → (List ℕ → Option A) �
 read_behind front read text =
     if starts_with nat_eq text front then read (drop (length front) text) else None
 
--- the greatest number of a subscriber, a class or a pool
+-- the greatest number of a hub, a subscriber, a class or a pool
 abbrev pub last_number : ℕ
 last_number = 2 ^ 32 - 1
 
@@ -61,9 +61,13 @@ add_on_named text =
     (read_behind (codes "/addons/") (number_read last_add_on) (drop cut text)))
     (number_read last_number (take cut text))
 
--- the paths, and what each names. A site isn't removed, and a lease is only shown
+-- The paths, and what each names. A lease is only shown. The office's one site of earlier days is
+-- the hub 0, and isn't removed by the path that it had
 abbrev pub site_at : List ℕ → Option Place
-site_at path = if bytes_eq path (codes "/site") then Some (kept key.Site) else None
+site_at path = if bytes_eq path (codes "/site") then Some (kept (key.Hub 0)) else None
+
+abbrev pub hub_at : List ℕ → Option Place
+hub_at path = read_behind (codes "/hubs/") (numbered key.Hub) path
 
 abbrev pub subscriber_at : List ℕ → Option Place
 subscriber_at path = read_behind (codes "/subscribers/") (numbered key.Subscriber) path
@@ -100,8 +104,8 @@ modems_at path = read_behind (codes "/imports/modems/") (import_named Modems) pa
 abbrev pub place_at : List ℕ → Option Place
 place_at path =
     fold option_or (site_at path)
-    (subscriber_at path ∷ add_on_at path ∷ modem_at path ∷ class_at path ∷ pool_at path
-    ∷ lease_at path ∷ subscribers_at path ∷ modems_at path ∷ [])
+    (hub_at path ∷ subscriber_at path ∷ add_on_at path ∷ modem_at path ∷ class_at path
+    ∷ pool_at path ∷ lease_at path ∷ subscribers_at path ∷ modems_at path ∷ [])
 
 -- a clerk may be shown the row, and remove it where its path has DELETE
 abbrev pub IsNamed : Place → Type 0

@@ -8,12 +8,13 @@ use Rattle.serde_json.specs.Data.{string}
 use Rattle.serde_json.specs.Written.{compact_text}
 use Rattle.off_base.specs.AddressText.{ip_text_of, mac_text_of}
 use Rattle.off_base.specs.Tree.{Tree, Row, leaf, group, no_more, followed}
+use Rattle.off_defs.specs.declared.tables.Pool.{Pool}
 use Rattle.off_defs.specs.declared.tables.Hold.{Hold}
 use Rattle.off_defs.specs.declared.tables.Hold.TheVariants.{Offered, Bound, Declined}
 use Rattle.off_defs.specs.declared.shown.ShownRow.{ShownRow}
 use Rattle.off_defs.specs.declared.shown.ShownRow.TheVariants as row
 use Rattle.off_defs.specs.declared.orders.Reply.{Reply}
-use Rattle.off_defs.specs.declared.orders.Reply.TheVariants.{Done, Shown, Rows}
+use Rattle.off_defs.specs.declared.orders.Reply.TheVariants.{Done, Shown, ShownPool, Rows}
 
 -- a text as a JSON string, with the escapes that serde_json writes
 abbrev pub text_of : List ℕ → List ℕ
@@ -53,7 +54,20 @@ state_text (Offered owner) = codes "offered"
 state_text (Bound owner) = codes "bound"
 state_text Declined = codes "declined"
 
--- a row as a clerk sees it: the fields of the body that puts such a row, but a site's secret
+-- what stands behind a pool's first address, and behind its hub where it's shown
+abbrev pub rest_of_pool : Pool → List ℕ
+rest_of_pool pool =
+    codes ",\"last\":\"" ++ ip_text_of pool.last.0 ++ codes "\",\"prefix\":"
+    ++ decimal pool.prefix ++ codes ",\"relay\":\"" ++ ip_text_of pool.relay.0
+    ++ codes "\",\"router\":\"" ++ ip_text_of pool.router.0 ++ codes "\"}"
+
+abbrev pub pool_text : Pool → ℕ → List ℕ
+pool_text pool hub =
+    codes "{\"first\":\"" ++ ip_text_of pool.first.0 ++ codes "\",\"hub\":" ++ decimal hub
+    ++ rest_of_pool pool
+
+-- A row as a clerk sees it: the fields of the body that puts such a row, but a hub's secret. A pool
+-- is shown with its hub, by an answer of its own
 abbrev pub row_text : ShownRow → List ℕ
 row_text (row.Site site) =
     codes "{\"lease\":" ++ decimal site.lease ++ codes ",\"log\":\"" ++ ip_text_of site.log.0
@@ -70,11 +84,7 @@ row_text (row.Class class) =
     codes "{\"name\":" ++ text_of class.name ++ codes ",\"settings\":"
     ++ settings_text class.settings ++ codes "}"
 row_text (row.Pool pool) =
-    codes "{\"first\":\"" ++ ip_text_of pool.first.0 ++ codes "\",\"last\":\""
-    ++ ip_text_of pool.last.0 ++ codes "\",\"prefix\":" ++ decimal pool.prefix
-    ++ codes ",\"relay\":\""
-    ++ ip_text_of pool.relay.0 ++ codes "\",\"router\":\"" ++ ip_text_of pool.router.0
-    ++ codes "\"}"
+    codes "{\"first\":\"" ++ ip_text_of pool.first.0 ++ codes "\"" ++ rest_of_pool pool
 row_text (row.Lease lease) =
     codes "{\"expiry\":" ++ decimal lease.expiry.0 ++ codes ",\"owner\":\"" ++ owner_text lease.hold
     ++ codes "\",\"state\":\"" ++ state_text lease.hold ++ codes "\"}"
@@ -82,4 +92,5 @@ row_text (row.Lease lease) =
 abbrev pub reply_text : Reply → List ℕ
 reply_text Done = codes "{\"ok\":true}"
 reply_text (Shown key row) = row_text row
+reply_text (ShownPool number pool hub) = pool_text pool hub
 reply_text (Rows count) = codes "{\"rows\":" ++ decimal count ++ codes "}"

@@ -21,6 +21,7 @@ pub enum Name {
     Prefix,
     Router,
     Relay,
+    Hub,
 }
 
 impl Name {
@@ -46,6 +47,7 @@ impl Name {
             Name::Prefix => "prefix",
             Name::Router => "router",
             Name::Relay => "relay",
+            Name::Hub => "hub",
         }
     }
 }

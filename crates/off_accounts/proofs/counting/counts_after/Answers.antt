@@ -1,8 +1,8 @@
-use Rattle.std.proofs.Common.{sym, ap, ◌∙◌, refl}
+use Rattle.std.proofs.Common.{sym, ap, ◌∙◌}
 use Rattle.off_outside.proofs.KeeperLemmas.{reads_none}
-use Rattle.off_defs.specs.declared.orders.Command.TheVariants.{PutSubscriber, PutAddOn, PutModem, PutClass, PutPool}
+use Rattle.off_defs.specs.declared.orders.Command.TheVariants.{PutHub, PutSubscriber, PutAddOn, PutModem, PutClass, PutPool}
 use Rattle.off_rows.specs.Sound.{is_sound}
-use Rattle.off_accounts.proofs.AfterLemmas.{counted_as, site_put, subscriber_put, add_on_put, modem_put, class_put, pool_put}
+use Rattle.off_accounts.proofs.AfterLemmas.{counted_as, hub_put, subscriber_put, add_on_put, modem_put, class_put, pool_put}
 use Rattle.off_accounts.proofs.counting.counts_after.Goals as goal
 
 pub returns-in-PutSubscriber-clause-told : goal.returns-in-PutSubscriber-clause-told
@@ -27,13 +27,13 @@ returns-in-PutClass-clause-told g c = reads_none (λ t.
 
 pub returns-in-PutPool-clause-told : goal.returns-in-PutPool-clause-told
 returns-in-PutPool-clause-told g c = reads_none (λ t.
-    counted_as c.args.counts.now c.counts_put-in-PutPool.result c.args.subject.now t c.args.c.now (PutPool c.in-PutPool.field-0 c.in-PutPool.field-1) c.in-PutPool.is
-    (pool_put c.args.counts.now c.counts_put-in-PutPool.result c.args.subject.now t c.in-PutPool.field-0 c.in-PutPool.field-1 (sym (ap is_sound c.in-PutPool.is) ∙ c.requires) c.counts_put-in-PutPool.ensures))
+    counted_as c.args.counts.now c.counts_put-in-PutPool.result c.args.subject.now t c.args.c.now (PutPool c.in-PutPool.field-0 c.in-PutPool.field-1 c.in-PutPool.field-2) c.in-PutPool.is
+    (pool_put c.args.counts.now c.counts_put-in-PutPool.result c.args.subject.now t c.in-PutPool.field-0 c.in-PutPool.field-1 c.in-PutPool.field-2 (sym (ap is_sound c.in-PutPool.is) ∙ c.requires) c.counts_put-in-PutPool.ensures))
 
-pub returns-in-SetSite-clause-told : goal.returns-in-SetSite-clause-told
-returns-in-SetSite-clause-told g c = reads_none (λ t.
-    counted_as c.args.counts.now c.args.counts.now c.args.subject.now t c.args.c.now _ c.in-SetSite.is
-    (site_put c.args.counts.now c.args.counts.now c.args.subject.now t _ refl))
+pub returns-in-PutHub-clause-told : goal.returns-in-PutHub-clause-told
+returns-in-PutHub-clause-told g c = reads_none (λ t.
+    counted_as c.args.counts.now c.counts_put_hub.result c.args.subject.now t c.args.c.now (PutHub c.in-PutHub.field-0 c.in-PutHub.site) c.in-PutHub.is
+    (hub_put c.args.counts.now c.counts_put_hub.result c.args.subject.now t c.in-PutHub.field-0 c.in-PutHub.site c.counts_put_hub.ensures.fits c.counts_put_hub.ensures.put))
 
 pub returns-in-Show-clause-told : goal.returns-in-Show-clause-told
 returns-in-Show-clause-told g c = reads_none (λ t.

@@ -1,7 +1,7 @@
 use Rattle.std.proofs.Common.{sym, ◌∙◌}
 use Rattle.off_outside.proofs.KeeperLemmas.{reads_as}
 use Rattle.off_accounts.proofs.DecideLemmas.{refused_by, planned_by}
-use Rattle.off_accounts.proofs.CommandWalks.{tests_walk, drops_walk, counts_walk}
+use Rattle.off_accounts.proofs.CommandWalks.{few_spent, tests_walk, drops_walk, counts_walk}
 use Rattle.off_accounts.proofs.deciding.change.Goals as goal
 
 pub returns-in-Some-clause-told : goal.returns-in-Some-clause-told
@@ -38,3 +38,8 @@ pub returns-in_err-counts-clause-walks : goal.returns-in_err-counts-clause-walks
 returns-in_err-counts-clause-walks g c =
     counts_walk c.args.asked.now.counts c.args.asked.now.at c.in_ok-subject.subject c.args.c.now c.tests_of-tests.result c.tests_of-tests.ensures c.in_ok-subject.ensures.spent c.in_ok-subject.ensures.pool
     c.in_ok-rule.ensures.asks c.in_ok-rule.ensures.told c.in_ok-writes.ensures.walks c.in_err-counts.ensures.spent
+
+pub returns-clause-spent : goal.returns-clause-spent
+returns-clause-spent g c =
+    few_spent c.args.asked.now.counts c.args.asked.now.at c.in_ok-subject.subject c.args.c.now c.tests_of-tests.result c.tests_of-tests.ensures c.in_ok-subject.ensures.spent
+    c.in_ok-rule.ensures.spent c.in_ok-writes.ensures.spent c.in_ok-counts.ensures.spent

@@ -8,8 +8,8 @@ use Rattle.off_accounts.proofs.subject.subject_of.Goals as goal
 pub returns-in-PutSubscriber-clause-told : goal.returns-in-PutSubscriber-clause-told
 returns-in-PutSubscriber-clause-told g c =
     subst
-    (λ (v : Command). Looks c.at_key.result (g.K.Keeper.seen c.args.keeper.now) (g.K.Keeper.seen c.at_key.new.keeper) (λ subject t. StandsFor c.args.users.now t → IsSubject v subject t))
-    (sym c.in-PutSubscriber.is) c.at_key.ensures.told
+    (λ (v : Command). Looks c.at_key-in-PutSubscriber.result (g.K.Keeper.seen c.args.keeper.now) (g.K.Keeper.seen c.at_key-in-PutSubscriber.new.keeper) (λ subject t. StandsFor c.args.users.now t → IsSubject v subject t))
+    (sym c.in-PutSubscriber.is) c.at_key-in-PutSubscriber.ensures.told
 
 pub returns-in-PutClass-clause-told : goal.returns-in-PutClass-clause-told
 returns-in-PutClass-clause-told g c =
