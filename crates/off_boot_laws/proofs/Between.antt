@@ -12,7 +12,7 @@ use Rattle.off_defs.specs.Keys.{key_cmp}
 use Rattle.off_defs.specs.State.{Tables, State}
 use Rattle.off_defs.specs.Tables.{row_at}
 use Rattle.off_defs.proofs.TableLemmas.{same_key}
-use Rattle.off_account_rules.specs.Rows.{possible, as_site, as_modem, as_pool, hub_key, as_pool_hub, number_or_0}
+use Rattle.off_account_rules.specs.Rows.{possible, as_site, as_modem, as_pool, as_pool_hub, number_or_0}
 use Rattle.off_table_laws.proofs.Rows.{Rows, row_written, rows_after, all_written}
 use Rattle.off_book.specs.Run.{Turn, Run, effect_of}
 use Rattle.off_laws.proofs.StepLaws.{tables_by_commit}
@@ -38,8 +38,8 @@ row_stays P q leaves s last (turn ∷ turns) run all =
 
 pub rows_stay : RowsStay
 rows_stay s last turns mac number hub run all = record {
-  site = ap (λ (o : Option Row). option_and_then as_site (possible (hub_key hub) o))
-      (row_stays (LeavesModem mac number hub) (hub_key hub) (λ turn l. l.site) s last turns run all);
+  site = ap (λ (o : Option Row). option_and_then as_site (possible (key.Hub hub) o))
+      (row_stays (LeavesModem mac number hub) (key.Hub hub) (λ turn l. l.site) s last turns run all);
   pool_hub = ap (λ (o : Option Row). number_or_0 (option_and_then as_pool_hub (possible (key.PoolHub number) o)))
       (row_stays (LeavesModem mac number hub) (key.PoolHub number) (λ turn l. l.pool_hub) s last turns run all);
   modem = ap (λ (o : Option Row). option_and_then as_modem (possible (key.Modem mac) o))

@@ -30,7 +30,7 @@ served_by m pool (inr renews) =
 module _ (t : Tables) (good : Good t) (m : Received) (n : ℕ) (pool : Pool) (there : pool_in t n ≡ Some pool) (serving : serves m pool ≡ true) where
   listed : In (n, pool) (pools t)
   listed =
-      subst (In (n, pool)) (sym (pools_raw t (good_rows t good).possible)) (pool_in_raw t n pool (pool_row t n pool there))
+      subst (In (n, pool)) (sym (pools_raw t (good_rows t good.opens).possible)) (pool_in_raw t n pool (pool_row t n pool there))
 
   one_number : (k : ℕ) (other : Pool) → pool_in t k ≡ Some other → serves m other ≡ true → n ≡ k
   one_number k other is other_serves =
@@ -41,7 +41,7 @@ module _ (t : Tables) (good : Good t) (m : Received) (n : ℕ) (pool : Pool) (th
             (and_parts (is_renewal m) (has_address other (ip m.ciaddr)) q).1
         | false ↦ λ p q.
             elim (or_cases (eqb k n) (not (overlaps pool other) && not (eqb other.relay.0 pool.relay.0))
-            ((good_rows t good).apart n pool k other (pool_row t n pool there) (pool_row t k other is))) as (λ c. n ≡ k) [
+            ((good_rows t good.opens).apart n pool k other (pool_row t n pool there) (pool_row t k other is))) as (λ c. n ≡ k) [
               | inl same ↦ sym (eqb-true k n same)
               | inr apart ↦
                   let differ = not-true (eqb other.relay.0 pool.relay.0) (and_parts (not (overlaps pool other)) (not (eqb other.relay.0 pool.relay.0)) apart).1 in

@@ -8,7 +8,7 @@ use Rattle.off_defs.specs.declared.keys.Key.TheVariants as key
 use Rattle.off_defs.specs.declared.orders.Write.{Write}
 use Rattle.off_defs.specs.declared.orders.Write.TheVariants.{Put, Drop}
 use Rattle.off_defs.specs.State.{Tables, State}
-use Rattle.off_account_rules.specs.Rows.{hub_key, hub_in, pool_hub_in, modem_in, pool_in}
+use Rattle.off_account_rules.specs.Rows.{hub_in, pool_hub_in, modem_in, pool_in}
 use Rattle.off_book.specs.Run.{Turn, Run}
 
 abbrev pub key_written : Write → Key
@@ -20,7 +20,7 @@ LeavesRow key turn = AllByRecursion (λ write. key_written write ≢ key) turn.c
 
 -- what is read of a modem, of the pool with a number, and of a hub
 pub record LeavesModem (mac : Mac) (number hub : ℕ) (turn : Turn) : Type 0 where
-  pub site : LeavesRow (hub_key hub) turn
+  pub site : LeavesRow (key.Hub hub) turn
   pub pool_hub : LeavesRow (key.PoolHub number) turn
   pub modem : LeavesRow (key.Modem mac) turn
   pub pool : LeavesRow (key.Pool number) turn

@@ -41,7 +41,8 @@ pub fn most_turns_do_not_serve_a_modem()
     ensures { MostDoNotServe }
 {}
 
-/// Rows that no commit writes are read as before: the site's, the modem's and its pool's.
+/// Rows that no commit writes are read as before: the modem's, its pool's, the one that names the
+/// pool's hub, and the hub's.
 pub fn rows_that_are_left_stay()
     ensures { RowsStay }
 {}

@@ -17,11 +17,10 @@ use Rattle.off_defs.specs.State.{Tables}
 use Rattle.off_defs.specs.Tables.{row_at, with_row}
 use Rattle.off_defs.proofs.TableLemmas.{same_key, same_tables, row_with, row_with_here}
 use Rattle.off_dhcp.specs.Datagram.{Received}
-use Rattle.off_account_rules.specs.Rows.{possible, class_is_good, as_site, as_subscriber, as_add_on, as_modem, as_class, as_lease, as_held, hub_in, pool_hub_in, hub_of, site_of, subscriber_in, add_on_in, modem_in, class_in, lease_in, held_in, pool_of, pools, has_address}
+use Rattle.off_account_rules.specs.Rows.{possible, class_is_good, as_site, as_subscriber, as_add_on, as_modem, as_class, as_lease, as_held, as_pool_hub, number_or_0, hub_in, pool_hub_in, hub_of, site_of, subscriber_in, add_on_in, modem_in, class_in, lease_in, held_in, pool_of, pools, has_address}
 use Rattle.off_table_laws.proofs.ListLemmas.{In, some_found, in_made}
 use Rattle.off_table_laws.proofs.EntryRows.{row_in}
 use Rattle.off_table_laws.proofs.Reading.{pool_row}
-use Rattle.off_table_laws.proofs.TableLaws.{no_hub_named}
 use Rattle.off_asking.specs.Asking.{asks, claimed}
 use Rattle.off_asking.specs.Choice.{serves}
 use Rattle.off_lease_rules.specs.Free.{numbered_pool_for, pool_for, site_for}
@@ -144,8 +143,9 @@ lease_there t (suc k) j first within =
 -- ---- the rows that stand for a modem, whatever leases there are
 
 pub record HasRows (t : Tables) (i : ℕ) : Type 0 where
-  pub site_row : row_at t key.Site ≡ Some (row.Site site)
+  pub hub_row : row_at t (key.Hub 0) ≡ Some (row.Site site)
   pub class_row : row_at t (key.Class 1) ≡ Some (row.Class class)
+  pub no_pool_hub : (m : ℕ) → row_at t (key.PoolHub m) ≡ None
   pub pool_rows : (m : ℕ) → row_at t (key.Pool m) ≡ cond (eq_by_cmp key_cmp (key.Pool m) (key.Pool 1)) (Some (row.Pool pool)) None
   pub no_add_on : (k : ℕ) → row_at t (key.AddOn i k) ≡ None
   pub modem_row : row_at t (key.Modem (mac i)) ≡ Some (row.Modem (modem i))
@@ -153,8 +153,9 @@ pub record HasRows (t : Tables) (i : ℕ) : Type 0 where
 
 pub with_lease : (t : Tables) (i : ℕ) (a : Ip4) (new : Row) → HasRows t i → HasRows (with_row t (key.Lease a) new) i
 with_lease t i a new h = record {
-  site_row = row_with t (key.Lease a) new key.Site ∙ h.site_row;
+  hub_row = row_with t (key.Lease a) new (key.Hub 0) ∙ h.hub_row;
   class_row = row_with t (key.Lease a) new (key.Class 1) ∙ h.class_row;
+  no_pool_hub = λ m. row_with t (key.Lease a) new (key.PoolHub m) ∙ h.no_pool_hub m;
   pool_rows = λ m. row_with t (key.Lease a) new (key.Pool m) ∙ h.pool_rows m;
   no_add_on = λ k. row_with t (key.Lease a) new (key.AddOn i k) ∙ h.no_add_on k;
   modem_row = row_with t (key.Lease a) new (key.Modem (mac i)) ∙ h.modem_row;
@@ -163,35 +164,36 @@ with_lease t i a new h = record {
 
 pub with_held : (t : Tables) (i : ℕ) (m : Mac) (new : Row) → HasRows t i → HasRows (with_row t (key.Held m) new) i
 with_held t i m new h = record {
-  site_row = row_with t (key.Held m) new key.Site ∙ h.site_row;
+  hub_row = row_with t (key.Held m) new (key.Hub 0) ∙ h.hub_row;
   class_row = row_with t (key.Held m) new (key.Class 1) ∙ h.class_row;
+  no_pool_hub = λ n. row_with t (key.Held m) new (key.PoolHub n) ∙ h.no_pool_hub n;
   pool_rows = λ n. row_with t (key.Held m) new (key.Pool n) ∙ h.pool_rows n;
   no_add_on = λ k. row_with t (key.Held m) new (key.AddOn i k) ∙ h.no_add_on k;
   modem_row = row_with t (key.Held m) new (key.Modem (mac i)) ∙ h.modem_row;
   subscriber_row = row_with t (key.Held m) new (key.Subscriber i) ∙ h.subscriber_row;
 }
 
-founded_site : row_at founded key.Site ≡ Some (row.Site site)
-founded_site =
-    row_with (with_row (with_row map.empty key.Site (row.Site site)) (key.Class 1) (row.Class class)) (key.Pool 1) (row.Pool pool) key.Site
-    ∙ row_with (with_row map.empty key.Site (row.Site site)) (key.Class 1) (row.Class class) key.Site
-    ∙ row_with_here map.empty key.Site (row.Site site)
+founded_hub : row_at founded (key.Hub 0) ≡ Some (row.Site site)
+founded_hub =
+    row_with (with_row (with_row map.empty (key.Hub 0) (row.Site site)) (key.Class 1) (row.Class class)) (key.Pool 1) (row.Pool pool) (key.Hub 0)
+    ∙ row_with (with_row map.empty (key.Hub 0) (row.Site site)) (key.Class 1) (row.Class class) (key.Hub 0)
+    ∙ row_with_here map.empty (key.Hub 0) (row.Site site)
 
 founded_class : row_at founded (key.Class 1) ≡ Some (row.Class class)
 founded_class =
-    row_with (with_row (with_row map.empty key.Site (row.Site site)) (key.Class 1) (row.Class class)) (key.Pool 1) (row.Pool pool) (key.Class 1)
-    ∙ row_with_here (with_row map.empty key.Site (row.Site site)) (key.Class 1) (row.Class class)
+    row_with (with_row (with_row map.empty (key.Hub 0) (row.Site site)) (key.Class 1) (row.Class class)) (key.Pool 1) (row.Pool pool) (key.Class 1)
+    ∙ row_with_here (with_row map.empty (key.Hub 0) (row.Site site)) (key.Class 1) (row.Class class)
 
 -- a key of another kind has no row
-module _ (q : Key) (no_site : eq_by_cmp key_cmp q key.Site ≡ false) (no_class : eq_by_cmp key_cmp q (key.Class 1) ≡ false) where
+module _ (q : Key) (no_hub : eq_by_cmp key_cmp q (key.Hub 0) ≡ false) (no_class : eq_by_cmp key_cmp q (key.Class 1) ≡ false) where
   founded_other : row_at founded q ≡ cond (eq_by_cmp key_cmp q (key.Pool 1)) (Some (row.Pool pool)) None
   founded_other =
-      row_with (with_row (with_row map.empty key.Site (row.Site site)) (key.Class 1) (row.Class class)) (key.Pool 1) (row.Pool pool) q
+      row_with (with_row (with_row map.empty (key.Hub 0) (row.Site site)) (key.Class 1) (row.Class class)) (key.Pool 1) (row.Pool pool) q
       ∙ ap (λ o. cond (eq_by_cmp key_cmp q (key.Pool 1)) (Some (row.Pool pool)) o)
-      (row_with (with_row map.empty key.Site (row.Site site)) (key.Class 1) (row.Class class) q
-      ∙ ap (λ b. cond b (Some (row.Class class)) (row_at (with_row map.empty key.Site (row.Site site)) q)) no_class
-      ∙ row_with map.empty key.Site (row.Site site) q
-      ∙ ap (λ b. cond b (Some (row.Site site)) (row_at map.empty q)) no_site
+      (row_with (with_row map.empty (key.Hub 0) (row.Site site)) (key.Class 1) (row.Class class) q
+      ∙ ap (λ b. cond b (Some (row.Class class)) (row_at (with_row map.empty (key.Hub 0) (row.Site site)) q)) no_class
+      ∙ row_with map.empty (key.Hub 0) (row.Site site) q
+      ∙ ap (λ b. cond b (Some (row.Site site)) (row_at map.empty q)) no_hub
       ∙ map.get-empty key_cmp q)
 
 leased_rows : (t : Tables) (k i : ℕ) → HasRows t i → HasRows (leased t k) i
@@ -202,8 +204,9 @@ leased_rows t (suc k) i h =
 
 peopled_rows : (n i : ℕ) → n < 65536 → 1 ≤ i → i ≤ n → HasRows (peopled n) i
 peopled_rows n i few first within = record {
-  site_row = other_peopled key.Site (λ _. refl) (λ _. refl) n ∙ founded_site;
+  hub_row = other_peopled (key.Hub 0) (λ _. refl) (λ _. refl) n ∙ founded_hub;
   class_row = other_peopled (key.Class 1) (λ _. refl) (λ _. refl) n ∙ founded_class;
+  no_pool_hub = λ m. other_peopled (key.PoolHub m) (λ _. refl) (λ _. refl) n ∙ founded_other (key.PoolHub m) refl refl;
   pool_rows = λ m. other_peopled (key.Pool m) (λ _. refl) (λ _. refl) n ∙ founded_other (key.Pool m) refl refl;
   no_add_on = λ k. other_peopled (key.AddOn i k) (λ _. refl) (λ _. refl) n ∙ founded_other (key.AddOn i k) refl refl;
   modem_row = modem_there n i few first within;
@@ -278,11 +281,14 @@ address_within i first few =
 
 module _ (t : Tables) (i : ℕ) (h : HasRows t i) where
   hub_read : hub_in t 0 ≡ Some site
-  hub_read = ap (λ o. option_and_then as_site (possible key.Site o)) h.site_row
+  hub_read = ap (λ o. option_and_then as_site (possible (key.Hub 0) o)) h.hub_row
 
-  -- the site of each pool's hub
+  -- the site of each pool's hub: no pool names one
+  pool_hub_read : (n : ℕ) → pool_hub_in t n ≡ 0
+  pool_hub_read n = ap (λ o. number_or_0 (option_and_then as_pool_hub (possible (key.PoolHub n) o))) (h.no_pool_hub n)
+
   pub pool_site : (n : ℕ) → hub_in t (pool_hub_in t n) ≡ Some site
-  pool_site n = ap (hub_in t) (no_hub_named t n) ∙ hub_read
+  pool_site n = ap (hub_in t) (pool_hub_read n) ∙ hub_read
 
   pub modem_read : modem_in t (mac i) ≡ Some (modem i)
   modem_read = ap (λ o. option_and_then as_modem (possible (key.Modem (mac i)) o)) h.modem_row

@@ -95,7 +95,7 @@ lease i = record { hold = Bound (mac i); expiry = record { 0 = moment i + lease_
 
 -- an office without modems, as it is founded row by row, and with so many
 abbrev pub with_site : Tables
-with_site = with_row map.empty key.Site (row.Site site)
+with_site = with_row map.empty (key.Hub 0) (row.Site site)
 
 abbrev pub with_class : Tables
 with_class = with_row with_site (key.Class 1) (row.Class class)

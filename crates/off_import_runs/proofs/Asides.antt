@@ -1,14 +1,15 @@
 -- What writes no batch: messages of clients, and each command of a clerk but an import.
-use Rattle.std.proofs.Common.{◌≡◌, ℕ, Bool, true, false, ◌&&◌, Option, None, Some, List, [], ◌∷◌, ◌++◌, Result, Ok, Err, refl, ap, ◌∙◌, arith}
+use Rattle.std.proofs.Common.{◌≡◌, ℕ, Bool, true, false, cond, ◌&&◌, eqb, Option, None, Some, List, [], ◌∷◌, ◌++◌, Result, Ok, Err, refl, ap, ◌∙◌, arith}
 use Rattle.std.proofs.lemmas.Bool.{and_parts}
 use Rattle.std.specs.List.{list_all, flat_map}
 use Rattle.off_base.specs.declared.addresses.Ip4.{Ip4}
 use Rattle.off_base.specs.declared.macs.Mac.{Mac}
 use Rattle.off_defs.specs.declared.keys.Key.{Key}
 use Rattle.off_defs.specs.declared.keys.Key.TheVariants as key
+use Rattle.off_defs.specs.declared.tables.Row.TheVariants as row
 use Rattle.off_defs.specs.declared.tables.Lease.{Lease}
 use Rattle.off_defs.specs.declared.orders.Command.{Command}
-use Rattle.off_defs.specs.declared.orders.Command.TheVariants.{SetSite, PutSubscriber, PutAddOn, PutModem, PutClass, PutPool, Remove, Show, Import}
+use Rattle.off_defs.specs.declared.orders.Command.TheVariants.{PutHub, PutSubscriber, PutAddOn, PutModem, PutClass, PutPool, Remove, Show, Import}
 use Rattle.off_defs.specs.declared.orders.ImportRow.{ImportRow}
 use Rattle.off_defs.specs.declared.orders.ImportRow.TheVariants as imported
 use Rattle.off_defs.specs.declared.orders.Write.{Write}
@@ -18,7 +19,7 @@ use Rattle.off_dhcp.specs.declared.faults.DhcpFault.{DhcpFault}
 use Rattle.off_dhcp.specs.Datagram.{Received, message_of}
 use Rattle.off_rows.specs.Sound.{is_sound, is_removable}
 use Rattle.off_account_rules.specs.Good.{owner_of}
-use Rattle.off_account_rules.specs.Clerk.{held_drop, lease_drops, lost_leases, removal_writes, writes_of, row_writes}
+use Rattle.off_account_rules.specs.Clerk.{held_drop, lease_drops, lost_leases, pool_hub_write, removal_writes, writes_of, row_writes}
 use Rattle.off_table_laws.proofs.Rows.{Rows, row_written, rows_after}
 use Rattle.off_lease_rules.specs.Steps.{step_of, dhcp_step}
 use Rattle.off_lease_laws.proofs.KindLemmas.{is_lease_write, kinds}
@@ -116,6 +117,15 @@ drops_aside : (es : List (Ip4 × Lease)) → AreAside (flat_map lease_drops es)
 drops_aside [] = refl
 drops_aside (e ∷ es) = aside_both (lease_drops e) (flat_map lease_drops es) (drop_aside e.0 (owner_of e.1.hold)) (drops_aside es)
 
+-- so does a pool with its hub, put or dropped
+pool_aside : (n hub : ℕ) (writes : List Write) → AreAside writes → AreAside (pool_hub_write n hub ∷ writes)
+unfolding is_aside
+pool_aside n hub writes aside =
+    elim (eqb hub 0) as (λ b. AreAside (cond b (Drop (key.PoolHub n)) (Put (key.PoolHub n) (row.PoolHub hub)) ∷ writes)) [
+      | true ↦ aside
+      | false ↦ aside
+    ]
+
 removal_aside : (t : Tables) (removed : Key) → is_removable removed ≡ true → AreAside (removal_writes t removed)
 unfolding is_aside
 removal_aside t (key.Subscriber n) sound = refl
@@ -123,16 +133,17 @@ removal_aside t (key.AddOn n k) sound = refl
 removal_aside t (key.Modem mac) sound = refl
 removal_aside t (key.Class n) sound = refl
 removal_aside t (key.Pool n) sound = drops_aside (lost_leases t n None)
+removal_aside t (key.Hub n) sound = refl
 removal_aside t removed sound = cc
 
 pub command_aside : (t : Tables) (command : Command) → is_sound command ≡ true → AreAside (writes_of t command)
 unfolding is_aside
-command_aside t (SetSite site) sound = refl
+command_aside t (PutHub n site) sound = refl
 command_aside t (PutSubscriber n subscriber) sound = refl
 command_aside t (PutAddOn n number settings) sound = refl
 command_aside t (PutModem mac modem) sound = refl
 command_aside t (PutClass n class) sound = refl
-command_aside t (PutPool n pool) sound = drops_aside (lost_leases t n (Some pool))
+command_aside t (PutPool n pool hub) sound = pool_aside n hub (flat_map lease_drops (lost_leases t n (Some pool))) (drops_aside (lost_leases t n (Some pool)))
 command_aside t (Remove removed) sound = removal_aside t removed sound
 command_aside t (Show shown) sound = refl
 command_aside t (Import kind batch digest rows) sound = refl

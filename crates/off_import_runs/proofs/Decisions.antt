@@ -3,14 +3,13 @@ use Rattle.std.proofs.Common.{◌≡◌, ◌⊎◌, ℕ, ◌+◌, Bool, true, fa
 use Rattle.std.proofs.lemmas.Bool.{false_from_ne_true, eqb-true, eq-eqb}
 use Rattle.std.specs.Ordering.{eq_by_cmp}
 use Rattle.off_base.specs.Choices.{first_there}
-use Rattle.off_defs.specs.declared.keys.Key.{Key}
 use Rattle.off_defs.specs.declared.keys.Key.TheVariants as key
 use Rattle.off_defs.specs.declared.tables.Row.{Row}
 use Rattle.off_defs.specs.declared.tables.Row.TheVariants as row
 use Rattle.off_defs.specs.declared.tables.Batch.{Batch}
 use Rattle.off_defs.specs.declared.tables.ImportKind.{ImportKind}
 use Rattle.off_defs.specs.declared.orders.Command.{Command}
-use Rattle.off_defs.specs.declared.orders.Command.TheVariants.{SetSite, PutSubscriber, PutAddOn, PutModem, PutClass, PutPool, Remove, Show, Import}
+use Rattle.off_defs.specs.declared.orders.Command.TheVariants.{PutHub, PutSubscriber, PutAddOn, PutModem, PutClass, PutPool, Remove, Show, Import}
 use Rattle.off_defs.specs.declared.orders.ImportRow.{ImportRow}
 use Rattle.off_defs.specs.declared.orders.Kind.TheVariants.{Batches}
 use Rattle.off_defs.specs.declared.orders.Reply.{Reply}
@@ -19,14 +18,12 @@ use Rattle.off_defs.specs.declared.orders.Write.{Write}
 use Rattle.off_defs.specs.declared.orders.Write.TheVariants.{Put}
 use Rattle.off_defs.specs.declared.rules.Rule.{Rule}
 use Rattle.off_defs.specs.Keys.{key_cmp}
-use Rattle.off_defs.specs.declared.shown.ShownRow.{ShownRow}
-use Rattle.off_defs.specs.Shown.{shown_row}
 use Rattle.off_defs.specs.State.{Tables}
 use Rattle.off_defs.specs.Tables.{row_at, write_all}
 use Rattle.off_defs.proofs.TableLemmas.{same_key, own_key}
 use Rattle.off_rows.specs.Sound.{is_sound}
 use Rattle.off_account_rules.specs.Rows.{possible, seen_at, as_batch, batch_in}
-use Rattle.off_account_rules.specs.Clerk.{Refusal, Decision, Accepted, accepted, by_rule, shown, limit, rules_of, writes_of, row_writes, row_breaks, then_writes, unless_broken, rows_written, batch_row, imported_as, import_decided, decided}
+use Rattle.off_account_rules.specs.Clerk.{Refusal, Decision, Accepted, accepted, by_rule, shown_as, shown, limit, rules_of, writes_of, row_writes, row_breaks, then_writes, unless_broken, rows_written, batch_row, imported_as, import_decided, decided}
 use Rattle.off_table_laws.proofs.Rows as rows
 use Rattle.off_table_laws.proofs.Rows.{rows_after, all_written}
 use Rattle.off_table_laws.proofs.LostLeases.{rows_append}
@@ -133,9 +130,9 @@ module _ (n : ℕ) where
     ruled_aside : is_sound command ≡ true → DecisionFate (by_rule 0 (accepted (writes_of t command) Done) (first_there (rules_of t now command)))
     ruled_aside sound = ruled (writes_of t command) Done (first_there (rules_of t now command)) (aside_fate (writes_of t command) (command_aside t command sound))
 
-    shown_fate : (q : Key) (o : Option ShownRow) → DecisionFate (shown q o)
-    shown_fate q None = tt
-    shown_fate q (Some held) = aside_fate [] refl
+    shown_fate : (o : Option Reply) → DecisionFate (shown o)
+    shown_fate None = tt
+    shown_fate (Some reply) = aside_fate [] refl
 
   -- an import: its rows put no batch, and its last write puts its own
   module _ (t : Tables) (now : ℕ) (kind : ImportKind) (batch : ℕ) (digest : List ℕ) (read : List ImportRow) where
@@ -162,12 +159,12 @@ module _ (n : ℕ) where
     import_fate None is = imported_fate (rows_written t now 1 read) (rows_aside now read t 1) is
 
   pub command_fate : (t : Tables) (now : ℕ) (command : Command) → is_sound command ≡ true → DecisionFate t now command (decided t now command)
-  command_fate t now (Show q) sound = shown_fate t now (Show q) q (option_and_then shown_row (seen_at t q))
+  command_fate t now (Show q) sound = shown_fate t now (Show q) (option_and_then (shown_as t q) (seen_at t q))
   command_fate t now (Import kind batch digest read) sound = import_fate t now kind batch digest read (batch_in t batch) refl
-  command_fate t now (SetSite site) sound = ruled_aside t now (SetSite site) sound
+  command_fate t now (PutHub m site) sound = ruled_aside t now (PutHub m site) sound
   command_fate t now (PutSubscriber m subscriber) sound = ruled_aside t now (PutSubscriber m subscriber) sound
   command_fate t now (PutAddOn m number settings) sound = ruled_aside t now (PutAddOn m number settings) sound
   command_fate t now (PutModem mac modem) sound = ruled_aside t now (PutModem mac modem) sound
   command_fate t now (PutClass m class) sound = ruled_aside t now (PutClass m class) sound
-  command_fate t now (PutPool m pool) sound = ruled_aside t now (PutPool m pool) sound
+  command_fate t now (PutPool m pool hub) sound = ruled_aside t now (PutPool m pool hub) sound
   command_fate t now (Remove removed) sound = ruled_aside t now (Remove removed) sound

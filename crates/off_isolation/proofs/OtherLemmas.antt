@@ -33,7 +33,7 @@ use Rattle.off_packets.specs.Packets.{Meant, Reads, Writes, Acknowledges, GivesU
 use Rattle.off_packets.specs.declared.packets.Options.{Options}
 use Rattle.off_transfer_rules.specs.declared.words.TftpWord.TheVariants.{Oack, Block}
 use Rattle.off_transfer_rules.specs.View.{View, view, holder, agrees}
-use Rattle.off_transfer_rules.specs.Transfers.{Transfers, has_no_room, first_word, is_at_last, packet_to}
+use Rattle.off_transfer_rules.specs.Transfers.{Transfers, has_no_room, is_at_last, packet_to}
 use Rattle.off_transfer_rules.specs.Steps.{Way, Denies, Repeats, Accepts, Ignores, Finishes, BreaksOff, GoesOn, Leaves, file_not_found, too_many_transfers, is_repeated, has_file, way_for_modem, way_for_holder, way_anew, way_of_last, way_of, way, Given, error_to, GivesBy, TftpStep}
 use Rattle.off_transfer_rules.specs.Words.{tftp_line}
 use Rattle.off_packets.specs.declared.faults.PacketFault.{PacketFault}

@@ -14,7 +14,7 @@ use Rattle.off_defs.specs.declared.tables.ImportKind.{ImportKind}
 use Rattle.off_defs.specs.declared.tables.Lease.{Lease}
 use Rattle.off_defs.specs.declared.tables.Pool.{Pool}
 use Rattle.off_defs.specs.declared.orders.Command.{Command}
-use Rattle.off_defs.specs.declared.orders.Command.TheVariants.{SetSite, PutSubscriber, PutAddOn, PutModem, PutClass, PutPool, Remove, Show, Import}
+use Rattle.off_defs.specs.declared.orders.Command.TheVariants.{PutHub, PutSubscriber, PutAddOn, PutModem, PutClass, PutPool, Remove, Show, Import}
 use Rattle.off_defs.specs.declared.orders.ImportRow.{ImportRow}
 use Rattle.off_defs.specs.declared.orders.ImportRow.TheVariants as imported
 use Rattle.off_defs.specs.declared.orders.Reply.{Reply}
@@ -23,21 +23,20 @@ use Rattle.off_defs.specs.declared.orders.Write.{Write}
 use Rattle.off_defs.specs.declared.orders.Write.TheVariants.{Put}
 use Rattle.off_defs.specs.declared.orders.Kind.TheVariants.{Batches}
 use Rattle.off_defs.specs.declared.rules.Rule.{Rule}
-use Rattle.off_defs.specs.declared.shown.ShownRow.{ShownRow}
-use Rattle.off_defs.specs.Shown.{shown_row}
 use Rattle.off_defs.specs.State.{Tables}
 use Rattle.off_defs.specs.Tables.{row_at, write_all}
 use Rattle.off_rows.specs.Sound.{is_sound, is_removable}
 use Rattle.off_account_rules.specs.Rows.{possible, seen_at, as_lease, lease_in, pool_in, batch_in, leases}
-use Rattle.off_account_rules.specs.Clerk.{Refusal, Decision, Accepted, accepted, by_rule, shown, limit, rules_of, removal_rules, writes_of, removal_writes, gives_up, lost_leases, is_live, lease_drops, pool_has_leases, row_writes, row_breaks, then_writes, unless_broken, rows_written, batch_row, imported_as, import_decided, decided, stepped_by, clerk_step}
+use Rattle.off_account_rules.specs.Clerk.{Refusal, Decision, Accepted, accepted, by_rule, shown_as, shown, limit, rules_of, removal_rules, writes_of, removal_writes, gives_up, lost_leases, is_live, lease_drops, pool_has_leases, row_writes, row_breaks, then_writes, unless_broken, rows_written, batch_row, imported_as, import_decided, decided, stepped_by, clerk_step}
 use Rattle.off_table_laws.proofs.ListLemmas.{none_found, in_kept}
 use Rattle.off_table_laws.proofs.Rows as rows
 use Rattle.off_table_laws.proofs.Rows.{rows_after, all_written}
 use Rattle.off_table_laws.proofs.GoodRows.{GoodRows}
 use Rattle.off_table_laws.proofs.Judging.{good_rows}
-use Rattle.off_table_laws.proofs.PoolLemmas.{set_pool}
+use Rattle.off_table_laws.proofs.PoolLemmas.{set_pool, set_both}
 use Rattle.off_table_laws.proofs.LostLeases.{rows_append, lease_in_all, lost_left}
 use Rattle.off_table_laws.proofs.Reading.{lease_row}
+use Rattle.off_table_laws.proofs.ClerkSteps.{hub_written}
 use Rattle.off_lease_rules.specs.Free.{has_ended}
 use Rattle.off_laws.specs.Leases.{StaysOrWasOver, CommandsDropEnded, CommandsKeepLive, ImportsKeepLeases}
 
@@ -146,10 +145,10 @@ module _ (address : Ip4) where
         let ended : nat_lt now lease.expiry.0 ≡ false = none_found (is_live now) (lost_leases t n new) (not_mapped _ _ none) (address, lease) inside in
         le-leb lease.expiry.0 now (ltb-false now lease.expiry.0 ended)
 
-    pool_fate : (n : ℕ) (new : Option Pool) → pool_has_leases t now n new ≡ None
-        → Fate (rows_after (set_pool (row_at t) n new) (flat_map lease_drops (lost_leases t n new)) (key.Lease address))
-    pool_fate n new none =
-        subst (λ (all : rows.Rows). Fate (all (key.Lease address))) (sym (lost_left t g n new))
+    pool_fate : (n : ℕ) (new : Option Pool) (hub : ℕ) → pool_has_leases t now n new ≡ None
+        → Fate (rows_after (set_both (row_at t) n new hub) (flat_map lease_drops (lost_leases t n new)) (key.Lease address))
+    pool_fate n new hub none =
+        subst (λ (all : rows.Rows). Fate (all (key.Lease address))) (sym (lost_left t g n new hub))
         (elim (gives_up (pool_in t n) new address) as (λ b. gives_up (pool_in t n) new address ≡ b → Fate (cond b None (row_at t (key.Lease address)))) [
           | true ↦ λ lost. inr (over n new none lost (lease_in t address) refl, refl)
           | false ↦ λ stays. inl refl
@@ -161,27 +160,31 @@ module _ (address : Ip4) where
     removal_fate (key.AddOn n k) sound whole = inl refl
     removal_fate (key.Modem mac) sound whole = inl refl
     removal_fate (key.Class n) sound whole = inl refl
-    removal_fate (key.Pool n) sound whole = pool_fate n None (none_broken (removal_rules t now (key.Pool n)) whole).1.0
+    removal_fate (key.Pool n) sound whole = pool_fate n None 0 (none_broken (removal_rules t now (key.Pool n)) whole).1.0
+    removal_fate (key.Hub n) sound whole = inl refl
     removal_fate removed sound whole = cc
 
-    shown_leaves : (q : Key) (o : Option ShownRow) → IfOk (shown q o) (λ (done : Accepted). Leaves (row_at t) done.writes)
-    shown_leaves q None = tt
-    shown_leaves q (Some held) = refl
+    shown_leaves : (o : Option Reply) → IfOk (shown o) (λ (done : Accepted). Leaves (row_at t) done.writes)
+    shown_leaves None = tt
+    shown_leaves (Some reply) = refl
 
     command_fate : (command : Command) → is_sound command ≡ true → DecisionFate (decided t now command)
-    command_fate (Show q) sound = let o : Option ShownRow = option_and_then shown_row (seen_at t q) in stays_so (shown q o) (shown_leaves q o)
+    command_fate (Show q) sound = let o : Option Reply = option_and_then (shown_as t q) (seen_at t q) in stays_so (shown o) (shown_leaves o)
     command_fate (Import kind batch digest read) sound =
         stays_so (import_decided t now kind batch digest read (batch_in t batch)) (import_leaves t now kind batch digest read (batch_in t batch))
-    command_fate (SetSite site) sound = ruled_fate (writes_of t (SetSite site)) Done (first_there (rules_of t now (SetSite site))) (λ _. inl refl)
+    command_fate (PutHub n site) sound = ruled_fate (writes_of t (PutHub n site)) Done (first_there (rules_of t now (PutHub n site))) (λ _. inl refl)
     command_fate (PutSubscriber n subscriber) sound =
         ruled_fate (writes_of t (PutSubscriber n subscriber)) Done (first_there (rules_of t now (PutSubscriber n subscriber))) (λ _. inl refl)
     command_fate (PutAddOn n number settings) sound =
         ruled_fate (writes_of t (PutAddOn n number settings)) Done (first_there (rules_of t now (PutAddOn n number settings))) (λ _. inl refl)
     command_fate (PutModem mac modem) sound = ruled_fate (writes_of t (PutModem mac modem)) Done (first_there (rules_of t now (PutModem mac modem))) (λ _. inl refl)
     command_fate (PutClass n class) sound = ruled_fate (writes_of t (PutClass n class)) Done (first_there (rules_of t now (PutClass n class))) (λ _. inl refl)
-    command_fate (PutPool n pool) sound =
-        ruled_fate (writes_of t (PutPool n pool)) Done (first_there (rules_of t now (PutPool n pool)))
-        (λ whole. pool_fate n (Some pool) (none_broken (rules_of t now (PutPool n pool)) whole).1.1.1.0)
+    command_fate (PutPool n pool hub) sound =
+        ruled_fate (writes_of t (PutPool n pool hub)) Done (first_there (rules_of t now (PutPool n pool hub)))
+        (λ whole.
+        subst (λ (all : rows.Rows). Fate (rows_after all (flat_map lease_drops (lost_leases t n (Some pool))) (key.Lease address)))
+        (sym (hub_written (set_pool (row_at t) n (Some pool)) n hub))
+        (pool_fate n (Some pool) hub (none_broken (rules_of t now (PutPool n pool hub)) whole).1.1.1.1.0))
     command_fate (Remove removed) sound =
         ruled_fate (writes_of t (Remove removed)) Done (first_there (rules_of t now (Remove removed))) (removal_fate removed sound)
 
@@ -192,7 +195,7 @@ module _ (address : Ip4) where
 pub commands_drop_ended : CommandsDropEnded
 unfolding clerk_step
 commands_drop_ended t now command address good sound =
-    let g = good_rows t good in
+    let g = good_rows t good.opens in
     read_fate address t g now _ (decision_fate address t g now (decided t now command) (command_fate address t g now command sound))
 
 lives_on : (now : ℕ) (lease : Lease) (old new : Option Lease) → old ≡ Some lease → now < lease.expiry.0 → StaysOrWasOver now old new → new ≡ Some lease

@@ -6,7 +6,7 @@ use Rattle.off_defs.specs.declared.keys.Key.TheVariants as key
 use Rattle.off_defs.specs.declared.tables.ImportKind.TheVariants.{Subscribers, Modems}
 use Rattle.off_clerk_rules.specs.declared.places.Place.{Place}
 use Rattle.off_clerk_rules.specs.declared.places.Place.TheVariants as at
-use Rattle.off_clerk_rules.specs.Paths.{length_before, last_number, mac_with, ip_with, add_on_named, site_at, subscriber_at, add_on_at, modem_at, class_at, pool_at, lease_at, subscribers_at, modems_at, place_at, only_shown, kept, removable, IsNamed}
+use Rattle.off_clerk_rules.specs.Paths.{length_before, last_number, mac_with, ip_with, add_on_named, site_at, hub_at, subscriber_at, add_on_at, modem_at, class_at, pool_at, lease_at, subscribers_at, modems_at, place_at, only_shown, kept, removable, IsNamed}
 use Rattle.off_clerk_rules.proofs.PathLemmas.{NamesOne, either_named}
 
 within_if : (text : Bool) (n most : ℕ) (b : Bool) → nat_le n most ≡ b → IfSome (cond (text && b) (Some n) None) (λ (m : ℕ). nat_le m most ≡ true)
@@ -28,8 +28,8 @@ of_read : {A : Type 0} (read : Option A) (make : A → Place) → ((x : A) → I
 of_read (Some x) make all = all x
 of_read None make all = tt
 
-site_shown : (begins : Bool) → NamesOne (cond begins (Some (kept key.Site)) None)
-site_shown true = (refl, λ h. h)
+site_shown : (begins : Bool) → NamesOne (cond begins (Some (kept (key.Hub 0))) None)
+site_shown true = (refl, λ _. refl)
 site_shown false = tt
 
 add_on_shown : (owner number : Option ℕ) → IfSome number (λ (n : ℕ). nat_le n 7 ≡ true)
@@ -54,7 +54,9 @@ path_named path =
     (either_named _ (class_at path) _ refl
     (either_named _ (modem_at path) _ refl
     (either_named _ (add_on_at path) _ refl
-    (either_named (site_at path) (subscriber_at path) _ refl (site_shown _) (if_begins _ _ (of_read (number_read last_number _) (λ n. removable (key.Subscriber n)) (λ n. (refl, λ _. refl)))))
+    (either_named _ (subscriber_at path) _ refl
+    (either_named (site_at path) (hub_at path) _ refl (site_shown _) (if_begins _ _ (of_read (number_read last_number _) (λ n. removable (key.Hub n)) (λ n. (refl, λ _. refl)))))
+    (if_begins _ _ (of_read (number_read last_number _) (λ n. removable (key.Subscriber n)) (λ n. (refl, λ _. refl)))))
     (if_begins _ _ (named_shown (drop (length (codes "/subscribers/")) path))))
     (if_begins _ _ (of_read (mac_of _) (λ bytes. removable (key.Modem (mac_with bytes))) (λ bytes. (refl, λ _. refl)))))
     (if_begins _ _ (of_read (number_read last_number _) (λ n. removable (key.Class n)) (λ n. (refl, λ _. refl)))))

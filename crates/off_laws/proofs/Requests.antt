@@ -4,15 +4,16 @@ use Rattle.std.specs.Prelude.{bytes_eq}
 use Rattle.serde_json.specs.Data.{Data}
 use Rattle.off_defs.specs.declared.keys.Key.{Key}
 use Rattle.off_defs.specs.declared.keys.Key.TheVariants as key
+use Rattle.off_defs.specs.declared.tables.Pool.{Pool}
 use Rattle.off_defs.specs.declared.tables.ImportKind.{ImportKind}
 use Rattle.off_defs.specs.declared.orders.Command.{Command}
-use Rattle.off_defs.specs.declared.orders.Command.TheVariants.{SetSite, PutSubscriber, PutAddOn, PutModem, PutClass, PutPool, Remove, Show}
-use Rattle.off_rows.specs.Sound.{is_sound, is_shown, is_removable}
+use Rattle.off_defs.specs.declared.orders.Command.TheVariants.{PutHub, PutSubscriber, PutAddOn, PutModem, PutClass, PutPool, Remove, Show}
+use Rattle.off_rows.specs.Sound.{is_sound, is_sound_pool, is_shown, is_removable}
 use Rattle.off_import_rules.specs.Reading.{import_in}
 use Rattle.off_import_rules.specs.declared.faults.ImportFault.{ImportFault}
 use Rattle.off_clerk_rules.specs.declared.faults.ClerkErr.{ClerkErr}
 use Rattle.off_clerk_rules.specs.declared.faults.ClerkErr.TheVariants.{NoMethod}
-use Rattle.off_clerk_rules.specs.Commands.{◌>>=◌, site_in, subscriber_in, add_on_in, modem_in, class_in, pool_in, object_in, put_read, as_import, asked_at, command_read}
+use Rattle.off_clerk_rules.specs.Commands.{◌>>=◌, site_in, subscriber_in, add_on_in, modem_in, class_in, pool_in, hub_of_pool_in, object_in, put_read, as_import, asked_at, command_read}
 use Rattle.off_clerk_rules.specs.Paths.{path_of, place_at}
 use Rattle.off_clerk_rules.specs.declared.places.Place.{Place}
 use Rattle.off_clerk_rules.specs.declared.places.Place.TheVariants as at
@@ -40,18 +41,29 @@ anything : {A : Type 0} (r : Result A ClerkErr) → IfOk r (λ _. Unit {0})
 anything (Ok x) = tt
 anything (Err e) = tt
 
+-- a pool's hub is read behind the pool, and may be any
+with_hub : (n : ℕ) (read : Result Pool ClerkErr) (hub : Result ℕ ClerkErr) → IfOk read (λ pool. is_sound_pool pool ≡ true)
+    → IfOk (read >>= (λ pool. hub >>= (λ number. Ok (PutPool n pool number)))) MayBe
+with_hub n (Ok pool) (Ok number) sound = (sound, refl)
+with_hub n (Ok pool) (Err e) sound = tt
+with_hub n (Err e) hub sound = tt
+
+pool_may : (n : ℕ) (object : Result Data ClerkErr) → IfOk (object >>= (λ d. pool_in d >>= (λ pool. hub_of_pool_in d >>= (λ number. Ok (PutPool n pool number))))) MayBe
+pool_may n (Ok d) = with_hub n (pool_in d) (hub_of_pool_in d) (pool_sound d)
+pool_may n (Err e) = tt
+
 put_may : (row : Key) (body : List ℕ) → is_shown row ≡ true → IfOk (put_read row body) MayBe
-put_may key.Site body shown = put_made (object_in body) site_in _ SetSite site_fits (λ site fits. (refl, fits))
+put_may (key.Hub n) body shown = put_made (object_in body) site_in _ (PutHub n) site_fits (λ site fits. (refl, fits))
 put_may (key.Subscriber n) body shown = put_made (object_in body) subscriber_in _ (PutSubscriber n) subscriber_sound (λ subscriber sound. (sound, refl))
 put_may (key.AddOn n number) body shown =
     put_made (object_in body) add_on_in (λ _. Unit {0}) (PutAddOn n number) (λ d. anything (add_on_in d)) (λ settings _. (shown, refl))
 put_may (key.Modem mac) body shown = put_made (object_in body) modem_in (λ _. Unit {0}) (PutModem mac) (λ d. anything (modem_in d)) (λ modem _. (refl, refl))
 put_may (key.Class n) body shown = put_made (object_in body) class_in (λ _. Unit {0}) (PutClass n) (λ d. anything (class_in d)) (λ class _. (refl, refl))
-put_may (key.Pool n) body shown = put_made (object_in body) pool_in _ (PutPool n) pool_sound (λ pool sound. (sound, refl))
+put_may (key.Pool n) body shown = pool_may n (object_in body)
+put_may key.Site body shown = tt
 put_may (key.Lease address) body shown = tt
 put_may (key.Held mac) body shown = tt
 put_may (key.Batch n) body shown = tt
-put_may (key.Hub n) body shown = tt
 put_may (key.PoolHub n) body shown = tt
 put_may (key.DevicePool n) body shown = tt
 put_may (key.Device address) body shown = tt

@@ -9,10 +9,9 @@ ghost use Rattle.off_outside.specs.KeeperCalls.{Looks, Spent};
 
 use crate::pools::{hub_for, pool_for};
 use off_asking::{Asked, asks, client};
-use off_defs::Site;
 use off_lease_rules::Case;
 use off_outside::{KeepErr, Keeper};
-use off_readers::{read_held, read_hub, read_modem};
+use off_readers::{read_held, read_modem, read_site};
 use off_runs::FreeRuns;
 use std::alloc::Global;
 
@@ -51,7 +50,7 @@ fn gather_all<K: Keeper>(
     ensures spent { Spent 3 (K.seen keeper.old) (K.seen keeper.new) }
 {
     let pool = pool_for(runs, m);
-    let site = site_for(alloc, keeper, runs, m)?;
+    let site = read_site(alloc, keeper, hub_for(runs, m))?;
     let held = read_held(alloc, keeper, client(m))?;
     let modem = read_modem(alloc, keeper, client(m))?;
     Ok(Case {
@@ -80,7 +79,7 @@ fn gather_held<K: Keeper>(
     ensures fits { IfOk result HasGoodPool }
     ensures spent { Spent 2 (K.seen keeper.old) (K.seen keeper.new) }
 {
-    let site = site_for(alloc, keeper, runs, m)?;
+    let site = read_site(alloc, keeper, hub_for(runs, m))?;
     let held = read_held(alloc, keeper, client(m))?;
     Ok(Case {
         site,
@@ -88,22 +87,4 @@ fn gather_held<K: Keeper>(
         modem: None,
         held,
     })
-}
-
-// The site of the message's hub, where it has one.
-#[tactic(auto, using(crate::proofs::Chain::rows))]
-fn site_for<K: Keeper>(
-    alloc: Global,
-    keeper: &mut K,
-    runs: &FreeRuns,
-    m: &Asked<'_>,
-) -> Result<Option<Site>, KeepErr>
-    ensures told { Looks result (K.seen keeper.old) (K.seen keeper.new)
-        (λ site t. KeepsPools runs.now.pools (ground t) → site ≡ site_for t m.now) }
-    ensures spent { Spent 1 (K.seen keeper.old) (K.seen keeper.new) }
-{
-    match hub_for(runs, m) {
-        Some(hub) => read_hub(alloc, keeper, hub),
-        None => Ok(None),
-    }
 }

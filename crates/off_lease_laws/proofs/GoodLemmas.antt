@@ -1,21 +1,23 @@
 -- A message leaves good tables good.
-use Rattle.std.proofs.Common.{◌≡◌, ℕ, true, false, Option, Some, None, is_some, is_none, option_and_then, inl, inr, refl, sym, ap, subst, ◌∙◌, arith}
+use Rattle.std.proofs.Common.{◌≡◌, ℕ, true, false, ◌&&◌, ◌||◌, eqb, Option, Some, None, is_some, is_none, option_and_then, inl, inr, refl, sym, ap, subst, ◌∙◌, arith}
+use Rattle.std.proofs.lemmas.Bool.{or_left}
 use Rattle.off_base.specs.declared.addresses.Ip4.{Ip4}
 use Rattle.off_base.specs.declared.macs.Mac.{Mac}
 use Rattle.off_defs.specs.declared.keys.Key.{Key}
 use Rattle.off_defs.specs.declared.keys.Key.TheVariants as key
 use Rattle.off_defs.specs.declared.tables.Row.TheVariants as row
+use Rattle.off_defs.specs.declared.tables.Pool.{Pool}
 use Rattle.off_defs.specs.declared.tables.Lease.{Lease}
 use Rattle.off_defs.specs.Kinds.{kind_of}
 use Rattle.off_defs.specs.State.{Tables}
 use Rattle.off_defs.specs.Tables.{row_at, write_all}
 use Rattle.off_dhcp.specs.Datagram.{Received}
-use Rattle.off_account_rules.specs.Rows.{as_site, hub_in, lease_in, held_in}
+use Rattle.off_account_rules.specs.Rows.{as_site, hub_in, pool_hub_in, lease_in, held_in, has_address}
 use Rattle.off_account_rules.specs.Good.{owner_of, Good}
-use Rattle.off_table_laws.proofs.GoodRows.{Has, OnePool, OwnedBy, GoodRows}
+use Rattle.off_table_laws.proofs.GoodRows.{Has, hub_there, HubThere, hub_in_row, hub_at, OnePool, OwnedBy, GoodRows}
 use Rattle.off_table_laws.proofs.Judging.{good_rows, good_tables}
-use Rattle.off_table_laws.proofs.Reading.{lease_row, held_row, pool_row, row_lease, row_held, row_pool, has_read}
-use Rattle.off_table_laws.proofs.TableLaws.{owners_hold, pools_are_apart, no_hub_named}
+use Rattle.off_table_laws.proofs.Reading.{seen_row, lease_row, held_row, pool_row, row_lease, row_held, row_pool, has_read}
+use Rattle.off_table_laws.proofs.TableLaws.{owners_hold, pools_are_apart}
 use Rattle.off_asking.specs.Asking.{client}
 use Rattle.off_lease_rules.specs.Steps.{lease_step}
 use Rattle.off_lease_laws.specs.Moves.{HoldersAgree, LiesInAPool, Moved}
@@ -39,7 +41,7 @@ module _ (t : Tables) (now : ℕ) (m : Received) (good : Good t) (moved : Moved 
   u = write_all t (lease_step t now m).writes
 
   g : GoodRows (row_at t)
-  g = good_rows t good
+  g = good_rows t good.opens
 
   agree : HoldersAgree u
   agree = changes_agree (client m) moved.address t u moved.changes (good_agree t good)
@@ -83,23 +85,34 @@ module _ (t : Tables) (now : ℕ) (m : Received) (good : Good t) (moved : Moved 
         | inr apart ↦ g.one_pool address lease (lease_row t address lease (before address lease apart e))
       ]
 
-  -- a leased address has its hub's site, which is the one site as yet
-  lies_site : LiesInAPool t moved.address → Has (row_at t) key.Site
-  lies_site lies = has_read t key.Site as_site (not_none (hub_in t 0) (ap (λ n. is_some (hub_in t n)) (sym (no_hub_named t lies.number)) ∙ lies.hub_is))
+  -- so has the hub of a leased address
+  hub_after : (h : ℕ) → HubThere (row_at t) h → HubThere (row_at u) h
+  hub_after h there =
+      ap (λ o. is_some o || (eqb h 0 && is_some (row_at u key.Site))) (other (key.Hub h) (λ e. omega (arith, e)) (λ e. omega (arith, e)))
+      ∙ ap (λ o. is_some (row_at t (key.Hub h)) || (eqb h 0 && is_some o)) (other key.Site (λ e. omega (arith, e)) (λ e. omega (arith, e)))
+      ∙ there
 
-  held_site : held_in t (client m) ≡ Some moved.address → Has (row_at t) key.Site
-  held_site h =
+  held_hub : (n : ℕ) (pool : Pool) → row_at t (key.Pool n) ≡ Some (row.Pool pool) → has_address pool moved.address ≡ true → held_in t (client m) ≡ Some moved.address → HubThere (row_at t) (hub_at (row_at t) n)
+  held_hub n pool there w h =
       let o = owned (lease_in t moved.address) (client m) ((good_agree t good (client m) moved.address).1 h) in
-      g.site moved.address o.0 (lease_row t moved.address o.0 o.1)
+      g.lease_hub moved.address o.0 (lease_row t moved.address o.0 o.1) n pool there w
 
-  here_site : Has (row_at t) key.Site
-  here_site = elim moved.was_open as (λ s. Has (row_at t) key.Site) [ inl held ↦ held_site held | inr open_ ↦ lies_site open_.1 ]
+  open_hub : (n : ℕ) (pool : Pool) → row_at t (key.Pool n) ≡ Some (row.Pool pool) → has_address pool moved.address ≡ true → LiesInAPool t moved.address → HubThere (row_at t) (hub_at (row_at t) n)
+  open_hub n pool there w lies =
+      let same : n ≡ lies.number = pools_are_apart t good moved.address n lies.number pool lies.pool (row_pool t g.possible n pool there) lies.there w lies.within in
+      let read = ap hub_in_row (seen_row t g.possible (key.PoolHub lies.number)) in
+      or_left _ _ (ap (λ k. is_some (row_at t (key.Hub (hub_at (row_at t) k)))) same ∙ ap (λ k. is_some (row_at t (key.Hub k))) (sym read)
+      ∙ has_read t (key.Hub (pool_hub_in t lies.number)) as_site (not_none (hub_in t (pool_hub_in t lies.number)) lies.hub_is))
 
-  site_before : (address : Ip4) (lease : Lease) → lease_in u address ≡ Some lease → Has (row_at t) key.Site
-  site_before address lease e =
-      elim (ip_or address moved.address) as (λ s. Has (row_at t) key.Site) [
-        | inl same ↦ here_site
-        | inr apart ↦ g.site address lease (lease_row t address lease (before address lease apart e))
+  here_hub : (n : ℕ) (pool : Pool) → row_at t (key.Pool n) ≡ Some (row.Pool pool) → has_address pool moved.address ≡ true → HubThere (row_at t) (hub_at (row_at t) n)
+  here_hub n pool there w = elim moved.was_open as (λ s. HubThere (row_at t) (hub_at (row_at t) n)) [ inl held ↦ held_hub n pool there w held | inr open_ ↦ open_hub n pool there w open_.1 ]
+
+  hub_before : (address : Ip4) (lease : Lease) → lease_in u address ≡ Some lease → (n : ℕ) (pool : Pool) → row_at t (key.Pool n) ≡ Some (row.Pool pool) → has_address pool address ≡ true
+      → HubThere (row_at t) (hub_at (row_at t) n)
+  hub_before address lease e n pool there w =
+      elim (ip_or address moved.address) as (λ s. HubThere (row_at t) (hub_at (row_at t) n)) [
+        | inl same ↦ here_hub n pool there (ap (has_address pool) (sym same) ∙ w)
+        | inr apart ↦ g.lease_hub address lease (lease_row t address lease (before address lease apart e)) n pool there w
       ]
 
   pool_after : (address : Ip4) → OnePool (row_at t) address → OnePool (row_at u) address
@@ -120,8 +133,8 @@ module _ (t : Tables) (now : ℕ) (m : Received) (good : Good t) (moved : Moved 
       let o = owned (lease_in u address) mac ((agree mac address).1 (row_held u mac address e)) in
       record { lease = o.0; there = lease_row u address o.0 o.1; owner = o.2 }
 
-  pub moved_good : Good u
-  moved_good = good_tables u (record {
+  moved_rows : GoodRows (row_at u)
+  moved_rows = record {
     possible = stays_possible t now m g.possible;
     add_on = λ n k held e.
         has_other (key.Subscriber n) (λ e. omega (arith, e)) (λ e. omega (arith, e))
@@ -135,12 +148,25 @@ module _ (t : Tables) (now : ℕ) (m : Received) (good : Good t) (moved : Moved 
     apart = λ n pool k another e f.
         g.apart n pool k another (sym (other (key.Pool n) (λ e. omega (arith, e)) (λ e. omega (arith, e))) ∙ e)
         (sym (other (key.Pool k) (λ e. omega (arith, e)) (λ e. omega (arith, e))) ∙ f);
-    site = λ address lease e.
-        has_other key.Site (λ e. omega (arith, e)) (λ e. omega (arith, e)) (site_before address lease (row_lease u address lease e));
+    site_alone = λ held e n.
+        let alone = g.site_alone held (sym (other key.Site (λ e. omega (arith, e)) (λ e. omega (arith, e))) ∙ e) n in
+        (other (key.Hub n) (λ e. omega (arith, e)) (λ e. omega (arith, e)) ∙ alone.0, other (key.PoolHub n) (λ e. omega (arith, e)) (λ e. omega (arith, e)) ∙ alone.1);
+    pool_hub = λ n hub e.
+        let p = g.pool_hub n hub (sym (other (key.PoolHub n) (λ e. omega (arith, e)) (λ e. omega (arith, e))) ∙ e) in
+        (has_other (key.Pool n) (λ e. omega (arith, e)) (λ e. omega (arith, e)) p.0, hub_after hub p.1);
+    lease_hub = λ address lease e n pool f w.
+        ap (λ o. hub_there (row_at u) (hub_in_row o)) (other (key.PoolHub n) (λ e. omega (arith, e)) (λ e. omega (arith, e)))
+        ∙ hub_after (hub_at (row_at t) n) (hub_before address lease (row_lease u address lease e) n pool (sym (other (key.Pool n) (λ e. omega (arith, e)) (λ e. omega (arith, e))) ∙ f) w);
     one_pool = λ address lease e. pool_after address (pool_before address lease (row_lease u address lease e));
     holder = holder_after;
     owner = owner_after;
-  })
+  }
+
+  pub moved_good : Good u
+  moved_good = record {
+    opens = good_tables u moved_rows;
+    no_site = other key.Site (λ e. omega (arith, e)) (λ e. omega (arith, e)) ∙ good.no_site;
+  }
 
 pub good_stays : (t : Tables) (now : ℕ) (m : Received) → Good t → Good (write_all t (lease_step t now m).writes)
 good_stays t now m good =

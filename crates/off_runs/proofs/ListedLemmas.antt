@@ -1,15 +1,13 @@
 -- Pools in a list by number: what goes and what comes, by the place where the code looks.
 use Rattle.std.proofs.Common.{◌≡◌, ℕ, suc, ◌+◌, Bool, true, false, cond, not, ◌&&◌, ◌||◌, T, List, [], ◌∷◌, ◌++◌, take, drop, get_or, Some, None, refl, sym, ap, subst, ◌∙◌, arith}
-use Rattle.std.specs.List.{prefix_len, AllByRecursion, insert, remove}
+use Rattle.std.specs.List.{prefix_len, AllByRecursion, insert, remove, list_any}
 use Rattle.std.specs.Ordering.{nat_cmp, is_lt, is_gt, is_eq, eq_by_cmp}
 use Rattle.std.specs.declared.cmp.Ordering.{Ordering}
 use Rattle.std.specs.declared.cmp.Ordering.TheVariants.{Less, Equal, Greater}
 use Rattle.std.specs.FinMap.Entries as list
 use Rattle.std.proofs.lemmas.Cmp.{nat_cmp_total}
 use Rattle.off_defs.specs.declared.tables.Pool.{Pool}
-use Rattle.off_runs.specs.Runs.{in_pool}
 use Rattle.off_runs.specs.Held.{PoolHeld, head, heads}
-use Rattle.off_runs.specs.Changes.{surrounded}
 use Rattle.off_runs.specs.Shelf.{left_of, gone_of, is_first, placed}
 
 abbrev pub place : ℕ → List PoolHeld → ℕ
@@ -90,7 +88,7 @@ placed_all P f (p ∷ ps) one all =
       | Greater ↦ (all.0, placed_all P f ps one all.1)
     ]
 
--- no address is lost
+-- nothing is lost that passes a test
 or_swap : (a b c : Bool) → (a || (b || c)) ≡ (b || (a || c))
 or_swap true true c = refl
 or_swap true false c = refl
@@ -105,22 +103,22 @@ or_false : (a : Bool) → (a || false) ≡ a
 or_false true = refl
 or_false false = refl
 
-pub none_lost : (n a : ℕ) (ps : List PoolHeld) → (surrounded (gone_of n ps) a || surrounded (left_of n ps) a) ≡ surrounded ps a
-none_lost n a [] = refl
-none_lost n a (p ∷ ps) =
-    elim (nat_cmp n p.number) as (λ r. (surrounded (list.by_order r [] (p ∷ []) (gone_of n ps)) a || surrounded (list.by_order r (p ∷ ps) ps (p ∷ left_of n ps)) a) ≡ (in_pool p.pool a || surrounded ps a)) [
+pub none_lost : (t : PoolHeld → Bool) (n : ℕ) (ps : List PoolHeld) → (list_any t (gone_of n ps) || list_any t (left_of n ps)) ≡ list_any t ps
+none_lost t n [] = refl
+none_lost t n (p ∷ ps) =
+    elim (nat_cmp n p.number) as (λ r. (list_any t (list.by_order r [] (p ∷ []) (gone_of n ps)) || list_any t (list.by_order r (p ∷ ps) ps (p ∷ left_of n ps))) ≡ (t p || list_any t ps)) [
       | Less ↦ refl
-      | Equal ↦ ap (λ b. b || surrounded ps a) (or_false (in_pool p.pool a))
-      | Greater ↦ or_swap (surrounded (gone_of n ps) a) (in_pool p.pool a) (surrounded (left_of n ps) a) ∙ ap (λ b. in_pool p.pool a || b) (none_lost n a ps)
+      | Equal ↦ ap (λ b. b || list_any t ps) (or_false (t p))
+      | Greater ↦ or_swap (list_any t (gone_of n ps)) (t p) (list_any t (left_of n ps)) ∙ ap (λ b. t p || b) (none_lost t n ps)
     ]
 
-pub placed_more : (f : PoolHeld) (a : ℕ) (ps : List PoolHeld) → surrounded (placed f ps) a ≡ (in_pool f.pool a || surrounded ps a)
-placed_more f a [] = refl
-placed_more f a (p ∷ ps) =
-    elim (nat_cmp f.number p.number) as (λ r. surrounded (list.by_order r (f ∷ p ∷ ps) (f ∷ p ∷ ps) (p ∷ placed f ps)) a ≡ (in_pool f.pool a || (in_pool p.pool a || surrounded ps a))) [
+pub placed_more : (t : PoolHeld → Bool) (f : PoolHeld) (ps : List PoolHeld) → list_any t (placed f ps) ≡ (t f || list_any t ps)
+placed_more t f [] = refl
+placed_more t f (p ∷ ps) =
+    elim (nat_cmp f.number p.number) as (λ r. list_any t (list.by_order r (f ∷ p ∷ ps) (f ∷ p ∷ ps) (p ∷ placed f ps)) ≡ (t f || (t p || list_any t ps))) [
       | Less ↦ refl
       | Equal ↦ refl
-      | Greater ↦ ap (λ b. in_pool p.pool a || b) (placed_more f a ps) ∙ or_swap (in_pool p.pool a) (in_pool f.pool a) (surrounded ps a)
+      | Greater ↦ ap (λ b. t p || b) (placed_more t f ps) ∙ or_swap (t p) (t f) (list_any t ps)
     ]
 
 -- ---- the heads are a map by number

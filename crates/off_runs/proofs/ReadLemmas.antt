@@ -1,4 +1,4 @@
--- What walks over the tables find: the pools, and the leases of their addresses.
+-- What walks over the tables find: the pools, the leases of their addresses, and their hubs.
 use Rattle.std.proofs.Common.{◌≡◌, ℕ, ◌<◌, ◌==◌, true, false, cond, T, List, [], ◌∷◌, ◌++◌, Option, Some, None, refl, sym, ap, subst, ◌∙◌, append_assoc, arith}
 use Rattle.std.proofs.lemmas.List.{append-nil}
 use Rattle.std.proofs.lemmas.List.Elements.{All-nil, All-weaker}
@@ -14,6 +14,7 @@ use Rattle.off_defs.specs.declared.keys.Key.TheVariants as key
 use Rattle.off_defs.specs.declared.tables.Row.{Row}
 use Rattle.off_defs.specs.declared.tables.Pool.{Pool}
 use Rattle.off_defs.specs.declared.orders.Write.{Write}
+use Rattle.off_defs.specs.declared.orders.Write.TheVariants.{Put}
 use Rattle.off_defs.specs.Keys.{key_cmp}
 use Rattle.off_defs.specs.State.{Tables}
 use Rattle.off_defs.specs.Tables.{row_at, next_entry}
@@ -26,11 +27,9 @@ use Rattle.off_readers.proofs.GatherLemmas.{Gathered}
 use Rattle.off_readers.proofs.WalkLemmas.{OnlyAt, left_of, left_next, left_none, kind_begins, kind_ends}
 use Rattle.off_runs.specs.Runs.{address}
 use Rattle.off_runs.specs.Held.{PoolHeld, HasLeases, HasHub, KeepsPools}
-use Rattle.off_runs.specs.Leases.{expiry_in, expiry_held, ground, fitting, pools_after, expiries_by, expiries_after, lease_write, LeasesTaken, Moves}
-use Rattle.off_table_laws.proofs.TableLaws.{no_hub_named}
-use Rattle.off_runs.specs.Reading.{pool_put, lease_put, pools_put, leases_put, no_ground, bare_ground}
-use Rattle.off_runs.proofs.LeaseLemmas.{nothing_taken}
-use Rattle.off_runs.proofs.WriteLemmas.{same_number, read_pool, put_pool, read_expiry, put_expiry}
+use Rattle.off_runs.specs.Leases.{expiry_in, expiry_held, hub_held, ground, fitting, pools_after, numbers_by, numbers_after, expiries_after, hubs_after, lease_write, hub_write, LeasesTaken, HubsTaken, Moves}
+use Rattle.off_runs.specs.Reading.{pool_put, lease_put, hub_put, pools_put, leases_put, hubs_put, no_ground, bare_ground, leased_ground}
+use Rattle.off_runs.proofs.WriteLemmas.{same_number, read_pool, put_pool, read_expiry, put_expiry, read_hub, put_hub}
 use Rattle.off_runs.proofs.SeenLemmas.{pools_sorted, pool_seen}
 
 none_below : (k : Key) (es : List (Key × Row)) → T (list.below_all key_cmp k es) → list.find key_cmp k es ≡ None
@@ -139,49 +138,101 @@ pools_read t n =
     by_pools (λ q. None) (map.entries t) (map.entries_sorted t) n ∙ ap (λ (o : Option Row). pool_kept o None) (sym (map.get-entries t (key.Pool n)))
     ∙ kept_pool n (row_at t (key.Pool n))
 
--- a pool that is put is no lease
-no_lease_first : (k : Key) (held : Row) (expiry : ℕ → ℕ) (es : List (Key × Row)) → expiries_after expiry (filter_map pool_put es) ≡ expiry
-    → expiries_after expiry (filter_map pool_put ((k, held) ∷ es)) ≡ expiry
-no_lease_first key.Site held expiry es rest = rest
-no_lease_first (key.Subscriber n) held expiry es rest = rest
-no_lease_first (key.AddOn n i) held expiry es rest = rest
-no_lease_first (key.Modem mac) held expiry es rest = rest
-no_lease_first (key.Class n) held expiry es rest = rest
-no_lease_first (key.Pool n) held expiry es rest = rest
-no_lease_first (key.Lease n) held expiry es rest = rest
-no_lease_first (key.Held mac) held expiry es rest = rest
-no_lease_first (key.Batch n) held expiry es rest = rest
-no_lease_first (key.Hub n) held expiry es rest = rest
-no_lease_first (key.PoolHub n) held expiry es rest = rest
-no_lease_first (key.DevicePool n) held expiry es rest = rest
-no_lease_first (key.Device n) held expiry es rest = rest
+-- a pool that is put is no lease and no hub
+no_number_first : (put : Write → Option (ℕ × ℕ)) → ((n : ℕ) (held : Row) → put (Put (key.Pool n) held) ≡ None) → (k : Key) (held : Row) (was : ℕ → ℕ) (es : List (Key × Row))
+    → numbers_after put was (filter_map pool_put es) ≡ was → numbers_after put was (filter_map pool_put ((k, held) ∷ es)) ≡ was
+no_number_first put none (key.Pool n) held was es rest = ap (λ o. numbers_after put (numbers_by o was) (filter_map pool_put es)) (none n held) ∙ rest
+no_number_first put none key.Site held was es rest = rest
+no_number_first put none (key.Subscriber n) held was es rest = rest
+no_number_first put none (key.AddOn n i) held was es rest = rest
+no_number_first put none (key.Modem mac) held was es rest = rest
+no_number_first put none (key.Class n) held was es rest = rest
+no_number_first put none (key.Lease n) held was es rest = rest
+no_number_first put none (key.Held mac) held was es rest = rest
+no_number_first put none (key.Batch n) held was es rest = rest
+no_number_first put none (key.Hub n) held was es rest = rest
+no_number_first put none (key.PoolHub n) held was es rest = rest
+no_number_first put none (key.DevicePool n) held was es rest = rest
+no_number_first put none (key.Device n) held was es rest = rest
 
-no_leases : (expiry : ℕ → ℕ) (es : List (Key × Row)) → expiries_after expiry (filter_map pool_put es) ≡ expiry
-no_leases expiry [] = refl
-no_leases expiry (e ∷ es) = no_lease_first e.0 e.1 expiry es (no_leases expiry es)
+no_numbers : (put : Write → Option (ℕ × ℕ)) → ((n : ℕ) (held : Row) → put (Put (key.Pool n) held) ≡ None) → (was : ℕ → ℕ) (es : List (Key × Row))
+    → numbers_after put was (filter_map pool_put es) ≡ was
+no_numbers put none was [] = refl
+no_numbers put none was (e ∷ es) = no_number_first put none e.0 e.1 was es (no_numbers put none was es)
 
 pub pools_move : (t : Tables) → Moves (pools_put t) (λ n. None) no_ground (bare_ground t)
 pools_move t = record {
-  no_hubs = λ n. refl;
-  same_hubs = λ n. sym (no_hub_named t n);
   before_sorted = tt;
   before = λ n. refl;
   around = λ a h. absurd (omega (arith, h));
+  homed = λ n h. absurd (omega (arith, h));
   after_sorted = pools_sorted t;
   after = λ n. pool_seen t n ∙ sym (pools_read t n);
-  expiries = λ a. ap (λ (e : ℕ → ℕ). e a) (no_leases (λ b. 0) (map.entries t));
+  expiries = λ a. ap (λ (e : ℕ → ℕ). e a) (no_numbers lease_write (λ n held. refl) (λ b. 0) (map.entries t));
+  hubs = λ n. ap (λ (h : ℕ → ℕ). h n) (no_numbers hub_write (λ m held. refl) (λ b. 0) (map.entries t));
 }
+
+-- ---- hubs
+
+abbrev hub_kept : Option Row → ℕ → ℕ
+hub_kept None was = was
+hub_kept (Some held) was = hub_held held
+
+abbrev hub_row : List (Key × Row) → ℕ → Option Row
+hub_row es n = list.find key_cmp (key.PoolHub n) es
+
+at_hub : (hub : ℕ → ℕ) (m : ℕ) (held : Row) (es : List (Key × Row)) → T (list.below_all key_cmp (key.PoolHub m) es) → (n : ℕ)
+    → hub_kept (hub_row es n) (cond (n == m) (hub_held held) (hub n)) ≡ hub_kept (cond (eq_by_cmp nat_cmp n m) (Some held) (hub_row es n)) (hub n)
+at_hub hub m held es h n =
+    elim (eq_by_cmp nat_cmp n m) as (λ b. eq_by_cmp nat_cmp n m ≡ b
+    → hub_kept (hub_row es n) (cond (n == m) (hub_held held) (hub n)) ≡ hub_kept (cond b (Some held) (hub_row es n)) (hub n)) [
+      | true ↦ λ e.
+          let same : n ≡ m = nat_cmp-IsAntisymmetric n m (is_equal (nat_cmp n m) e) in
+          let none : hub_row es n ≡ None = none_below (key.PoolHub n) es (subst (λ k. T (list.below_all key_cmp (key.PoolHub k) es)) (sym same) h) in
+          ap (λ o. hub_kept o (cond (n == m) (hub_held held) (hub n))) none ∙ ap (λ b. cond b (hub_held held) (hub n)) (sym (same_number n m) ∙ e)
+      | false ↦ λ e. ap (λ b. hub_kept (hub_row es n) (cond b (hub_held held) (hub n))) (sym (same_number n m) ∙ e)
+    ] refl
+
+hub_first : (k : Key) (held : Row) (hub : ℕ → ℕ) (es : List (Key × Row)) (n : ℕ) → T (list.below_all key_cmp k es)
+    → ((was : ℕ → ℕ) → hubs_after was (filter_map hub_put es) n ≡ hub_kept (hub_row es n) (was n))
+    → hubs_after hub (filter_map hub_put ((k, held) ∷ es)) n ≡ hub_kept (hub_row ((k, held) ∷ es) n) (hub n)
+hub_first (key.PoolHub m) held hub es n h rest = rest (λ q. cond (q == m) (hub_held held) (hub q)) ∙ at_hub hub m held es h n
+hub_first key.Site held hub es n h rest = rest hub
+hub_first (key.Subscriber a) held hub es n h rest = rest hub
+hub_first (key.AddOn a i) held hub es n h rest = rest hub
+hub_first (key.Modem mac) held hub es n h rest = rest hub
+hub_first (key.Class a) held hub es n h rest = rest hub
+hub_first (key.Pool a) held hub es n h rest = rest hub
+hub_first (key.Lease a) held hub es n h rest = rest hub
+hub_first (key.Held mac) held hub es n h rest = rest hub
+hub_first (key.Batch a) held hub es n h rest = rest hub
+hub_first (key.Hub a) held hub es n h rest = rest hub
+hub_first (key.DevicePool a) held hub es n h rest = rest hub
+hub_first (key.Device a) held hub es n h rest = rest hub
+
+by_hubs : (hub : ℕ → ℕ) (es : List (Key × Row)) → T (list.is_sorted key_cmp es) → (n : ℕ) → hubs_after hub (filter_map hub_put es) n ≡ hub_kept (hub_row es n) (hub n)
+by_hubs hub [] s n = refl
+by_hubs hub (e ∷ es) s n = hub_first e.0 e.1 hub es n (first _ _ s) (λ was. by_hubs was es (second _ _ s) n)
+
+kept_hub : (n : ℕ) (o : Option Row) → hub_kept o 0 ≡ read_hub n o
+kept_hub n None = refl
+kept_hub n (Some held) = sym (put_hub n held)
+
+hubs_read : (t : Tables) (n : ℕ) → hubs_after (λ q. 0) (hubs_put t) n ≡ pool_hub_in t n
+hubs_read t n =
+    by_hubs (λ q. 0) (map.entries t) (map.entries_sorted t) n ∙ ap (λ (o : Option Row). hub_kept o 0) (sym (map.get-entries t (key.PoolHub n)))
+    ∙ kept_hub n (row_at t (key.PoolHub n))
 
 pub none_kept : (pools : List PoolHeld) → pools ≡ [] → KeepsPools pools no_ground
 none_kept pools none = subst (λ (ps : List PoolHeld). KeepsPools ps no_ground) (sym none) (record { heads_are = refl; leases = All-nil (HasLeases (λ a. 0)); hubs = All-nil (HasHub (λ n. 0)) })
 
--- ---- the walk over leases
+-- ---- the walks
 
 no_put : (k : Key) (held : Row) → ¬ (kind_of k ≡ 7) → lease_put (k, held) ≡ None
 no_put (key.Lease a) held other = absurd (other refl)
 no_put _ held other = refl
 
-only_leases : OnlyAt 7 lease_put
+pub only_leases : OnlyAt 7 lease_put
 only_leases = record { others = λ entry other. no_put entry.0 entry.1 other }
 
 not_pool : (k : Key) (held : Row) → ¬ (kind_of k ≡ 6) → pool_put (k, held) ≡ None
@@ -191,60 +242,83 @@ not_pool _ held other = refl
 pub only_pools : OnlyAt 6 pool_put
 only_pools = record { others = λ entry other. not_pool entry.0 entry.1 other }
 
+not_hub : (k : Key) (held : Row) → ¬ (kind_of k ≡ 11) → hub_put (k, held) ≡ None
+not_hub (key.PoolHub n) held other = absurd (other refl)
+not_hub _ held other = refl
+
+pub only_hubs : OnlyAt 11 hub_put
+only_hubs = record { others = λ entry other. not_hub entry.0 entry.1 other }
+
 pub no_pools_yet : (place : Key) (found : List Write) (a : KeeperSeen) → kind_of place < 6 → found ≡ [] → Reads (Gathered pool_put pools_put found (Some place)) a a
 no_pools_yet place found a lower none = reads_none (λ t.
     sym (ap (λ (v : List Write). v ++ left_of pool_put (Some place) t) none ∙ kind_begins only_pools place t lower))
 
--- what a walk has put, and what is left of it, are all leases
-pub record TakenUpTo (first now : List PoolHeld) (place : Key) (t : Tables) : Type 0 where
-  pub taken : List Write
-  pub all : leases_put t ≡ taken ++ left_of lease_put (Some place) t
-  pub done : LeasesTaken taken first now
+after_append : (put : Write → Option (ℕ × ℕ)) (was : ℕ → ℕ) (ws vs : List Write) → numbers_after put was (ws ++ vs) ≡ numbers_after put (numbers_after put was ws) vs
+after_append put was [] vs = refl
+after_append put was (w ∷ ws) vs = after_append put (numbers_by (put w) was) ws vs
 
-pub none_yet : (place : Key) (pools : List PoolHeld) (t : Tables) → kind_of place < 7 → TakenUpTo pools pools place t
-none_yet place pools t lower = record { taken = []; all = sym (kind_begins only_leases place t lower); done = nothing_taken pools }
-
-after_append : (expiry : ℕ → ℕ) (ws vs : List Write) → expiries_after expiry (ws ++ vs) ≡ expiries_after (expiries_after expiry ws) vs
-after_append expiry [] vs = refl
-after_append expiry (w ∷ ws) vs = after_append (expiries_by (lease_write w) expiry) ws vs
-
-taken_then : (ws vs : List Write) (first old new : List PoolHeld) → LeasesTaken ws first old → LeasesTaken vs old new → LeasesTaken (ws ++ vs) first new
-taken_then ws vs first old new before more = record {
+pub leases_then : (ws vs : List Write) (first old new : List PoolHeld) → LeasesTaken ws first old → LeasesTaken vs old new → LeasesTaken (ws ++ vs) first new
+leases_then ws vs first old new before more = record {
   heads_are = more.heads_are ∙ before.heads_are;
   hubs = λ hub all. more.hubs hub (before.hubs hub all);
-  leases = λ expiry all. subst (λ (e : ℕ → ℕ). All (HasLeases e) new) (sym (after_append expiry ws vs)) (more.leases (expiries_after expiry ws) (before.leases expiry all));
+  leases = λ expiry all. subst (λ (e : ℕ → ℕ). All (HasLeases e) new) (sym (after_append lease_write expiry ws vs)) (more.leases (expiries_after expiry ws) (before.leases expiry all));
+}
+
+pub hubs_then : (ws vs : List Write) (first old new : List PoolHeld) → HubsTaken ws first old → HubsTaken vs old new → HubsTaken (ws ++ vs) first new
+hubs_then ws vs first old new before more = record {
+  heads_are = more.heads_are ∙ before.heads_are;
+  leases = λ expiry all. more.leases expiry (before.leases expiry all);
+  hubs = λ hub all. subst (λ (h : ℕ → ℕ). All (HasHub h) new) (sym (after_append hub_write hub ws vs)) (more.hubs (hubs_after hub ws) (before.hubs hub all));
 }
 
 joined : (given : Option Write) (xs ys : List Write) → xs ++ cons_option given ys ≡ (xs ++ cons_option given []) ++ ys
 joined None xs ys = ap (λ (v : List Write). v ++ ys) (sym (append-nil xs))
 joined (Some x) xs ys = sym (append_assoc xs (x ∷ []) ys)
 
-pub one_more : (first old new : List PoolHeld) (place : Key) (entry : Key × Row) (t : Tables) → TakenUpTo first old place t → Some entry ≡ next_entry (Some place) t
-    → LeasesTaken (cons_option (lease_put entry) []) old new → TakenUpTo first new entry.0 t
-one_more first old new place entry t so_far next one = record {
-  taken = so_far.taken ++ cons_option (lease_put entry) [];
-  all =
-      so_far.all ∙ ap (λ (v : List Write). so_far.taken ++ v) (left_next lease_put (Some place) entry t next)
-      ∙ joined (lease_put entry) so_far.taken (left_of lease_put (Some entry.0) t);
-  done = taken_then so_far.taken (cons_option (lease_put entry) []) first old new so_far.done one;
-}
+-- what a walk for the rows of one kind has put, and what is left of it, are all of them
+module _ (kind : ℕ) (put : Key × Row → Option Write) (only : OnlyAt kind put) (Taken : List Write → List PoolHeld → List PoolHeld → Type 0) where
+  pub record TakenUpTo (start now : List PoolHeld) (place : Key) (t : Tables) : Type 0 where
+    pub taken : List Write
+    pub all : filter_map put (map.entries t) ≡ taken ++ left_of put (Some place) t
+    pub done : Taken taken start now
 
-ended : (first now : List PoolHeld) (place : Key) (t : Tables) → TakenUpTo first now place t → left_of lease_put (Some place) t ≡ [] → LeasesTaken (leases_put t) first now
-ended first now place t so_far none =
-    subst (λ (ws : List Write). LeasesTaken ws first now) (sym (so_far.all ∙ ap (λ (v : List Write). so_far.taken ++ v) none ∙ append-nil so_far.taken)) so_far.done
+  pub none_yet : ((ps : List PoolHeld) → Taken [] ps ps) → (place : Key) (pools : List PoolHeld) (t : Tables) → kind_of place < kind → TakenUpTo pools pools place t
+  none_yet nothing place pools t lower = record { taken = []; all = sym (kind_begins only place t lower); done = nothing pools }
 
-pub at_end : (first now : List PoolHeld) (place : Key) (t : Tables) → TakenUpTo first now place t → None ≡ next_entry (Some place) t → LeasesTaken (leases_put t) first now
-at_end first now place t so_far none = ended first now place t so_far (left_none lease_put (Some place) t none)
+  pub one_more : ((ws vs : List Write) (first old new : List PoolHeld) → Taken ws first old → Taken vs old new → Taken (ws ++ vs) first new)
+      → (start old new : List PoolHeld) (place : Key) (entry : Key × Row) (t : Tables) → TakenUpTo start old place t → Some entry ≡ next_entry (Some place) t
+      → Taken (cons_option (put entry) []) old new → TakenUpTo start new entry.0 t
+  one_more join start old new place entry t so_far next one = record {
+    taken = so_far.taken ++ cons_option (put entry) [];
+    all =
+        so_far.all ∙ ap (λ (v : List Write). so_far.taken ++ v) (left_next put (Some place) entry t next)
+        ∙ joined (put entry) so_far.taken (left_of put (Some entry.0) t);
+    done = join so_far.taken (cons_option (put entry) []) start old new so_far.done one;
+  }
 
-pub past_leases : (first now : List PoolHeld) (place : Key) (entry : Key × Row) (t : Tables) → TakenUpTo first now place t → Some entry ≡ next_entry (Some place) t → 7 < kind_of entry.0
-    → LeasesTaken (leases_put t) first now
-past_leases first now place entry t so_far next past = ended first now place t so_far (kind_ends only_leases (Some place) entry t past next)
+  ended : (start now : List PoolHeld) (place : Key) (t : Tables) → TakenUpTo start now place t → left_of put (Some place) t ≡ [] → Taken (filter_map put (map.entries t)) start now
+  ended start now place t so_far none =
+      subst (λ (ws : List Write). Taken ws start now) (sym (so_far.all ∙ ap (λ (v : List Write). so_far.taken ++ v) none ∙ append-nil so_far.taken)) so_far.done
 
--- ---- both
+  pub at_end : (start now : List PoolHeld) (place : Key) (t : Tables) → TakenUpTo start now place t → None ≡ next_entry (Some place) t → Taken (filter_map put (map.entries t)) start now
+  at_end start now place t so_far none = ended start now place t so_far (left_none put (Some place) t none)
 
-pub leased_keeps : (t : Tables) (pools leased : List PoolHeld) → KeepsPools pools (bare_ground t) → LeasesTaken (leases_put t) pools leased → KeepsPools leased (ground t)
+  pub past_kind : (start now : List PoolHeld) (place : Key) (entry : Key × Row) (t : Tables) → TakenUpTo start now place t → Some entry ≡ next_entry (Some place) t → kind < kind_of entry.0
+      → Taken (filter_map put (map.entries t)) start now
+  past_kind start now place entry t so_far next past = ended start now place t so_far (kind_ends only (Some place) entry t past next)
+
+-- ---- all three
+
+pub leased_keeps : (t : Tables) (pools leased : List PoolHeld) → KeepsPools pools (bare_ground t) → LeasesTaken (leases_put t) pools leased → KeepsPools leased (leased_ground t)
 leased_keeps t pools leased s taken = record {
   heads_are = taken.heads_are ∙ s.heads_are;
   leases = All-weaker (HasLeases (expiries_after (λ a. 0) (leases_put t))) (HasLeases (expiry_in t)) (λ p has a inside. has a inside ∙ leases_read t a) leased (taken.leases (λ a. 0) s.leases);
-  hubs = taken.hubs (pool_hub_in t) s.hubs;
+  hubs = taken.hubs (λ n. 0) s.hubs;
+}
+
+pub hubbed_keeps : (t : Tables) (pools hubbed : List PoolHeld) → KeepsPools pools (leased_ground t) → HubsTaken (hubs_put t) pools hubbed → KeepsPools hubbed (ground t)
+hubbed_keeps t pools hubbed s taken = record {
+  heads_are = taken.heads_are ∙ s.heads_are;
+  leases = taken.leases (expiry_in t) s.leases;
+  hubs = All-weaker (HasHub (hubs_after (λ n. 0) (hubs_put t))) (HasHub (pool_hub_in t)) (λ p has. has ∙ hubs_read t p.number) hubbed (taken.hubs (λ n. 0) s.hubs);
 }

@@ -1,5 +1,5 @@
 -- The pools of the tables are a map by number, and it's the one that is read.
-use Rattle.std.proofs.Common.{◌≡◌, ℕ, ◌<◌, Bool, true, false, cond, ◌&&◌, T, List, [], ◌∷◌, Option, Some, None, option_and_then, refl, sym, ap, subst, ◌∙◌, arith}
+use Rattle.std.proofs.Common.{◌≡◌, ℕ, ◌<◌, ◌==◌, Bool, true, false, cond, ◌&&◌, T, List, [], ◌∷◌, Option, Some, None, is_some, option_and_then, refl, sym, ap, subst, ◌∙◌, arith}
 use Rattle.std.specs.List.{filter_map, cons_option, list_any}
 use Rattle.std.specs.FinMap as map
 use Rattle.std.specs.FinMap.Entries as list
@@ -12,19 +12,20 @@ use Rattle.off_defs.specs.declared.tables.Row.TheVariants as row
 use Rattle.off_defs.specs.declared.tables.Pool.{Pool}
 use Rattle.off_defs.specs.Keys.{key_cmp}
 use Rattle.off_defs.specs.State.{Tables}
-use Rattle.off_account_rules.specs.Rows.{possible, as_pool, pool_fits, pool_of, pools, pool_in, lease_in, fitting_pool}
+use Rattle.off_account_rules.specs.Rows.{is_possible, possible, as_pool, pool_fits, pool_of, pools, pool_in, pool_hub_in, lease_in, fitting_pool}
+use Rattle.std.proofs.lemmas.Bool.Decides.{nat_tests}
 use Rattle.std.proofs.lemmas.Cmp.{nat_cmp_total}
 use Rattle.std.specs.FinMap.{nat_cmp-IsAntisymmetric}
 use Rattle.off_defs.specs.declared.tables.Lease.{Lease}
 use Rattle.off_defs.specs.Tables.{row_at, write_all}
-use Rattle.off_account_rules.specs.Good.{Good}
+use Rattle.off_account_rules.specs.Good.{Opens}
 use Rattle.off_table_laws.proofs.ListLemmas.{made_in, in_made, in_any}
 use Rattle.off_table_laws.proofs.EntryRows.{row_in, in_row, found_in, in_found}
-use Rattle.off_table_laws.proofs.Reading.{pool_row}
-use Rattle.off_table_laws.proofs.TableLaws.{leases_stand, no_hub_named}
+use Rattle.off_table_laws.proofs.Judging.{good_rows}
+use Rattle.off_table_laws.proofs.Reading.{pool_row, row_pool, lease_row}
 use Rattle.off_runs.specs.Runs.{address, in_pool}
 use Rattle.off_runs.specs.Leases.{expiry_of, LeasesMove}
-use Rattle.off_runs.proofs.WriteLemmas.{pools_written, expiries_written}
+use Rattle.off_runs.proofs.WriteLemmas.{read_hub, pools_written, expiries_written, hubs_written}
 
 and_both : (a b : Bool) → T a → T b → T (a && b)
 and_both true b p q = q
@@ -101,22 +102,45 @@ pool_seen t n = go (pool_in t n) refl (list.find nat_cmp n (pools t)) refl
         let read : pool_in t n ≡ Some pool = ap (read_pool n) there ∙ made_reads (m.0).0 (m.0).1 n pool m.2 in
         cc
 
--- in good tables a lease that has an expiry lies in a pool
-lies_around : (t : Tables) (a : ℕ) → Good t → (o : Option Lease) → lease_in t (address a) ≡ o → 0 < expiry_of o → list_any (λ e. in_pool e.1 a) (pools t) ≡ true
-lies_around t a good None is h = absurd (omega (arith, h))
-lies_around t a good (Some lease) is h =
-    let one = (leases_stand t good (address a) lease is).1 in
-    let inside = found_in nat_cmp nat_cmp-IsAntisymmetric (pools t) one.number one.pool (pool_seen t one.number ∙ one.there) in
+-- in tables that open a lease that has an expiry lies in a pool
+lies_around : (t : Tables) (a : ℕ) → Opens t → (o : Option Lease) → lease_in t (address a) ≡ o → 0 < expiry_of o → list_any (λ e. in_pool e.1 a) (pools t) ≡ true
+lies_around t a opens None is h = absurd (omega (arith, h))
+lies_around t a opens (Some lease) is h =
+    let g = good_rows t opens in
+    let one = g.one_pool (address a) lease (lease_row t (address a) lease is) in
+    let inside = found_in nat_cmp nat_cmp-IsAntisymmetric (pools t) one.number one.pool (pool_seen t one.number ∙ row_pool t g.possible one.number one.pool one.there) in
     in_any (λ e. in_pool e.1 a) (pools t) (one.number, one.pool) inside one.within
 
+-- and a number that has a hub is a pool's
+hub_row : (n : ℕ) (o : Option Row) → 0 < read_hub n o → (hub : ℕ) × (o ≡ Some (row.PoolHub hub))
+hub_row n None h = absurd (omega (arith, h))
+hub_row n (Some (row.PoolHub hub)) h = (hub, refl)
+hub_row n (Some held) h = absurd (omega (arith, h))
+
+pool_there : (n : ℕ) (o : Option Row) → ((held : Row) → o ≡ Some held → is_possible (key.Pool n) held ≡ true) → is_some o ≡ true → (pool : Pool) × (o ≡ Some (row.Pool pool))
+pool_there n None possible there = cc
+pool_there n (Some (row.Pool pool)) possible there = (pool, refl)
+pool_there n (Some held) possible there = let fits = possible held refl in cc
+
+same_equal : (n : ℕ) → (n == n) ≡ true
+same_equal n = grind (arith, nat_tests)
+
+is_homed : (t : Tables) (n : ℕ) → Opens t → 0 < pool_hub_in t n → list_any (λ e. e.0 == n) (pools t) ≡ true
+is_homed t n opens h =
+    let g = good_rows t opens in
+    let hub = hub_row n (row_at t (key.PoolHub n)) h in
+    let pool = pool_there n (row_at t (key.Pool n)) (g.possible (key.Pool n)) (g.pool_hub n hub.0 hub.1).0 in
+    let inside = found_in nat_cmp nat_cmp-IsAntisymmetric (pools t) n pool.0 (pool_seen t n ∙ row_pool t g.possible n pool.0 pool.1) in
+    in_any (λ e. e.0 == n) (pools t) (n, pool.0) inside (same_equal n)
+
 pub moves : LeasesMove
-moves t good writes = record {
-  no_hubs = λ n. sym (no_hub_named t n);
-  same_hubs = λ n. no_hub_named t n ∙ sym (no_hub_named (write_all t writes) n);
+moves t opens writes = record {
   before_sorted = pools_sorted t;
   before = pool_seen t;
-  around = λ a h. lies_around t a good (lease_in t (address a)) refl h;
+  around = λ a h. lies_around t a opens (lease_in t (address a)) refl h;
+  homed = λ n h. is_homed t n opens h;
   after_sorted = pools_sorted (write_all t writes);
   after = λ n. pool_seen (write_all t writes) n ∙ sym (pools_written t writes n);
   expiries = expiries_written t writes;
+  hubs = hubs_written t writes;
 }

@@ -1,4 +1,4 @@
--- How many calls the walks over pools and leases make.
+-- How many calls the walks over pools, leases and hubs make.
 use Rattle.std.proofs.Common.{◌≡◌, suc, ◌+◌, ◌≤◌, Bool, true, false, cond, List, [], ◌∷◌, length, filter, Some, ap, arith}
 use Rattle.std.specs.List.{filter_map}
 use Rattle.std.specs.FinMap as map
@@ -43,8 +43,14 @@ walk_ends place so_far counted t told =
     let one = spent_one counted in
     record { later = omega (arith, before.0, one.later); most = omega (arith, before.1, one.most) }
 
-pub walks_both : {P : Tables → Type 0} {a b c : KeeperSeen} → WalksOnce a b → Reads P a b → WalksOnce b c → Walks 2 a c
-walks_both first reads second t told = spent_within (spent_then (first t told) (second t (reads.tables t told).0)) (omega arith)
+pub walks_twice : {P : Tables → Type 0} {a b c : KeeperSeen} → WalksOnce a b → Reads P a b → WalksOnce b c → Walks 2 a c
+walks_twice first reads second t told = spent_within (spent_then (first t told) (second t (reads.tables t told).0)) (omega arith)
 
-pub walks_first : {a b : KeeperSeen} → WalksOnce a b → Walks 2 a b
+pub walks_once : {a b : KeeperSeen} → WalksOnce a b → Walks 2 a b
+walks_once first t told = spent_within (first t told) (omega arith)
+
+pub walks_thrice : {P : Tables → Type 0} {a b c : KeeperSeen} → WalksOnce a b → Reads P a b → Walks 2 b c → Walks 3 a c
+walks_thrice first reads second t told = spent_within (spent_then (first t told) (second t (reads.tables t told).0)) (omega arith)
+
+pub walks_first : {a b : KeeperSeen} → WalksOnce a b → Walks 3 a b
 walks_first first t told = spent_within (first t told) (omega arith)

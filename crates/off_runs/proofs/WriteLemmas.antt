@@ -1,5 +1,5 @@
--- What writes make of the tables' pools and leases.
-use Rattle.std.proofs.Common.{◌≡◌, ℕ, ◌==◌, Bool, true, false, cond, List, [], ◌∷◌, Option, Some, None, option_and_then, refl, sym, ap, ◌∙◌, arith}
+-- What writes make of the tables' pools, leases and hubs.
+use Rattle.std.proofs.Common.{◌≡◌, ℕ, ◌==◌, Bool, true, false, cond, not, List, [], ◌∷◌, Option, Some, None, option_and_then, refl, sym, ap, ◌∙◌, arith}
 use Rattle.std.proofs.lemmas.Bool.Decides.{nat_tests}
 use Rattle.std.proofs.lemmas.Cmp.{nat_cmp_total}
 use Rattle.std.specs.Cmp.{tied_itself}
@@ -15,9 +15,9 @@ use Rattle.off_defs.specs.declared.orders.Write.{Write}
 use Rattle.off_defs.specs.declared.orders.Write.TheVariants.{Put, Drop}
 use Rattle.off_defs.specs.State.{Tables}
 use Rattle.off_defs.specs.Tables.{row_at, written, write_all}
-use Rattle.off_account_rules.specs.Rows.{possible, as_pool, as_lease, pool_fits, pool_in}
+use Rattle.off_account_rules.specs.Rows.{possible, as_pool, as_lease, as_pool_hub, number_or_0, pool_fits, pool_in, pool_hub_in}
 use Rattle.off_runs.specs.Runs.{address}
-use Rattle.off_runs.specs.Leases.{expiry_of, expiry_in, expiry_held, fitting, pool_write, lease_write, pools_by, pools_after, expiries_by, expiries_after}
+use Rattle.off_runs.specs.Leases.{expiry_of, expiry_in, expiry_held, hub_held, fitting, pool_write, lease_write, hub_write, pools_by, pools_after, numbers_by, expiries_after, hubs_after}
 
 -- two numbers are equal by their order as by the test
 pub same_number : (a b : ℕ) → eq_by_cmp nat_cmp a b ≡ (a == b)
@@ -94,7 +94,7 @@ expiry_at : (a : ℕ) (b : Bool) (o : Option Row) (ends : ℕ) (was : Option Row
 expiry_at a true o ends was is = is
 expiry_at a false o ends was is = refl
 
-pub expiry_written : (t : Tables) (w : Write) (n : ℕ) → expiry_in (written t w) n ≡ expiries_by (lease_write w) (expiry_in t) n
+pub expiry_written : (t : Tables) (w : Write) (n : ℕ) → expiry_in (written t w) n ≡ numbers_by (lease_write w) (expiry_in t) n
 expiry_written t (Put (key.Lease m) held) n =
     ap (read_expiry n) (row_with t (key.Lease m) held (key.Lease (address n)))
     ∙ expiry_at n (eq_by_cmp nat_cmp n m.0) (Some held) (expiry_held held) (row_at t (key.Lease (address n))) (put_expiry n held)
@@ -131,3 +131,59 @@ expiry_written t (Drop (key.Device a)) n = ap (read_expiry n) (row_without t (ke
 pub expiries_written : (t : Tables) (ws : List Write) (n : ℕ) → expiries_after (expiry_in t) ws n ≡ expiry_in (write_all t ws) n
 expiries_written t [] n = refl
 expiries_written t (w ∷ ws) n = ap (λ (e : ℕ → ℕ). expiries_after e ws n) (λ i q. sym (expiry_written t w q) i) ∙ expiries_written (written t w) ws n
+
+-- ---- hubs
+
+abbrev pub read_hub : ℕ → Option Row → ℕ
+read_hub n o = number_or_0 (option_and_then as_pool_hub (possible (key.PoolHub n) o))
+
+-- the hub 0 isn't named, and none is the hub 0
+named_hub : (hub : ℕ) (b : Bool) → (hub == 0) ≡ b → number_or_0 (option_and_then as_pool_hub (cond (not b) (Some (row.PoolHub hub)) None)) ≡ hub
+named_hub hub true e = grind (arith, nat_tests)
+named_hub hub false e = refl
+
+pub put_hub : (n : ℕ) (held : Row) → read_hub n (Some held) ≡ hub_held held
+put_hub n (row.PoolHub hub) = named_hub hub (hub == 0) refl
+put_hub n held = refl
+
+hub_at : (n : ℕ) (b : Bool) (o : Option Row) (hub : ℕ) (was : Option Row) → read_hub n o ≡ hub → read_hub n (cond b o was) ≡ cond b hub (read_hub n was)
+hub_at n true o hub was is = is
+hub_at n false o hub was is = refl
+
+pub hub_written : (t : Tables) (w : Write) (n : ℕ) → pool_hub_in (written t w) n ≡ numbers_by (hub_write w) (pool_hub_in t) n
+hub_written t (Put (key.PoolHub m) held) n =
+    ap (read_hub n) (row_with t (key.PoolHub m) held (key.PoolHub n))
+    ∙ hub_at n (eq_by_cmp nat_cmp n m) (Some held) (hub_held held) (row_at t (key.PoolHub n)) (put_hub n held)
+    ∙ ap (λ b. cond b (hub_held held) (pool_hub_in t n)) (same_number n m)
+hub_written t (Drop (key.PoolHub m)) n =
+    ap (read_hub n) (row_without t (key.PoolHub m) (key.PoolHub n))
+    ∙ hub_at n (eq_by_cmp nat_cmp n m) None 0 (row_at t (key.PoolHub n)) refl
+    ∙ ap (λ b. cond b 0 (pool_hub_in t n)) (same_number n m)
+hub_written t (Put key.Site held) n = ap (read_hub n) (row_with t key.Site held (key.PoolHub n))
+hub_written t (Drop key.Site) n = ap (read_hub n) (row_without t key.Site (key.PoolHub n))
+hub_written t (Put (key.Subscriber a) held) n = ap (read_hub n) (row_with t (key.Subscriber a) held (key.PoolHub n))
+hub_written t (Drop (key.Subscriber a)) n = ap (read_hub n) (row_without t (key.Subscriber a) (key.PoolHub n))
+hub_written t (Put (key.AddOn a i) held) n = ap (read_hub n) (row_with t (key.AddOn a i) held (key.PoolHub n))
+hub_written t (Drop (key.AddOn a i)) n = ap (read_hub n) (row_without t (key.AddOn a i) (key.PoolHub n))
+hub_written t (Put (key.Modem a) held) n = ap (read_hub n) (row_with t (key.Modem a) held (key.PoolHub n))
+hub_written t (Drop (key.Modem a)) n = ap (read_hub n) (row_without t (key.Modem a) (key.PoolHub n))
+hub_written t (Put (key.Class a) held) n = ap (read_hub n) (row_with t (key.Class a) held (key.PoolHub n))
+hub_written t (Drop (key.Class a)) n = ap (read_hub n) (row_without t (key.Class a) (key.PoolHub n))
+hub_written t (Put (key.Pool a) held) n = ap (read_hub n) (row_with t (key.Pool a) held (key.PoolHub n))
+hub_written t (Drop (key.Pool a)) n = ap (read_hub n) (row_without t (key.Pool a) (key.PoolHub n))
+hub_written t (Put (key.Held a) held) n = ap (read_hub n) (row_with t (key.Held a) held (key.PoolHub n))
+hub_written t (Drop (key.Held a)) n = ap (read_hub n) (row_without t (key.Held a) (key.PoolHub n))
+hub_written t (Put (key.Batch a) held) n = ap (read_hub n) (row_with t (key.Batch a) held (key.PoolHub n))
+hub_written t (Put (key.Hub a) held) n = ap (read_hub n) (row_with t (key.Hub a) held (key.PoolHub n))
+hub_written t (Put (key.DevicePool a) held) n = ap (read_hub n) (row_with t (key.DevicePool a) held (key.PoolHub n))
+hub_written t (Put (key.Device a) held) n = ap (read_hub n) (row_with t (key.Device a) held (key.PoolHub n))
+hub_written t (Drop (key.Batch a)) n = ap (read_hub n) (row_without t (key.Batch a) (key.PoolHub n))
+hub_written t (Drop (key.Hub a)) n = ap (read_hub n) (row_without t (key.Hub a) (key.PoolHub n))
+hub_written t (Drop (key.DevicePool a)) n = ap (read_hub n) (row_without t (key.DevicePool a) (key.PoolHub n))
+hub_written t (Drop (key.Device a)) n = ap (read_hub n) (row_without t (key.Device a) (key.PoolHub n))
+hub_written t (Put (key.Lease a) held) n = ap (read_hub n) (row_with t (key.Lease a) held (key.PoolHub n))
+hub_written t (Drop (key.Lease a)) n = ap (read_hub n) (row_without t (key.Lease a) (key.PoolHub n))
+
+pub hubs_written : (t : Tables) (ws : List Write) (n : ℕ) → hubs_after (pool_hub_in t) ws n ≡ pool_hub_in (write_all t ws) n
+hubs_written t [] n = refl
+hubs_written t (w ∷ ws) n = ap (λ (h : ℕ → ℕ). hubs_after h ws n) (λ i q. sym (hub_written t w q) i) ∙ hubs_written (written t w) ws n

@@ -21,6 +21,11 @@ pub record Wrote (address expiry : ℕ) (old new : PoolHeld) : Type 0 where
   pub leases : (a : ℕ) → in_pool old.pool a ≡ true →
       expiry_at new a ≡ (if a == address then expiry else expiry_at old a)
 
+-- the pool of a number has another hub
+abbrev pub Rehubbed : ℕ → ℕ → PoolHeld → PoolHeld → Type 0
+Rehubbed number hub old new =
+    new ≡ record old { hub = if old.number == number then hub else old.hub }
+
 -- each pool of a list became one of another
 pub record EachBecomes {A : Type 0} (R : A → A → Type 0) (old new : List A) : Type 0 where
   pub lengths : length new ≡ length old
@@ -32,6 +37,17 @@ surrounds a p = in_pool p.pool a
 
 abbrev pub surrounded : List PoolHeld → ℕ → Bool
 surrounded pools a = list_any (surrounds a) pools
+
+-- some pool of the list has the number
+abbrev pub is_numbered : ℕ → PoolHeld → Bool
+is_numbered n p = p.number == n
+
+abbrev pub numbered : List PoolHeld → ℕ → Bool
+numbered pools n = list_any (is_numbered n) pools
+
+abbrev pub hub_or_0 : Option PoolHeld → ℕ
+hub_or_0 None = 0
+hub_or_0 (Some p) = p.hub
 
 -- A new pool has the expiries of those addresses that a pool of the list has, and no others
 abbrev pub HasGathered : (ℕ → ℕ) → List PoolHeld → PoolHeld → Type 0

@@ -13,7 +13,7 @@ use Rattle.off_defs.specs.declared.orders.Write.{Write}
 use Rattle.off_defs.specs.declared.orders.Write.TheVariants.{Put, Drop}
 use Rattle.off_defs.specs.State.{Tables}
 use Rattle.off_defs.specs.Tables.{write_all}
-use Rattle.off_account_rules.specs.Good.{Good}
+use Rattle.off_account_rules.specs.Good.{Opens}
 use Rattle.off_account_rules.specs.Rows.{pool_fits, pools, pool_in, pool_hub_in, lease_in}
 use Rattle.off_runs.specs.Runs.{address, in_pool}
 use Rattle.off_runs.specs.Held.{Ground, PoolHeld, heads, HasLeases, HasHub}
@@ -49,7 +49,17 @@ lease_write (Put (key.Lease a) held) = Some (a.0, expiry_held held)
 lease_write (Drop (key.Lease a)) = Some (a.0, 0)
 lease_write write = None
 
--- the pools by number and the expiries, after writes
+-- what a write makes of the hub of a pool's number
+abbrev pub hub_held : Row → ℕ
+hub_held (row.PoolHub hub) = hub
+hub_held held = 0
+
+abbrev pub hub_write : Write → Option (ℕ × ℕ)
+hub_write (Put (key.PoolHub n) held) = Some (n, hub_held held)
+hub_write (Drop (key.PoolHub n)) = Some (n, 0)
+hub_write write = None
+
+-- the pools by number, after writes
 abbrev pub pools_by : Option (ℕ × Option Pool) → (ℕ → Option Pool) → ℕ → Option Pool
 pools_by None by = by
 pools_by (Some (n, pool)) by = with_pool by n pool
@@ -58,14 +68,20 @@ abbrev pub pools_after : (ℕ → Option Pool) → List Write → ℕ → Option
 pools_after by [] = by
 pools_after by (write ∷ writes) = pools_after (pools_by (pool_write write) by) writes
 
-abbrev pub expiries_by : Option (ℕ × ℕ) → (ℕ → ℕ) → ℕ → ℕ
-expiries_by None expiry = expiry
-expiries_by (Some (a, ends)) expiry = λ b. if b == a then ends else expiry b
+-- what stands at each number after writes, each of which puts one number's or none's
+abbrev pub numbers_by : Option (ℕ × ℕ) → (ℕ → ℕ) → ℕ → ℕ
+numbers_by None was = was
+numbers_by (Some (n, held)) was = λ m. if m == n then held else was m
+
+abbrev pub numbers_after : (Write → Option (ℕ × ℕ)) → (ℕ → ℕ) → List Write → ℕ → ℕ
+numbers_after put was [] = was
+numbers_after put was (write ∷ writes) = numbers_after put (numbers_by (put write) was) writes
 
 abbrev pub expiries_after : (ℕ → ℕ) → List Write → ℕ → ℕ
-expiries_after expiry [] = expiry
-expiries_after expiry (write ∷ writes) =
-    expiries_after (expiries_by (lease_write write) expiry) writes
+expiries_after expiry writes = numbers_after lease_write expiry writes
+
+abbrev pub hubs_after : (ℕ → ℕ) → List Write → ℕ → ℕ
+hubs_after hub writes = numbers_after hub_write hub writes
 
 -- how many pools are put
 abbrev pub puts_pool : Write → ℕ
@@ -76,31 +92,33 @@ abbrev pub pool_puts : List Write → ℕ
 pool_puts [] = 0
 pool_puts (write ∷ writes) = puts_pool write + pool_puts writes
 
--- pools have taken the leases of writes
+-- pools have taken the leases of writes, or the hubs
 pub record LeasesTaken (writes : List Write) (old new : List PoolHeld) : Type 0 where
   pub heads_are : heads new ≡ heads old
   pub hubs : (hub : ℕ → ℕ) → All (HasHub hub) old → All (HasHub hub) new
   pub leases : (expiry : ℕ → ℕ) → All (HasLeases expiry) old →
       All (HasLeases (expiries_after expiry writes)) new
 
--- What writes make of the ground that pools stand on: its pools are sorted by number, before and
--- after, and those after are what the writes made of those before, as its expiries are; before, an
--- address that has a lease lies in a pool. No pool names a hub as yet.
-abbrev pub HasNoHubs : Ground → Type 0
-HasNoHubs g = (n : ℕ) → 0 ≡ g.hub n
+pub record HubsTaken (writes : List Write) (old new : List PoolHeld) : Type 0 where
+  pub heads_are : heads new ≡ heads old
+  pub leases : (expiry : ℕ → ℕ) → All (HasLeases expiry) old → All (HasLeases expiry) new
+  pub hubs : (hub : ℕ → ℕ) → All (HasHub hub) old → All (HasHub (hubs_after hub writes)) new
 
+-- What writes make of the ground that pools stand on: its pools are sorted by number, before and
+-- after, and those after are what the writes made of those before, as its expiries and hubs are;
+-- before, an address that has a lease lies in a pool, and a number that has a hub is a pool's.
 pub record Moves (writes : List Write) (by : ℕ → Option Pool) (g h : Ground) : Type 0 where
-  pub no_hubs : HasNoHubs g
-  pub same_hubs : (n : ℕ) → g.hub n ≡ h.hub n
   pub before_sorted : T (list.is_sorted nat_cmp g.pools)
   pub before : (n : ℕ) → list.find nat_cmp n g.pools ≡ by n
   pub around : (a : ℕ) → 0 < g.expiry a → list_any (λ e. in_pool e.1 a) g.pools ≡ true
+  pub homed : (n : ℕ) → 0 < g.hub n → list_any (λ e. e.0 == n) g.pools ≡ true
   pub after_sorted : T (list.is_sorted nat_cmp h.pools)
   pub after : (n : ℕ) → list.find nat_cmp n h.pools ≡ pools_after by writes n
   pub expiries : (a : ℕ) → expiries_after g.expiry writes a ≡ h.expiry a
+  pub hubs : (n : ℕ) → hubs_after g.hub writes n ≡ h.hub n
 
--- all writes move the ground of good tables so, whatever they leave
+-- all writes move the ground of tables that open so, whatever they leave
 abbrev pub LeasesMove : Type 0
 LeasesMove =
-    (t : Tables) → Good t → (writes : List Write) →
+    (t : Tables) → Opens t → (writes : List Write) →
     Moves writes (pool_in t) (ground t) (ground (write_all t writes))

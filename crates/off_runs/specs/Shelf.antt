@@ -6,7 +6,7 @@ use Rattle.std.specs.Ordering.{nat_cmp, is_eq, eq_by_cmp}
 use Rattle.std.specs.FinMap.Entries as list
 use Rattle.off_defs.specs.declared.tables.Pool.{Pool}
 use Rattle.off_runs.specs.Held.{Ground, PoolHeld, heads, HasLeases, HasHub}
-use Rattle.off_runs.specs.Changes.{surrounded}
+use Rattle.off_runs.specs.Changes.{surrounded, numbered}
 
 -- in a list by number: what is left without the pool of a number, that pool, whether it stands in
 -- front, and the list with one more
@@ -31,8 +31,8 @@ placed f (p ∷ ps) =
 abbrev pub with_pool : (ℕ → Option Pool) → ℕ → Option Pool → ℕ → Option Pool
 with_pool by n pool q = cond (eq_by_cmp nat_cmp q n) pool (by q)
 
--- The pools that are there are those by number, and with those aside they have all leases of the
--- ground, which is what stood before the first write.
+-- The pools that are there are those by number, and with those aside they have all leases and all
+-- hubs of the ground, which is what stood before the first write.
 pub record Shelved (g : Ground) (by : ℕ → Option Pool) (pools aside : List PoolHeld) : Type 0 where
   pub sorted : T (list.is_sorted nat_cmp (heads pools))
   pub found : (n : ℕ) → list.find nat_cmp n (heads pools) ≡ by n
@@ -40,3 +40,5 @@ pub record Shelved (g : Ground) (by : ℕ → Option Pool) (pools aside : List P
   pub before : All (HasLeases g.expiry) aside
   pub around : (a : ℕ) → 0 < g.expiry a → (surrounded pools a || surrounded aside a) ≡ true
   pub hubs : All (HasHub g.hub) pools
+  pub hubs_before : All (HasHub g.hub) aside
+  pub homed : (n : ℕ) → 0 < g.hub n → (numbered pools n || numbered aside n) ≡ true

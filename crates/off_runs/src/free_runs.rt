@@ -10,17 +10,17 @@ ghost use Rattle.off_runs.specs.Runs.{in_pool, is_open};
 ghost use Rattle.off_runs.specs.Leases.{Moves, ground, pool_puts};
 ghost use Rattle.off_defs.specs.State.{Tables};
 ghost use Rattle.off_defs.specs.Tables.{write_all};
-ghost use Rattle.off_account_rules.specs.Good.{Good};
+ghost use Rattle.off_account_rules.specs.Good.{Opens};
 ghost use Rattle.off_account_rules.specs.Rows.{pool_fits};
 ghost use Rattle.off_runs.specs.Held.{Ground, KeepsPools, StandsFor, NoneOpen, IsLeastOpen};
 ghost use Rattle.off_runs.specs.Held.{IsLeastOf};
 ghost use Rattle.off_runs.specs.Reading.{bare_ground, Walks};
-ghost use Rattle.off_outside.specs.KeeperCalls.{Looks, WalksOnce};
+ghost use Rattle.off_outside.specs.KeeperCalls.{Looks};
 
-use crate::leases::{count_puts, take_leases, take_pools};
+use crate::leases::{count_puts, take_hubs, take_leases, take_pools};
 use crate::pool_runs::PoolRuns;
 use crate::pools::{pass_all, place_behind, place_numbered, place_with};
-use crate::reading::{read_pools, take_kept};
+use crate::reading::{read_pools, take_kept_hubs, take_kept_leases};
 use crate::shelf::{push_aside, put_back};
 use off_base::{Ip4, Moment, NoMemory};
 use off_defs::{Pool, Writes};
@@ -71,34 +71,35 @@ impl FreeRuns {
         }
     }
 
-    /// The pools of a keeper's tables, with the leases of their addresses, at moment 0. A row that no
-    /// pool or lease may have is passed over.
+    /// The pools of a keeper's tables, each with its hub and with the leases of its addresses, at
+    /// moment 0. A row that no pool, lease or pool's hub may have is passed over.
     ///
-    /// It walks over the pools and over the leases, and commits nothing. After an error there is
+    /// It walks over the pools, over the leases and over the pools' hubs, and commits nothing. After an error there is
     /// nothing; `Failed` comes only where the keeper counted a fault.
     pub fn of<K: Keeper>(alloc: Global, keeper: &mut K) -> Result<FreeRuns, KeepErr>
         ensures told { Looks result (K.seen keeper.old) (K.seen keeper.new)
             (λ runs t. StandsFor runs (ground t) 0) }
         ensures at { IfOk result (λ runs. runs.at ≡ 0) }
-        ensures walks { Walks 2 (K.seen keeper.old) (K.seen keeper.new) }
+        ensures walks { Walks 3 (K.seen keeper.old) (K.seen keeper.new) }
     {
         let pools = read_pools(alloc, keeper)?;
         let mut runs = FreeRuns::new(alloc);
         runs.ready(&pools)?;
         runs.apply(&pools);
-        runs.take_leases_of(alloc, keeper)?;
+        runs.take_rows_of(alloc, keeper)?;
         Ok(runs)
     }
 
-    // Takes the leases of tables whose pools are here.
-    fn take_leases_of<K: Keeper>(&mut self, alloc: Global, keeper: &mut K) -> Result<(), KeepErr>
+    // Takes the leases and the hubs of tables whose pools are here.
+    fn take_rows_of<K: Keeper>(&mut self, alloc: Global, keeper: &mut K) -> Result<(), KeepErr>
         ensures told { Looks result (K.seen keeper.old) (K.seen keeper.new)
             (λ _ t. KeepsPools self.old.pools (bare_ground t)
             → KeepsPools self.new.pools (ground t)) }
         ensures at { self.new.at ≡ self.old.at }
-        ensures walks { WalksOnce (K.seen keeper.old) (K.seen keeper.new) }
+        ensures walks { Walks 2 (K.seen keeper.old) (K.seen keeper.new) }
     {
-        take_kept(alloc, keeper, &mut self.pools)?;
+        take_kept_leases(alloc, keeper, &mut self.pools)?;
+        take_kept_hubs(alloc, keeper, &mut self.pools)?;
         let moment = self.moment;
         pass_all(&mut self.pools, moment);
         Ok(())
@@ -136,18 +137,19 @@ impl FreeRuns {
         self.moment = now;
     }
 
-    /// Takes writes that were done: pools first, and then leases. There is room in hand for each
-    /// pool that is put.
+    /// Takes writes that were done: pools first, then leases, and then pools' hubs. There is room in
+    /// hand for each pool that is put.
     pub fn apply(&mut self, writes: &Writes)
         requires { pool_puts writes.now ≤ self.old.spare }
         ensures keeps { (g : Ground) (h : Ground) (by : ℕ → Option Pool) → Moves writes.now by g h
             → KeepsPools self.old.pools g → KeepsPools self.new.pools h }
-        ensures tables { (t : Tables) → Good t → KeepsPools self.old.pools (ground t)
+        ensures tables { (t : Tables) → Opens t → KeepsPools self.old.pools (ground t)
             → KeepsPools self.new.pools (ground (write_all t writes.now)) }
         ensures at { self.new.at ≡ self.old.at }
     {
         take_pools(&mut self.pools, &mut self.retired, &mut self.spare, writes);
         take_leases(&mut self.pools, writes);
+        take_hubs(&mut self.pools, writes);
         let now = self.moment;
         pass_all(&mut self.pools, now);
         put_back(&mut self.retired, &mut self.spare);

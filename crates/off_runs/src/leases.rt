@@ -1,4 +1,4 @@
-//! Which writes change the pools of modems and their leases.
+//! Which writes change the pools of modems, their leases and their hubs.
 
 ghost use Rattle.std.specs.Prelude.{◌≡◌, ◌≤◌, ◌+◌, ℕ, []};
 ghost use Rattle.std.specs.Prelude.{◌∷◌, cond, IfSome, IsTrue, vec_len};
@@ -8,12 +8,13 @@ ghost use Rattle.std.specs.Prelude.{Option};
 ghost use Rattle.off_defs.specs.declared.tables.Pool.{Pool};
 ghost use Rattle.off_account_rules.specs.Rows.{pool_fits};
 ghost use Rattle.off_runs.specs.Held.{Ground};
-ghost use Rattle.off_runs.specs.Leases.{pool_write, lease_write, fitting, expiry_held, HasNoHubs};
-ghost use Rattle.off_runs.specs.Leases.{pools_after, pools_by, pool_puts, puts_pool, LeasesTaken};
+ghost use Rattle.off_runs.specs.Leases.{pool_write, lease_write, hub_write, fitting, expiry_held};
+ghost use Rattle.off_runs.specs.Leases.{hub_held, pools_after, pools_by, pool_puts, puts_pool};
+ghost use Rattle.off_runs.specs.Leases.{LeasesTaken, HubsTaken};
 ghost use Rattle.off_runs.specs.Shelf.{Shelved};
 
 use crate::pool_runs::PoolRuns;
-use crate::pools::set_all;
+use crate::pools::{rehub_all, set_all};
 use crate::shelf::take_pool;
 use off_base::Ip4;
 use off_defs::{Key, Pool, Row, Write, Writes};
@@ -31,7 +32,7 @@ pub(crate) fn take_pools(
     requires room_aside { vec_len pools.old + vec_len aside.old + vec_len spare.old
         ≤ vec_capacity aside.old }
     requires spare { pool_puts writes.now ≤ vec_len spare.old }
-    ensures shelved { (g : Ground) (by : ℕ → Option Pool) → HasNoHubs g
+    ensures shelved { (g : Ground) (by : ℕ → Option Pool)
         → Shelved g by pools.old.items aside.old.items
         → Shelved g (pools_after by writes.now) pools.new.items aside.new.items }
     ensures kept { vec_capacity spare.old ≤ vec_capacity spare.new }
@@ -57,7 +58,7 @@ fn take_write(
     requires room_aside { vec_len pools.old + vec_len aside.old + vec_len spare.old
         ≤ vec_capacity aside.old }
     requires spare { puts_pool write.now ≤ vec_len spare.old }
-    ensures shelved { (g : Ground) (by : ℕ → Option Pool) → HasNoHubs g
+    ensures shelved { (g : Ground) (by : ℕ → Option Pool)
         → Shelved g by pools.old.items aside.old.items
         → Shelved g (pools_by (pool_write write.now) by) pools.new.items aside.new.items }
     ensures kept { vec_capacity spare.old ≤ vec_capacity spare.new }
@@ -70,7 +71,7 @@ fn take_write(
     let Some((number, pool)) = pool_write(write) else {
         return;
     };
-    take_pool(pools, aside, spare, number, pool, 0);
+    take_pool(pools, aside, spare, number, pool);
 }
 
 // The pool that a write makes of a number, or `None` where it's of no pool.
@@ -143,6 +144,50 @@ fn expiry_held(row: &Row) -> u64
 {
     match row {
         Row::Lease(lease) => lease.expiry.0,
+        _ => 0,
+    }
+}
+
+/// Takes the hubs of writes, each in its turn.
+pub(crate) fn take_hubs(pools: &mut Vec<PoolRuns>, writes: &Writes)
+    ensures taken { HubsTaken writes.now pools.old.items pools.new.items }
+    ensures len { vec_len pools.new ≡ vec_len pools.old }
+    ensures capacity { vec_capacity pools.new ≡ vec_capacity pools.old }
+{
+    for place in 0..writes.len() {
+        take_hub(pools, writes.get(place));
+    }
+}
+
+/// Takes the hub of a write, if it's of a pool's hub.
+pub(crate) fn take_hub(pools: &mut Vec<PoolRuns>, write: &Write)
+    ensures taken { HubsTaken (write.now ∷ []) pools.old.items pools.new.items }
+    ensures len { vec_len pools.new ≡ vec_len pools.old }
+    ensures capacity { vec_capacity pools.new ≡ vec_capacity pools.old }
+{
+    let Some((number, hub)) = hub_write(write) else {
+        return;
+    };
+    rehub_all(pools, number, hub);
+}
+
+// What a write makes of the hub of a pool's number, or `None` where it's of no pool's hub.
+fn hub_write(write: &Write) -> Option<(u32, u32)>
+    ensures { result ≡ hub_write write.now }
+{
+    match write {
+        Write::Put(Key::PoolHub(number), row) => Some((*number, hub_held(row))),
+        Write::Drop(Key::PoolHub(number)) => Some((*number, 0)),
+        _ => None,
+    }
+}
+
+// The hub of a row, or 0 where it names none.
+fn hub_held(row: &Row) -> u32
+    ensures { result ≡ hub_held row.now }
+{
+    match row {
+        Row::PoolHub(hub) => *hub,
         _ => 0,
     }
 }

@@ -5,7 +5,7 @@ ghost use Rattle.std.specs.Prelude.{IsTrue, MatchOption, get_or, if◌then◌els
 ghost use Rattle.off_account_rules.specs.Rows.{pool_fits};
 ghost use Rattle.off_runs.specs.Runs.{in_pool, is_open};
 ghost use Rattle.off_runs.specs.Held.{expiry_at, HasLeases, PoolHeld, NoneOpen, IsLeastOpen};
-ghost use Rattle.off_runs.specs.Changes.{Wrote, Began, Copied, HasPart};
+ghost use Rattle.off_runs.specs.Changes.{Wrote, Rehubbed, Began, Copied, HasPart};
 
 use crate::runs::{Run, first_address, first_open, lay_out};
 use off_base::{Ip4, Moment, NoMemory};
@@ -122,6 +122,15 @@ impl PoolRuns {
         if self.has(address) {
             self.expiries[(address.0 - self.pool.first.0) as usize] = expiry;
             self.is_stale = true;
+        }
+    }
+
+    /// Has the hub from now on, where it's the pool of the number.
+    pub(crate) fn rehub(&mut self, number: u32, hub: u32)
+        ensures { Rehubbed number hub self.old self.new }
+    {
+        if self.number == number {
+            self.hub = hub;
         }
     }
 

@@ -5,7 +5,7 @@ ghost use Rattle.std.specs.Prelude.{vec_len, slice_get};
 ghost use Rattle.std.specs.List.{find};
 ghost use Rattle.std.specs.Vec.{vec_capacity};
 ghost use Rattle.off_runs.specs.Runs.{in_pool};
-ghost use Rattle.off_runs.specs.Changes.{EachBecomes, IsSame, Wrote, CopiedAll};
+ghost use Rattle.off_runs.specs.Changes.{EachBecomes, IsSame, Wrote, CopiedAll, Rehubbed, hub_or_0};
 
 use crate::pool_runs::PoolRuns;
 use off_base::{Ip4, Moment};
@@ -29,6 +29,17 @@ pub(crate) fn set_all(pools: &mut Vec<PoolRuns>, address: Ip4, expiry: u64)
 {
     for pool in pools.iter_mut() {
         pool.set(address, expiry);
+    }
+}
+
+/// All pools of the number have the hub from now on.
+pub(crate) fn rehub_all(pools: &mut Vec<PoolRuns>, number: u32, hub: u32)
+    ensures each { EachBecomes (Rehubbed number hub) pools.old.items pools.new.items }
+    ensures len { vec_len pools.new ≡ vec_len pools.old }
+    ensures capacity { vec_capacity pools.new ≡ vec_capacity pools.old }
+{
+    for pool in pools.iter_mut() {
+        pool.rehub(number, hub);
     }
 }
 
@@ -75,4 +86,15 @@ pub(crate) fn place_numbered(pools: &Vec<PoolRuns>, number: u32) -> usize
         place += 1;
     }
     place
+}
+
+/// The hub of the first pool of a number, or 0 where there is none.
+pub(crate) fn hub_numbered(pools: &Vec<PoolRuns>, number: u32) -> u32
+    ensures { result ≡ hub_or_0 (find (λ p. p.number == number) pools.now.items) }
+{
+    let place = place_numbered(pools, number);
+    match pools.get(place) {
+        Some(pool) => pool.hub(),
+        None => 0,
+    }
 }

@@ -12,19 +12,18 @@ ghost use Rattle.off_runs.specs.Held.{Ground};
 ghost use Rattle.off_runs.specs.Shelf.{Shelved, left_of, gone_of, is_first, placed, with_pool};
 
 use crate::pool_runs::PoolRuns;
-use crate::pools::gather;
+use crate::pools::{gather, hub_numbered};
 use off_defs::Pool;
 use std::cmp::Ordering;
 
-/// The pool of a number goes, and one that is given takes its place, with the leases that any pool
-/// has of its addresses. There's a spare for it.
+/// The pool of a number goes, and one that is given takes its place, with the hub of the number and
+/// with the leases that any pool has of its addresses. There's a spare for it.
 pub(crate) fn take_pool(
     pools: &mut Vec<PoolRuns>,
     aside: &mut Vec<PoolRuns>,
     spare: &mut Vec<PoolRuns>,
     number: u32,
     pool: Option<Pool>,
-    hub: u32,
 )
     requires size { IfSome pool (λ pool. IsTrue (pool_fits pool)) }
     requires room { vec_len pools.old + vec_len aside.old + vec_len spare.old
@@ -32,7 +31,7 @@ pub(crate) fn take_pool(
     requires room_aside { vec_len pools.old + vec_len aside.old + vec_len spare.old
         ≤ vec_capacity aside.old }
     requires spare { IfSome pool (λ _. 1 ≤ vec_len spare.old) }
-    ensures shelved { (g : Ground) (by : ℕ → Option Pool) → hub ≡ g.hub number
+    ensures shelved { (g : Ground) (by : ℕ → Option Pool)
         → Shelved g by pools.old.items aside.old.items
         → Shelved g (with_pool by number pool) pools.new.items aside.new.items }
     ensures room { vec_capacity pools.old ≤ vec_capacity pools.new }
@@ -51,7 +50,7 @@ pub(crate) fn take_pool(
     let Some(mut fresh) = spare.pop() else {
         return;
     };
-    fresh.begin(number, given, hub);
+    fresh.begin(number, given, hub_numbered(aside, number));
     gather(&mut fresh, pools);
     gather(&mut fresh, aside);
     put_in(pools, number, fresh);

@@ -3,7 +3,7 @@
 ghost use Rattle.std.specs.Prelude.{◌≡◌, ◌++◌, ◌∷◌, [], None, Ok, option_and_then, IfOk};
 ghost use Rattle.std.specs.Prelude.{true, option_map, MatchResult};
 ghost use Rattle.off_defs.specs.declared.tables.Modem.{Modem as ModemSeen};
-ghost use Rattle.off_account_rules.specs.Rows.{hub_in, modem_in};
+ghost use Rattle.off_account_rules.specs.Rows.{modem_in};
 ghost use Rattle.off_file_rules.specs.Profile.{profile_at, profile_in, add_ons_in};
 ghost use Rattle.off_transfer_rules.specs.View.{owner_by};
 ghost use Rattle.off_kept.specs.Right.{AllRight};
@@ -24,7 +24,7 @@ use off_files::{AddOns, profile_of};
 use off_kept::{Kept, KeptBody};
 use off_outside::{KeepErr, Keeper};
 use off_readers::{
-    owner_of, read_add_on, read_class, read_hub, read_lease, read_modem, read_subscriber,
+    owner_of, read_add_on, read_class, read_lease, read_modem, read_site, read_subscriber,
 };
 use std::alloc::Global;
 
@@ -94,23 +94,6 @@ pub(crate) fn look_for_file<K: Keeper>(
     let body = body_for(alloc, keeper, kept, &seen.site, owner, &seen.modem)?;
     seen.body = body;
     Ok(seen)
-}
-
-// The site of a hub. Where there's no hub there is none, and no call is made.
-#[tactic(auto, using(crate::proofs::ReadLemmas::readings))]
-fn read_site<K: Keeper>(
-    alloc: Global,
-    keeper: &mut K,
-    hub: Option<u32>,
-) -> Result<Option<Site>, KeepErr>
-    ensures told { Looks result (K.seen keeper.old) (K.seen keeper.new)
-        (λ site t. site ≡ option_and_then (hub_in t) hub) }
-    ensures spent { Spent 1 (K.seen keeper.old) (K.seen keeper.new) }
-{
-    match hub {
-        Some(n) => read_hub(alloc, keeper, n),
-        None => Ok(None),
-    }
 }
 
 fn owner_by(lease: Option<Lease>) -> Option<Mac>

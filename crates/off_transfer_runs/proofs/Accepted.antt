@@ -1,5 +1,5 @@
 -- A read request that was accepted: the transfer that it begins.
-use Rattle.std.proofs.Common.{◌≡◌, ℕ, true, false, cond, true≢false, List, Option, Result, Ok, refl, sym, ap, subst, ◌∙◌}
+use Rattle.std.proofs.Common.{◌≡◌, ℕ, true, false, cond, true≢false, List, Result, Ok, refl, sym, ap, subst, ◌∙◌}
 use Rattle.std.specs.FinMap as map
 use Rattle.off_base.specs.declared.addresses.Peer.{Peer}
 use Rattle.off_base.specs.declared.macs.Mac.{Mac}

@@ -1,5 +1,5 @@
 -- Over a run the file of each accepted read request is served.
-use Rattle.std.proofs.Common.{◌≡◌, ℕ, zero, ◌*◌, max, Bool, true, false, if◌then◌else◌, true≢false, List, [], ◌∷◌, drop, Option, Some, None, Ok, refl, sym, ap, subst, ◌∙◌, arith}
+use Rattle.std.proofs.Common.{◌≡◌, ℕ, zero, ◌*◌, max, Bool, true, false, if◌then◌else◌, true≢false, List, [], ◌∷◌, drop, Some, Ok, refl, sym, ap, subst, ◌∙◌, arith}
 use Rattle.std.specs.Prelude.{find}
 use Rattle.std.specs.FinMap as map
 use Rattle.off_base.specs.declared.addresses.Peer.{Peer}

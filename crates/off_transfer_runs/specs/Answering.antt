@@ -1,5 +1,5 @@
 -- A peer that acknowledges what it is sent gets its whole file.
-use Rattle.std.specs.Prelude.{◌≡◌, ◌≢◌, ◌⊎◌, ℕ, zero, suc, ◌/◌, ◌<◌, max, true, List, [], ◌∷◌, ◌++◌, length, Option, Ok, if◌then◌else◌}
+use Rattle.std.specs.Prelude.{◌≡◌, ◌≢◌, ◌⊎◌, ℕ, zero, suc, ◌/◌, ◌<◌, max, true, List, [], ◌∷◌, ◌++◌, length, Ok, if◌then◌else◌}
 use Rattle.off_base.specs.declared.addresses.Peer.{Peer}
 use Rattle.off_defs.specs.declared.events.Service.TheVariants as service
 use Rattle.off_defs.specs.declared.events.What.{What}

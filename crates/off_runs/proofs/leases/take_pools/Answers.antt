@@ -20,9 +20,9 @@ pub loop-place-preserved : goal.loop-place-preserved
 loop-place-preserved c =
     let was = c.loop-place.invariant in
     record {
-      shelved = λ g by none s.
+      shelved = λ g by s.
           subst (λ (b : ℕ → Option Pool). Shelved g b c.take_write.new.pools.items c.take_write.new.aside.items)
-          (sym (pools_more by c.args.writes.now c.loop-place.place c.get.result.now c.get.ensures)) (c.take_write.ensures.shelved g _ none (was.shelved g by none s));
+          (sym (pools_more by c.args.writes.now c.loop-place.place c.get.result.now c.get.ensures)) (c.take_write.ensures.shelved g _ (was.shelved g by s));
       kept = omega (arith, was.kept, c.take_write.ensures.kept);
       room = omega (arith, was.room, c.take_write.ensures.room);
       room_aside = omega (arith, was.room_aside, c.take_write.ensures.room_aside);
@@ -31,6 +31,6 @@ loop-place-preserved c =
     }
 
 pub returns-clause-shelved : goal.returns-clause-shelved
-returns-clause-shelved c = λ g by none s.
+returns-clause-shelved c = λ g by s.
     subst (λ (ws : List Write). Shelved g (pools_after by ws) c.loop-place.pools.items c.loop-place.aside.items)
-    (take_all c.loop-place.place c.args.writes.now (omega arith)) (c.loop-place.invariant.shelved g by none s)
+    (take_all c.loop-place.place c.args.writes.now (omega arith)) (c.loop-place.invariant.shelved g by s)
