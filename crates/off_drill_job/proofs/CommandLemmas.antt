@@ -18,26 +18,27 @@ use Rattle.off_defs.specs.declared.tables.Pool.{Pool}
 use Rattle.off_defs.specs.declared.tables.Lease.{Lease}
 use Rattle.off_defs.specs.declared.tables.Class.{Class}
 use Rattle.off_defs.specs.declared.tables.Subscriber.{Subscriber}
+use Rattle.off_defs.specs.declared.tables.Site.{Site}
 use Rattle.off_defs.specs.declared.orders.Write.{Write}
-use Rattle.off_defs.specs.declared.orders.Write.TheVariants.{Put}
+use Rattle.off_defs.specs.declared.orders.Write.TheVariants.{Put, Drop}
 use Rattle.off_defs.specs.declared.orders.Reply.TheVariants.{Done}
 use Rattle.off_defs.specs.declared.orders.Kind.{Kind}
-use Rattle.off_defs.specs.declared.orders.Kind.TheVariants.{Subscribers, Modems, Classes, Pools}
+use Rattle.off_defs.specs.declared.orders.Kind.TheVariants.{Subscribers, Modems, Classes, Pools, Hubs}
 use Rattle.off_defs.specs.declared.rules.Rule.{Rule}
 use Rattle.off_defs.specs.declared.rules.Rule.TheVariants as rule
 use Rattle.off_defs.specs.Keys.{key_cmp}
 use Rattle.off_defs.specs.State.{Tables}
-use Rattle.off_defs.specs.Tables.{row_at, with_row, write_all}
+use Rattle.off_defs.specs.Tables.{row_at, with_row, without, write_all}
 use Rattle.off_defs.proofs.KeyLemmas.{key_total}
-use Rattle.off_defs.proofs.TableLemmas.{row_with, row_with_here}
-use Rattle.off_account_rules.specs.Rows.{seen_at, count_of, is_counted, class_is_good, pools, leases, pool_in, possible, as_subscriber, as_class, subscriber_in, class_in}
+use Rattle.off_defs.proofs.TableLemmas.{row_with, row_with_here, row_without, same_tables, same_key}
+use Rattle.off_account_rules.specs.Rows.{seen_at, count_of, is_counted, class_is_good, pools, leases, pool_in, possible, as_site, as_subscriber, as_class, hub_in, subscriber_in, class_in}
 use Rattle.off_account_rules.specs.Clerk.{limit_of, limit, is_other_overlapping, is_other_with_relay, is_live, gives_up, lost_leases, lease_drops, rules_of, writes_of, by_rule, accepted, stepped_by, clerk_step}
 use Rattle.off_table_laws.proofs.ListLemmas.{In}
 use Rattle.off_table_laws.proofs.LostLeases.{all_in_lease}
 use Rattle.off_table_laws.proofs.Reading.{pool_row}
 use Rattle.off_lease_laws.proofs.ChoiceLemmas.{pool_read}
 use Rattle.off_drill_rules.specs.Rows.{begins_at, site, class, pool, subscriber, modem, mac, with_site, with_class, founded, peopled}
-use Rattle.off_drill_job.specs.Founding.{set_site, put_class, put_pool, put_subscriber, put_modem}
+use Rattle.off_drill_job.specs.Founding.{put_hub, put_class, put_pool, put_subscriber, put_modem}
 
 -- ---- there are few rows
 
@@ -52,7 +53,7 @@ counted_few : (kind : Kind) (t : Tables) → count_of kind t ≤ map.len t
 counted_few kind t = let all = count_by-le-length (is_counted kind) (map.entries t) in let len = map.len-entries t in omega (arith, all, len)
 
 site_few : map.len with_site ≤ 1
-site_few = few_rows map.empty key.Site (row.Site site) 0 (let e = map.len-empty key_cmp Row in omega (arith, e))
+site_few = few_rows map.empty (key.Hub 0) (row.Site site) 0 (let e = map.len-empty key_cmp Row in omega (arith, e))
 
 class_few : map.len with_class ≤ 2
 class_few = few_rows with_site (key.Class 1) (row.Class class) 1 site_few
@@ -80,10 +81,6 @@ within t q kind few =
 
 -- ---- the commands
 
-pub site_step : (clerk_step map.empty begins_at set_site).tables ≡ with_site
-unfolding clerk_step
-site_step = refl
-
 no_rule : (rules : List (Option Rule)) → AllByRecursion (λ (o : Option Rule). o ≡ None) rules → first_there rules ≡ None
 no_rule [] all = refl
 no_rule (o ∷ rules) all = ap (λ (v : Option Rule). first_there (v ∷ rules)) all.0 ∙ no_rule rules all.1
@@ -91,6 +88,12 @@ no_rule (o ∷ rules) all = ap (λ (v : Option Rule). first_there (v ∷ rules))
 module _ (t : Tables) (writes : List Write) (rules : List (Option Rule)) where
   done_by : AllByRecursion (λ (o : Option Rule). o ≡ None) rules → (stepped_by t (by_rule 0 (accepted writes Done) (first_there rules))).tables ≡ write_all t writes
   done_by all = ap (λ (o : Option Rule). (stepped_by t (by_rule 0 (accepted writes Done) o)).tables) (no_rule rules all)
+
+pub site_step : (clerk_step map.empty begins_at put_hub).tables ≡ with_site
+unfolding clerk_step
+site_step =
+    done_by map.empty (writes_of map.empty put_hub) (rules_of map.empty begins_at put_hub)
+    (refl, (refl, (refl, (refl, (within map.empty (key.Hub 0) Hubs (let e = map.len-empty key_cmp Row in omega (arith, e)), tt)))))
 
 class_good : first_fault tree.Class class.settings ≡ None
 unfolding table_of
@@ -103,11 +106,11 @@ class_step =
     (ap (option_map rule.Tree) class_good, (within with_site (key.Class 1) Classes (let f = site_few in omega (arith, f)), tt))
 
 -- there is no pool and no lease yet
-other_row : (q : Key) → eq_by_cmp key_cmp q (key.Class 1) ≡ false → eq_by_cmp key_cmp q key.Site ≡ false → row_at with_class q ≡ None
+other_row : (q : Key) → eq_by_cmp key_cmp q (key.Class 1) ≡ false → eq_by_cmp key_cmp q (key.Hub 0) ≡ false → row_at with_class q ≡ None
 other_row q no_class no_site =
     row_with with_site (key.Class 1) (row.Class class) q
     ∙ ap (λ b. cond b (Some (row.Class class)) (row_at with_site q)) no_class
-    ∙ row_with map.empty key.Site (row.Site site) q
+    ∙ row_with map.empty (key.Hub 0) (row.Site site) q
     ∙ ap (λ b. cond b (Some (row.Site site)) (row_at map.empty q)) no_site
     ∙ map.get-empty key_cmp q
 
@@ -134,6 +137,23 @@ no_leases =
 none_lost : lost_leases with_class 1 (Some pool) ≡ []
 none_lost = ap (filter (λ (entry : Ip4 × Lease). gives_up (pool_in with_class 1) (Some pool) entry.0)) no_leases
 
+hub_is : hub_in with_class 0 ≡ Some site
+hub_is =
+    ap (λ o. option_and_then as_site (possible (key.Hub 0) o))
+    (row_with with_site (key.Class 1) (row.Class class) (key.Hub 0) ∙ row_with_here map.empty (key.Hub 0) (row.Site site))
+
+-- a row that isn't there is dropped
+none_dropped : (t : Tables) (q : Key) → row_at t q ≡ None → without t q ≡ t
+none_dropped t q none = same_tables (without t q) t (λ other. row_without t q other ∙ by_case other (eq_by_cmp key_cmp other q) refl)
+  where
+    by_case : (other : Key) (b : Bool) → eq_by_cmp key_cmp other q ≡ b → cond b None (row_at t other) ≡ row_at t other
+    by_case other true same = sym (ap (row_at t) (same_key other q same) ∙ none)
+    by_case other false same = refl
+
+-- a pool of the hub 0 has no row of its hub
+no_pool_hub : row_at founded (key.PoolHub 1) ≡ None
+no_pool_hub = row_with with_class (key.Pool 1) (row.Pool pool) (key.PoolHub 1) ∙ other_row (key.PoolHub 1) refl refl
+
 pub pool_step : (clerk_step with_class begins_at put_pool).tables ≡ founded
 unfolding clerk_step
 pool_step =
@@ -144,13 +164,17 @@ pool_step =
         (
           ap (λ (ps : List (ℕ × Pool)). option_map (λ (other : ℕ × Pool). rule.RelayTaken other.0) (find (is_other_with_relay 1 pool) ps)) no_pools,
           (
-            ap (λ (es : List (Ip4 × Lease)). option_map (λ (entry : Ip4 × Lease). rule.PoolHasLeases entry.0) (find (is_live begins_at) es)) none_lost,
-            (within with_class (key.Pool 1) Pools (let f = class_few in omega (arith, f)), tt),
+            ap (λ (o : Option Site). when (is_none o) rule.NoHub) hub_is,
+            (
+              ap (λ (es : List (Ip4 × Lease)). option_map (λ (entry : Ip4 × Lease). rule.PoolHasLeases entry.0) (find (is_live begins_at) es)) none_lost,
+              (within with_class (key.Pool 1) Pools (let f = class_few in omega (arith, f)), tt),
+            ),
           ),
         ),
       ),
     )
-    ∙ ap (λ (es : List (Ip4 × Lease)). write_all with_class (Put (key.Pool 1) (row.Pool pool) ∷ flat_map lease_drops es)) none_lost
+    ∙ ap (λ (es : List (Ip4 × Lease)). write_all with_class (Put (key.Pool 1) (row.Pool pool) ∷ Drop (key.PoolHub 1) ∷ flat_map lease_drops es)) none_lost
+    ∙ none_dropped founded (key.PoolHub 1) no_pool_hub
 
 pub subscriber_step : (k : ℕ) → k < 4000 → (clerk_step (peopled k) begins_at (put_subscriber (suc k))).tables ≡ with_subscriber k
 unfolding clerk_step

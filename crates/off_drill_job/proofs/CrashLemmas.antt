@@ -8,7 +8,7 @@ use Rattle.off_defs.specs.declared.events.Event.{Event}
 use Rattle.off_defs.specs.declared.results.Outcome.{Outcome}
 use Rattle.off_defs.specs.declared.results.Outcome.TheVariants.{Did, Memory, Keeper}
 use Rattle.off_defs.specs.Counts.{commits_after}
-use Rattle.off_defs.specs.State.{Tables, State, Held, Said, state_of, held_at, held_at_start}
+use Rattle.off_defs.specs.State.{Tables, State, Held, Said, state_of, held_at, held_at_start, start}
 use Rattle.off_defs.specs.Tables.{write_all, doubt_behind}
 use Rattle.off_defs.proofs.ToldLemmas.{told_then, told_self}
 use Rattle.off_account_rules.specs.Clerk.{Stepped, clerk_step, step_done}
@@ -24,12 +24,15 @@ use Rattle.off_office.specs.Acting.{Acts, EventBegins}
 use Rattle.off_office.specs.Answering.{Commanded, CommandBegins}
 use Rattle.off_office.specs.Conditions.{Mirrors, Fits, WhereFit, StaysAs}
 use Rattle.off_office.specs.Desk.{Desk}
+use Rattle.off_office.specs.Opening.{OpensTo, doubt_opened}
 use Rattle.off_office.proofs.MirrorLemmas.{fits_as}
+use Rattle.off_office.proofs.OpeningLemmas.{leaves_opening, doubts_opened, opened_state}
 use Rattle.off_laws.proofs.StepLaws.{step_good}
 use Rattle.off_table_laws.specs.Laws.{secret_fits}
 use Rattle.off_table_laws.proofs.StepLaws.{step_keeps_good}
 use Rattle.off_rows.specs.Sound.{is_sound}
 use Rattle.off_account_rules.specs.Good.{Good}
+use Rattle.off_account_rules.specs.Migration.{migrated}
 use Rattle.std.specs.Prelude.{IsTrue}
 use Rattle.off_drill_rules.specs.Rows.{begins_at}
 use Rattle.off_drill_job.specs.Stepping.{Given, commits_given, commands_of, book_writes, written_in, Would, DoubtGiven, behind, LastsDrill, KeeperDid, KeeperDrilled}
@@ -267,25 +270,31 @@ keeper_given {given} {more} {turns} {d} {e} {f} {a} {b} {c} p q = record {
   });
 }
 
--- an office opened the tables, and read them, before
-pub keeper_opened : {given : List Given} {turns : List Turn} {d f : Desk} {i k o : KeeperSeen} {P : Tables → Type 0} → Rests i → d.held ≡ held_at_start → Reads P i k
-    → ((t : Tables) → P t → Fits d t) → KeeperDid given turns d f k o → KeeperDrilled given turns i o
-keeper_opened {given} {turns} {d} {f} {i} {k} {o} rests begins reads fits did = record {
-  commits = did.commits ∙ ap (λ (n : ℕ). commits_by turns (commits_given given n)) reads.quiet.commits;
+-- an office opened the tables before
+pub keeper_opened : {given : List Given} {turns : List Turn} {d f : Desk} {i k o : KeeperSeen} {P : Tables → Type 0} → Rests i → d.held ≡ held_at_start → OpensTo P i k
+    → ((u : Tables) → P u → Fits d u) → KeeperDid given turns d f k o → KeeperDrilled given turns i o
+keeper_opened {given} {turns} {d} {f} {i} {k} {o} rests begins opened fits did = record {
+  first = opened.writes;
+  are = opened.are;
+  commits = did.commits ∙ ap (λ (n : ℕ). commits_by turns (commits_given given n)) opened.settled.commits;
   crash = record {
     each = λ t told.
-        let opened = reads.tables t told in
-        let g = did.crash.each t opened.0 in
-        let both = g.fits.holds (fits t opened.1) in
-        let still = reads.quiet.still in
+        let here = opened.tables.each t told in
+        let g = did.crash.each here.value here.told in
+        let both = g.fits.holds (fits here.value here.fits.1) in
         record {
           value = g.value;
           told = g.told;
           fits = (
             f.held,
-            subst (λ (h : Held). LastsDrill o.opened o.doubt i.doubt i.moment (state_of t h) given turns o.moment (state_of g.value f.held)) begins
-                (drill_front o.opened o.doubt k.doubt i.doubt i.moment k.moment (state_of t d.held) given turns o.moment (state_of g.value f.held) still.later still.doubts
-                (λ m u after upto shown. rests t told u (still.within m u after upto (did.past m u upto shown))) both.0),
+            (
+              k.moment,
+              (
+                leaves_opening rests opened did.past t told,
+                drill_doubt o.opened o.doubt k.doubt (doubt_opened i t) k.moment (start (migrated t)) given turns o.moment (state_of g.value f.held) (doubts_opened opened t told)
+                    (subst (λ (s : State). LastsDrill o.opened o.doubt k.doubt k.moment s given turns o.moment (state_of g.value f.held)) (opened_state d t here.value here.fits.0 begins) both.0),
+              ),
+            ),
           );
         };
   };

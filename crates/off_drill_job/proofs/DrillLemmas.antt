@@ -7,23 +7,27 @@ use Rattle.std.specs.List.{find}
 use Rattle.off_defs.specs.declared.keys.Key.{Key}
 use Rattle.off_defs.specs.declared.tables.Row.{Row}
 use Rattle.off_defs.specs.declared.results.Outcome.TheVariants.{Did}
-use Rattle.off_defs.specs.Counts.{Grew, most_count}
+use Rattle.off_defs.specs.Counts.{Grew, Tallied, most_count}
 use Rattle.off_defs.specs.Keys.{key_cmp}
 use Rattle.off_defs.specs.State.{Tables, State, Held, state_of, held_at_start}
 use Rattle.off_defs.specs.Tables.{is_after, next_entry}
 use Rattle.off_defs.proofs.ToldLemmas.{told_then, told_weaker}
 use Rattle.off_defs.specs.Told.{Told}
 use Rattle.off_account_rules.specs.Good.{Good, IsLeastBad}
+use Rattle.off_account_rules.specs.Migration.{migrated}
 use Rattle.off_book.specs.Run.{Turn}
 use Rattle.off_outside.specs.declared.keeper.KeepErr.{KeepErr}
 use Rattle.off_outside.specs.declared.keeper.KeepErr.TheVariants as keep
 use Rattle.off_outside.specs.KeeperSeen.{KeeperSeen, Rests}
-use Rattle.off_outside.specs.KeeperCalls.{Reads, NotDone}
+use Rattle.off_outside.specs.KeeperCalls.{Reads, NotDone, StaysUp}
 use Rattle.off_outside.specs.LinkSeen.{LinkSeen}
 use Rattle.off_outside.specs.Streams.{SinkSeen}
-use Rattle.off_outside.proofs.KeeperLemmas.{reads_as, reads_then, still_then, stays_up_then, tallied_behind}
+use Rattle.off_outside.proofs.KeeperLemmas.{reads_as, tallied_behind}
 use Rattle.off_jobs.specs.Jobs.{Tells}
+use Rattle.off_office.specs.Opening.{OpensTo}
 use Rattle.off_office.specs.Conditions.{Fits, Opened}
+use Rattle.off_office.proofs.OpeningLemmas.{leaves_opening, doubts_opened, empty_before, empty_stays}
+use Rattle.off_import_job.proofs.BehindLemmas.{opens_then}
 use Rattle.off_office.specs.Desk.{Desk}
 use Rattle.off_office.specs.declared.office.StartErr.TheVariants as start_err
 use Rattle.off_office.proofs.UpLemmas.{up_chain}
@@ -167,11 +171,23 @@ broken_before n few err d i j l halts = record {
 
 -- ---- the tables were opened
 
-pub ends_with_rows : (n : ℕ) (d : Desk) (i j k : KeeperSeen) (l : LinkSeen) → Opened d i j → FindsRows true j k → Ends NotEmpty n i k l l
-ends_with_rows n d i j k l opened finds = (reads_then opened.reads finds (λ t fit differs. (fit.good, differs)), link_unasked l)
+pub ends_with_rows : (n : ℕ) (d : Desk) (i j k : KeeperSeen) (l : LinkSeen) → Rests i → Opened d i j → FindsRows true j k → Ends NotEmpty n i k l l
+ends_with_rows n d i j k l rests opened finds = (opens_then rests opened finds (λ u fit differs. (fit.good, differs)), link_unasked l)
 
-pub ends_unread : (n : ℕ) → n ≤ 4000 → (err : KeepErr) (d : Desk) (i j k : KeeperSeen) (l : LinkSeen) → Rests i → Opened d i j → NotDone err j k → Ends (Broken err) n i k l l
-ends_unread n few err d i j k l rests opened not = record {
+-- what stays up, or is counted, behind an opening
+up_behind : {P : Tables → Type 0} {i k : KeeperSeen} (o : KeeperSeen) → OpensTo P i k → StaysUp k o → StaysUp i o
+up_behind {P} {i} {k} o opened stays = λ up. subst (λ n. o.up ⊎ Grew 1 n o.faults) opened.settled.faults (stays (opened.settled.up up))
+
+tallied_after : {P : Tables → Type 0} {n : ℕ} {i k : KeeperSeen} (o : KeeperSeen) → OpensTo P i k → Tallied n k.faults o.faults → Tallied n i.faults o.faults
+tallied_after {P} {n} {i} {k} o opened tallied = subst (λ m. Tallied n m o.faults) opened.settled.faults tallied
+
+opened_or : {doubt more : Type 0} (t v u : Tables) → v ≡ migrated t → (doubt → more) → (u ≡ v) ⊎ doubt → (u ≡ migrated t) ⊎ more
+opened_or t v u is wider (inl same) = inl (same ∙ is)
+opened_or t v u is wider (inr doubt) = inr (wider doubt)
+
+pub ends_unread : (n : ℕ) → n ≤ 4000 → (err : KeepErr) (d : Desk) (i j k : KeeperSeen) (l : LinkSeen) → Rests i → Rests j → Opened d i j → NotDone err j k → Ends (Broken err) n i k l l
+ends_unread n few err d i j k l rests rests_on opened not = record {
+  opens = opened.opens;
   given = [];
   lost = [];
   turns = [];
@@ -179,20 +195,41 @@ ends_unread n few err d i j k l rests opened not = record {
   came = record { gave = gave_none (founding n); did = All-nil (λ (t : Turn). t.outcome ≡ Did); one = tried_none; order = inl refl };
   tables = record {
     each = λ t told.
-        let before = opened.reads.tables t told in
-        record { value = t; told = not.tables t before.0; fits = (before.1.good, front_none n few) };
+        let here = opened.tables.each t told in
+        record { value = here.value; told = not.tables here.value here.told; fits = (here.fits.1.good, front_none n few) };
   };
-  up = stays_up_then i j k opened.reads.quiet not.up;
-  faults = tallied_behind opened.reads.quiet.faults not.faults;
+  up = up_behind k opened not.up;
+  faults = tallied_after k opened not.faults;
   keeper = record {
-    commits = not.commits ∙ opened.reads.quiet.commits;
+    first = opened.writes;
+    are = opened.are;
+    commits = not.commits ∙ opened.settled.commits;
     crash = record {
       each = λ t told.
-          let still = still_then opened.reads.quiet.still not.still in
+          let o = opened.tables.each t told in
           record {
-            value = t;
-            told = not.tables t (opened.reads.tables t told).0;
-            fits = (held_at_start, (refl, (still.later, (still.doubts, λ m u early upto shown. rests t told u (still.within m u early upto shown)))));
+            value = o.value;
+            told = not.tables o.value o.told;
+            fits = (
+              held_at_start,
+              (
+                j.moment,
+                (
+                  leaves_opening rests opened not.still.past t told,
+                  (
+                    ap (λ (v : Tables). state_of v held_at_start) o.fits.0,
+                    (
+                      not.still.later,
+                      (
+                        λ u ends. doubts_opened opened t told u (not.still.doubts u ends),
+                        λ m u early upto shown.
+                            opened_or t o.value u o.fits.0 (doubts_opened opened t told u) (rests_on o.value o.told u (not.still.within m u early upto shown)),
+                      ),
+                    ),
+                  ),
+                ),
+              ),
+            );
           };
     };
   };
@@ -204,8 +241,9 @@ pub ends_going : (ended : Ended) (n : ℕ) (d : Desk) (i j k o : KeeperSeen) (l 
 ends_going (Closed err) n d i j k o l m rests begins opened finds goes = absurd goes
 ends_going NotEmpty n d i j k o l m rests begins opened finds goes = absurd goes
 ends_going (Broken err) n d i j k o l m rests begins opened finds goes =
-    let both = reads_then {R = λ t. Fits d t × (t ≡ map.empty)} opened.reads finds (λ t fit is. (fit, is)) in
+    let both = opens_then {R = λ u. Fits d u × (u ≡ map.empty)} rests opened finds (λ u fit is. (fit, is)) in
     record {
+      opens = both.opens;
       given = goes.given;
       lost = goes.lost;
       turns = goes.turns;
@@ -213,18 +251,18 @@ ends_going (Broken err) n d i j k o l m rests begins opened finds goes =
       came = goes.came;
       tables = record {
         each = λ t told.
-            let before = both.tables t told in
-            let g = goes.tables.each t before.0 in
-            let p = g.fits before.1.0 in
-            record { value = g.value; told = g.told; fits = (p.0, p.1 before.1.1) };
+            let here = both.tables.each t told in
+            let g = goes.tables.each here.value here.told in
+            let p = g.fits here.fits.1.0 in
+            record { value = g.value; told = g.told; fits = (p.0, p.1 here.fits.1.1) };
       };
-      up = stays_up_then i k o both.quiet goes.up;
-      faults = tallied_behind both.quiet.faults goes.faults;
-      keeper = keeper_opened rests begins both (λ t p. p.0) goes.keeper;
+      up = up_behind o both goes.up;
+      faults = tallied_after o both goes.faults;
+      keeper = keeper_opened rests begins both (λ u p. p.0) goes.keeper;
       sent = goes.sent;
     }
 ends_going (Done tally) n d i j k o l m rests begins opened finds goes =
-    let both = reads_then {R = λ t. Fits d t × (t ≡ map.empty)} opened.reads finds (λ t fit is. (fit, is)) in
+    let both = opens_then {R = λ u. Fits d u × (u ≡ map.empty)} rests opened finds (λ u fit is. (fit, is)) in
     record {
       given = goes.given;
       gave = goes.gave;
@@ -232,13 +270,13 @@ ends_going (Done tally) n d i j k o l m rests begins opened finds goes =
       did = goes.did;
       tables = record {
         each = λ t told.
-            let before = both.tables t told in
-            let g = goes.tables.each t before.0 in
-            record { value = g.value; told = g.told; fits = (before.1.1, g.fits before.1.0 before.1.1) };
+            let here = both.tables.each t told in
+            let g = goes.tables.each here.value here.told in
+            record { value = g.value; told = g.told; fits = (empty_before t (sym here.fits.0 ∙ here.fits.1.1), g.fits here.fits.1.0 here.fits.1.1) };
       };
-      up = stays_up_then i k o both.quiet goes.up;
-      faults = goes.faults ∙ both.quiet.faults;
-      keeper = keeper_opened rests begins both (λ t p. p.0) goes.keeper;
+      up = up_behind o both goes.up;
+      faults = goes.faults ∙ both.settled.faults;
+      keeper = keeper_opened rests begins both (λ u p. p.0) goes.keeper;
       sent = goes.sent;
       counts = goes.counts;
     }
@@ -272,7 +310,9 @@ done_of : (ended : Ended) (n status : ℕ) (k k' : KeeperSeen) (l m : LinkSeen) 
 done_of (Closed (start_err.Bad key)) n status k k' l m s s' ends told none other is = absurd (never_bad key (ends.0.tables map.empty told).1)
 done_of (Closed start_err.Failed) n status k k' l m s s' ends told none other is = absurd (stands k.faults k'.faults none.keeper_same none.keeper_count ends.0.faults.grew)
 done_of (Closed start_err.Memory) n status k k' l m s s' ends told none other is = absurd (other is)
-done_of NotEmpty n status k k' l m s s' ends told none other is = absurd ((ends.0.tables map.empty told).1.1 refl)
+done_of NotEmpty n status k k' l m s s' ends told none other is =
+    let o = ends.0.tables.each map.empty told in
+    absurd (o.fits.1.1 (o.fits.0 ∙ empty_stays))
 done_of (Broken keep.Failed) n status k k' l m s s' ends told none other is = absurd (stands k.faults k'.faults none.keeper_same none.keeper_count ends.faults.grew)
 done_of (Broken keep.Memory) n status k k' l m s s' ends told none other is = absurd (other is)
 done_of (Done tally) n status k k' l m s s' ends told none other is = is
@@ -282,7 +322,7 @@ good_of : (ended : Ended) (n : ℕ) (k k' : KeeperSeen) (l m : LinkSeen) → End
 good_of (Closed (start_err.Bad key)) n k k' l m ends = record { each = λ t told. record { value = t; told = (ends.0.tables t told).0; fits = inl refl } }
 good_of (Closed start_err.Failed) n k k' l m ends = record { each = λ t told. record { value = t; told = ends.0.tables t told; fits = inl refl } }
 good_of (Closed start_err.Memory) n k k' l m ends = record { each = λ t told. record { value = t; told = ends.0.tables t told; fits = inl refl } }
-good_of NotEmpty n k k' l m ends = record { each = λ t told. record { value = t; told = (ends.0.tables t told).0; fits = inl refl } }
+good_of NotEmpty n k k' l m ends = told_weaker ends.0.tables (λ t u p. inr p.1.0)
 good_of (Broken err) n k k' l m ends = told_weaker ends.tables (λ t u is. inr is.0)
 good_of (Done tally) n k k' l m ends = told_weaker ends.tables (λ t u is. inr is.1.0)
 

@@ -30,7 +30,7 @@ use Rattle.off_office.proofs.MirrorLemmas.{fits_as}
 use Rattle.off_drill_rules.specs.Rows.{begins_at, with_site, with_class, founded, peopled}
 use Rattle.off_drill_rules.specs.Law.{held_behind}
 use Rattle.off_drill_job.specs.Stepping.{Given, commands_of, book_writes, KeeperDid}
-use Rattle.off_drill_job.specs.Founding.{set_site, put_class, put_pool, put_subscriber, put_modem, settling, peopling, founding, GaveCommand, AllGiven, Builds, GaveFront, Halts, PassesOver}
+use Rattle.off_drill_job.specs.Founding.{put_hub, put_class, put_pool, put_subscriber, put_modem, settling, peopling, founding, GaveCommand, AllGiven, Builds, GaveFront, Halts, PassesOver}
 use Rattle.off_drill_job.proofs.CrashLemmas.{done, commands_append, keeper_none, keeper_given, keeper_commanded, keeper_refused, keeper_lost, undone, undone_not}
 use Rattle.off_drill_job.proofs.CommandLemmas.{with_subscriber, site_step, pool_step, subscriber_step, modem_step}
 
@@ -314,20 +314,20 @@ people_halts k n more built halts =
     halts_as (ap (λ (v : List Command). v ++ behind.0) (peopling_next k) ∙ behind.1) (halts_more behind.0 (halts_then built halts))
 
 -- the first three commands, and so many subscribers and modems behind them
-pub founds : (count : ℕ) (result : Result (Unit {0}) KeepErr) (d e f g h : Desk) (a b c i j : KeeperSeen) → GaveCommand set_site d e a b → Builds (put_class ∷ []) with_site with_class e f b c
+pub founds : (count : ℕ) (result : Result (Unit {0}) KeepErr) (d e f g h : Desk) (a b c i j : KeeperSeen) → GaveCommand put_hub d e a b → Builds (put_class ∷ []) with_site with_class e f b c
     → GaveCommand put_pool f g c i → MatchResult result (λ _. Builds (peopling count) founded (peopled count) g h i j) (λ err. Halts err (peopling count) g i j)
     → MatchResult result (λ _. Builds (founding count) map.empty (peopled count) d h a j) (λ err. Halts err (founding count) d a j)
 founds count result d e f g h a b c i j site class pool more =
-    ends_behind result (set_site ∷ put_class ∷ put_pool ∷ []) (peopling count) map.empty founded (peopled count) d g h a i j
+    ends_behind result (put_hub ∷ put_class ∷ put_pool ∷ []) (peopling count) map.empty founded (peopled count) d g h a i j
     (builds_then (builds_then (gave_builds site site_step) class) (gave_builds pool pool_step)) more
 
-pub site_halts : {d : Desk} {a b : KeeperSeen} {err : KeepErr} (count : ℕ) → Halts err (set_site ∷ []) d a b → Halts err (founding count) d a b
+pub site_halts : {d : Desk} {a b : KeeperSeen} {err : KeepErr} (count : ℕ) → Halts err (put_hub ∷ []) d a b → Halts err (founding count) d a b
 site_halts count halts = halts_more (put_class ∷ put_pool ∷ peopling count) halts
 
-pub class_halts : {d e : Desk} {a b c : KeeperSeen} {err : KeepErr} (count : ℕ) → GaveCommand set_site d e a b → Halts err (put_class ∷ []) e b c → Halts err (founding count) d a c
+pub class_halts : {d e : Desk} {a b c : KeeperSeen} {err : KeepErr} (count : ℕ) → GaveCommand put_hub d e a b → Halts err (put_class ∷ []) e b c → Halts err (founding count) d a c
 class_halts count site halts = halts_more (put_pool ∷ peopling count) (halts_then (gave_builds site site_step) halts)
 
-pub pool_halts : {d e f : Desk} {a b c i : KeeperSeen} {err : KeepErr} (count : ℕ) → GaveCommand set_site d e a b → Builds (put_class ∷ []) with_site with_class e f b c
+pub pool_halts : {d e f : Desk} {a b c i : KeeperSeen} {err : KeepErr} (count : ℕ) → GaveCommand put_hub d e a b → Builds (put_class ∷ []) with_site with_class e f b c
     → Halts err (put_pool ∷ []) f c i → Halts err (founding count) d a i
 pool_halts count site class halts = halts_more (peopling count) (halts_then (builds_then (gave_builds site site_step) class) halts)
 

@@ -5,7 +5,7 @@ use Rattle.std.specs.FinMap as map
 use Rattle.off_defs.specs.Counts.{Tallied, most_count}
 use Rattle.off_defs.specs.Told.{Told}
 use Rattle.off_defs.specs.State.{Tables, State}
-use Rattle.off_account_rules.specs.Good.{Good}
+use Rattle.off_account_rules.specs.Good.{Opens, Good}
 use Rattle.off_book.specs.Run.{Turn}
 use Rattle.off_outside.specs.declared.keeper.KeepErr.{KeepErr}
 use Rattle.off_outside.specs.KeeperSeen.{KeeperSeen}
@@ -15,6 +15,7 @@ use Rattle.off_outside.specs.LinkCalls.{LinkUnasked}
 use Rattle.off_outside.specs.Streams.{SinkSeen}
 use Rattle.off_jobs.specs.Jobs.{Tells}
 use Rattle.off_office.specs.Acting.{NotStarted}
+use Rattle.off_office.specs.Opening.{OpensTo}
 use Rattle.off_office.specs.Conditions.{Fits}
 use Rattle.off_office.specs.Desk.{Desk}
 use Rattle.off_drill_rules.specs.declared.tally.Tally.{Tally}
@@ -74,9 +75,10 @@ pub record CameToEnd (n : ℕ) (tally : Tally) (old new : KeeperSeen) (link link
   pub sent : SentTurns turns link link'
   pub counts : tally ≡ raised_by none_yet (tally_by turns)
 
--- It didn't: the tables are good, and its turns are those with which the drill begins.
+-- It didn't: the tables opened, they are good, and its turns are those with which the drill begins.
 pub record BrokeOff (err : KeepErr) (n : ℕ) (old new : KeeperSeen) (link link' : LinkSeen) :
     Type 0 where
+  pub opens : (t : Tables) → old.tables t → Opens t
   pub given : List Given
   pub lost : List Given
   pub turns : List Turn
@@ -88,12 +90,12 @@ pub record BrokeOff (err : KeepErr) (n : ℕ) (old new : KeeperSeen) (link link'
   pub keeper : KeeperDrilled (given ++ lost) (turns ++ tried) old new
   pub sent : SentTurns turns link link'
 
--- What became of the tables and of the link. Nothing is sent where the tables don't open, or have
--- rows, and they are as before then.
+-- What became of the tables and of the link. Nothing is sent where the tables don't open, which are
+-- as before then, or have rows, which are as the opening left them.
 abbrev pub Ends : Ended → ℕ → KeeperSeen → KeeperSeen → LinkSeen → LinkSeen → Type 0
 Ends (Closed err) n old new link link' = NotStarted err old new × LinkUnasked link link'
 Ends NotEmpty n old new link link' =
-    Reads (λ t. Good t × (t ≢ map.empty)) old new × LinkUnasked link link'
+    OpensTo (λ u. Good u × (u ≢ map.empty)) old new × LinkUnasked link link'
 Ends (Broken err) n old new link link' = BrokeOff err n old new link link'
 Ends (Done tally) n old new link link' = CameToEnd n tally old new link link'
 
@@ -143,7 +145,7 @@ pub record NoneFailed (old new : KeeperSeen) (sink sink' : SinkSeen) : Type 0 wh
 
 -- What `drill` did. Whatever the status, the tables are as before or good. Where the sink failed
 -- the status is 4, and a front of the text is there; else the text was written. Where no count rose
--- and no memory was wanted, the status is 0, or 2, where the tables aren't good, or 9, where they
+-- and no memory was wanted, the status is 0, or 2, where the tables don't open, or 9, where they
 -- have rows; over tables without rows it is 0.
 pub record Drills (n : ℕ) (status : ℕ) (old new : KeeperSeen) (link link' : LinkSeen)
     (sink sink' : SinkSeen) : Type 0 where

@@ -10,10 +10,12 @@ use Rattle.off_defs.specs.Told.{Told}
 use Rattle.off_defs.specs.State.{Tables, State, Held, state_of, held_at, start}
 use Rattle.off_defs.specs.Tables.{write_all, doubt_behind}
 use Rattle.off_account_rules.specs.Clerk.{clerk_step}
+use Rattle.off_account_rules.specs.Migration.{migration, migrated}
 use Rattle.off_book.specs.Run.{Turn, commits_by}
 use Rattle.off_book.specs.Crashes.{doubt_in, Lasts}
 use Rattle.off_outside.specs.KeeperSeen.{KeeperSeen}
 use Rattle.off_outside.specs.KeeperCalls.{IsWritten}
+use Rattle.off_office.specs.Opening.{LeavesOpening, doubt_opened}
 use Rattle.off_office.specs.Conditions.{WhereFit}
 use Rattle.off_office.specs.Desk.{Desk}
 use Rattle.off_drill_rules.specs.Rows.{begins_at}
@@ -82,10 +84,19 @@ pub record KeeperDid (given : List Given) (turns : List Turn) (before after : De
       LastsDrill new.opened new.doubt old.doubt old.moment (state_of t before.held) given turns
       new.moment (state_of u after.held)))
 
--- the same from the opening of the tables on
+-- a drill lasts through crashes: while the tables open, and from then on
+abbrev pub DrillLasts : KeeperSeen → KeeperSeen → Tables → List Given → List Turn → State → Type 0
+DrillLasts old new t given turns last =
+    (at : ℕ) × (LeavesOpening at old new t
+    × LastsDrill new.opened new.doubt (doubt_opened old t) at (start (migrated t)) given turns
+    new.moment last)
+
+-- The same from the opening of the tables on, which may have made a commit first, the migration's.
 pub record KeeperDrilled (given : List Given) (turns : List Turn) (old new : KeeperSeen) : Type 0
   where
-    pub commits : new.commits ≡ commits_by turns (commits_given given old.commits)
+    pub first : List Write
+    pub are : (t : Tables) → old.tables t → first ≡ migration t
+    pub commits : new.commits
+        ≡ commits_by turns (commits_given given (commits_after first old.commits))
     pub crash : Told old.tables new.tables (λ t u.
-        (held : Held) × LastsDrill new.opened new.doubt old.doubt old.moment (start t) given turns
-        new.moment (state_of u held))
+        (held : Held) × DrillLasts old new t given turns (state_of u held))

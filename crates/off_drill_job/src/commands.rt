@@ -2,7 +2,7 @@ ghost use Rattle.std.specs.Prelude.{◌≡◌, ◌≤◌, length, IfOk};
 ghost use Rattle.off_base.specs.Tree.{leaf};
 ghost use Rattle.off_base.specs.Setting.{tree_of};
 ghost use Rattle.off_drill_rules.specs.Rows.{site, flow, class, pool, subscriber, modem};
-ghost use Rattle.off_drill_job.specs.Founding.{set_site, put_class, put_pool};
+ghost use Rattle.off_drill_job.specs.Founding.{put_hub, put_class, put_pool};
 ghost use Rattle.off_drill_job.specs.Founding.{put_subscriber, put_modem};
 
 use crate::rows::{RELAY, SECRET, SERVER, mac_of};
@@ -10,17 +10,20 @@ use off_base::{Bytes, Ip4, NoMemory, Secret, Setting, Settings, Short};
 use off_defs::{Class, Command, Modem, Pool, Site, Subscriber};
 use std::alloc::Global;
 
-/// Sets the site.
-pub(crate) fn set_site() -> Command
-    ensures { result ≡ set_site }
+/// Puts the one hub.
+pub(crate) fn put_hub() -> Command
+    ensures { result ≡ put_hub }
 {
-    Command::SetSite(Site {
-        server: SERVER,
-        secret: secret(SECRET),
-        offset: 0,
-        lease: 86_400,
-        log: Ip4(0),
-    })
+    Command::PutHub(
+        0,
+        Site {
+            server: SERVER,
+            secret: secret(SECRET),
+            offset: 0,
+            lease: 86_400,
+            log: Ip4(0),
+        },
+    )
 }
 
 /// Puts the one class of service.
@@ -47,6 +50,7 @@ pub(crate) fn put_pool() -> Command
             router: RELAY,
             relay: RELAY,
         },
+        0,
     )
 }
 

@@ -28,7 +28,7 @@ pub enum Ended {
 /// Exercises the whole office: founds one over tables without rows, with so many modems, has each
 /// of them boot, and writes what came of it.
 ///
-/// Status 0: it came to its end. 2: the tables aren't good, and the line names their least bad key.
+/// Status 0: it came to its end. 2: the tables don't open, and the line names their least bad key.
 /// 3: the keeper failed. 4: the sink failed. 6: memory was refused. 9: the tables have rows. What
 /// the office says is sent by the link; a send that fails is passed over.
 pub fn drill<L: Link, K: Keeper, W: Sink>(

@@ -8,7 +8,7 @@ ghost use Rattle.off_drill_rules.specs.Law.{held_behind};
 ghost use Rattle.off_drill_job.specs.Founding.{GaveCommand, Builds, Halts, PassesOver};
 ghost use Rattle.off_drill_job.specs.Founding.{put_class, settling, peopling, founding};
 
-use crate::commands::{put_class, put_modem, put_pool, put_subscriber, set_site};
+use crate::commands::{put_class, put_hub, put_modem, put_pool, put_subscriber};
 use crate::rows::BEGINS_AT;
 use off_accounts::AccountErr;
 use off_base::Moment;
@@ -33,7 +33,7 @@ pub(crate) fn found<K: Keeper>(
         (λ err. Halts err (founding count) office.old (K.seen keeper.old) (K.seen keeper.new)) }
     ensures held { OnOk result (office.new.held ≡ held_behind 0) }
 {
-    give(&set_site(), office, keeper)?;
+    give(&put_hub(), office, keeper)?;
     give_class(alloc, office, keeper)?;
     give(&put_pool(), office, keeper)?;
     people(count, office, keeper)

@@ -1,7 +1,6 @@
 -- From what each call did to what `import` promises.
-use Rattle.std.proofs.Common.{◌≡◌, ◌≢◌, ℕ, ◌<◌, ◌⊎◌, Bool, true, false, cond, List, Result, Ok, Err, refl, sym, ap, ◌∙◌, subst, inl, inr, arith}
-use Rattle.std.specs.Prelude.{nat_lt, ◌≤◌, length, IsTrue}
-use Rattle.std.proofs.lemmas.Bool.Decides.{nat_tests}
+use Rattle.std.proofs.Common.{◌≡◌, ◌≢◌, ℕ, ◌<◌, ◌⊎◌, true, false, List, Result, Ok, Err, refl, sym, ap, ◌∙◌, subst, inl, inr, arith}
+use Rattle.std.specs.Prelude.{IsTrue}
 use Rattle.md5.specs.Md5.{md5}
 use Rattle.csv.specs.Reading.{default_config, records, strip_bom}
 use Rattle.off_defs.specs.Told.{Told}
@@ -15,7 +14,8 @@ use Rattle.off_defs.specs.declared.orders.ImportRow.{ImportRow}
 use Rattle.off_defs.specs.declared.orders.Reply.{Reply}
 use Rattle.off_defs.specs.declared.rules.Rule.{Rule}
 use Rattle.off_defs.specs.declared.orders.Reply.TheVariants.{Rows}
-use Rattle.off_account_rules.specs.Good.{Good, IsLeastBad}
+use Rattle.off_account_rules.specs.Good.{Opens, Good, IsLeastBad}
+use Rattle.off_account_rules.specs.Migration.{migrated}
 use Rattle.off_account_rules.specs.Clerk.{Stepped, clerk_step, step_done, step_refused}
 use Rattle.off_rows.specs.Sound.{is_sound}
 use Rattle.off_table_laws.specs.Laws.{secret_fits}
@@ -29,20 +29,20 @@ use Rattle.off_import_rules.specs.declared.faults.ImportErr.TheVariants as impor
 use Rattle.off_accounts.specs.declared.results.AccountErr.{AccountErr}
 use Rattle.off_accounts.specs.declared.results.AccountErr.TheVariants as account_err
 use Rattle.off_outside.specs.KeeperSeen.{KeeperSeen, Rests}
-use Rattle.off_outside.specs.KeeperCalls.{Reads, NotCommitted}
+use Rattle.off_outside.specs.KeeperCalls.{IsWritten}
 use Rattle.off_outside.specs.Streams.{SourceSeen, SinkSeen}
-use Rattle.off_outside.specs.declared.keeper.KeepErr.{KeepErr}
-use Rattle.off_outside.proofs.KeeperLemmas.{reads_as, reads_then, not_begun_then, not_committed_as, settled_then}
 use Rattle.off_jobs.specs.Jobs.{Tells, NoFault}
 use Rattle.off_jobs.specs.declared.input.InputErr.TheVariants as input_err
 use Rattle.off_jobs.proofs.JobLemmas.{told_whole, source_held, sink_kept, told_file, too_many_of}
-use Rattle.off_office.specs.Answering.{CommandBegins, Commanded, NotCommanded, CountsRows}
+use Rattle.off_office.specs.Answering.{Commanded, NotCommanded, CountsRows}
 use Rattle.off_office.specs.Conditions.{Opened}
+use Rattle.off_office.specs.Opening.{OpensTo}
 use Rattle.off_office.specs.Desk.{Desk}
 use Rattle.off_office.specs.declared.office.StartErr.TheVariants as start_err
 use Rattle.off_import_job.specs.Telling.{ended_text, ended_status}
-use Rattle.off_import_job.specs.Importing.{ReadAs, NotTaken, DidCommand, CarriesOut, ImportBegins, LeftUndone, Ends, NoneFailed, Doable, Imports}
+use Rattle.off_import_job.specs.Importing.{ReadAs, NotTaken, DidCommand, CarriesOut, LeftUndone, Ends, NoneFailed, Doable, Imports}
 use Rattle.off_import_job.specs.declared.importing.Ended.{Ended}
+use Rattle.off_import_job.proofs.BehindLemmas.{opens_as, opens_then, settled_both, lost_behind}
 use Rattle.off_import_job.specs.declared.importing.Ended.TheVariants.{Closed, Unread, NoImport, NotDone, Done}
 
 -- an office that has just begun comes to moment 0
@@ -99,20 +99,14 @@ told_rows kind batch rows bytes command reply is counts are =
     let found = numbered kind batch bytes command reply is counts in
     found.1 ∙ ap (λ (n : ℕ). let r : Reply = Rows n in r) (sym (are found.0 found.1))
 
--- what a command of an office that has just begun would leave, over the tables that it opened
-begins_on : {err : KeepErr} (desk : Desk) (command : Command) {k l m : KeeperSeen} → Rests k → Opened desk k l
-    → NotCommitted (CommandBegins command 0 desk) err l m → NotCommitted (ImportBegins command) err k m
-begins_on desk command rests opened not =
-    not_committed_as (not_begun_then rests opened.reads not) (λ t told u begins. begins ((opened.reads.tables t told).1.mirrors))
-
 left_undone : (err : AccountErr) (desk : Desk) (command : Command) (k l m : KeeperSeen) → Rests k → Opened desk k l
     → NotCommanded command err 0 desk l m → LeftUndone err command k m
-left_undone (account_err.Refused row broken) desk command k l m rests opened not = reads_then opened.reads not (λ t fits says. says fits.mirrors)
-left_undone account_err.Failed desk command k l m rests opened not = begins_on desk command rests opened not
-left_undone account_err.Memory desk command k l m rests opened not = begins_on desk command rests opened not
+left_undone (account_err.Refused row broken) desk command k l m rests opened not = opens_then rests opened not (λ u fits says. (fits.good, says fits.mirrors))
+left_undone account_err.Failed desk command k l m rests opened not = lost_behind desk command opened not
+left_undone account_err.Memory desk command k l m rests opened not = lost_behind desk command opened not
 
-pub opened_good : {desk : Desk} {k l : KeeperSeen} → Opened desk k l → Reads Good k l
-opened_good opened = reads_as opened.reads (λ t fits. fits.good)
+pub opens_good : {desk : Desk} {k l : KeeperSeen} → Opened desk k l → OpensTo Good k l
+opens_good opened = opens_as opened (λ u fits. fits.good)
 
 -- the office opened, the import was read, and the command was given to the office
 pub ends_given : (ended : Ended) (kind : ImportKind) (batch : ℕ) (command : Command) (desk : Desk) (k l m : KeeperSeen) (s s' : SourceSeen) → Rests k
@@ -123,7 +117,6 @@ ends_given (NoImport err) kind batch command desk k l m s s' rests opened read s
 ends_given (NotDone err) kind batch command desk k l m s s' rests opened read sound did = record {
   command = command;
   read = read;
-  good = λ t told. (opened.reads.tables t told).1.good;
   undone = left_undone err desk command k l m rests opened did;
 }
 ends_given (Done rows) kind batch command desk k l m s s' rests opened read sound did =
@@ -131,29 +124,32 @@ ends_given (Done rows) kind batch command desk k l m s s' rests opened read soun
     record {
       command = command;
       read = read;
-      good = λ t told. (opened.reads.tables t told).1.good;
+      opens = opened.opens;
+      first = opened.writes;
+      are = opened.are;
       writes = did.done.writes;
       tables = record {
         each = λ t told.
-            let before = opened.reads.tables t told in
-            let g = did.done.tables.each t before.0 in
-            let p = g.fits.holds before.1.mirrors in
+            let o = opened.tables.each t told in
+            let g = did.done.tables.each o.value o.told in
+            let p = g.fits.holds o.fits.1.mirrors in
             record {
               value = g.value;
               told = g.told;
-              fits = (subst (λ (r : Reply). clerk_step t 0 command ≡ step_done t did.done.writes r) is p.0, p.1);
+              fits = subst (λ (v : Tables). (clerk_step v 0 command ≡ step_done v did.done.writes (Rows rows)) × IsWritten did.done.writes v g.value) o.fits.0
+                  (subst (λ (r : Reply). clerk_step o.value 0 command ≡ step_done o.value did.done.writes r) is p.0, p.1);
             };
       };
-      settled = settled_then rests opened.reads did.done.settled;
+      settled = settled_both opened.settled did.done.settled;
       stays_good = record {
         each = λ t told.
-            let before = opened.reads.tables t told in
-            let g = did.done.tables.each t before.0 in
-            let p = g.fits.holds before.1.mirrors in
+            let o = opened.tables.each t told in
+            let g = did.done.tables.each o.value o.told in
+            let p = g.fits.holds o.fits.1.mirrors in
             record {
               value = g.value;
               told = g.told;
-              fits = good_behind kind batch read.bytes command t g.value did.done.writes did.reply read.means sound p.0 p.1 before.1.good;
+              fits = good_behind kind batch read.bytes command o.value g.value did.done.writes did.reply read.means sound p.0 p.1 o.fits.1.good;
             };
       };
     }
@@ -162,8 +158,8 @@ ends_given (Done rows) kind batch command desk k l m s s' rests opened read soun
 pub ends_unread : (ended : Ended) (kind : ImportKind) (batch : ℕ) (desk : Desk) (k l : KeeperSeen) (s s' : SourceSeen)
     → Opened desk k l → NotTaken ended kind batch s s' → Ends ended kind batch k l s s'
 ends_unread (Closed err) kind batch desk k l s s' opened not = absurd not
-ends_unread (Unread err) kind batch desk k l s s' opened not = (opened_good opened, not)
-ends_unread (NoImport err) kind batch desk k l s s' opened not = (opened_good opened, not)
+ends_unread (Unread err) kind batch desk k l s s' opened not = (opens_good opened, not)
+ends_unread (NoImport err) kind batch desk k l s s' opened not = (opens_good opened, not)
 ends_unread (NotDone err) kind batch desk k l s s' opened not = absurd not
 ends_unread (Done rows) kind batch desk k l s s' opened not = absurd not
 
@@ -226,9 +222,9 @@ keeper_kept : (ended : Ended) (kind : ImportKind) (batch : ℕ) (k k' : KeeperSe
 keeper_kept (Closed (start_err.Bad key)) kind batch k k' s s' ends same fits up = ends.0.quiet.up up
 keeper_kept (Closed start_err.Failed) kind batch k k' s s' ends same fits up = kept k.faults k'.faults same fits (ends.0.up up)
 keeper_kept (Closed start_err.Memory) kind batch k k' s s' ends same fits up = kept k.faults k'.faults same fits (ends.0.up up)
-keeper_kept (Unread err) kind batch k k' s s' ends same fits up = ends.0.quiet.up up
-keeper_kept (NoImport err) kind batch k k' s s' ends same fits up = ends.0.quiet.up up
-keeper_kept (NotDone (account_err.Refused row broken)) kind batch k k' s s' ends same fits up = ends.undone.quiet.up up
+keeper_kept (Unread err) kind batch k k' s s' ends same fits up = ends.0.settled.up up
+keeper_kept (NoImport err) kind batch k k' s s' ends same fits up = ends.0.settled.up up
+keeper_kept (NotDone (account_err.Refused row broken)) kind batch k k' s s' ends same fits up = ends.undone.settled.up up
 keeper_kept (NotDone account_err.Failed) kind batch k k' s s' ends same fits up = kept k.faults k'.faults same fits (ends.undone.up up)
 keeper_kept (NotDone account_err.Memory) kind batch k k' s s' ends same fits up = kept k.faults k'.faults same fits (ends.undone.up up)
 keeper_kept (Done rows) kind batch k k' s s' ends same fits up = ends.settled.up up
@@ -243,25 +239,31 @@ source_kept (NoImport err) kind batch k k' s s' t t' ends none up = ends.1.took.
 source_kept (NotDone err) kind batch k k' s s' t t' ends none up = ends.read.took.took.up up
 source_kept (Done rows) kind batch k k' s s' t t' ends none up = ends.read.took.took.up up
 
--- good tables stay good, whatever became of the import
-stays_as : (k k' : KeeperSeen) → ((t : Tables) → k.tables t → k'.tables t) → Told k.tables k'.tables (λ t u. Good t → Good u)
-stays_as k k' stay = record { each = λ t told. record { value = t; told = stay t told; fits = λ good. good } }
+-- tables that open do so again, and good ones stay good, whatever became of the import
+abbrev KeepsOpening : Tables → Tables → Type 0
+KeepsOpening t u = (Opens t → Opens u) × (Good t → Good u)
 
-good_of : (ended : Ended) (kind : ImportKind) (batch : ℕ) (k k' : KeeperSeen) (s s' : SourceSeen) → Ends ended kind batch k k' s s'
-    → Told k.tables k'.tables (λ t u. Good t → Good u)
-good_of (Closed (start_err.Bad key)) kind batch k k' s s' ends = stays_as k k' (λ t told. (ends.0.tables t told).0)
-good_of (Closed start_err.Failed) kind batch k k' s s' ends = stays_as k k' ends.0.tables
-good_of (Closed start_err.Memory) kind batch k k' s s' ends = stays_as k k' ends.0.tables
-good_of (Unread err) kind batch k k' s s' ends = stays_as k k' (λ t told. (ends.0.tables t told).0)
-good_of (NoImport err) kind batch k k' s s' ends = stays_as k k' (λ t told. (ends.0.tables t told).0)
-good_of (NotDone (account_err.Refused row broken)) kind batch k k' s s' ends = stays_as k k' (λ t told. (ends.undone.tables t told).0)
-good_of (NotDone account_err.Failed) kind batch k k' s s' ends = stays_as k k' ends.undone.tables
-good_of (NotDone account_err.Memory) kind batch k k' s s' ends = stays_as k k' ends.undone.tables
-good_of (Done rows) kind batch k k' s s' ends = told_weaker ends.stays_good (λ t u good was. good)
+stays_as : (k k' : KeeperSeen) → ((t : Tables) → k.tables t → k'.tables t) → Told k.tables k'.tables KeepsOpening
+stays_as k k' stay = record { each = λ t told. record { value = t; told = stay t told; fits = (λ opens. opens, λ good. good) } }
 
--- tables that are good have no bad key
-not_bad : (t : Tables) (key : Key) → Good t → IsLeastBad t key → ⊥
-not_bad t key good bad = let e : true ≡ false = sym (good key bad.held bad.there) ∙ bad.breaks in cc
+good_then : {P : Tables → Tables → Type 0} (k k' : KeeperSeen) → Told k.tables k'.tables P → ((t u : Tables) → P t u → Good u) → Told k.tables k'.tables KeepsOpening
+good_then k k' told good = told_weaker told (λ t u p. (λ opens. (good t u p).opens, λ was. good t u p))
+
+keeps_of : (ended : Ended) (kind : ImportKind) (batch : ℕ) (k k' : KeeperSeen) (s s' : SourceSeen) → Ends ended kind batch k k' s s'
+    → Told k.tables k'.tables KeepsOpening
+keeps_of (Closed (start_err.Bad key)) kind batch k k' s s' ends = stays_as k k' (λ t told. (ends.0.tables t told).0)
+keeps_of (Closed start_err.Failed) kind batch k k' s s' ends = stays_as k k' ends.0.tables
+keeps_of (Closed start_err.Memory) kind batch k k' s s' ends = stays_as k k' ends.0.tables
+keeps_of (Unread err) kind batch k k' s s' ends = good_then k k' ends.0.tables (λ t u p. p.1)
+keeps_of (NoImport err) kind batch k k' s s' ends = good_then k k' ends.0.tables (λ t u p. p.1)
+keeps_of (NotDone (account_err.Refused row broken)) kind batch k k' s s' ends = good_then k k' ends.undone.tables (λ t u p. p.1.0)
+keeps_of (NotDone account_err.Failed) kind batch k k' s s' ends = good_then k k' ends.undone.tables (λ t u p. p.1)
+keeps_of (NotDone account_err.Memory) kind batch k k' s s' ends = good_then k k' ends.undone.tables (λ t u p. p.1)
+keeps_of (Done rows) kind batch k k' s s' ends = good_then k k' ends.stays_good (λ t u good. good)
+
+-- tables that open have no bad key
+not_bad : (t : Tables) (key : Key) → Opens t → IsLeastBad t key → ⊥
+not_bad t key opens bad = let e : true ≡ false = sym (opens key bad.held bad.there) ∙ bad.breaks in cc
 
 -- bytes are one command
 abbrev StepsTo : Tables → Stepped → Result Command ImportFault → Type 0
@@ -284,7 +286,7 @@ not_refused t writes reply row broken is = let e = ap (λ (s : Stepped). s.answe
 done_of : (ended : Ended) (kind : ImportKind) (batch status : ℕ) (k k' : KeeperSeen) (s s' : SourceSeen) (t t' : SinkSeen) → Ends ended kind batch k k' s s'
     → Doable kind batch k s → NoneFailed k k' s s' t t' → status ≢ 6 → status ≡ ended_status ended → status ≡ 0
 done_of (Closed (start_err.Bad key)) kind batch status k k' s s' t t' ends can none other is =
-    absurd (not_bad can.tables key can.good (ends.0.tables can.tables can.told).1)
+    absurd (not_bad can.tables key can.opens (ends.0.tables can.tables can.told).1)
 done_of (Closed start_err.Failed) kind batch status k k' s s' t t' ends can none other is = absurd (stands k.faults k'.faults none.keeper_same none.keeper_count ends.0.faults.grew)
 done_of (Closed start_err.Memory) kind batch status k k' s s' t t' ends can none other is = absurd (other is)
 done_of (Unread input_err.TooLong) kind batch status k k' s s' t t' ends can none other is =
@@ -296,8 +298,10 @@ done_of (NoImport (import_err.Fault fault)) kind batch status k k' s s' t t' end
     ends.1.why)
 done_of (NoImport import_err.Memory) kind batch status k k' s s' t t' ends can none other is = absurd (other is)
 done_of (NotDone (account_err.Refused row broken)) kind batch status k k' s s' t t' ends can none other is =
-    let step = same_step kind batch can.bytes ends.read.bytes can.command ends.command can.tables _ can.means ends.read.means (told_file ends.read.took can.held) can.step in
-    absurd (not_refused can.tables can.writes can.reply row broken (sym step ∙ (ends.undone.tables can.tables can.told).1))
+    let step = same_step kind batch can.bytes ends.read.bytes can.command ends.command (migrated can.tables) _ can.means ends.read.means (told_file ends.read.took can.held) can.step in
+    let o = ends.undone.tables.each can.tables can.told in
+    let refused = subst (λ (v : Tables). clerk_step v 0 ends.command ≡ step_refused v row broken) o.fits.0 o.fits.1.1 in
+    absurd (not_refused (migrated can.tables) can.writes can.reply row broken (sym step ∙ refused))
 done_of (NotDone account_err.Failed) kind batch status k k' s s' t t' ends can none other is = absurd (stands k.faults k'.faults none.keeper_same none.keeper_count ends.undone.faults.grew)
 done_of (NotDone account_err.Memory) kind batch status k k' s s' t t' ends can none other is = absurd (other is)
 done_of (Done rows) kind batch status k k' s s' t t' ends can none other is = is
@@ -309,7 +313,8 @@ imports_by ended kind batch status k k' s s' t t' ends told = record {
   ends = ends;
   told = told;
   complete = λ can none other. done_of ended kind batch status k k' s s' t t' ends can none other (told_whole told none.streams);
-  stays_good = good_of ended kind batch k k' s s' ends;
+  stays_open = told_weaker (keeps_of ended kind batch k k' s s' ends) (λ t u keeps. keeps.0);
+  stays_good = told_weaker (keeps_of ended kind batch k k' s s' ends) (λ t u keeps. keeps.1);
   statuses = λ none. few_of ended kind batch status k k' s s' t t' ends none (told_whole told none.streams);
   up = λ none. record {
     keeper_up = keeper_kept ended kind batch k k' s s' ends none.keeper_same none.keeper_count;

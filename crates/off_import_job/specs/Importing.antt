@@ -1,28 +1,31 @@
 -- What `import` promises. The order is: the tables are opened, the source is read to its end, its
 -- bytes are read as an import, and the office does it in one step at moment 0.
-use Rattle.std.specs.Prelude.{◌≡◌, ◌≢◌, ℕ, ◌<◌, ◌≤◌, ◌⊎◌, List, length, Ok, Err}
-use Rattle.off_defs.specs.Counts.{most_count}
+use Rattle.std.specs.Prelude.{◌≡◌, ◌≢◌, ℕ, ◌<◌, ◌≤◌, ◌⊎◌, List, length, Ok}
+use Rattle.off_defs.specs.Counts.{Tallied, most_count, commits_after}
 use Rattle.off_defs.specs.Told.{Told}
 use Rattle.off_defs.specs.State.{Tables}
-use Rattle.off_defs.specs.Tables.{write_all}
+use Rattle.off_defs.specs.Tables.{write_all, doubt_behind}
 use Rattle.off_defs.specs.declared.tables.ImportKind.{ImportKind}
 use Rattle.off_defs.specs.declared.orders.Command.{Command}
 use Rattle.off_defs.specs.declared.orders.Reply.{Reply}
 use Rattle.off_defs.specs.declared.orders.Reply.TheVariants.{Rows}
 use Rattle.off_defs.specs.declared.orders.Write.{Write}
-use Rattle.off_account_rules.specs.Good.{Good}
+use Rattle.off_account_rules.specs.Good.{Opens, Good}
+use Rattle.off_account_rules.specs.Migration.{migration, migrated}
 use Rattle.off_account_rules.specs.Clerk.{clerk_step, step_done, step_refused}
 use Rattle.off_import_rules.specs.Reading.{import_in, GivesFault}
 use Rattle.off_import_rules.specs.declared.faults.ImportErr.{ImportErr}
 use Rattle.off_accounts.specs.declared.results.AccountErr.{AccountErr}
 use Rattle.off_accounts.specs.declared.results.AccountErr.TheVariants as account_err
 use Rattle.off_outside.specs.KeeperSeen.{KeeperSeen}
-use Rattle.off_outside.specs.KeeperCalls.{Reads, IsWritten, Settled, NotCommitted}
+use Rattle.off_outside.specs.KeeperCalls.{IsWritten, Crash, StaysUp, keeper_faults_in, begun_by}
 use Rattle.off_outside.specs.Streams.{SourceSeen, SourceUnasked, SinkSeen}
+use Rattle.off_outside.specs.declared.keeper.KeepErr.{KeepErr}
 use Rattle.off_outside.specs.declared.keeper.KeepErr.TheVariants as keep
 use Rattle.off_jobs.specs.Input.{TookAll, NoInput}
 use Rattle.off_jobs.specs.Jobs.{Tells, NoFault, BothUp}
 use Rattle.off_office.specs.Acting.{NotStarted}
+use Rattle.off_office.specs.Opening.{IsMigrated, OpensTo}
 use Rattle.off_office.specs.Answering.{Commanded, NotCommanded, CountsRows}
 use Rattle.off_office.specs.Desk.{Desk}
 use Rattle.off_import_job.specs.Telling.{ended_text, ended_status}
@@ -76,47 +79,72 @@ CarriesOut (Done rows) command before old new = DidCommand rows command before o
 abbrev pub ImportBegins : Command → Tables → Tables → Type 0
 ImportBegins command t u = u ≡ write_all t (clerk_step t 0 command).writes
 
--- a command wasn't done, and the tables are as before: a rule of the book's refuses it, or the
--- keeper failed and counted it, or memory was wanted
+-- the tables opened, and behind that a command failed, or had no memory: they are as the opening
+-- left them, but that the command may have been begun
+pub record LostBehind (err : KeepErr) (command : Command) (old new : KeeperSeen) : Type 0 where
+  pub opens : (t : Tables) → old.tables t → Opens t
+  pub first : List Write
+  pub are : (t : Tables) → old.tables t → first ≡ migration t
+  pub tables : Told old.tables new.tables (λ t u. IsMigrated t u × Good u)
+  pub up : StaysUp old new
+  pub faults : Tallied (keeper_faults_in err) old.faults new.faults
+  pub commits : new.commits ≡ commits_after first old.commits
+  pub crash : Crash
+      (λ t u. IsMigrated t u ⊎ begun_by err (ImportBegins command) (migrated t) u) old new
+  pub doubts : (t : Tables) → old.tables t → (u : Tables) → new.doubt u →
+      doubt_behind first (old.doubt u) ⊎ begun_by err (ImportBegins command) (migrated t) u
+
+-- a command wasn't done: a rule of the book's refuses it over the opened tables, or the keeper
+-- failed and counted it, or memory was wanted
 abbrev pub LeftUndone : AccountErr → Command → KeeperSeen → KeeperSeen → Type 0
 LeftUndone (account_err.Refused row broken) command old new =
-    Reads (λ t. clerk_step t 0 command ≡ step_refused t row broken) old new
-LeftUndone account_err.Failed command old new =
-    NotCommitted (ImportBegins command) keep.Failed old new
-LeftUndone account_err.Memory command old new =
-    NotCommitted (ImportBegins command) keep.Memory old new
+    OpensTo (λ u. Good u × (clerk_step u 0 command ≡ step_refused u row broken)) old new
+LeftUndone account_err.Failed command old new = LostBehind keep.Failed command old new
+LeftUndone account_err.Memory command old new = LostBehind keep.Memory command old new
 
--- the import was read, over good tables, and wasn't done
+-- two lots of writes were done one after another, each in one commit where there are any
+pub record SettledBoth (first writes : List Write) (old new : KeeperSeen) : Type 0 where
+  pub tables : Told old.tables new.tables (λ t u. IsWritten writes (write_all t first) u)
+  pub up : old.up → new.up
+  pub faults : new.faults ≡ old.faults
+  pub commits : new.commits ≡ commits_after writes (commits_after first old.commits)
+  pub crash : Crash (λ t u. IsWritten first t u ⊎ IsWritten writes (write_all t first) u) old new
+  pub doubts : (t : Tables) → old.tables t → (u : Tables) → new.doubt u →
+      doubt_behind writes (doubt_behind first (old.doubt u))
+
+-- the import was read, and wasn't done
 pub record WasNotDone (err : AccountErr) (kind : ImportKind) (batch : ℕ) (old new : KeeperSeen)
     (source source' : SourceSeen) : Type 0 where
   pub command : Command
   pub read : ReadAs kind batch command source source'
-  pub good : (t : Tables) → old.tables t → Good t
   pub undone : LeftUndone err command old new
 
--- The import was read, over good tables, and done: the tables are those of the book's step of this
--- one command at moment 0, which answers with so many rows, and all its writes are committed.
+-- The import was read and done: over the opened tables the tables are those of the book's step of
+-- this one command at moment 0, which answers with so many rows, and all its writes are committed.
 pub record WasDone (rows : ℕ) (kind : ImportKind) (batch : ℕ) (old new : KeeperSeen)
     (source source' : SourceSeen) : Type 0 where
   pub command : Command
   pub read : ReadAs kind batch command source source'
-  pub good : (t : Tables) → old.tables t → Good t
+  pub opens : (t : Tables) → old.tables t → Opens t
+  pub first : List Write
+  pub are : (t : Tables) → old.tables t → first ≡ migration t
   pub writes : List Write
   pub tables : Told old.tables new.tables
-      (λ t u. (clerk_step t 0 command ≡ step_done t writes (Rows rows)) × IsWritten writes t u)
-  pub settled : Settled writes old new
+      (λ t u. (clerk_step (migrated t) 0 command ≡ step_done (migrated t) writes (Rows rows))
+      × IsWritten writes (migrated t) u)
+  pub settled : SettledBoth first writes old new
   pub stays_good : Told old.tables new.tables (λ t u. Good u)
 
 -- What became of the tables and of the source. Nothing is taken of the source where the tables
--- didn't open, and the tables are as before unless the import was done.
+-- didn't open; and they are as the opening left them unless the import was done.
 abbrev pub Ends : Ended → ImportKind → ℕ → KeeperSeen → KeeperSeen → SourceSeen → SourceSeen
     → Type 0
 Ends (Closed err) kind batch old new source source' =
     NotStarted err old new × SourceUnasked source source'
 Ends (Unread err) kind batch old new source source' =
-    Reads Good old new × NoInput most_import_bytes err source source'
+    OpensTo Good old new × NoInput most_import_bytes err source source'
 Ends (NoImport err) kind batch old new source source' =
-    Reads Good old new × ReadAsNone err kind batch source source'
+    OpensTo Good old new × ReadAsNone err kind batch source source'
 Ends (NotDone err) kind batch old new source source' =
     WasNotDone err kind batch old new source source'
 Ends (Done rows) kind batch old new source source' =
@@ -127,7 +155,7 @@ pub record Doable (kind : ImportKind) (batch : ℕ) (keeper : KeeperSeen) (sourc
     Type 0 where
   pub tables : Tables
   pub told : keeper.tables tables
-  pub good : Good tables
+  pub opens : Opens tables
   pub bytes : List ℕ
   pub held : source.left bytes
   pub short : length bytes ≤ most_import_bytes
@@ -135,7 +163,7 @@ pub record Doable (kind : ImportKind) (batch : ℕ) (keeper : KeeperSeen) (sourc
   pub means : import_in kind batch bytes ≡ Ok command
   pub writes : List Write
   pub reply : Reply
-  pub step : clerk_step tables 0 command ≡ step_done tables writes reply
+  pub step : clerk_step (migrated tables) 0 command ≡ step_done (migrated tables) writes reply
 
 -- no count rose, and none stood at the greatest number
 pub record NoneFailed (old new : KeeperSeen) (source source' : SourceSeen)
@@ -151,13 +179,15 @@ pub record AllUp (old new : KeeperSeen) (source source' : SourceSeen) (sink sink
   pub both_up : BothUp source source' sink sink'
 
 -- What `import` did. Where the sink failed the status is 4, and a front of the text is there; else
--- the text was written. Good tables stay good, whatever the status. Where no count rose and no memory was wanted, the status is 0, or 2, where
--- the tables aren't good, or 9, where the import is refused; and what can be done is done.
+-- the text was written. Whatever the status, tables that open are left such that open, and good
+-- ones good. Where no count rose and no memory was wanted, the status is 0, or 2, where the tables
+-- don't open, or 9, where the import is refused; and what can be done is done.
 pub record Imports (kind : ImportKind) (batch : ℕ) (status : ℕ) (old new : KeeperSeen)
     (source source' : SourceSeen) (sink sink' : SinkSeen) : Type 0 where
   pub ended : Ended
   pub ends : Ends ended kind batch old new source source'
   pub told : Tells (ended_status ended) (ended_text ended) status sink sink'
+  pub stays_open : Told old.tables new.tables (λ t u. Opens t → Opens u)
   pub stays_good : Told old.tables new.tables (λ t u. Good t → Good u)
   pub statuses : NoneFailed old new source source' sink sink'
       → (status ≡ 0) ⊎ ((status ≡ 2) ⊎ ((status ≡ 6) ⊎ (status ≡ 9)))

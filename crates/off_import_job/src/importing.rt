@@ -34,10 +34,11 @@ pub enum Ended {
 
 /// Does the import that the source holds, under a batch's number, and tells how many rows it has.
 ///
-/// Status 0: it's done, or it was done before. 2: the tables aren't good, and the line names their
+/// Status 0: it's done, or it was done before. 2: the tables don't open, and the line names their
 /// least bad key. 3: the keeper failed. 4: the sink failed. 6: memory was refused. 7: the source
 /// failed. 9: the source holds more bytes than an import may have, or they are no import, or a rule
-/// refuses it. With every status but 0 and 4 the tables are as before.
+/// refuses it. With 2 the tables are as before; with 7 and 9 they are so, but that the site of
+/// earlier days is the hub 0; with 3 and 6 they are the one or the other.
 pub fn import_input<K: Keeper, S: Source, W: Sink>(
     alloc: Global,
     kind: ImportKind,

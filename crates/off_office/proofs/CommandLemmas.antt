@@ -2,7 +2,7 @@
 use Rattle.std.proofs.Common.{◌≡◌, ℕ, ◌+◌, ◌≤◌, List, [], ◌∷◌, Option, Some, None, option_map, arith, Result, Ok, Err, MatchResult, length, refl, sym, ap, ◌∙◌, subst}
 use Rattle.std.specs.Prelude.{IsTrue}
 use Rattle.off_defs.specs.declared.orders.Command.{Command}
-use Rattle.off_defs.specs.declared.orders.Command.TheVariants.{SetSite, PutSubscriber, PutAddOn, PutModem, PutClass, PutPool, Remove, Show, Import}
+use Rattle.off_defs.specs.declared.orders.Command.TheVariants.{PutHub, PutSubscriber, PutAddOn, PutModem, PutClass, PutPool, Remove, Show, Import}
 use Rattle.off_defs.specs.declared.orders.Write.{Write}
 use Rattle.off_defs.specs.State.{Tables, Held}
 use Rattle.off_defs.specs.Tables.{write_all}
@@ -151,12 +151,12 @@ at_most_one (write ∷ writes) = omega arith
 
 -- what was planned commits no more than its command may
 pub commits_within : (command : Command) (planned : Planned) → AnswersCommand command planned → commit_calls planned.writes ≤ most_commits command
-commits_within (SetSite site) planned is = at_most_one planned.writes
+commits_within (PutHub number site) planned is = at_most_one planned.writes
 commits_within (PutSubscriber number subscriber) planned is = at_most_one planned.writes
 commits_within (PutAddOn owner number settings) planned is = at_most_one planned.writes
 commits_within (PutModem mac modem) planned is = at_most_one planned.writes
 commits_within (PutClass number class) planned is = at_most_one planned.writes
-commits_within (PutPool number pool) planned is = at_most_one planned.writes
+commits_within (PutPool number pool hub) planned is = at_most_one planned.writes
 commits_within (Remove removed) planned is = at_most_one planned.writes
 commits_within (Show shown) planned is = subst (λ (writes : List Write). commit_calls writes ≤ 0) (sym is.1) (omega arith)
 commits_within (Import kind batch digest rows) planned is = at_most_one planned.writes
@@ -164,12 +164,12 @@ commits_within (Import kind batch digest rows) planned is = at_most_one planned.
 -- what was planned of an import is answered with its number of rows
 pub counts_rows : (command : Command) (planned : Planned) → AnswersImport command planned
     → CountsRows command planned.reply
-counts_rows (SetSite site) planned is = tt
+counts_rows (PutHub number site) planned is = tt
 counts_rows (PutSubscriber number subscriber) planned is = tt
 counts_rows (PutAddOn owner number settings) planned is = tt
 counts_rows (PutModem mac modem) planned is = tt
 counts_rows (PutClass number class) planned is = tt
-counts_rows (PutPool number pool) planned is = tt
+counts_rows (PutPool number pool hub) planned is = tt
 counts_rows (Remove removed) planned is = tt
 counts_rows (Show shown) planned is = tt
 counts_rows (Import kind batch digest rows) planned is = is

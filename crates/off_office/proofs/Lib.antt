@@ -10,3 +10,4 @@ pub mod PieceLemmas
 pub mod UpLemmas
 pub mod SendLemmas
 pub mod MirrorLemmas
+pub mod OpeningLemmas

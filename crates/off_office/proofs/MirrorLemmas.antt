@@ -54,6 +54,6 @@ pub follows_mirrors : (before after : Desk) (counts : Counts) (writes : List Wri
 follows_mirrors before after counts writes t u follows counted written fits = subst (Mirrors after) (sym written) (record {
   counts = follows.counts_are ∙ counted;
   kept = subst (AllRight (write_all t writes)) (sym follows.kept) (kept_stays_right t writes before.kept fits.mirrors.kept);
-  pools = follows.pools t fits.good fits.mirrors.pools;
+  pools = follows.pools t fits.good.opens fits.mirrors.pools;
   users = follows.users t fits.mirrors.users;
 })

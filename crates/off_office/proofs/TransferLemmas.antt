@@ -22,7 +22,7 @@ use Rattle.off_outside.specs.declared.keeper.KeepErr.{KeepErr}
 use Rattle.off_outside.specs.declared.keeper.KeepErr.TheVariants as keep
 use Rattle.off_outside.specs.KeeperSeen.{KeeperSeen, Rests}
 use Rattle.off_outside.specs.KeeperCalls.{Reads, NotDone, Looks, Spent}
-use Rattle.off_outside.proofs.KeeperLemmas.{reads_as, reads_then, failed_then, reads_told, reads_forgotten, not_begun, still_crash, spent_none}
+use Rattle.off_outside.proofs.KeeperLemmas.{reads_as, reads_told, reads_forgotten, not_begun, still_crash, spent_none}
 use Rattle.off_laws.proofs.Lines.{packet_tells}
 use Rattle.off_tftp.specs.Calls.{datagram_calls}
 use Rattle.off_tftp.specs.Saying.{Ticks, says_more}
@@ -37,10 +37,8 @@ use Rattle.off_runs.specs.Leases.{ground}
 use Rattle.off_users.specs.Users.{UsersHeld}
 use Rattle.off_users.specs.Kept.{NamedMap, Knows, map_of}
 use Rattle.off_users.proofs.KeptLemmas.{stands_known}
-use Rattle.off_opening.specs.Standing.{Opens}
-use Rattle.off_opening.specs.declared.opening.Opening.TheVariants as Opening
 use Rattle.off_office.specs.Desk.{Desk}
-use Rattle.off_office.specs.Conditions.{Mirrors, Opened, Begun}
+use Rattle.off_office.specs.Conditions.{Mirrors, Begun}
 use Rattle.off_office.specs.Acting.{Handled, DoesOn, NotStarted, effect_of}
 use Rattle.off_office.specs.Answering.{failed_said}
 use Rattle.off_office.specs.Transferring.{moved, moved_with, MovesTransfers, DidPacket, SaysPacket, FailsPacket, DidTick, MissedTick, TakesTick}
@@ -53,37 +51,22 @@ use Rattle.off_office.proofs.MirrorLemmas.{stays_self, stays_by}
 
 pub started : (q : Result Desk StartErr) (counts : Counts) (users : UsersHeld) (pools : List PoolHeld) (a b : KeeperSeen)
     → IfOk q (λ (office : Desk). office ≡ record { held = held_at_start; counts = counts; kept = []; pools = pools; users = map_of users.modems })
-    → IfErr q (λ (err : StartErr). err ≡ start.Memory) → Reads (λ t. KeepsPools pools (ground t)) a b
+    → IfErr q (λ (err : StartErr). err ≡ start.Memory) → Rests a → Reads (λ t. KeepsPools pools (ground t)) a b
     → MatchResult q (λ (office : Desk). Reads (Begun office counts users) a b) (λ (err : StartErr). NotStarted err a b)
-started (Ok office) counts users pools a b is none reads =
+started (Ok office) counts users pools a b is none rests reads =
     reads_as reads (λ t keeps. record {
       counts_are = ap (λ (d : Desk). d.counts) is;
       kept = subst (λ (d : Desk). AllRight t d.kept) (sym is) (none_right t);
       pools = subst (λ (d : Desk). KeepsPools d.pools (ground t)) (sym is) keeps;
       users = λ stands. subst (λ (d : Desk). Knows d.users t) (sym is) (stands_known users t stands);
     })
-started (Err err) counts users pools a b none is reads = subst (λ (e : StartErr). NotStarted e a b) (sym is) (reads_forgotten reads)
+started (Err err) counts users pools a b none is rests reads = subst (λ (e : StartErr). NotStarted e a b) (sym is) (not_begun rests (reads_forgotten reads))
 
 pub started_empty : (q : Result Desk StartErr) (counts : Counts) (users : NamedMap) (pools : List PoolHeld)
     → IfOk q (λ (office : Desk). office ≡ record { held = held_at_start; counts = counts; kept = []; pools = pools; users = users })
     → IfOk q (λ (office : Desk). office.held ≡ held_at_start)
 started_empty (Ok office) counts users pools is = ap (λ (d : Desk). d.held) is
 started_empty (Err err) counts users pools is = tt
-
--- good tables that were counted, and then read for what is kept of them
-pub opened : (q : Result Desk StartErr) (counts : Counts) (users : UsersHeld) (a b c : KeeperSeen) → Reads (λ t. Opens t (Opening.Good counts users)) a b
-    → MatchResult q (λ (office : Desk). Reads (Begun office counts users) b c) (λ (err : StartErr). NotStarted err b c)
-    → MatchResult q (λ (office : Desk). Opened office a c) (λ (err : StartErr). NotStarted err a c)
-opened (Ok office) counts users a b c good begun =
-    record {
-      reads = reads_then good begun (λ t opens is. record {
-        good = opens.0;
-        mirrors = record { counts = is.counts_are ∙ opens.1; kept = is.kept; pools = is.pools; users = is.users opens.2 };
-      });
-    }
-opened (Err (start.Bad key)) counts users a b c good not = reads_then good not (λ t opens bad. bad)
-opened (Err start.Failed) counts users a b c good not = failed_then good not
-opened (Err start.Memory) counts users a b c good not = failed_then good not
 
 -- ---- a datagram
 

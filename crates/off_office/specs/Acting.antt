@@ -18,23 +18,25 @@ use Rattle.off_book.specs.Step.{Step, Does, TellsOutcome, completed}
 use Rattle.off_book.specs.Http.{without_connection}
 use Rattle.off_book.specs.Crashes.{Begins, doubt_in}
 use Rattle.off_outside.specs.KeeperSeen.{KeeperSeen}
-use Rattle.off_outside.specs.KeeperCalls.{Reads, NotDone, StaysUp, Unasked, Crash, IsWritten}
+use Rattle.off_outside.specs.KeeperCalls.{Reads, NotCommitted, StaysUp, Unasked, Crash, IsWritten}
 use Rattle.off_outside.specs.declared.keeper.KeepErr.{KeepErr}
 use Rattle.off_outside.specs.declared.keeper.KeepErr.TheVariants as keep
 use Rattle.off_kept.specs.Entries.{Entries, without_written}
 use Rattle.off_tftp.specs.Keeping.{kept_after}
 use Rattle.off_office.specs.Desk.{Desk}
+use Rattle.off_office.specs.Opening.{IsMigrated}
 use Rattle.off_office.specs.Conditions.{Mirrors, Under, StaysFit, StaysAs}
 use Rattle.off_office.specs.Asking.{Asks, AsksFew}
 use Rattle.off_office.specs.declared.office.StartErr.{StartErr}
 use Rattle.off_office.specs.declared.office.StartErr.TheVariants.{Bad, Failed, Memory as NoMemory}
 
--- why an office didn't start: the tables aren't good, and this is their least bad key; or the
--- keeper failed; or memory was wanted
+-- Why an office didn't start: the tables don't open, and this is their least bad key; or the keeper
+-- failed; or memory was wanted. They are as they were. Where the keeper failed, the migration may
+-- have been begun.
 abbrev pub NotStarted : StartErr → KeeperSeen → KeeperSeen → Type 0
 NotStarted (Bad key) old new = Reads (λ tables. IsLeastBad tables key) old new
-NotStarted Failed old new = NotDone keep.Failed old new
-NotStarted NoMemory old new = NotDone keep.Memory old new
+NotStarted Failed old new = NotCommitted IsMigrated keep.Failed old new
+NotStarted NoMemory old new = NotCommitted IsMigrated keep.Memory old new
 
 abbrev pub start_err : KeepErr → StartErr
 start_err keep.Failed = Failed

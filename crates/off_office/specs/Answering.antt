@@ -4,7 +4,7 @@ use Rattle.off_http.specs.Reply.{reply}
 use Rattle.off_http.specs.Request.{Meaning}
 use Rattle.off_http.specs.Heard.{asked_method, asked_target, asked_body}
 use Rattle.off_defs.specs.declared.orders.Command.{Command}
-use Rattle.off_defs.specs.declared.orders.Command.TheVariants.{SetSite, PutSubscriber, PutAddOn, PutModem, PutClass, PutPool, Remove, Show, Import}
+use Rattle.off_defs.specs.declared.orders.Command.TheVariants.{PutHub, PutSubscriber, PutAddOn, PutModem, PutClass, PutPool, Remove, Show, Import}
 use Rattle.off_defs.specs.declared.orders.Write.{Write}
 use Rattle.off_defs.specs.declared.orders.Reply.{Reply}
 use Rattle.off_defs.specs.declared.orders.Reply.TheVariants.{Rows}
@@ -58,12 +58,12 @@ busy_said conn = record { items = Close conn ∷ []; line = codes "http busy" }
 -- an import that is done is answered with a number of rows
 abbrev pub CountsRows : Command → Reply → Type 0
 CountsRows (Import kind batch digest rows) answer = (n : ℕ) × (answer ≡ Rows n)
-CountsRows (SetSite site) answer = Unit {0}
+CountsRows (PutHub n site) answer = Unit {0}
 CountsRows (PutSubscriber n subscriber) answer = Unit {0}
 CountsRows (PutAddOn n number settings) answer = Unit {0}
 CountsRows (PutModem mac modem) answer = Unit {0}
 CountsRows (PutClass n class) answer = Unit {0}
-CountsRows (PutPool n pool) answer = Unit {0}
+CountsRows (PutPool n pool hub) answer = Unit {0}
 CountsRows (Remove key) answer = Unit {0}
 CountsRows (Show key) answer = Unit {0}
 

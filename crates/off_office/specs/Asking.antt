@@ -3,7 +3,7 @@ use Rattle.std.specs.Prelude.{ℕ, ◌+◌, Bool, true, false, List, [], ◌∷�
 use Rattle.off_base.specs.declared.addresses.Peer.{Peer}
 use Rattle.off_http.specs.Request.{Meaning, Waits, Refused, Asked, RequestIs}
 use Rattle.off_defs.specs.declared.orders.Command.{Command}
-use Rattle.off_defs.specs.declared.orders.Command.TheVariants.{SetSite, PutSubscriber, PutAddOn, PutModem, PutClass, PutPool, Remove, Show, Import}
+use Rattle.off_defs.specs.declared.orders.Command.TheVariants.{PutHub, PutSubscriber, PutAddOn, PutModem, PutClass, PutPool, Remove, Show, Import}
 use Rattle.off_defs.specs.declared.orders.Write.{Write}
 use Rattle.off_defs.specs.declared.events.Service.TheVariants.{Dhcp, Time, Tftp}
 use Rattle.off_defs.specs.declared.events.What.{What}
@@ -36,12 +36,12 @@ commit_calls (write ∷ writes) = 1
 
 -- a command that shows a row commits nothing
 abbrev pub most_commits : Command → ℕ
-most_commits (SetSite site) = 1
+most_commits (PutHub number site) = 1
 most_commits (PutSubscriber number subscriber) = 1
 most_commits (PutAddOn owner number settings) = 1
 most_commits (PutModem mac modem) = 1
 most_commits (PutClass number class) = 1
-most_commits (PutPool number pool) = 1
+most_commits (PutPool number pool hub) = 1
 most_commits (Remove removed) = 1
 most_commits (Show shown) = 0
 most_commits (Import kind batch digest rows) = 1

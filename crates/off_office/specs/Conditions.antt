@@ -4,7 +4,8 @@ use Rattle.std.specs.Prelude.{◌≡◌, List}
 use Rattle.off_defs.specs.declared.orders.Write.{Write}
 use Rattle.off_defs.specs.State.{Tables}
 use Rattle.off_defs.specs.Tables.{write_all}
-use Rattle.off_account_rules.specs.Good.{Good}
+use Rattle.off_account_rules.specs.Good.{Opens, Good}
+use Rattle.off_account_rules.specs.Migration.{migration, migrated}
 use Rattle.off_account_rules.specs.declared.counts.Counts.{Counts}
 use Rattle.off_account_rules.specs.Rows.{counts_of}
 use Rattle.off_kept.specs.Entries.{without_written}
@@ -14,11 +15,15 @@ use Rattle.off_runs.specs.Leases.{ground}
 use Rattle.off_users.specs.Users.{UsersHeld, StandsFor}
 use Rattle.off_users.specs.Kept.{NamedMap, Knows}
 use Rattle.off_outside.specs.KeeperSeen.{KeeperSeen}
-use Rattle.off_outside.specs.KeeperCalls.{Reads}
+use Rattle.off_outside.specs.KeeperCalls.{Settled}
+use Rattle.off_opening.specs.Standing.{OpensAs}
+use Rattle.off_opening.specs.declared.opening.Opening.TheVariants as opening
 use Rattle.off_office.specs.Desk.{Desk}
+use Rattle.off_office.specs.Opening.{OpensTo}
 
 -- what an office keeps of the tables is what stands there: how many rows there are of each kind,
--- the bodies of files, the pools with the expiries of their addresses, and what each modem names
+-- the bodies of files, the pools with their hubs and the expiries of their addresses, and what each
+-- modem names
 pub record Mirrors (desk : Desk) (tables : Tables) : Type 0 where
   pub counts : desk.counts ≡ counts_of tables
   pub kept : AllRight tables desk.kept
@@ -41,10 +46,9 @@ pub record WhereFit (before after : Desk) (P : Tables → Tables → Type 0) (t 
   where
     pub holds : Fits before t → P t u × Fits after u
 
--- An office that opened: the tables were read and stay as they were, and it fits them. What an
--- opening comes to write is one more field here.
-pub record Opened (desk : Desk) (old new : KeeperSeen) : Type 0 where
-  pub reads : Reads (Fits desk) old new
+-- an office that opened fits what its tables have become
+abbrev pub Opened : Desk → KeeperSeen → KeeperSeen → Type 0
+Opened desk = OpensTo (Fits desk)
 
 -- an office that begins over tables whose rows were counted, and whose modems name what is given
 pub record Begun (desk : Desk) (counts : Counts) (named : UsersHeld) (tables : Tables) : Type 0
@@ -53,6 +57,16 @@ pub record Begun (desk : Desk) (counts : Counts) (named : UsersHeld) (tables : T
     pub kept : AllRight tables desk.kept
     pub pools : KeepsPools desk.pools (ground tables)
     pub users : StandsFor named tables → Knows desk.users tables
+
+-- An office whose tables were counted when they opened, and whose modems name what is given. Where
+-- they are told, it fits what the migration makes of them.
+pub record Founded (desk : Desk) (counts : Counts) (named : UsersHeld) (old new : KeeperSeen)
+    : Type 0 where
+  pub writes : List Write
+  pub are : (t : Tables) → old.tables t → writes ≡ migration t
+  pub settled : Settled writes old new
+  pub fits : (t : Tables) → old.tables t → OpensAs t (opening.Open counts named)
+      → Fits desk (migrated t)
 
 -- of what is kept of the tables nothing changed
 pub record StaysAs (before after : Desk) : Type 0 where
@@ -63,10 +77,10 @@ pub record StaysAs (before after : Desk) : Type 0 where
 
 -- What is kept of the tables follows writes: the counts are those that are given, bodies of which a
 -- row was written are forgotten, what modems name is what they name behind the writes, and the pools
--- are those behind them, where the tables before were good.
+-- are those behind them, where the tables before open.
 abbrev pub PoolsFollow : List PoolHeld → List PoolHeld → List Write → Type 0
 PoolsFollow old new writes =
-    (t : Tables) → Good t → KeepsPools old (ground t) → KeepsPools new (ground (write_all t writes))
+    (t : Tables) → Opens t → KeepsPools old (ground t) → KeepsPools new (ground (write_all t writes))
 
 abbrev pub UsersFollow : NamedMap → NamedMap → List Write → Type 0
 UsersFollow old new writes = (t : Tables) → Knows old t → Knows new (write_all t writes)

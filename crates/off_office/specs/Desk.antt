@@ -1,6 +1,6 @@
 -- What an office keeps between two events: what the book says that it holds, and of the tables how
--- many rows of each kind there are, the bodies of files that were built of them, the pools with the
--- expiries of their addresses, and what each modem names.
+-- many rows of each kind there are, the bodies of files that were built of them, the pools with
+-- their hubs and the expiries of their addresses, and what each modem names.
 use Rattle.std.specs.Prelude.{ℕ, List, refl}
 use Rattle.std.specs.Coded.{Coded, code_by, coded×, coded_ℕ, coded_list}
 use Rattle.off_defs.specs.State.{Held}
@@ -21,16 +21,18 @@ pub record Desk : Type 0 where
 
 abbrev counts_code : Coded Counts
 counts_code =
-    code_by ((ℕ × (ℕ × ℕ)) × (ℕ × (ℕ × ℕ)))
-    (coded× (coded× coded_ℕ (coded× coded_ℕ coded_ℕ)) (coded× coded_ℕ (coded× coded_ℕ coded_ℕ)))
-    (λ c. ((c.subscribers, (c.addons, c.modems)), (c.classes, (c.pools, c.batches))))
+    code_by ((ℕ × (ℕ × ℕ)) × ((ℕ × ℕ) × (ℕ × ℕ)))
+    (coded× (coded× coded_ℕ (coded× coded_ℕ coded_ℕ))
+    (coded× (coded× coded_ℕ coded_ℕ) (coded× coded_ℕ coded_ℕ)))
+    (λ c. ((c.subscribers, (c.addons, c.modems)), ((c.classes, c.pools), (c.batches, c.hubs))))
     (λ p. record {
       subscribers = p.0.0;
       addons = p.0.1.0;
       modems = p.0.1.1;
-      classes = p.1.0;
-      pools = p.1.1.0;
-      batches = p.1.1.1;
+      classes = p.1.0.0;
+      pools = p.1.0.1;
+      batches = p.1.1.0;
+      hubs = p.1.1.1;
     })
     (λ _. refl)
 

@@ -1,4 +1,5 @@
 pub mod Desk
+pub mod Opening
 pub mod Conditions
 pub mod Answering
 pub mod Connections

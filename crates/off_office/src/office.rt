@@ -5,7 +5,8 @@ ghost use Rattle.off_book.specs.Time.{time_answer};
 ghost use Rattle.off_outside.specs.KeeperCalls.{Reads};
 ghost use Rattle.off_office.specs.Acting.{Acts, Handled, NotStarted, desk_at};
 ghost use Rattle.off_office.specs.Acting.{forgets};
-ghost use Rattle.off_office.specs.Conditions.{Opened, Begun};
+ghost use Rattle.off_office.specs.Conditions.{Opened, Founded, Begun};
+ghost use Rattle.off_office.specs.Opening.{WalksAndMigrates, counts_behind};
 ghost use Rattle.off_runs.specs.Reading.{Walks};
 ghost use Rattle.off_users.specs.Kept.{map_of};
 ghost use Rattle.off_office.specs.Saying.{SaysTime};
@@ -13,10 +14,10 @@ ghost use Rattle.off_office.specs.declared.office.StartErr.TheVariants as start;
 
 use crate::connections::Connections;
 use off_account_rules::Counts;
-use off_accounts::{Opening, open_tables};
 use off_base::{Bytes, Moment, NoMemory, Peer};
-use off_defs::{Key, time_of_day};
+use off_defs::{Key, Writes, time_of_day};
 use off_kept::Kept;
+use off_opening::{Opening, open_tables, read_migration};
 use off_outside::{Event, KeepErr, Keeper, Outcome, Replies, Sent, Service, What};
 use off_runs::FreeRuns;
 use off_tftp::Transfers;
@@ -27,7 +28,7 @@ use std::marker::Model;
 /// Why an office doesn't start.
 #[derive(Clone, Copy, Debug, PartialEq, Eq)]
 pub enum StartErr {
-    /// The tables aren't good, and this is the least key whose row is bad.
+    /// The tables don't open, and this is the least key whose row is bad.
     Bad(Key),
     /// The keeper of the tables failed.
     Failed,
@@ -87,26 +88,49 @@ impl Model for Office {
 
 impl Office {
     /// Opens the tables: an office that has just begun, with no transfers, no connections, no
-    /// bodies of files and moment 0, over tables that are good.
+    /// bodies of files and moment 0, over tables that are good. The site of earlier days, where
+    /// there is one, becomes the hub 0 in the last of its calls, one commit.
     ///
-    /// `Bad` comes exactly where they aren't, with the least bad key. The tables stay as they are.
-    /// They are walked once, and their pools and leases once more.
+    /// `Bad` comes exactly where the tables don't open, with the least bad key. After an error they
+    /// are as they were. They are walked once, and their pools, the pools' hubs and the leases once
+    /// more.
     pub fn start<K: Keeper>(alloc: Global, keeper: &mut K) -> Result<Office, StartErr>
         ensures told { MatchResult result
             (λ office. Opened office (K.seen keeper.old) (K.seen keeper.new))
             (λ err. NotStarted err (K.seen keeper.old) (K.seen keeper.new)) }
         ensures held { IfOk result (λ office. office.held ≡ held_at_start) }
         ensures kept { IfOk result (λ office. office.kept ≡ []) }
-        ensures walks { Walks 3 (K.seen keeper.old) (K.seen keeper.new) }
+        ensures walks { WalksAndMigrates 4 (K.seen keeper.old) (K.seen keeper.new) }
     {
         match open_tables(alloc, keeper)? {
-            Opening::Good(counts, users) => Office::begin(alloc, keeper, counts, users),
+            Opening::Open(counts, users) => Office::found(alloc, keeper, counts, users),
             Opening::Bad(key) => Err(StartErr::Bad(key)),
         }
     }
 
-    // An office over good tables that have these counts and whose modems name this, in which nothing
-    // has begun.
+    // An office over tables that opened with these counts, and whose modems name this. What it keeps
+    // of them is read before the migration, and then follows it as it follows a clerk's command.
+    fn found<K: Keeper>(
+        alloc: Global,
+        keeper: &mut K,
+        counts: Counts,
+        users: Users,
+    ) -> Result<Office, StartErr>
+        ensures told { MatchResult result
+            (λ office. Founded office counts users (K.seen keeper.old) (K.seen keeper.new))
+            (λ err. NotStarted err (K.seen keeper.old) (K.seen keeper.new)) }
+        ensures held { IfOk result (λ office. office.held ≡ held_at_start) }
+        ensures kept { IfOk result (λ office. office.kept ≡ []) }
+        ensures walks { WalksAndMigrates 3 (K.seen keeper.old) (K.seen keeper.new) }
+    {
+        let writes = read_migration(alloc, keeper)?;
+        let mut office = Office::begin(alloc, keeper, counts, users)?;
+        office.settle(keeper, &writes, &counts_behind(counts, &writes))?;
+        Ok(office)
+    }
+
+    // An office over tables that have these counts and whose modems name this, in which nothing has
+    // begun.
     fn begin<K: Keeper>(
         alloc: Global,
         keeper: &mut K,
@@ -118,7 +142,7 @@ impl Office {
             (λ err. NotStarted err (K.seen keeper.old) (K.seen keeper.new)) }
         ensures held { IfOk result (λ office. office.held ≡ held_at_start) }
         ensures kept { IfOk result (λ office. office.kept ≡ []) }
-        ensures walks { Walks 2 (K.seen keeper.old) (K.seen keeper.new) }
+        ensures walks { Walks 3 (K.seen keeper.old) (K.seen keeper.new) }
     {
         let runs = FreeRuns::of(alloc, keeper)?;
         Office::empty(alloc, counts, runs, users)
@@ -228,6 +252,17 @@ pub(crate) fn later(a: Moment, b: Moment) -> Moment
     ensures { result.0 ≡ max a.0 b.0 }
 {
     Moment(a.0.max(b.0))
+}
+
+// How many rows there are behind a migration.
+fn counts_behind(counts: Counts, migration: &Writes) -> Counts
+    ensures { result ≡ counts_behind counts migration.now }
+{
+    if migration.is_empty() {
+        counts
+    } else {
+        Counts { hubs: 1, ..counts }
+    }
 }
 
 // Says a line alone.

@@ -1,18 +1,21 @@
 -- From the loop and the run's own line to the headline.
-use Rattle.std.proofs.Common.{◌≡◌, ◌≢◌, ℕ, ◌<◌, ◌⊎◌, List, [], All, Option, Some, MatchOption, refl, sym, ap, ◌∙◌, subst, inl, inr, arith}
+use Rattle.std.proofs.Common.{◌≡◌, ◌≢◌, ℕ, ◌<◌, ◌⊎◌, List, [], All, Option, Some, MatchOption, refl, ap, ◌∙◌, subst, inl, inr, arith}
 use Rattle.off_defs.specs.Told.{Told}
-use Rattle.off_defs.specs.State.{Tables, Held, held_at_start, start, state_of}
-use Rattle.off_book.proofs.CrashLemmas.{lasts_run, lasts_front}
+use Rattle.off_defs.specs.declared.orders.Write.{Write}
+use Rattle.off_defs.specs.State.{Tables, State, Held, held_at_start, start, state_of}
+use Rattle.off_book.specs.Crashes.{Lasts}
+use Rattle.off_book.proofs.CrashLemmas.{lasts_run, lasts_doubt}
 use Rattle.off_book.specs.Words.{Job}
 use Rattle.off_book.specs.Run.{Turn, SaysMemory, commits_by, lost_by}
 use Rattle.off_book.proofs.StepLemmas.{turns_did}
 use Rattle.off_defs.proofs.CountLemmas.{later_grew}
 use Rattle.off_defs.proofs.ToldLemmas.{stays_self}
 use Rattle.off_account_rules.specs.Good.{Good}
+use Rattle.off_account_rules.specs.Migration.{migrated}
 use Rattle.off_outside.specs.LinkSeen.{LinkSeen}
 use Rattle.off_outside.specs.KeeperSeen.{KeeperSeen, Rests}
 use Rattle.off_defs.specs.Counts.{Grew, one_more, most_count}
-use Rattle.off_outside.specs.KeeperCalls.{Quiet}
+use Rattle.off_outside.specs.KeeperCalls.{Settled}
 use Rattle.off_outside.specs.LinkCalls.{LinkUnasked}
 use Rattle.off_laws.proofs.Stretches.{leases_hold_through}
 use Rattle.off_transfer_runs.proofs.Runs.{files_of_runs}
@@ -22,7 +25,9 @@ use Rattle.off_boot_laws.proofs.Went.{all_go_well}
 use Rattle.off_boot_laws.proofs.Keeping.{modems_are_served, all_are_served}
 use Rattle.off_isolation.proofs.RunLemmas as isolation
 use Rattle.off_import_runs.proofs.Runs.{imports_act_once_through}
+use Rattle.off_office.specs.Opening.{doubt_opened}
 use Rattle.off_office.specs.Conditions.{Opened}
+use Rattle.off_office.proofs.OpeningLemmas.{leaves_opening, doubts_opened, opened_good, opened_state}
 use Rattle.off_outside.specs.Streams.{SinkSeen}
 use Rattle.off_office.specs.Desk.{Desk}
 use Rattle.off_office.specs.Acting.{NotStarted}
@@ -90,22 +95,22 @@ each_served : (turns : List Turn) (old new : World) (status : ℕ) (t : Tables) 
     → NoFault old new → All (λ turn. ¬ (SaysMemory turn)) turns → status ≢ 6 → ModemsAreServed Anyhow (start t) turns
 each_served turns old new status t good complete none silent other = all_are_served (start t) turns good (complete none silent other).well
 
--- the opening asks nothing but reading
-keeper_opened : (turns : List Turn) (a b c : KeeperSeen) → Quiet a b → KeeperRan turns b c → KeeperRan turns a c
-keeper_opened turns a b c quiet ran = record {
-  faults = later_grew (omega (arith, quiet.faults)) ran.faults;
-  stands = λ none. ran.stands none ∙ quiet.faults;
-  commits = ran.commits ∙ ap (commits_by turns) quiet.commits;
-  up = up_chain (omega (arith, quiet.faults)) ran.faults.later (λ up. inl (quiet.up up)) ran.up;
+-- what the turns did to the keeper, behind the opening
+keeper_opened : (turns : List Turn) (first : List Write) (a b c : KeeperSeen) → Settled first a b → KeeperRan [] turns b c → KeeperRan first turns a c
+keeper_opened turns first a b c settled ran = record {
+  faults = later_grew (omega (arith, settled.faults)) ran.faults;
+  stands = λ none. ran.stands none ∙ settled.faults;
+  commits = ran.commits ∙ ap (commits_by turns) settled.commits;
+  up = up_chain (omega (arith, settled.faults)) ran.faults.later (λ up. inl (settled.up up)) ran.up;
 }
 
 -- what a crash leaves from the opening on
-lasts_opened : (turns : List Turn) (first last : Desk) (a b c : KeeperSeen) → Rests a → (opened : Opened first a b) → first.held ≡ held_at_start → (ran : RanFrom turns first last b c)
-    → (t u : Tables) → a.tables t → LastsIn b c (state_of t first.held) turns (state_of u last.held) → LastsIn a c (start t) turns (state_of u last.held)
-lasts_opened turns first last a b c rests opened fresh ran t u told lasts =
-    lasts_front c.opened c.doubt b.doubt a.doubt a.moment b.moment (start t) turns c.moment (state_of u last.held) opened.reads.quiet.still.later opened.reads.quiet.still.doubts
-    (λ m v early upto shown. rests t told v (opened.reads.quiet.still.within m v early upto (ran.past m v upto shown)))
-    (subst (λ (h : Held). LastsIn b c (state_of t h) turns (state_of u last.held)) fresh lasts)
+lasts_behind : (turns : List Turn) (first last : Desk) (a b c : KeeperSeen) → Opened first a b → first.held ≡ held_at_start
+    → (t v u : Tables) → a.tables t → v ≡ migrated t → LastsIn b c (state_of v first.held) turns (state_of u last.held)
+    → Lasts c.opened c.doubt (doubt_opened a t) b.moment (start (migrated t)) turns c.moment (state_of u last.held)
+lasts_behind turns first last a b c opened fresh t v u told is lasts =
+    lasts_doubt c.opened c.doubt b.doubt (doubt_opened a t) b.moment (start (migrated t)) turns c.moment (state_of u last.held) (doubts_opened opened t told)
+    (subst (λ (s : State). LastsIn b c s turns (state_of u last.held)) (opened_state first t v is fresh) lasts)
 
 -- an office that opened, and its turns
 ran_office : {turns : List Turn} {first last : Desk} {a b c : KeeperSeen} → Rests a → Opened first a b → first.held ≡ held_at_start
@@ -113,36 +118,44 @@ ran_office : {turns : List Turn} {first last : Desk} {a b c : KeeperSeen} → Re
 ran_office {turns} {first} {last} {a} {b} {c} rests opened fresh ran = record {
   run = record {
     each = λ t told.
-        let before = opened.reads.tables t told in
-        let g = ran.run.each t before.0 in
+        let o = opened.tables.each t told in
+        let g = ran.run.each o.value o.told in
         record {
           value = g.value;
           told = g.told;
-          fits = lasts_run c.opened c.doubt a.doubt a.moment (start t) turns c.moment (state_of g.value last.held)
-              (lasts_opened turns first last a b c rests opened fresh ran t g.value told (g.fits.holds before.1).0);
+          fits = lasts_run c.opened c.doubt (doubt_opened a t) b.moment (start (migrated t)) turns c.moment (state_of g.value last.held)
+              (lasts_behind turns first last a b c opened fresh t o.value g.value told o.fits.0 (g.fits.holds o.fits.1).0);
         };
   };
   crash = record {
     each = λ t told.
-        let before = opened.reads.tables t told in
-        let g = ran.run.each t before.0 in
+        let o = opened.tables.each t told in
+        let g = ran.run.each o.value o.told in
         record {
           value = g.value;
           told = g.told;
-          fits = lasts_opened turns first last a b c rests opened fresh ran t g.value told (g.fits.holds before.1).0;
+          fits = (
+            b.moment,
+            (
+              leaves_opening rests opened ran.past t told,
+              lasts_behind turns first last a b c opened fresh t o.value g.value told o.fits.0 (g.fits.holds o.fits.1).0,
+            ),
+          );
         };
   };
-  keeper = keeper_opened turns a b c opened.reads.quiet ran.keeper;
+  first = opened.writes;
+  are = opened.are;
+  keeper = keeper_opened turns opened.writes a b c opened.settled ran.keeper;
   tell = ran.tell;
 }
 
--- good tables stay good over the turns
+-- the opened tables are good, and stay so over the turns
 good_again : {turns : List Turn} {first last : Desk} {a b c : KeeperSeen} → Opened first a b → RanFrom turns first last b c → Told a.tables c.tables (λ t u. Good u)
 good_again opened ran = record {
   each = λ t told.
-      let before = opened.reads.tables t told in
-      let g = ran.fits.each t before.0 in
-      record { value = g.value; told = g.told; fits = (g.fits before.1).good };
+      let o = opened.tables.each t told in
+      let g = ran.fits.each o.value o.told in
+      record { value = g.value; told = g.told; fits = (g.fits o.fits.1).good };
 }
 
 own_one : (of : ℕ) (own : List ℕ) (status : ℕ) (a b : SinkSeen) → Tells of own status a b → b.calls ≡ one_more a.calls
@@ -209,22 +222,22 @@ serves budget link link' k l m a b c reason first last status rests opened fresh
       reason = reason;
       turns = served.turns;
       held = last.held;
-      good = λ t told. (opened.reads.tables t told).1.good;
+      opens = opened.opens;
       within = served.within;
       ends_last = served.ends_last;
       ran = served.ran;
       office = office;
-      stays_good = good_again opened served.office;
-      leases = λ t told. leases_hold_through (start t) served.turns (opened.reads.tables t told).1.good;
-      files = λ t told. files_of_runs (start t) _ served.turns (office.run.each t told).fits;
-      modems = λ t told. modems_are_served (start t) served.turns (opened.reads.tables t told).1.good;
-      isolated = λ t told. isolation.isolated (start t) _ served.turns (office.run.each t told).fits refl;
-      imports = λ t told. imports_act_once_through (start t) _ served.turns (office.run.each t told).fits;
+      good = good_again opened served.office;
+      leases = λ t told. leases_hold_through (start (migrated t)) served.turns (opened_good opened t told);
+      files = λ t told. files_of_runs (start (migrated t)) _ served.turns (office.run.each t told).fits;
+      modems = λ t told. modems_are_served (start (migrated t)) served.turns (opened_good opened t told);
+      isolated = λ t told. isolation.isolated (start (migrated t)) _ served.turns (office.run.each t told).fits refl;
+      imports = λ t told. imports_act_once_through (start (migrated t)) _ served.turns (office.run.each t told).fits;
       ends = ends;
       writes = ended_writes reason status b c ended ∙ ap (own_writes reason) served.writes;
       up = all_kept reason budget served.turns last.held (world_of link k a) (world_of link' m c) status served.ran office ends;
       complete = complete;
-      all_modems = λ t told. each_served served.turns (world_of link k a) (world_of link' m c) status t (opened.reads.tables t told).1.good complete;
+      all_modems = λ t told. each_served served.turns (world_of link k a) (world_of link' m c) status (migrated t) (opened_good opened t told) complete;
     })
 
 closed_complete : (why : StartErr) (old new : World) (status : ℕ) → NotStarted why old.keeper new.keeper

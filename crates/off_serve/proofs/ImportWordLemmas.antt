@@ -1,5 +1,5 @@
 -- The words of `import`.
-use Rattle.std.proofs.Common.{◌≡◌, ℕ, ◌-◌, ◌^◌, true, false, cond, List, [], ◌∷◌, get_or, length, Option, None, refl, sym, ap, ◌∙◌, arith}
+use Rattle.std.proofs.Common.{◌≡◌, ℕ, true, cond, List, [], ◌∷◌, get_or, length, Option, None, refl, sym, ap, ◌∙◌, arith}
 use Rattle.off_base.specs.Number.{number_read, greatest_u64}
 use Rattle.off_defs.specs.declared.tables.ImportKind.{ImportKind}
 use Rattle.off_book.specs.Words.{import_of, import_by, kind_of}

@@ -110,8 +110,8 @@ turn_stands Did a b same none = same
 turn_stands Memory a b tallied none = absurd (omega (arith, none))
 turn_stands Keeper a b tallied none = absurd (omega (arith, none))
 
-keeper_push : (turns : List Turn) (turn : Turn) (before after : Desk) (a b c : KeeperSeen) → KeeperRan turns a b → OfficeTurn turn before after b c
-    → KeeperRan (turns ++ turn ∷ []) a c
+keeper_push : (turns : List Turn) (turn : Turn) (before after : Desk) (a b c : KeeperSeen) → KeeperRan [] turns a b → OfficeTurn turn before after b c
+    → KeeperRan [] (turns ++ turn ∷ []) a c
 keeper_push turns turn before after a b c ran made =
     let grew = turn_grew turn.outcome b.faults c.faults made.faults in
     record {
@@ -124,7 +124,7 @@ keeper_push turns turn before after a b c ran made =
     }
 
 -- calls that ask nothing of the keeper
-keeper_same : (turns : List Turn) (a b c : KeeperSeen) → KeeperRan turns a b → Unasked b c → KeeperRan turns a c
+keeper_same : (turns : List Turn) (a b c : KeeperSeen) → KeeperRan [] turns a b → Unasked b c → KeeperRan [] turns a c
 keeper_same turns a b c ran same = record {
   faults = subst (λ v. Grew (failures_by turns) a.faults v) (sym same.quiet.faults) ran.faults;
   stands = λ none. same.quiet.faults ∙ ran.stands none;

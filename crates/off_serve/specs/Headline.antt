@@ -3,7 +3,8 @@
 -- from it.
 use Rattle.std.specs.Prelude.{◌≡◌, ℕ, ◌+◌, ◌-◌, ◌*◌, ◌<◌, ◌≤◌, true, List, [], ◌∷◌, ◌++◌, length, drop, max, All, codes, ◌⊎◌, ◌≢◌}
 use Rattle.off_defs.specs.Told.{Told}
-use Rattle.off_defs.specs.Counts.{Grew, Tallied, one_more, most_count}
+use Rattle.off_defs.specs.Counts.{Grew, Tallied, one_more, most_count, commits_after}
+use Rattle.off_defs.specs.declared.orders.Write.{Write}
 use Rattle.off_defs.specs.State.{Tables, State, Held, state_of, start}
 use Rattle.off_defs.specs.declared.results.Outcome.TheVariants as outcome
 use Rattle.off_book.specs.Run.{Turn, Run, SaysMemory, TellsItsOutcome, failures_by, troubles_by, commits_by, writes_by, sent_by, lost_by, lines_from, line_of, events_of, first_events, is_end, IsNoEnd, EndsLast}
@@ -14,12 +15,14 @@ use Rattle.off_boot_laws.specs.Went.{GoesWell, Anyhow}
 use Rattle.off_boot_laws.specs.Served.{ModemsAreServed}
 use Rattle.off_isolation.specs.Alone.{IsolatedThrough}
 use Rattle.off_import_runs.specs.Once.{ImportsActOnceThrough}
-use Rattle.off_account_rules.specs.Good.{Good}
+use Rattle.off_account_rules.specs.Good.{Opens, Good}
+use Rattle.off_account_rules.specs.Migration.{migration, migrated}
 use Rattle.off_outside.specs.LinkSeen.{LinkSeen}
 use Rattle.off_outside.specs.KeeperSeen.{KeeperSeen}
 use Rattle.off_office.specs.Desk.{Desk}
 use Rattle.off_outside.specs.KeeperCalls.{StaysUp, Unasked}
 use Rattle.off_outside.specs.LinkCalls.{LinkUnasked, LinkStaysUp}
+use Rattle.off_office.specs.Opening.{LeavesOpening, doubt_opened}
 use Rattle.off_office.specs.Conditions.{WhereFit, StaysFit}
 use Rattle.off_office.specs.Acting.{NotStarted}
 use Rattle.off_office.specs.declared.office.StartErr.{StartErr}
@@ -71,23 +74,33 @@ abbrev pub LastsIn : KeeperSeen → KeeperSeen → State → List Turn → State
 LastsIn old new s turns last =
     Lasts new.opened new.doubt old.doubt old.moment s turns new.moment last
 
--- What the turns did to the keeper: each in which it failed is counted, and where each event was
--- acted on the count stands; each that wrote anything made one commit; and it stays up, or has
--- counted a fault.
-pub record KeeperRan (turns : List Turn) (old new : KeeperSeen) : Type 0 where
+-- and so does one that begins with the opening of the tables
+abbrev pub LastsOpened : KeeperSeen → KeeperSeen → Tables → List Turn → State → Type 0
+LastsOpened old new t turns last =
+    (at : ℕ) × (LeavesOpening at old new t
+    × Lasts new.opened new.doubt (doubt_opened old t) at (start (migrated t)) turns new.moment
+    last)
+
+-- What the turns did to the keeper, behind these first writes: each in which it failed is counted,
+-- and where each event was acted on the count stands; each that wrote anything made one commit, and
+-- so did the first writes, if any; and it stays up, or has counted a fault.
+pub record KeeperRan (first : List Write) (turns : List Turn) (old new : KeeperSeen) : Type 0 where
   pub faults : Grew (failures_by turns) old.faults new.faults
   pub stands : troubles_by turns ≡ 0 → new.faults ≡ old.faults
-  pub commits : new.commits ≡ commits_by turns old.commits
+  pub commits : new.commits ≡ commits_by turns (commits_after first old.commits)
   pub up : StaysUp old new
 
--- The turns are a run of the office, from its start over the tables that were told to what it held
--- at the end over those that are told then.
+-- The turns are a run of the office, from its start over the tables that were told, once the site of
+-- earlier days is the hub 0, to what it held at the end over those that are told then.
 pub record RanOffice (turns : List Turn) (held : Held) (old new : KeeperSeen) : Type 0 where
-  pub run : Told old.tables new.tables (λ t u. Run (start t) turns (state_of u held))
+  pub run : Told old.tables new.tables (λ t u. Run (start (migrated t)) turns (state_of u held))
   -- and at every moment an opening after a crash gives the tables behind the turns that were
   -- answered by then, or one commit more
-  pub crash : Told old.tables new.tables (λ t u. LastsIn old new (start t) turns (state_of u held))
-  pub keeper : KeeperRan turns old new
+  pub crash : Told old.tables new.tables (λ t u. LastsOpened old new t turns (state_of u held))
+  -- what was written first is the migration
+  pub first : List Write
+  pub are : (t : Tables) → old.tables t → first ≡ migration t
+  pub keeper : KeeperRan first turns old new
   pub tell : All TellsItsOutcome turns
 
 -- the same from any state on, where the office fitted the tables; and then it fits them still
@@ -98,7 +111,7 @@ pub record RanFrom (turns : List Turn) (first last : Desk) (old new : KeeperSeen
   pub past : (m : ℕ) (u : Tables) → m ≤ old.moment → new.opened m u → old.opened m u
   pub later : old.moment ≤ new.moment
   pub fits : Told old.tables new.tables (StaysFit first last)
-  pub keeper : KeeperRan turns old new
+  pub keeper : KeeperRan [] turns old new
   pub tell : All TellsItsOutcome turns
 
 -- `serve` has taken these turns, none an End, and goes on
@@ -229,8 +242,9 @@ pub record Completed (turns : List Turn) (status : ℕ) : Type 0 where
   pub well : All GoesWell turns
   pub status_is : status ≡ 0
 
--- The office didn't open: 2, the tables aren't good, and the line names their least bad key; 3, the
--- keeper failed; 6, memory was wanted. No event is taken, nothing is sent, and the tables stay.
+-- The office didn't open: 2, the tables don't open, and the line names their least bad key; 3, the
+-- keeper failed; 6, memory was wanted. No event is taken, nothing is sent, and the tables stay; where
+-- the keeper failed a crash may leave what the opening would have made of them.
 pub record StaysClosed (old new : World) (status : ℕ) : Type 0 where
   pub why : StartErr
   pub tables : NotStarted why old.keeper new.keeper
@@ -238,7 +252,7 @@ pub record StaysClosed (old new : World) (status : ℕ) : Type 0 where
   pub writes : new.sink.calls ≡ one_more old.sink.calls
   pub text : OwnLine (closed_status why) (closed_line why) [] status old.sink new.sink
   pub up : NoFault old new → AllUp old new
-  -- where no count rose and memory wasn't wanted, the tables aren't good
+  -- where no count rose and memory wasn't wanted, the tables don't open
   pub complete : NoFault old new → status ≢ 6 → status ≡ 2
 
 -- a counter of writes behind the own line of the end, where there is one
@@ -248,14 +262,14 @@ own_writes stop.Memory calls = one_more calls
 own_writes stop.Link calls = one_more calls
 own_writes stop.Sink calls = calls
 
--- The headline. The tables are good, and `turns` are the events that were taken, with what the
--- office said of each.
+-- The headline. The tables opened, and `turns` are the events that were taken, with what the office
+-- said of each.
 pub record RunsAsOffice (budget : ℕ) (old new : World) (status : ℕ) : Type 0 where
   pub reason : Stop
   pub turns : List Turn
   pub held : Held
-  -- the tables were good when the office opened
-  pub good : (t : Tables) → old.keeper.tables t → Good t
+  -- the tables were such that open
+  pub opens : (t : Tables) → old.keeper.tables t → Opens t
   -- at most `budget` events, and no End but the last
   pub within : length turns ≤ budget
   pub ends_last : EndsLast turns
@@ -263,22 +277,24 @@ pub record RunsAsOffice (budget : ℕ) (old new : World) (status : ℕ) : Type 0
   pub ran : RanTurns turns old.link new.link
   -- they are a run of the abstract office, and leave its tables
   pub office : RanOffice turns held old.keeper new.keeper
-  -- the tables that it leaves are good again
-  pub stays_good : Told old.keeper.tables new.keeper.tables (λ t u. Good u)
-  -- over the run, from its start over the tables that were told: no address is live for two
-  -- clients, no client has two leases, and what is acknowledged is the client's until its end
-  pub leases : (t : Tables) → old.keeper.tables t → LeasesHoldThrough (start t) turns
+  -- the tables that it leaves are good
+  pub good : Told old.keeper.tables new.keeper.tables (λ t u. Good u)
+  -- over the run, from its start over the opened tables: no address is live for two clients, no
+  -- client has two leases, and what is acknowledged is the client's until its end
+  pub leases : (t : Tables) → old.keeper.tables t → LeasesHoldThrough (start (migrated t)) turns
   -- what a modem has acknowledged joins to a prefix of its own one file, the one that it had when
   -- its read request was accepted
-  pub files : (t : Tables) → old.keeper.tables t → FilesAreServedThrough (start t) turns
+  pub files : (t : Tables) → old.keeper.tables t → FilesAreServedThrough (start (migrated t)) turns
   -- a modem that asks boots, from each place of the run, and one that asks again keeps its address,
   -- whatever others ask in between
-  pub modems : (t : Tables) → old.keeper.tables t → ModemsAreServed GoesWell (start t) turns
+  pub modems : (t : Tables) → old.keeper.tables t
+      → ModemsAreServed GoesWell (start (migrated t)) turns
   -- what an address gets by its TFTP datagrams and by Ticks is what it gets alone, over its own
   -- transfers
-  pub isolated : (t : Tables) → old.keeper.tables t → IsolatedThrough (start t) turns
+  pub isolated : (t : Tables) → old.keeper.tables t → IsolatedThrough (start (migrated t)) turns
   -- a batch is put once, stays as it was put, and an import of it is answered by it from then on
-  pub imports : (t : Tables) → old.keeper.tables t → ImportsActOnceThrough (start t) turns
+  pub imports : (t : Tables) → old.keeper.tables t
+      → ImportsActOnceThrough (start (migrated t)) turns
   -- what was written, and the status
   pub ends : Ends reason budget turns old new status
   pub writes : new.sink.calls ≡ own_writes reason (writes_by turns old.sink.calls)
@@ -290,7 +306,7 @@ pub record RunsAsOffice (budget : ℕ) (old new : World) (status : ℕ) : Type 0
   -- and each modem is served, of whose turns nothing is asked
   pub all_modems : (t : Tables) → old.keeper.tables t → NoFault old new
       → All (λ turn. ¬ (SaysMemory turn)) turns → status ≢ 6
-      → ModemsAreServed Anyhow (start t) turns
+      → ModemsAreServed Anyhow (start (migrated t)) turns
 
 abbrev pub ServesAsOffice : ℕ → World → World → ℕ → Type 0
 ServesAsOffice budget old new status =

@@ -1,12 +1,11 @@
 -- What the parts of `serve` do to what is seen of the link and of the sink.
-use Rattle.std.specs.Prelude.{◌≡◌, ℕ, ◌<◌, Bool, true, false, not, List, ◌++◌, length, drop, max, count_by, ◌⊎◌}
+use Rattle.std.specs.Prelude.{◌≡◌, ℕ, ◌<◌, Bool, true, false, List, ◌++◌, length, drop, max, ◌⊎◌}
 use Rattle.off_defs.specs.declared.events.Event.{Event}
-use Rattle.off_defs.specs.declared.results.Sent.{Sent}
 use Rattle.off_defs.specs.Told.{Told, Stays}
 use Rattle.off_defs.specs.Counts.{Grew, Tallied, commits_after, calls_after}
 use Rattle.off_defs.specs.State.{Tables, state_of}
 use Rattle.off_book.specs.Step.{Step}
-use Rattle.off_book.specs.Run.{Turn, effect_of, TellsItsOutcome, all_went, marked, sent_in, lost_in, line_of, is_end}
+use Rattle.off_book.specs.Run.{Turn, effect_of, TellsItsOutcome, sent_in, lost_in, line_of, is_end}
 use Rattle.off_outside.specs.LinkSeen.{LinkSeen}
 use Rattle.off_outside.specs.KeeperSeen.{KeeperSeen}
 use Rattle.off_outside.specs.KeeperCalls.{StaysUp, Unasked, Crash}
@@ -14,7 +13,7 @@ use Rattle.off_office.specs.Desk.{Desk}
 use Rattle.off_office.specs.Conditions.{Under, StaysFit}
 use Rattle.off_office.specs.Asking.{Asks}
 use Rattle.off_office.specs.Acting.{CountsFaults, EventBegins, LeavesDoubt}
-use Rattle.off_outside.specs.LinkCalls.{WasSent, NotSent, LinkStaysUp, first_event}
+use Rattle.off_outside.specs.LinkCalls.{LinkStaysUp, first_event}
 use Rattle.off_outside.specs.Streams.{SinkSeen, SinkUnasked, NotWritten}
 use Rattle.off_serve.specs.declared.taking.Taken.{Taken}
 use Rattle.off_serve.specs.declared.taking.Taken.TheVariants as taken

@@ -35,10 +35,11 @@ pub enum Stop {
 /// step, and writes its number of rows. `drill MODEMS` founds an office over tables without rows,
 /// has so many modems boot, and writes what came of it. `seal HEX` seals the configuration file
 /// that the source holds under the secret HEX and writes it; `check HEX` verifies one. Other words
-/// are refused.
+/// are refused. Tables of earlier days, which have one site, get it as their hub 0 when `serve`,
+/// `import` or `drill` opens them.
 ///
 /// Status 0: an End was read, or N events were taken, or the job is done (for `check`: both values
-/// are good). 1: the words fit no form. 2: the tables aren't good, and the line names their least
+/// are good). 1: the words fit no form. 2: the tables don't open, and the line names their least
 /// bad key. 3: the keeper failed when the tables were opened, or in the steps of `import` or
 /// `drill`. 4: the sink failed in the last write. 5: the link failed sixteen times in a row. 6:
 /// memory was wanted outside of an event. 7: the source failed. 8: `check` finds a bad value or
