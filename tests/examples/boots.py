@@ -5,11 +5,12 @@ taken away alone, and the log has the word that says so. What is expected is com
 The word `memory` alone isn't here: a script can refuse memory in front of an event and not within one, as tests/acceptance/files_without_memory.py does.
 """
 from examples import outcome
-from leases import (A, HELD, ONE, RELAY, SECOND, declines, discover, has_which, leased, modem_row, put_pool, put_site, reboots, releases, remove, selects, vendor,
-                    who_has)
+from leases import (A, BEHIND, HELD, HUBS, ONE, RELAY, SECOND, THERE, declines, discover, has_which, leased, modem_row, put_hub, put_pool, put_site, reboots, releases,
+                    remove, renews, selects, vendor, who_has)
 import failures
 import leases
-from transfers import (B, BOTH, PLAIN, PORT, TICK, TransferPlayer, acks, gives_up, line_of, name, put_class, put_modem, put_subscriber, reads, sends)
+from transfers import (B, BOTH, PLAIN, PORT, TICK, TransferPlayer, acks, file_in, gives_up, is_signed_by, line_of, name, put_class, put_modem, put_subscriber, reads,
+                       sends)
 
 MODEL = "By the models of leases and of transfers, from RFC 2131, 1350, 2347 and 2348, and the office's rules."
 # The modem's own messages, in order; the file has 88 bytes.
@@ -85,6 +86,42 @@ def files_in(made):
     return [item for item in made.sent if item.startswith(f"datagram tftp to {A}:{PORT} ")]
 
 
+def boot_at(held, relay, server, secret, last=0xEE):
+    """A whole boot in the pool of a relay, whose hub has this server and secret."""
+    return [("offer", discover(last, relay=relay)), ("ack", selects(held, last, server, relay=relay)), ("oack", reads(44, last=last, held=held, secret=secret)),
+            *((word, acks(number, held=held)) for number, word in enumerate(("block 1", "block 2", "block 3", "done")))]
+
+
+def from_hub_to_hub(player):
+    """Two hubs, each with its own server and secret, and a pool of each."""
+    player.section("a modem that goes from hub to hub boots under each one's secret", MODEL, "It gives up its address at the one when it is offered one at the other.")
+    at_first, at_other = boot_at(A, RELAY, "10.0.0.2", b"secret"), boot_at(THERE, BEHIND, "10.0.0.3", b"other")
+    for remark, events in {"there": [*at_first, *at_other], "and back": [*at_other, *at_first], "there, back and there again": [*at_other, *at_first, *at_other]}.items():
+        made = player.play(remark, at("t", events), rows=HUBS, tables=True)
+        for held, own, foreign in ((A, b"secret", b"other"), (THERE, b"other", b"secret")):
+            is_signed_by(file_in(made, f"{held}:{PORT}"), own, foreign)
+    for place in range(2, 6):
+        player.play(f"in the midst of its file, behind message {place + 1}",
+                    at("t", [*at_first[:place + 1], *at_other, ("agreement" if place < 5 else "done", acks(place - 2)), ("unknown", acks(place - 2))]), rows=HUBS)
+    player.section("modems boot at several hubs at once", MODEL, "Their messages by turns; each has the server, the times and the secret of its own hub.")
+    second = boot_at(THERE, BEHIND, "10.0.0.3", b"other", 1)
+    made = player.play("", at("t", [event for pair in zip(at_first, second) for event in pair]), rows=[*HUBS, SECOND], tables=True)
+    is_signed_by(file_in(made, f"{A}:{PORT}"), b"secret", b"other")
+    is_signed_by(file_in(made, f"{THERE}:{PORT}"), b"other", b"secret")
+    clerks = [("", put_hub(2, "10.0.0.4", b"third")), ("hub-in-use", remove("/hubs/1")), ("", put_pool(3, "10.66.0.10", "10.66.0.11", "10.66.0.1", 2)),
+              ("hub-in-use", remove("/hubs/2")), ("", remove("/pools/3")), ("", remove("/hubs/2"))]
+    player.play("clerks change other hubs and pools meanwhile",
+                at("t", [at_first[0], *(event for own, clerk in zip(at_first[1:], clerks) for event in (clerk, own))]), rows=HUBS)
+    player.section("hubs are put one by one, and modems boot at each", MODEL, "From an office with one hub; each pool comes after its hub.")
+    player.play("", at("t", [
+        ("no-hub", put_pool(2, THERE, "10.65.0.99", BEHIND, 1)), ("no-relay-pool", at_other[0][1]), ("", put_hub(1, "10.0.0.3", b"other")),
+        ("no-relay-pool", at_other[0][1]), ("", put_pool(2, THERE, "10.65.0.99", BEHIND, 1)), *at_other, *at_first]), rows=[])
+    player.section("a modem of an office of earlier days boots on", MODEL, "What was begun before the new start is as any start leaves it: leases stay, transfers are gone.")
+    kept = leased("bound", A, 0xEE, "t+1000")
+    events = at("t", [("unknown", acks(1)), ("ack", renews()), OACK, *FILE, *BOOT])
+    player.migrates("", events, player.play("after the opening", events, rows=[*OTHERS, *kept], tables=True), rows=[*OTHERS, *kept])
+
+
 def broken(player):
     """Each thing that a boot needs, taken away alone: the word that says so, and the same message with it."""
     player.section("a DISCOVER that isn't answered has the word that says why", MODEL, "The second message of each run lacks nothing.")
@@ -100,7 +137,7 @@ def broken(player):
     for word, given in cases.items():
         for remark, what in given:
             player.play(remark, at("t", [(word, discover(**what)), OFFER]), rows=[])
-    player.play("no site", at("t", [("no-site", discover()), ("", put_site()), OFFER]), rows=["drop site"])
+    player.play("no hub", at("t", [("no-site", discover()), ("", put_site()), OFFER]), rows=["drop hub 0"])
     player.play("no address of the pool is free", [("t", "pool-full", discover()), ("t+1", *OFFER)], rows=[*full, f"lease {A} declined t+1"])
     player.section("a REQUEST that isn't acknowledged has the word that says why", MODEL)
     for word, given in {**cases, "not-a-modem": cases["not-a-modem"][:1], "unknown-modem": [], "no-relay-pool": cases["no-relay-pool"][:1]}.items():
@@ -156,7 +193,7 @@ def renewing(player):
     for word, given in cases.items():
         for remark, what in given:
             player.play(remark, at("t", [OFFER, ACK, (word, leases.renews(**what)), renewed]), rows=OTHERS)
-    player.play("no site", at("t", [("no-site", leases.renews()), ("", put_site()), OFFER, ACK, renewed]), rows=["drop site"])
+    player.play("no hub", at("t", [("no-site", leases.renews()), ("", put_site()), OFFER, ACK, renewed]), rows=["drop hub 0"])
     player.play("it released the address", at("t", [OFFER, ACK, ("released", releases()), ("no-record", leases.renews())]), rows=OTHERS)
 
 
@@ -241,5 +278,5 @@ def blocks_in(made):
 def sections(script, rows):
     """Writes the sections, over an office of these rows."""
     player = TransferPlayer(script, rows)
-    for write in (booting, broken, renewing, crowded, refused_outside):
+    for write in (booting, from_hub_to_hub, broken, renewing, crowded, refused_outside):
         write(player)

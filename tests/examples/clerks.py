@@ -20,7 +20,7 @@ MODEM = "02aabbccddee"
 GOLD = "24{ 1=0001 6=07 } 25{ 1=0002 6=07 }"
 BOOST = "24{ 1=0005 6=07 } 22{ 1=03 3=0005 }"
 POOL = "pool 1 10.64.0.10 10.64.0.99 24 10.64.0.1 10.64.0.1"
-OFFICE = f'site 10.0.0.2 736563726574 3600 86400 0.0.0.0; class 1 "gold" {GOLD}; subscriber 7 active 2 "Ann"; modem {MODEM} 7 1 "SN01"; {POOL}'
+OFFICE = f'hub 0 10.0.0.2 736563726574 3600 86400 0.0.0.0; class 1 "gold" {GOLD}; subscriber 7 active 2 "Ann"; modem {MODEM} 7 1 "SN01"; {POOL}'
 
 
 class Wrong(Exception):
@@ -94,20 +94,24 @@ def settings_in(depth, value):
 
 
 FIELDS = {
-    "site": (("server", address()), ("secret", hexadecimal(64)), ("offset", number(2**31 - 1, -2**31)), ("lease", number(2**32 - 1)), ("log", address())),
+    "hub": (("server", address()), ("secret", hexadecimal(64)), ("offset", number(2**31 - 1, -2**31)), ("lease", number(2**32 - 1)), ("log", address())),
     "subscriber": (("active", lambda value: value if isinstance(value, bool) else None), ("cpes", number(254, 1)), ("name", short)),
     "add-on": (("settings", lambda value: settings_in(3, value)),),
     "modem": (("subscriber", number(2**32 - 1)), ("class", number(2**32 - 1)), ("serial", short)),
     "class": (("name", short), ("settings", lambda value: settings_in(3, value))),
-    "pool": (("first", address()), ("last", address()), ("prefix", number(30, 8)), ("router", address()), ("relay", address(1))),
+    "pool": (("first", address()), ("last", address()), ("prefix", number(30, 8)), ("router", address()), ("relay", address(1)), ("hub", number(2**32 - 1))),
 }
+# Fields that may be missing, with what they are then.
+USUAL = {"hub": 0}
 
 
 def key_of(path):
     """The key that a path names, as its words."""
     path = path.split("?")[0]
     decimal = "([0-9]{1,20})"
-    for form, kind, most in (("/site", "site", ()), (f"/subscribers/{decimal}", "subscriber", (2**32 - 1,)),
+    if path == "/site":
+        return ["hub", "0"]
+    for form, kind, most in ((f"/hubs/{decimal}", "hub", (2**32 - 1,)), (f"/subscribers/{decimal}", "subscriber", (2**32 - 1,)),
                              (f"/subscribers/{decimal}/addons/{decimal}", "add-on", (2**32 - 1, 7)), (f"/classes/{decimal}", "class", (2**32 - 1,)),
                              (f"/pools/{decimal}", "pool", (2**32 - 1,))):
         found = re.fullmatch(form, path)
@@ -140,7 +144,7 @@ def tree_text(settings):
 
 
 def row_text(kind, row):
-    if kind == "site":
+    if kind == "hub":
         return f" {row['server']} {row['secret']} {row['offset']} {row['lease']} {row['log']}"
     if kind == "subscriber":
         return f' {"active" if row["active"] else "suspended"} {row["cpes"]} "{escaped(row["name"].encode())}"'
@@ -149,7 +153,7 @@ def row_text(kind, row):
     if kind == "class":
         return f' "{escaped(row["name"].encode())}"' + tree_text(row["settings"])
     if kind == "pool":
-        return f" {row['first']} {row['last']} {row['prefix']} {row['router']} {row['relay']}"
+        return f" {row['first']} {row['last']} {row['prefix']} {row['router']} {row['relay']} {row['hub']}"
     return tree_text(row["settings"])
 
 
@@ -162,7 +166,9 @@ def imported(kind, batch, body):
     return f"import {kind} {batch} rows {count} {hashlib.md5(body).hexdigest()}"
 
 
-METHODS = {"lease": ("GET",), "site": ("GET", "PUT"), "import": ("PUT",)}
+METHODS = {"lease": ("GET",), "import": ("PUT",)}
+# The hub 0 has another path, by which it isn't removed.
+OF_THE_SITE = ("GET", "PUT")
 
 
 def command(method, path, body):
@@ -170,7 +176,8 @@ def command(method, path, body):
     key = key_of(path)
     if key is None:
         return told(404, "no-path")
-    if method not in METHODS.get(key[0], ("GET", "PUT", "DELETE")):
+    methods = OF_THE_SITE if path.split("?")[0] == "/site" else METHODS.get(key[0], ("GET", "PUT", "DELETE"))
+    if method not in methods:
         return told(405, "no-method")
     if key[0] == "import":
         return imported(key[1], key[2], body)
@@ -182,9 +189,9 @@ def command(method, path, body):
         given = read_json(body)
         row = {}
         for name, read in FIELDS[key[0]]:
-            if name not in given:
+            if name not in given and name not in USUAL:
                 raise Wrong(told(400, "field", name))
-            row[name] = read(given[name])
+            row[name] = read(given[name]) if name in given else USUAL[name]
             if row[name] is None:
                 raise Wrong(told(400, "value", name))
     except Wrong as wrong:
@@ -204,18 +211,18 @@ def bytes_asked(path, given, body):
 
 def paths():
     section("a path has a key", "docs/CLERK_API.md, paths. The bodies of GET and DELETE aren't read.")
-    for path in ("/site", "/site?x=1", "/subscribers/7", "/subscribers/007?", "/subscribers/4294967295", "/subscribers/7/addons/0", "/subscribers/0/addons/07",
+    for path in ("/site", "/site?x=1", "/hubs/0", "/hubs/007", "/hubs/4294967295?x", "/subscribers/7", "/subscribers/007?", "/subscribers/4294967295", "/subscribers/7/addons/0", "/subscribers/0/addons/07",
                  f"/modems/{MODEM}", "/modems/02:AA:bb:cc:dd:ee", "/classes/1", "/pools/64", "/leases/10.64.0.10"):
         asked("GET", path, "{")
     section("another path has none", "The path comes before the method.")
-    for path in ("", "/", "site", "/site/", "/Site", "http://office/site", "/subscribers/", "/subscribers/4294967296", "/subscribers/000000000000000000007",
+    for path in ("", "/", "site", "/site/", "/Site", "/site/0", "/hubs", "/hubs/", "/hub/1", "/hubs/1/", "/hubs/4294967296", "/hubs/-1", "/hubs/x", "http://office/site", "/subscribers/", "/subscribers/4294967296", "/subscribers/000000000000000000007",
                  "/subscribers/-1", "/subscribers/7/", "/subscribers/7/addons/8", "/subscribers/7/addons/", "/subscribers//addons/1", "/subscribers/7/addons/1/",
                  "/modems/02aabbccdde", "/leases/10.64.0.010", "/held/02aabbccddee", "/pools/%31", "/imports/", "/imports/9", "/imports/subscribers/",
                  "/imports/modems", "/imports/pools/9", "/imports/modems/9/", "/imports/modems/-9", "/imports/Modems/9", "/import/modems/9",
                  "/imports/modems/18446744073709551616", "/imports/modems/000000000000000000009", "/batches/9"):
         asked("POST", path)
     section("a path has its methods", "The method comes before the body. Case counts (RFC 9110, section 9.1).")
-    every = ("/site", "/subscribers/7", "/subscribers/7/addons/1", f"/modems/{MODEM}", "/classes/1", "/pools/1", "/leases/10.64.0.10",
+    every = ("/site", "/hubs/0", "/hubs/1", "/subscribers/7", "/subscribers/7/addons/1", f"/modems/{MODEM}", "/classes/1", "/pools/1", "/leases/10.64.0.10",
              "/imports/subscribers/9", "/imports/modems/9")
     for path in every:
         for method in ("GET", "PUT", "DELETE", "", "get", "Get", "HEAD", "POST", "PATCH", "OPTIONS", "GETS"):
@@ -229,7 +236,7 @@ def bodies():
     bytes_asked("/subscribers/7", "'{\"active\":\"\\t\"}'", b'{"active":"\t"}')
     bytes_asked("/subscribers/7", "'{\"name\":\"' ff '\"}'", b'{"name":"\xff"}')
     bytes_asked("/subscribers/7", "' {\\n} '", b" {\n} ")
-    section("a site's fields are read in order", "The first that lacks or is wrong is named.")
+    section("a hub's fields are read in order", "The first that lacks or is wrong is named; by the path of a site the hub 0 is put.")
     site = '{"server":"10.0.0.2","secret":"736563726574","offset":3600'
     for body in ('{"log":1}', '{"log":1,"server":"10.0.0.2"}', '{"server":"10.0.0.2","secret":""}', '{"log":1,"server":"10.0.0.2","secret":"","offset":0}',
                  '{"server":"10.0.0.2","secret":"","offset":0,"lease":0}'):
@@ -242,6 +249,7 @@ def bodies():
                  ',"log":"10.0.0.9","lease":4294967295,"offset":-2147483648,"x":[1.5]}', ',"log":"255.255.255.255","lease":0,"offset":2147483647}',
                  ',"offset":2147483648}', ',"offset":-2147483649}'):
         asked("PUT", "/site", site + rest)
+        asked("PUT", "/hubs/1", site + rest)
     section("a secret has at most 64 bytes", "")
     for count in (1, 64, 65):
         front, rest = '{"server":"10.0.0.2","secret":"', '","offset":0,"lease":60,"log":"0.0.0.0"}'
@@ -269,6 +277,12 @@ def bodies():
                  '24,"router":"10.64.0.1","relay":null}', '24,"last":5}', '24,"last":5,"first":""}', '8,"router":"0.0.0.0","relay":"10.64.0.1"}',
                  '30,"router":"10.64.0.1","relay":"0.0.0.1"}'):
         asked("PUT", "/pools/1", pool + rest)
+    section("a pool's hub is read last, and is 0 where it is missing", "A whole number of 32 bits.")
+    for rest in ("0}", "1}", "4294967295}", "4294967296}", "-1}", "-0}", "1.0}", "1e0}", '"1"}', "null}", "[1]}", "true}", '9,"hub":1}', '1,"hub":null}', '1,"Hub":2}',
+                 '-1,"relay":"0.0.0.0"}', '-1,"relay":"10.64.0.1"}'):
+        asked("PUT", "/pools/2", pool + '24,"router":"10.64.0.1","relay":"10.64.0.1","hub":' + rest)
+    asked("PUT", "/pools/2", '{"hub":1}')
+    asked("PUT", "/pools/2", pool + '24,"router":"10.64.0.1","hub":-1}')
 
 
 def trees():
@@ -344,7 +358,7 @@ def answers():
                              ("hub-in-use", 409, 2), ("device-overlap", 409, 64),
                              ("site", 422, 1), ("site", 422, 2), ("site", 422, 3), ("site", 422, 4)):
         ask(f"rule 0 {word} {at}", told(status, word, at))
-    for kind, most in (("subscribers", 200_000), ("add-ons", 100_000), ("modems", 200_000), ("classes", 1_000), ("pools", 64), ("batches", 100_000)):
+    for kind, most in (("subscribers", 200_000), ("add-ons", 100_000), ("modems", 200_000), ("classes", 1_000), ("pools", 64), ("batches", 100_000), ("hubs", 64)):
         ask(f"rule 0 limit {kind} {most}", told(422, "limit", most))
     for place, word in enumerate(("unknown-code", "length", "range", "missing", "twice", "flow-reference", "classifier-reference", "too-long")):
         ask(f"rule 0 tree {word}", told(422, "tree", place + 1))
@@ -398,21 +412,24 @@ def sessions():
 
 
 def counted(counts):
-    names = ("subscribers", "add-ons", "modems", "classes", "pools", "batches")
+    names = ("subscribers", "add-ons", "modems", "classes", "pools", "batches", "hubs")
     return " ".join(f"{name} {count}" for name, count in zip(names, counts))
 
 
 def tables():
     section("possible rows are counted by kind", "An impossible row is none.")
     batch = "modems 2 " + "00" * 16
-    for more, counts in (("", (1, 0, 1, 1, 1, 0)), ('subscriber 8 active 1 "Ann"; subscriber 9 active 0 "Ann"', (2, 0, 1, 1, 1, 0)),
-                         (f"add-on 8 1 {BOOST}; add-on 7 8 {BOOST}", (1, 1, 1, 1, 1, 0)), ('modem 02aabbccdd01 8 8 "SN01"', (1, 0, 2, 1, 1, 0)),
-                         (f'class 2 "gold" {GOLD}; class 3 "gold" 99=01', (1, 0, 1, 2, 1, 0)),
-                         ("pool 2 0.0.0.1 0.0.0.1 24 0.0.0.9 0.0.0.2; pool 3 0.0.0.1 0.0.0.1 7 0.0.0.9 0.0.0.2", (1, 0, 1, 1, 2, 0)),
-                         (f"batch 1 {batch}; batch 2 {batch}; stray batch 3", (1, 0, 1, 1, 1, 2)),
-                         ("lease 10.64.0.10 declined t; held 02aabbccdd01 10.64.0.10", (1, 0, 1, 1, 1, 0))):
+    for more, counts in (("", (1, 0, 1, 1, 1, 0, 1)), ('subscriber 8 active 1 "Ann"; subscriber 9 active 0 "Ann"', (2, 0, 1, 1, 1, 0, 1)),
+                         (f"add-on 8 1 {BOOST}; add-on 7 8 {BOOST}", (1, 1, 1, 1, 1, 0, 1)), ('modem 02aabbccdd01 8 8 "SN01"', (1, 0, 2, 1, 1, 0, 1)),
+                         (f'class 2 "gold" {GOLD}; class 3 "gold" 99=01', (1, 0, 1, 2, 1, 0, 1)),
+                         ("pool 2 0.0.0.1 0.0.0.1 24 0.0.0.9 0.0.0.2; pool 3 0.0.0.1 0.0.0.1 7 0.0.0.9 0.0.0.2", (1, 0, 1, 1, 2, 0, 1)),
+                         (f"batch 1 {batch}; batch 2 {batch}; stray batch 3", (1, 0, 1, 1, 1, 2, 1)),
+                         ("lease 10.64.0.10 declined t; held 02aabbccdd01 10.64.0.10", (1, 0, 1, 1, 1, 0, 1)),
+                         ("hub 1 10.0.0.3 00 0 60 0.0.0.0; hub 4294967295 10.0.0.3 00 0 604800 0.0.0.0", (1, 0, 1, 1, 1, 0, 3)),
+                         ("hub 1 10.0.0.3 - 0 60 0.0.0.0; hub 2 10.0.0.3 00 0 59 0.0.0.0; stray hub 3; drop hub 0", (1, 0, 1, 1, 1, 0, 0)),
+                         ("pool-hub 1 1; pool-hub 2 0", (1, 0, 1, 1, 1, 0, 1)), ("site 10.0.0.2 00 0 60 0.0.0.0; drop hub 0", (1, 0, 1, 1, 1, 0, 0))):
         ask(f"count {OFFICE}" + (f"; {more}" if more else ""), counted(counts))
-    ask("count", "subscribers 0 add-ons 0 modems 0 classes 0 pools 0 batches 0")
+    ask("count", counted((0,) * 7))
     section("of two writes to a key the later one stands, and a walk rises", "The calls are one commit and one for each entry, with the one that finds no more.")
     held = f"held {MODEM}"
     for first, second, left in ((f"{held} 0.0.0.7", f"drop {held}", []), (f"drop {held}", f"{held} 0.0.0.7", [f"{held} 0.0.0.7"]),
@@ -432,45 +449,69 @@ def refused(asked, fault, more=""):
 
 def decisions():
     section("a row is put", "What each command does, and its rules in order: docs/CLERK_API.md, the table of faults. A count rises where the row is new.")
-    for row, counts in (('subscriber 8 active 1 "Bob"', (2, 0, 1, 1, 1, 0)), ('subscriber 7 suspended 2 "Ann"', (1, 0, 1, 1, 1, 0)),
-                        (f"add-on 7 0 {BOOST}", (1, 1, 1, 1, 1, 0)), ('modem 02aabbccdd01 7 1 ""', (1, 0, 2, 1, 1, 0)), (f'class 2 "gold" {GOLD}', (1, 0, 1, 2, 1, 0)),
-                        ("pool 2 10.64.1.10 10.64.1.20 24 10.64.1.1 10.64.1.1", (1, 0, 1, 1, 2, 0)), ("site 10.0.0.3 00 -3600 60 10.0.0.4", (1, 0, 1, 1, 1, 0))):
+    for row, counts in (('subscriber 8 active 1 "Bob"', (2, 0, 1, 1, 1, 0, 1)), ('subscriber 7 suspended 2 "Ann"', (1, 0, 1, 1, 1, 0, 1)),
+                        (f"add-on 7 0 {BOOST}", (1, 1, 1, 1, 1, 0, 1)), ('modem 02aabbccdd01 7 1 ""', (1, 0, 2, 1, 1, 0, 1)), (f'class 2 "gold" {GOLD}', (1, 0, 1, 2, 1, 0, 1)),
+                        ("hub 0 10.0.0.3 00 -3600 60 10.0.0.4", (1, 0, 1, 1, 1, 0, 1)), ("hub 1 10.0.0.3 00 -3600 60 10.0.0.4", (1, 0, 1, 1, 1, 0, 2))):
         done(f"put {row}", [f"put {row}"], counts)
+    section("a pool is put with its hub", "A row names it where it isn't the hub 0; else there is none.")
+    second, other = "pool 2 10.64.1.10 10.64.1.20 24 10.64.1.1 10.64.1.1", "hub 1 10.0.0.3 00 0 60 0.0.0.0"
+    done(f"put {second} 0", [f"put {second}", "drop pool-hub 2"], (1, 0, 1, 1, 2, 0, 1))
+    done(f"put {second} 1", [f"put {second}", "put pool-hub 2 1"], (1, 0, 1, 1, 2, 0, 2), other)
+    done(f"put {second} 0", [f"put {second}", "drop pool-hub 2"], (1, 0, 1, 1, 2, 0, 2), f"{other}; {second}; pool-hub 2 1")
+    done(f"put {POOL} 1", [f"put {POOL}", "put pool-hub 1 1"], (1, 0, 1, 1, 1, 0, 2), other)
     section("a put is refused", "")
-    for row, fault in (("site 0.0.0.0 - 86401 59 0.0.0.0", told(422, "site", 1)), ("site 10.0.0.2 - 86401 59 0.0.0.0", told(422, "site", 2)),
-                       ("site 10.0.0.2 00 86401 59 0.0.0.0", told(422, "site", 3)), ("site 10.0.0.2 00 86401 60 0.0.0.0", told(422, "site", 4)),
+    for row, fault in (("hub 0 0.0.0.0 - 86401 59 0.0.0.0", told(422, "site", 1)), ("hub 0 10.0.0.2 - 86401 59 0.0.0.0", told(422, "site", 2)),
+                       ("hub 1 10.0.0.2 00 86401 59 0.0.0.0", told(422, "site", 3)), ("hub 1 10.0.0.2 00 86401 60 0.0.0.0", told(422, "site", 4)),
                        ("add-on 9 0 99=01", told(422, "no-subscriber")), ("add-on 7 0 99=01", told(422, "tree", 1)), ('class 2 "gold" 99=01', told(422, "tree", 1)),
                        ('modem 02aabbccdd01 9 9 ""', told(422, "no-subscriber")), ('modem 02aabbccdd01 7 9 ""', told(422, "no-class")),
-                       ("pool 2 10.64.0.99 10.64.0.10 24 10.64.0.1 10.64.0.1", told(422, "pool-size")), ("pool 2 10.64.0.99 10.64.0.99 24 10.64.0.1 10.64.0.1", told(409, "pool-overlap", 1)),
-                       ("pool 2 10.64.0.100 10.64.0.100 24 10.64.0.1 10.64.0.1", told(409, "relay-taken", 1))):
+                       ("pool 2 10.64.0.99 10.64.0.10 24 10.64.0.1 10.64.0.1 9", told(422, "pool-size")),
+                       ("pool 2 10.64.0.99 10.64.0.99 24 10.64.0.1 10.64.0.1 9", told(409, "pool-overlap", 1)),
+                       ("pool 2 10.64.0.100 10.64.0.100 24 10.64.0.1 10.64.0.1 9", told(409, "relay-taken", 1)), (f"{second} 9", told(422, "no-hub")),
+                       (f"{POOL} 1", told(422, "no-hub"))):
         refused(f"put {row}", fault)
     pools = "; ".join(f"pool {n} 10.0.{n}.1 10.0.{n}.2 24 10.0.{n}.1 10.0.{n}.1" for n in range(2, 65))
     last = "10.0.65.1 10.0.65.2 24 10.0.65.1 10.0.65.1"
-    refused(f"put pool 65 {last}", told(422, "limit", 64), pools)
-    done(f"put pool 64 {last}", [f"put pool 64 {last}"], (1, 0, 1, 1, 64, 0), pools)
+    refused(f"put pool 65 {last} 0", told(422, "limit", 64), pools)
+    refused(f"put pool 65 {last} 9", told(422, "no-hub"), pools)
+    done(f"put pool 64 {last} 0", [f"put pool 64 {last}", "drop pool-hub 64"], (1, 0, 1, 1, 64, 0, 1), pools)
+    values = "10.0.0.3 00 0 60 0.0.0.0"
+    full = "; ".join(f"hub {n} {values}" for n in range(1, 64))
+    refused(f"put hub 64 {values}", told(422, "limit", 64), full)
+    done(f"put hub 63 {values}", [f"put hub 63 {values}"], (1, 0, 1, 1, 1, 0, 64), full)
     section("leases that a pool gives up go with it", "A lease whose end is later than the moment holds the pool.")
     smaller = "pool 1 10.64.0.11 10.64.0.98 24 10.64.0.1 10.64.0.1"
     held = f"lease 10.64.0.10 bound {MODEM} t; held {MODEM} 10.64.0.10; lease 10.64.0.99 declined t"
     drops = ["drop lease 10.64.0.10", f"drop held {MODEM}", "drop lease 10.64.0.99"]
-    done(f"put {smaller}", [f"put {smaller}", *drops], (1, 0, 1, 1, 1, 0), held)
-    done("remove pool 1", ["drop pool 1", *drops], (1, 0, 1, 1, 0, 0), held)
-    done(f"put {smaller}", [f"put {smaller}"], (1, 0, 1, 1, 1, 0), "lease 10.64.0.11 declined t+1; lease 10.64.0.98 declined t+1")
-    for command in (f"put {smaller}", "remove pool 1"):
+    done(f"put {smaller} 0", [f"put {smaller}", "drop pool-hub 1", *drops], (1, 0, 1, 1, 1, 0, 1), held)
+    done(f"put {smaller} 1", [f"put {smaller}", "put pool-hub 1 1", *drops], (1, 0, 1, 1, 1, 0, 2), f"{other}; {held}")
+    done("remove pool 1", ["drop pool 1", "drop pool-hub 1", *drops], (1, 0, 1, 1, 0, 0, 1), held)
+    done(f"put {smaller} 0", [f"put {smaller}", "drop pool-hub 1"], (1, 0, 1, 1, 1, 0, 1), "lease 10.64.0.11 declined t+1; lease 10.64.0.98 declined t+1")
+    for command in (f"put {smaller} 0", "remove pool 1"):
         refused(command, told(409, "pool-has-leases", "10.64.0.99"), "lease 10.64.0.10 declined t; lease 10.64.0.99 declined t+1")
         refused(command, told(409, "pool-has-leases", "10.64.0.10"), "lease 10.64.0.10 declined t+1; lease 10.64.0.99 declined t+1")
     section("a row is removed", "A subscriber's add-ons, of whatever number, go with it; a modem's lease stays.")
     add_ons = f'subscriber 8 active 1 "Bob"; add-on 8 1 {BOOST}; add-on 8 7 {BOOST}; add-on 7 1 {BOOST}'
-    done("remove subscriber 8", ["drop subscriber 8", *(f"drop add-on 8 {k}" for k in range(8))], (1, 1, 1, 1, 1, 0), add_ons)
-    done("remove add-on 8 7", ["drop add-on 8 7"], (2, 2, 1, 1, 1, 0), add_ons)
-    done(f"remove modem {MODEM}", [f"drop modem {MODEM}"], (1, 0, 0, 1, 1, 0), f"lease 10.64.0.10 bound {MODEM} t+1; held {MODEM} 10.64.0.10")
-    done("remove class 2", ["drop class 2"], (1, 0, 1, 1, 1, 0), f'class 2 "gold" {GOLD}')
+    done("remove subscriber 8", ["drop subscriber 8", *(f"drop add-on 8 {k}" for k in range(8))], (1, 1, 1, 1, 1, 0, 1), add_ons)
+    done("remove add-on 8 7", ["drop add-on 8 7"], (2, 2, 1, 1, 1, 0, 1), add_ons)
+    done(f"remove modem {MODEM}", [f"drop modem {MODEM}"], (1, 0, 0, 1, 1, 0, 1), f"lease 10.64.0.10 bound {MODEM} t+1; held {MODEM} 10.64.0.10")
+    done("remove class 2", ["drop class 2"], (1, 0, 1, 1, 1, 0, 1), f'class 2 "gold" {GOLD}')
+    done("remove hub 1", ["drop hub 1"], (1, 0, 1, 1, 1, 0, 1), other)
+    done("remove hub 0", ["drop hub 0"], (1, 0, 1, 1, 1, 0, 1), f"{other}; pool-hub 1 1")
+    refused("remove hub 0", told(409, "hub-in-use", 1))
+    refused("remove hub 0", told(409, "hub-in-use", 0), "pool 0 0.0.0.1 0.0.0.1 24 0.0.0.9 0.0.0.2; pool 2 0.0.0.2 0.0.0.2 24 0.0.0.9 0.0.0.3")
+    refused("remove hub 1", told(409, "hub-in-use", 2), f"{other}; {second}; pool-hub 2 1; pool 3 0.0.0.2 0.0.0.2 24 0.0.0.9 0.0.0.3; pool-hub 3 1")
     refused("remove subscriber 7", told(409, "has-modems"))
     refused("remove class 1", told(409, "class-in-use"))
-    for key in ("subscriber 9", "add-on 7 0", "modem 02aabbccdd01", "class 9", "pool 9"):
+    for key in ("subscriber 9", "add-on 7 0", "modem 02aabbccdd01", "class 9", "pool 9", "hub 9"):
         refused(f"remove {key}", told(404, "no-row"))
     section("a row is shown", "Nothing is written.")
-    done("show subscriber 7", [], (1, 0, 1, 1, 1, 0), reply='shown subscriber 7 active 2 "Ann"')
-    done("show lease 10.64.0.10", [], (1, 0, 1, 1, 1, 0), "lease 10.64.0.10 declined t+1", "shown lease 10.64.0.10 declined 1700000001")
+    done("show subscriber 7", [], (1, 0, 1, 1, 1, 0, 1), reply='shown subscriber 7 active 2 "Ann"')
+    done("show pool 1", [], (1, 0, 1, 1, 1, 0, 1), reply=f"shown {POOL} 0")
+    done("show pool 1", [], (1, 0, 1, 1, 1, 0, 2), f"{other}; pool-hub 1 1", f"shown {POOL} 1")
+    done("show hub 0", [], (1, 0, 1, 1, 1, 0, 1), reply="shown hub 0 10.0.0.2 736563726574 3600 86400 0.0.0.0")
+    refused("show hub 1", told(404, "no-row"))
+    refused("show pool 9", told(404, "no-row"), "pool-hub 9 1")
+    done("show lease 10.64.0.10", [], (1, 0, 1, 1, 1, 0, 1), "lease 10.64.0.10 declined t+1", "shown lease 10.64.0.10 declined 1700000001")
     refused("show lease 10.64.0.11", told(404, "no-row"), "lease 10.64.0.10 declined t+1")
 
 

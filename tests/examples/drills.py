@@ -14,7 +14,7 @@ from transfers import played, sends
 
 SECRET = b"drill"
 GOLD = "24{ 1=0001 6=07 8=00989680 } 25{ 1=0002 6=07 8=05f5e100 }"
-FOUNDED = [f"site 10.0.0.2 {SECRET.hex()} 0 86400 0.0.0.0", f'class 1 "gold" {GOLD}', "pool 1 10.64.16.0 10.64.31.255 20 10.64.0.1 10.64.0.1"]
+FOUNDED = [f"hub 0 10.0.0.2 {SECRET.hex()} 0 86400 0.0.0.0", f'class 1 "gold" {GOLD}', "pool 1 10.64.16.0 10.64.31.255 20 10.64.0.1 10.64.0.1"]
 FIRST, RELAY, SERVER = (ipaddress.IPv4Address(each) for each in ("10.64.16.0", "10.64.0.1", "10.0.0.2"))
 
 
@@ -78,6 +78,14 @@ def sections(script, office):
     run("behind a drill", ["show tables", "words drill 1"], outcome(9, ["refused not-empty"], tables=made.office.rows()), again=True)
     bad = [*office, 'modem 02aabbccdd99 99 1 ""']
     run("a bad row", ["office", bad[-1], "show tables", "words drill 1"], outcome(2, ["tables refused modem 02aabbccdd99"], tables=bad))
+    section("a drill over tables of earlier days moves their site, and refuses them", "By hand: the tables are opened as any office opens them.")
+    hub, *others = office
+    site = "site " + hub.removeprefix("hub 0 ")
+    run("", ["office", "drop hub 0", site, "show tables", "words drill 1"], outcome(9, ["refused not-empty"], tables=office))
+    run("a site alone", [site, "show tables", "words drill 1"], outcome(9, ["refused not-empty"], tables=[hub]))
+    run("a hub beside it", ["office", site, "show tables", "words drill 1"], outcome(2, ["tables refused site"], tables=[site, *office]))
+    run("each call of the keeper fails", ["office", "drop hub 0", site, "show tables", "words drill 1", "fails each keeper"],
+        outcome(9, ["refused not-empty"], tables=office), outcome(3, ["keeper refused"], tables=[site, *others]), outcome(3, ["keeper refused"], tables=office))
     section("the words of a drill", "By hand, from the forms of words.")
     for words in ("drill", "drill 0", "drill 4001", "drill x", "drill 1 2", "drill _"):
         run(words, [f"words {words}"], outcome(1, ["words refused"]))

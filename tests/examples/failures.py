@@ -103,6 +103,9 @@ def sections(script, rows):
                    "Of the keeper: at the opening status 3; else one line says `keeper`, and its event is as if it hadn't come.",
                    "Of the link: a failed `next` is tried again; where an item isn't sent its line says `link`, and what was done stays done.")
     run("", [], whole.outcome())
+    # The first commit is the opening's then.
+    hub = next(row for row in rows if row.startswith("hub 0 "))
+    run("an office of earlier days", ["drop hub 0", "site " + hub.removeprefix("hub 0 ")], whole.outcome())
     run("each call of the keeper", ["fails each keeper"], whole.outcome(), outcome(3, ["keeper refused"], tables=Office(rows).rows()),
         *(played(rows, failing=number).outcome() for number in READING))
     texts, counting = [], Played(rows)

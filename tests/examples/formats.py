@@ -249,7 +249,7 @@ def tables():
         ask(f"key {text}", f"{data} {text}")
         ask(f"key-of {data}", text)
         ask(f"key-of {data[:-2] or '-'}", "none")
-    for data in ("00", "0a", "0d", "0e", "0100", "020000000700", "0300000007", "0a0000000100", "0e00000001"):
+    for data in ("00", "0a", "0b", "0d", "0e", "0100", "020000000700", "0300000007", "0a0000000100", "0e00000001"):
         ask(f"key-of {data}", "none")
     section("a row is read, and each cut of it is refused at the field that lacks bytes", "A byte behind it is refused at its place.")
     for key, text, data, places in ROWS:
@@ -266,6 +266,7 @@ def tables():
         ask(f"row-of {key} {data}", f"bad {place}")
     for count in (64, 65):
         ask(f'row-of subscriber 7 0102{count:02x} {count}* "a"', f'subscriber 7 active 2 "{"a" * 64}"; 010240{"61" * 64}' if count == 64 else "bad 2")
+        ask(f'row-of hub 9 0a000002{count:02x} {count}* "a" 12* 00', f"hub 9 10.0.0.2 {'61' * 64} 0 0 0.0.0.0; 0a00000240{'61' * 64}{'00' * 12}" if count == 64 else "bad 4")
         ask(f'row-of site 0a000002{count:02x} {count}* "a" 12* 00', f"site 10.0.0.2 {'61' * 64} 0 0 0.0.0.0; 0a00000240{'61' * 64}{'00' * 12}" if count == 64 else "bad 4")
     section("a row of settings of 65,535 bytes is read, and not one of more", "The length of settings has two bytes: 255 settings of 255 bytes.")
     settings = (b"\x09\xff" + b"\xff" * 255) * 255
@@ -280,14 +281,16 @@ def tables():
         ask(f"sound remove add-on 7 {number}", "yes" if number < 8 else "no")
         ask(f"sound show add-on 7 {number}", "yes" if number < 8 else "no")
     for prefix, relay in ((7, 1), (8, 1), (30, 1), (31, 1), (24, 0)):
-        ask(f"sound put pool 1 0.0.0.1 0.0.0.2 {prefix} 0.0.0.0 {ip(relay)}", "yes" if 8 <= prefix <= 30 and relay else "no")
+        ask(f"sound put pool 1 0.0.0.1 0.0.0.2 {prefix} 0.0.0.0 {ip(relay)} 0", "yes" if 8 <= prefix <= 30 and relay else "no")
+    ask("sound put pool 1 0.0.0.1 0.0.0.2 24 0.0.0.0 0.0.0.1 4294967295", "yes")
     ask('sound put modem 02aabbccddee 7 1 ""', "yes")
     ask('sound put class 1 "gold"', "yes")
-    ask("sound put site 10.0.0.2 73 0 60 0.0.0.0", "yes")
+    for number in (0, 4_294_967_295):
+        ask(f"sound put hub {number} 10.0.0.2 73 0 60 0.0.0.0", "yes")
     for text, _ in KEYS:
         kind = text.split()[0]
-        ask(f"sound remove {text}", "yes" if kind in ("subscriber", "add-on", "modem", "class", "pool") else "no")
-        ask(f"sound show {text}", "no" if kind in ("held", "batch", "hub", "pool-hub", "device-pool", "device") else "yes")
+        ask(f"sound remove {text}", "yes" if kind in ("subscriber", "add-on", "modem", "class", "pool", "hub") else "no")
+        ask(f"sound show {text}", "no" if kind in ("site", "held", "batch", "pool-hub", "device-pool", "device") else "yes")
     ask('sound import modems 0', "yes")
     ask('sound import subscribers 2000 subscriber 7 active 2 "Ann"', "yes")
     ask('sound import subscribers 2001 subscriber 7 active 2 "Ann"', "no")

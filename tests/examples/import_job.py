@@ -187,6 +187,32 @@ def failing(player):
     player.play("subscribers", 9, data, outcome(2, ["tables refused lease 10.64.0.10"], tables=player.rows + [bad]), rows=[bad], more=["fails source 1"])
 
 
+def earlier_days(player):
+    """Imports over the tables of earlier days, whose one site becomes the hub 0 at the opening."""
+    player.script.section("an import's opening moves the site of earlier days first",
+                          "Whatever becomes of the import then. With status 1 and 2 the tables stay; with status 3 they stay until the opening's own commit is done.")
+    data = HEADERS["subscribers"] + ANN[0] + BOB[0]
+    now = player.with_rows(ANN[1], BOB[1], batch_row("subscribers", 9, 2, data))
+    hub = next(row for row in player.rows if row.startswith("hub 0 "))
+    site = "site " + hub.removeprefix("hub 0 ")
+    before = [site, *(row for row in player.rows if row != hub)]
+    earlier = ["drop hub 0", site]
+
+    def play(remark, *outcomes, given=data, more=()):
+        player.play("subscribers", 9, given, *outcomes, rows=earlier, more=more, remark=remark)
+    play("it is done", outcome(wrote=["rows 2"], tables=now))
+    play("a field is wrong", outcome(9, ["refused field 1 1"], tables=player.rows), given=HEADERS["subscribers"] + b"x,yes,3,Ann\n")
+    play("the source fails", outcome(7, ["source refused"], tables=player.rows), more=["fails source 1"])
+    play("the sink fails", outcome(4, tables=now), more=["fails sink 1"])
+    play("each call of the keeper fails", outcome(wrote=["rows 2"], tables=now), outcome(3, ["keeper refused"], tables=before),
+         outcome(3, ["keeper refused"], tables=player.rows), more=["fails each keeper"])
+    header = HEADERS["modems"]
+    player.play("modems", 9, header + b"02aabbccdd02,7,2,SN\n", outcome(9, ["refused no-class row 1"], tables=player.rows), rows=earlier, remark="a rule is broken")
+    player.play("modems", 9, header, outcome(2, ["tables refused site"], tables=[*before, hub]), rows=[*earlier, hub], remark="a hub stands beside it")
+    player.script.run("other words", ["office", *earlier, "show tables", "words import --store memory modems", f"source {quoted(header)}"],
+                      outcome(1, ["words refused"], tables=before))
+
+
 def words(player):
     player.script.section("words of import are read", "STORE is as for serve; its ports are 0. BATCH is a number of 64 bits.")
     for text, store in (("memory subscribers 0", "memory"), ("/var/lib/office.db modems 18446744073709551615", "/var/lib/office.db"), ("a modems 007", "a")):
@@ -205,5 +231,5 @@ def words(player):
 def sections(script, rows):
     """Writes the sections, over an office of these rows."""
     player = ImportPlayer(script, rows)
-    for write in (words, done, repeated, by_request, faults, rules, full, long_ones, failing):
+    for write in (words, done, earlier_days, repeated, by_request, faults, rules, full, long_ones, failing):
         write(player)

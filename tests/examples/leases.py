@@ -53,7 +53,8 @@ def is_modem(value):
 
 
 class Pool:
-    def __init__(self, words):
+    def __init__(self, number, words):
+        self.number = int(number)
         self.first, self.last, self.router, self.relay = (address(words[place]) for place in (0, 1, 3, 4))
         self.prefix = int(words[2])
 
@@ -85,7 +86,7 @@ class Office:
         if kind == "modem":
             self.serials[bytes.fromhex(words[0])] = row.split('"')[1].encode()
         elif kind == "pool":
-            self.pools[int(words[0])] = Pool(words[1:])
+            self.pools[int(words[0])] = Pool(*words[:1], words[1:])
 
     def drop(self, kind, words):
         self.kept.pop(key_of(kind, words))
@@ -99,12 +100,26 @@ class Office:
         held = [f"held {mac.hex()} {text_of(each)}" for mac, each in self.held.items()]
         return [*self.kept.values(), *leases, *held]
 
-    def site(self):
-        if ("site",) not in self.kept:
+    def site(self, hub):
+        """The row of a hub, or None where there is none."""
+        if ("hub", str(hub)) not in self.kept:
             return None
-        words = self.kept["site",].split(" ")
-        return {"server": address(words[1]), "secret": bytes.fromhex(words[2]), "offset": int(words[3]), "lease": int(words[4]),
-                "log": address(words[5])}
+        words = self.kept["hub", str(hub)].split(" ")
+        return {"server": address(words[2]), "secret": bytes.fromhex(words[3]), "offset": int(words[4]), "lease": int(words[5]),
+                "log": address(words[6])}
+
+    def hub_of(self, pool):
+        """The number of a pool's hub: 0 where no row names one."""
+        row = self.kept.get(("pool-hub", str(pool.number)))
+        return int(row.split(" ")[2]) if row else 0
+
+    def pool_around(self, each):
+        """The pool in which an address lies, or None."""
+        return next((pool for pool in self.pools.values() if pool.has(each)), None)
+
+    def site_at(self, each):
+        """The row of an address's hub."""
+        return self.site(self.hub_of(self.pool_around(each)))
 
     def is_free(self, each):
         return each not in self.leases or self.leases[each][2] <= self.now
@@ -114,15 +129,17 @@ class Office:
         if m.relay != bytes(4):
             return next((pool for pool in self.pools.values() if pool.relay == m.relay), None)
         if m.kind == REQUEST and (m.asked() or ("",))[0] == "renewing":
-            return next((pool for pool in self.pools.values() if pool.has(m.client)), None)
+            return self.pool_around(m.client)
         return None
 
     def site_for(self, m):
-        """The site of a message: that of its pool's hub, or of the address's that it gives back, which may lie in no pool."""
+        """The row of a message's hub: that of its pool, or of the address that it gives back, which may lie in no pool."""
         if m.kind in (DISCOVER, REQUEST):
-            return self.site() if self.pool_of(m) is not None else None
-        given = m.address(50) if m.kind == DECLINE else m.client
-        return self.site() if given is not None and any(pool.has(given) for pool in self.pools.values()) else None
+            pool = self.pool_of(m)
+        else:
+            given = m.address(50) if m.kind == DECLINE else m.client
+            pool = None if given is None else self.pool_around(given)
+        return None if pool is None else self.site(self.hub_of(pool))
 
     def address_for(self, m, pool):
         """The address that a DISCOVER is offered: its own; the one that it asks for, if that is free; the least that is free."""
@@ -154,7 +171,7 @@ class Office:
         asks = m.kind in (DISCOVER, REQUEST)
         if asks and self.pool_of(m) is None:
             return "no-relay-pool"
-        if asks and self.site() is None:
+        if asks and self.site_for(m) is None:
             return "no-site"
         if asks and m.mac not in self.serials:
             return "unknown-modem"
@@ -192,7 +209,7 @@ class Office:
         m = Message(data)
         word = self.said_wrongly(m) or self.unfit(m) or self.wants(m)
         if word == "not-your-address":
-            return word, (self.destination(m, "255.255.255.255"), reply_to(data, NAK, self.site()["server"]))
+            return word, (self.destination(m, "255.255.255.255"), reply_to(data, NAK, self.site_for(m)["server"]))
         if word:
             return word, None
         return {DISCOVER: self.offer, REQUEST: self.acknowledge, DECLINE: self.decline, RELEASE: self.release}[m.kind](m, data)
@@ -200,15 +217,16 @@ class Office:
     def tell(self, data):
         """What a relay's query is answered (RFC 4388, section 6.4); the words, and in which order they come, are the office's own rules."""
         relay, asked = data[24:28], asked_by(data)
-        if ("site",) not in self.kept or all(pool.relay != relay for pool in self.pools.values()):
+        hubs = [self.hub_of(pool) for pool in self.pools.values() if pool.relay == relay]
+        if not hubs or self.site(hubs[0]) is None:
             return "query-relay", None
         if asked is None:
             return "query-form", None
         form, value = asked
         held = value if form == "address" else self.held.get(value)
-        is_within = held is not None and any(pool.has(held) for pool in self.pools.values())
+        is_within = held is not None and any(pool.has(held) and self.hub_of(pool) == hubs[0] for pool in self.pools.values())
         hold, owner, expiry = self.leases.get(held, ("", None, 0))
-        to, server = f"{text_of(relay)}:67", self.site()["server"]
+        to, server = f"{text_of(relay)}:67", self.site(hubs[0])["server"]
         if is_within and hold == "bound" and expiry > self.now and form in ("address", "client" if owner == value else ""):
             return "query-active", (to, answer_to(data, ACTIVE, server, (held, owner, expiry - self.now)))
         if is_within and form == "address":
@@ -219,7 +237,7 @@ class Office:
         return f"{direct}:68" if m.relay == bytes(4) else f"{text_of(m.relay)}:67"
 
     def reply(self, m, data, kind, given):
-        pool, site = self.pool_of(m), self.site()
+        pool, site = self.pool_of(m), self.site_for(m)
         offer = {"yiaddr": given, "offset": site["offset"], "lease": site["lease"], "log": site["log"], "prefix": pool.prefix, "router": pool.router,
                  "name": name_of(site["secret"], m.mac, given)}
         return self.destination(m, text_of(m.client)), reply_to(data, kind, site["server"], offer)
@@ -238,7 +256,7 @@ class Office:
 
     def acknowledge(self, m, data):
         given = m.asked()[1]
-        self.leases[given] = ("bound", m.mac, later(self.now, self.site()["lease"]))
+        self.leases[given] = ("bound", m.mac, later(self.now, self.site_for(m)["lease"]))
         return "ack", self.reply(m, data, ACK, given)
 
     def decline(self, m, _data):
@@ -267,17 +285,50 @@ class Office:
                 return 404, "no-row", compact({"fault": "no-row"})
             hold, owner, expiry = self.leases[address(number)]
             return 200, "", compact({"expiry": expiry, "owner": owner.hex() if owner else "", "state": hold})
-        old = self.pools.get(int(number)) if kind == "pools" else None
-        lost = self.lost(old, Pool(row.split(" ")[2:]) if row else None) if old else None
-        if lost is not None:
-            return 409, "pool-has-leases", compact({"at": text_of(lost), "fault": "pool-has-leases"})
-        if row:
+        if kind in ("pools", "hubs"):
+            status, word, at = (self.change_pool if kind == "pools" else self.change_hub)(number, row)
+            if status != 200:
+                return status, word, compact({"fault": word} if at is None else {"at": at, "fault": word})
+        elif row:
             self.put(row)
         elif path.count("/") == 4:
             self.drop("add-on", path.split("/")[2::2])
         else:
             self.drop(kind[:-1], [number])
         return 200, "", '{"ok":true}'
+
+    def change_pool(self, number, row):
+        """A pool is put, its line with its hub as the last word, or is removed: the status, and of a refusal its word and its place."""
+        row, hub = row.rsplit(" ", 1) if row else (None, None)
+        if row and self.site(hub) is None:
+            return 422, "no-hub", None
+        old = self.pools.get(int(number))
+        if not row and old is None:
+            return 404, "no-row", None
+        lost = self.lost(old, Pool(number, row.split(" ")[2:]) if row else None) if old else None
+        if lost is not None:
+            return 409, "pool-has-leases", text_of(lost)
+        if row:
+            self.put(row)
+        else:
+            self.drop("pool", [number])
+        self.kept.pop(("pool-hub", number), None)
+        if row and hub != "0":
+            self.put(f"pool-hub {number} {hub}")
+        return 200, "", None
+
+    def change_hub(self, number, row):
+        """A hub is put, or is removed where no pool names it."""
+        if row:
+            self.put(row)
+            return 200, "", None
+        if self.site(number) is None:
+            return 404, "no-row", None
+        users = [pool.number for pool in self.pools.values() if self.hub_of(pool) == int(number)]
+        if users:
+            return 409, "hub-in-use", str(min(users))
+        self.drop("hub", [number])
+        return 200, "", None
 
 
 # ---- what modems and clerks say
@@ -383,14 +434,21 @@ def remove(path):
     return Clerk("DELETE", path)
 
 
-def put_pool(number, first, last, relay=RELAY):
-    body = {"first": first, "last": last, "prefix": 24, "router": RELAY, "relay": relay}
-    return Clerk("PUT", f"/pools/{number}", compact(body), f"pool {number} {first} {last} 24 {RELAY} {relay}")
+def put_pool(number, first, last, relay=RELAY, hub=None):
+    """A pool is put; its body may leave the hub out, which then is 0."""
+    body = {"first": first, "last": last, "prefix": 24, "router": RELAY, "relay": relay, **({} if hub is None else {"hub": hub})}
+    return Clerk("PUT", f"/pools/{number}", compact(body), f"pool {number} {first} {last} 24 {RELAY} {relay} {hub or 0}")
 
 
-def put_site(server="10.0.0.2", secret=b"secret", offset=3600, lease=86400, log="0.0.0.0"):
+def put_hub(number, server="10.0.0.2", secret=b"secret", offset=3600, lease=86400, log="0.0.0.0"):
     body = {"server": server, "secret": secret.hex(), "offset": offset, "lease": lease, "log": log}
-    return Clerk("PUT", "/site", compact(body), f"site {server} {secret.hex()} {offset} {lease} {log}")
+    return Clerk("PUT", f"/hubs/{number}", compact(body), f"hub {number} {server} {secret.hex()} {offset} {lease} {log}")
+
+
+def put_site(**what):
+    """The hub 0 by the path of a site."""
+    asked = put_hub(0, **what)
+    return Clerk("PUT", "/site", asked.body, asked.row)
 
 
 def put_modem(last, serial):
@@ -452,6 +510,13 @@ def leased(hold, held, last, expiry):
     return [f"lease {held} {hold} {mac(last).hex()} {expiry}", f"held {mac(last).hex()} {held}"]
 
 
+def calls_of_opening(rows):
+    """How many calls of the keeper an office makes before its first event: one puts the rows, each is read, and that there is none behind the last; the site of
+    earlier days is asked for; and the pools are read again, the leases, and the hubs of pools, each with what comes behind them."""
+    again = sum(row.split()[0] in ("pool", "lease", "pool-hub") for row in rows)
+    return 1 + len(rows) + 1 + 1 + again + 3
+
+
 MODEL = "By the model of leases in tests/examples/leases.py, from RFC 2131, section 4.3, and the office's rules."
 
 
@@ -465,12 +530,10 @@ class Player:
         self.script.section(name, *([source for source in sources if source] or [MODEL]))
 
     def count(self, remark, events, rows, model_rows, calls):
-        """A run of events over many rows, which the script writes as few: what comes of it, and how many calls of the keeper there are. The opening puts the
-        rows by one and reads each, and that there is none behind the last; then the pools again, and the leases, each with what comes behind them."""
+        """A run of events over many rows, which the script writes as few: what comes of it, and how many calls of the keeper there are."""
         whole = [*self.rows, *model_rows]
         played = Played(whole)
-        there = Office(whole).rows()
-        opening = 2 + len(there) + 2 + sum(row.split()[0] in ("pool", "lease") for row in there)
+        opening = calls_of_opening(Office(whole).rows())
         for event in events:
             played.take(*event)
         given = [line_of(turn, moment, what) for turn, (moment, _, what) in enumerate(events, 1)]
@@ -484,6 +547,14 @@ class Player:
             played.take(*event)
         self.script.run(remark, ["office", *rows, *lines, "show tables", *given], behind or played.outcome())
         return played
+
+    def migrates(self, remark, events, now, rows=()):
+        """The same run over the tables of earlier days: all is the same, from the first event on."""
+        earlier = ["drop hub 0", "site " + next(row for row in self.rows if row.startswith("hub 0 ")).removeprefix("hub 0 ")]
+        self.script.run(remark, ["office", *earlier, *rows, "show tables", *self.written(events)], now.outcome())
+
+    def written(self, events):
+        return [line_of(turn, moment, what) for turn, (moment, _, what) in enumerate(events, 1)]
 
     def loses(self, remark, events, place, rows=(), lines=()):
         """A run in which one event's reply is lost; each of its events but a RELEASE has one."""
@@ -678,12 +749,12 @@ def echoes(player):
     player.section("a reply goes to the relay that the message names, whoever sent it", "RFC 2131, section 4.1.")
     player.play("", [("t", "offer", discover()), ("t", "ack", selects()), ("t", "ack", renews()), ("t", "not-your-address", renews("10.64.0.11"))],
                 sender="10.9.9.9:5000")
-    player.section("an OFFER has what the site and the pool say",
+    player.section("an OFFER has what the hub and the pool say",
                    "RFC 2132: times of 32 bits, a mask, an offset with a sign, and a log server where there is one.")
     said = [("10.0.0.2", -18000, 60, "10.0.0.3", 8), ("255.255.255.255", 86400, 604800, "255.255.255.255", 30), ("0.0.0.1", -86400, 61, "0.0.0.0", 24),
             ("10.0.0.2", -1, 67, "0.0.0.1", 29), ("10.0.0.2", 0, 79, "0.0.0.0", 9)]
     for server, offset, lease, log, prefix in said:
-        rows = [f"site {server} 00 {offset} {lease} {log}", f"pool 1 10.64.0.10 10.64.0.99 {prefix} 0.0.0.0 {RELAY}"]
+        rows = [f"hub 0 {server} 00 {offset} {lease} {log}", f"pool 1 10.64.0.10 10.64.0.99 {prefix} 0.0.0.0 {RELAY}"]
         player.play("", [("t", "offer", discover()), ("t+1", "ack", selects(server=server)), (f"t+{lease}", "ack", renews())], rows=rows)
     player.section("what a relay says is sent back whole",
                    "RFC 3046, section 2.2: 0, 255, 256 and 300 bytes, in options of at most 255 (RFC 3396); none where none came.")
@@ -763,11 +834,11 @@ def refusing(player):
     player.section("a kind that isn't served has its word", "RFC 2132, section 9.6: DISCOVER, REQUEST, DECLINE and RELEASE are served.")
     player.play("", [("t", "not-served", says(kind, relay="10.64.0.2", last=0x99, way=b"\x02\x06"))
                      for kind in (0, OFFER, ACK, NAK, INFORM, 9, UNASSIGNED, UNKNOWN, ACTIVE, 18, 255)])
-    player.section("without a site nobody gets an address", "A message that is refused by what it says itself has its own word all the same.")
+    player.section("without its pool's hub nobody gets an address", "A message that is refused by what it says itself has its own word all the same.")
     player.play("", [
         ("t", "no-site", discover()), ("t", "no-site", selects()), ("t", "request-form", says(REQUEST)), ("t", "not-served", says(INFORM)),
         ("t", "no-record", declines()), ("t", "no-record", releases()), ("t", "dhcp-short", b""), ("t", "dhcp-no-type", reading(53, b""))],
-                rows=["drop site"])
+                rows=["drop hub 0"])
     player.section("without a pool, and without modems", "")
     player.play("", [
         ("t", "no-relay-pool", discover()), ("t", "no-relay-pool", selects()), ("t", "no-relay-pool", renews()), ("t", "no-record", declines()),
@@ -873,8 +944,96 @@ def ends(player):
     ], rows=[SECOND, *ONE])
 
 
+# Another hub, and a pool of it.
+HUB = "hub 1 10.0.0.3 6f74686572 3600 86400 0.0.0.0"
+HUBS = [HUB, "pool 2 10.65.0.10 10.65.0.99 24 10.65.0.1 10.65.0.1", "pool-hub 2 1"]
+THERE, BEHIND = "10.65.0.10", "10.65.0.1"
+# The OFFER for the worked DISCOVER through the other hub's relay, byte for byte.
+OTHER_NAME = b"02aabbccddee-" + hmac.new(b"other", MAC + address(THERE), hashlib.md5).hexdigest()[:16].encode() + b".cm"
+OTHER_OFFER = (bytes.fromhex("020106001122334400000000" + "00000000" + "0a41000a" + "0a000003" + "0a410001" + MODEM) + bytes(10 + 64)
+               + OTHER_NAME + bytes(96) + bytes.fromhex("63825363" + "350102" + "36040a000003" + "330400015180" + "3a040000a8c0" + "3b0400012750")
+               + bytes.fromhex("0104ffffff00" + "03040a410001" + "020400000e10" + "04040a000003") + RELAYED + b"\xff")
+
+
+def several_hubs(player):
+    there = {"relay": BEHIND}
+    player.section("a modem is served by its pool's hub",
+                   "The worked example, byte for byte: a second hub has its own address and its own secret. What the modem held at the first one is gone.")
+    through_other = RELAYED_DISCOVER[:24] + address(BEHIND) + RELAYED_DISCOVER[28:]
+    played = player.play("", [
+        ("t", "offer", RELAYED_DISCOVER), ("t", "offer", through_other), ("t", "no-row", show(A)), ("t", "", show(THERE)),
+        ("t", "no-hub", put_pool(2, THERE, "10.65.0.99", BEHIND, 9)), ("t", "hub-in-use", remove("/hubs/1"))], rows=HUBS)
+    is_sent(played, 0, f"{RELAY}:67", FIRST_OFFER)
+    is_sent(played, 1, f"{BEHIND}:67", OTHER_OFFER)
+    if '"owner":"02aabbccddee"' not in "".join(played.sent):
+        raise Disagreement("the other hub's address is the modem's")
+    player.play("selected, renewed and given back", [
+        ("t", "offer", discover(**there)), ("t", "other-server", selects(THERE, **there)), ("t", "ack", selects(THERE, server="10.0.0.3", **there)),
+        ("t+1", "ack", renews(THERE)), ("t+2", "ack", renews(THERE, **there)), ("t+3", "not-your-address", renews(A)), ("t+3", "not-your-address", reboots("10.65.0.11", **there)),
+        ("t+4", "other-server", releases(THERE, server="10.0.0.2")), ("t+4", "released", releases(THERE, server="10.0.0.3")), ("t+5", "no-record", renews(THERE))], rows=HUBS)
+    player.section("each hub has its own time of leases, offset, log and server", "Two modems, each in a pool of its own hub.")
+    own = ["hub 1 10.0.0.3 6f74686572 -18000 60 10.0.0.7", *HUBS[1:], SECOND]
+    player.play("", [
+        ("t", "offer", discover()), ("t", "offer", discover(1, **there)), ("t", "ack", selects()), ("t", "ack", selects(THERE, 1, server="10.0.0.3", **there)),
+        ("t", "", show(A)), ("t", "", show(THERE)), ("t+60", "ack", renews()), ("t+60", "ack", renews(THERE, 1)), ("t+61", "not-your-address", selects("10.64.0.50")),
+        ("t+61", "not-your-address", selects("10.65.0.50", 1, server="10.0.0.3", **there))], rows=own)
+    player.section("a DECLINE and a RELEASE are for the server of their address's hub", "Whatever relay they came through; who names no server is heard by each.")
+    held = {"0": (A, "10.0.0.2", "10.0.0.3", leased("bound", A, 0xEE, "t+1000")), "1": (THERE, "10.0.0.3", "10.0.0.2", leased("bound", THERE, 0xEE, "t+1000"))}
+    for hub, (mine, server, other, rows) in held.items():
+        for relay in ("0.0.0.0", RELAY, BEHIND):
+            for asks, word in ((declines, "declined"), (releases, "released")):
+                player.play(f"hub {hub}, {word}, by {relay}", [
+                    ("t", "other-server", asks(mine, server=other, relay=relay)), ("t", word, asks(mine, server=server, relay=relay)),
+                    ("t", "no-record", asks(mine, server=server, relay=relay))], rows=[*HUBS, *rows])
+                player.play(f"hub {hub}, {word}, by {relay}, of no server", [("t", word, asks(mine, relay=relay))], rows=[*HUBS, *rows])
+    player.play("an address of the other hub, and of none", [
+        ("t", "no-record", releases(THERE, server="10.0.0.3")), ("t", "other-server", releases(THERE, server="10.0.0.2")), ("t", "no-record", declines(THERE, server="10.0.0.3")),
+        ("t", "other-server", declines(THERE, server="10.0.0.2")), ("t", "no-record", releases("10.66.0.1", server="10.9.9.9")),
+        ("t", "no-record", declines("10.66.0.1", server="10.9.9.9")), ("t", "no-record", declines(None, server="10.9.9.9"))], rows=[*HUBS, *HELD])
+    player.section("without its pool's hub a modem has no address, and those of other hubs have", "")
+    player.play("hub 0 isn't there", [
+        ("t", "no-site", discover()), ("t", "no-site", selects()), ("t", "no-site", reboots()), ("t", "no-site", renews(relay=RELAY)), ("t", "no-site", renews()),
+        ("t", "offer", discover(**there)), ("t", "no-site", discover(0x99)), ("t", "unknown-modem", discover(0x99, **there)), ("t", "no-relay-pool", discover(relay="10.9.9.9")),
+        ("t", "ack", selects(THERE, server="10.0.0.3", **there)), ("t", "no-record", declines(server="10.9.9.9"))], rows=["drop hub 0", *HUBS])
+    player.section("a pool that changes its hub is served by the other one from then on", "Its leases stay, and are renewed for the other hub's time.")
+    short = ["hub 1 10.0.0.3 6f74686572 3600 60 0.0.0.0"]
+    moved = put_pool(1, A, "10.64.0.99", hub=1)
+    player.play("", [
+        ("t", "offer", discover()), ("t", "ack", selects()), ("t", "", show(A)), ("t+1", "", moved), ("t+1", "", show(A)), ("t+2", "other-server", selects()),
+        ("t+2", "ack", selects(server="10.0.0.3")), ("t+2", "", show(A)), ("t+3", "ack", renews()), ("t+4", "other-server", releases(server="10.0.0.2")),
+        ("t+5", "hub-in-use", remove("/hubs/1")), ("t+5", "", remove("/hubs/0")), ("t+6", "ack", renews()), ("t+7", "no-hub", put_pool(1, A, "10.64.0.99")),
+        ("t+7", "", put_site()), ("t+8", "", put_pool(1, A, "10.64.0.99")), ("t+8", "ack", renews()), ("t+9", "", remove("/hubs/1"))], rows=short)
+    player.play("while its address is offered", [
+        ("t", "offer", discover()), ("t", "", moved), ("t+1", "other-server", selects()), ("t+1", "offer", discover()), ("t+1", "ack", selects(server="10.0.0.3"))], rows=short)
+    player.section("a relay is told of the addresses of its own hub alone", "Two hubs, and a modem in a pool of each; the answer has the server of the relay's hub.")
+    two = [*HUBS, SECOND, *HELD, *leased("bound", THERE, 1, "t+1000")]
+    player.play("", [
+        ("t", "query-active", who_has(A)), ("t", "query-unknown", who_has(THERE)), ("t", "query-active", has_which()), ("t", "query-unknown", has_which(1)),
+        ("t", "query-unknown", who_has(A, **there)), ("t", "query-active", who_has(THERE, **there)), ("t", "query-unknown", has_which(**there)),
+        ("t", "query-active", has_which(1, **there)), ("t", "query-unassigned", who_has("10.65.0.11", **there)), ("t", "query-unknown", who_has("10.65.0.11")),
+        ("t", "", put_pool(2, THERE, "10.65.0.99", BEHIND)), ("t", "query-active", who_has(THERE)), ("t", "query-active", who_has(A, **there)), ("t", "query-active", has_which(1))],
+                rows=two)
+    player.play("the relay's hub isn't there", [("t", "query-relay", who_has(A)), ("t", "query-relay", has_which()), ("t", "query-active", who_has(THERE, **there))],
+                rows=["drop hub 0", *HUBS, SECOND, *leased("bound", THERE, 1, "t+1000")])
+    player.section("a message in which the keeper fails changes nothing, by whatever hub", "Each call of the keeper fails in turn.")
+    player.fails_each("a DISCOVER through the other hub's relay", ("t", "offer", discover(**there)), rows=[*HUBS, *HELD])
+    player.fails_each("a RELEASE of the other hub's address", ("t", "released", releases(THERE, server="10.0.0.3")), rows=[*HUBS, *leased("bound", THERE, 0xEE, "t+9")],
+                      behind=("no-record", releases(THERE, server="10.0.0.3")))
+    player.section("an office of earlier days serves its leases on", "Its one site is the hub 0 from the opening on: names, servers and times of leases stay.")
+    earlier = ["drop hub 0", "site 10.0.0.2 736563726574 3600 86400 0.0.0.0"]
+    events = [("t", "ack", renews()), ("t", "ack", selects()), ("t+1", "offer", discover(1)), ("t+2", "query-active", who_has(A)), ("t+3", "released", releases(server="10.0.0.2"))]
+    now = player.play("after the opening", events, rows=[SECOND, *HELD])
+    player.migrates("the same from earlier days", events, rows=[SECOND, *HELD], now=now)
+    player.script.section("the opening makes one commit for the site of earlier days", "Behind it nothing is written.")
+    for rows in ([], HELD):
+        whole = Office([*player.rows, *rows]).rows()
+        player.script.run("", ["office", *earlier, *rows, "show calls"], outcome(calls=calls_of_opening(whole) + 1))
+        player.script.run("", ["office", *rows, "show calls"], outcome(calls=calls_of_opening(whole)))
+
+
 def by_chance(seed, low, rows, count):
-    """Events by chance among 24 addresses from one on: pools that come, move, shrink, trade places and go, and what modems make of them. Moments fall now and then."""
+    """Events by chance among 24 addresses from one on: pools that come, move, shrink, trade places and hubs and go, hubs that come and go, and what modems make of
+    them. Moments fall now and then."""
     chance, played, events, now = random.Random(seed), Played(rows), [], 0
     office = played.office
     place = lambda number: text_of((low + number).to_bytes(4, "big"))
@@ -883,10 +1042,19 @@ def by_chance(seed, low, rows, count):
     def pool():
         number, first = chance.randrange(1, 5), chance.randrange(24)
         last = min(23, first + chance.choice((0, 1, 3, 7, 11)))
-        new = Pool([place(first), place(last), "24", RELAY, relay(number)])
+        new = Pool(number, [place(first), place(last), "24", RELAY, relay(number)])
         if any(other.first <= new.last and new.first <= other.last for key, other in office.pools.items() if key != number):
             return None
-        return put_pool(number, place(first), place(last), relay(number))
+        return put_pool(number, place(first), place(last), relay(number), chance.choice((None, 0, 1, 1, 2, 9)))
+
+    def hub():
+        return chance.choice((remove("/hubs/1"), remove("/hubs/2"), put_hub(2, "10.0.0.4", b"third", lease=90)))
+
+    def other():
+        kind = chance.random()
+        if kind < 0.5 and office.pools:
+            return remove(f"/pools/{chance.choice(list(office.pools))}")
+        return hub() if kind >= 0.5 else None
 
     def message():
         last, number = chance.randrange(12), chance.randrange(1, 5)
@@ -894,10 +1062,11 @@ def by_chance(seed, low, rows, count):
         mine = text_of(mine) if mine else place(chance.randrange(24))
         return chance.choice((
             discover(last, relay=relay(number)), discover(last, relay=relay(number)), discover(last, relay=relay(number), asked=place(chance.randrange(24))),
-            selects(mine, last, relay=relay(number)), renews(mine, last), renews(mine, last, relay=relay(number)), releases(mine, last), declines(mine, last)))
+            selects(mine, last, relay=relay(number), server=f"10.0.0.{chance.choice((2, 3, 4))}"), renews(mine, last), renews(mine, last, relay=relay(number)),
+            releases(mine, last, server=chance.choice((None, "10.0.0.2", "10.0.0.3"))), declines(mine, last)))
 
     while len(events) < count:
-        what = pool() if chance.random() < 0.15 else remove(f"/pools/{chance.choice(list(office.pools))}") if office.pools and chance.random() < 0.05 else message()
+        what = pool() if chance.random() < 0.15 else other() if chance.random() < 0.1 else message()
         if what is None:
             continue
         now += chance.choice((0, 0, 1, 30, 90, 200))
@@ -909,8 +1078,10 @@ def by_chance(seed, low, rows, count):
 
 def shuffled(player):
     player.section("free addresses follow whatever becomes of pools and leases",
-                   "Events by chance, by the model: pools that come, move, shrink and go, at both ends of the address space too, while leases are live, have ended, and go with them.")
-    rows = ["drop pool 1", "drop site", "site 10.0.0.2 736563726574 3600 300 0.0.0.0", *(modem_row(last) for last in range(12))]
+                   "Events by chance, by the model: pools that come, move, shrink, change hubs and go, at both ends of the address space too, while leases are live, have ended, "
+                   "and go with them.")
+    rows = ["drop pool 1", "hub 0 10.0.0.2 736563726574 3600 300 0.0.0.0", "hub 1 10.0.0.3 6f74686572 0 100 0.0.0.0",
+            *(modem_row(last) for last in range(12))]
     for seed, low in ((1, 0x0A410000), (2, 0xFFFFFFE8), (3, 1)):
         player.play(f"{seed}", by_chance(seed, low, [*player.rows, *rows], 150), rows=rows)
 
@@ -935,13 +1106,13 @@ def clerking(player):
     player.play("the modem is deleted and declines", [
         ("t", "", remove(f"/modems/{MODEM}")), ("t", "declined", declines()), ("t", "", show(A)), ("t", "", put_modem(0xEE, "SN77")),
         ("t", "serial-mismatch", discover()), ("t", "offer", discover(cable=vendor(b"SN77"))), ("t", "", show("10.64.0.11"))], rows=HELD)
-    player.play("the site is another", [
+    player.play("the hub is another", [
         ("t", "offer", discover()), ("t", "", put_site(server="10.0.0.9", secret=b"x" * 64, lease=60, log="10.0.0.7", offset=-5)),
         ("t", "other-server", selects()), ("t", "ack", selects(server="10.0.0.9")), ("t+60", "", put_site()), ("t+60", "ack", renews()),
         ("t+60", "", show(A))])
-    player.play("a pool and a site come first", [
-        ("t", "no-relay-pool", discover()), ("t", "", put_pool(1, A, A)), ("t", "no-site", discover()), ("t", "", put_site()),
-        ("t", "offer", discover()), ("t", "", show(A))], rows=["drop site", "drop pool 1"])
+    player.play("a hub and then a pool come first", [
+        ("t", "no-relay-pool", discover()), ("t", "no-hub", put_pool(1, A, A)), ("t", "no-relay-pool", discover()), ("t", "", put_site()),
+        ("t", "no-relay-pool", discover()), ("t", "", put_pool(1, A, A)), ("t", "offer", discover()), ("t", "", show(A))], rows=["drop hub 0", "drop pool 1"])
     player.play("leases are shown", [
         ("t", "", show(A)), ("t", "", show("10.64.0.11")), ("t", "", show("10.64.0.12")), ("t", "no-row", show("10.64.0.13"))
     ], rows=[*leased("offered", A, 5, "t-1"), *leased("bound", "10.64.0.11", 6, MOST), "lease 10.64.0.12 declined 0"])
@@ -984,10 +1155,10 @@ def querying(player):
     }
     for remark, asked in (("each alone", alone), ("each with the next", with_the_next)):
         player.play(remark, [("t", word, data) for word, all_data in asked.items() for data in all_data], rows=[SECOND, *HELD])
-    player.play("no site, and then one", [("t", "query-relay", who_has(A)), ("t", "query-relay", has_which()), ("t", "query-relay", who_has("0.0.0.0")),
+    player.play("no hub, and then one", [("t", "query-relay", who_has(A)), ("t", "query-relay", has_which()), ("t", "query-relay", who_has("0.0.0.0")),
                                           ("t", "", put_site(server="10.0.0.9")), ("t", "query-unassigned", who_has(A)), ("t", "query-unknown", has_which())],
-                rows=["drop site"])
-    player.play("the site is another", [("t", "query-active", who_has(A)), ("t", "", put_site(server="10.0.0.9", lease=60)), ("t", "query-active", who_has(A)),
+                rows=["drop hub 0"])
+    player.play("the hub is another", [("t", "query-active", who_has(A)), ("t", "", put_site(server="10.0.0.9", lease=60)), ("t", "query-active", who_has(A)),
                                         ("t", "query-unassigned", who_has("10.64.0.11"))], rows=HELD)
     player.play("no pool", [("t", "query-relay", who_has(A)), ("t", "query-relay", has_which())], rows=["drop pool 1"])
     player.section("a lease is active while it is bound and hasn't ended", "An address that is offered or declined has no client.")
@@ -1007,7 +1178,7 @@ def querying(player):
         ("t+202", "declined", declines(last=1)), ("t+202", "query-unassigned", who_has(A)), ("t+202", "query-unknown", has_which(1))], rows=[SECOND])
     player.play("the modem's row is gone", [
         ("t", "", remove(f"/modems/{MODEM}")), ("t", "query-active", who_has(A)), ("t", "query-active", has_which())], rows=HELD)
-    player.section("a query speaks of all pools of the relay's server", "The answer goes to the relay that asked.")
+    player.section("a query speaks of all pools of the relay's hub", "The answer goes to the relay that asked.")
     far = [*FAR, SECOND, *HELD, *leased("bound", "10.65.0.10", 1, "t+50")]
     player.play("", [
         ("t", "query-active", who_has("10.65.0.10")), ("t", "query-active", has_which(1)), ("t", "query-unassigned", who_has("10.65.0.11")),
@@ -1037,8 +1208,8 @@ def querying(player):
     player.fails_each("by hardware address", ("t", "query-active", has_which()), rows=HELD)
     player.loses("an answer is lost, and comes again", [("t", "query-active", who_has(A)), ("t", "query-active", who_has(A))], 0, rows=HELD, lines=["fails link 2"])
     player.section("a query makes three calls of the keeper at most",
-                   "One for the site and one for the lease; by hardware address one more, for the address that the modem holds.",
-                   "A query of an unknown relay makes none, and one of which nothing is looked up that of the site.")
+                   "One for the hub and one for the lease; by hardware address one more, for the address that the modem holds.",
+                   "A query of an unknown relay makes none, and one of which nothing is looked up that of the hub.")
     asked = [(who_has(A), "query-active", 2), (has_which(), "query-active", 3), (who_has("10.64.0.9"), "query-unknown", 1), (has_which(1), "query-unknown", 2),
              (who_has(A, relay="10.64.0.2"), "query-relay", 0), (who_has("0.0.0.0"), "query-form", 1)]
     for data, word, calls in asked:
@@ -1107,5 +1278,5 @@ def failing(player):
 def sections(script, rows):
     """Writes the sections, over an office of these rows."""
     player = Player(script, rows)
-    for write in (worked, freeing, crowded, asking, echoes, refusing, reading_faults, querying, ends, clerking, shuffled, failing):
+    for write in (worked, several_hubs, freeing, crowded, asking, echoes, refusing, reading_faults, querying, ends, clerking, shuffled, failing):
         write(player)

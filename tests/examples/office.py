@@ -1,7 +1,7 @@
 #!/usr/bin/env python3
 """Writes crates/office_script/stdin and stdout: examples of whole runs, and what is expected of each.
 
-The office of the worked examples is a site, class 1, subscriber 7, a modem and a pool. What is expected is said here by hand, from the rules
+The office of the worked examples is hub 0, class 1, subscriber 7, a modem and a pool. What is expected is said here by hand, from the rules
 in docs/, or computed by Python's hashlib, hmac and json and the readers of examples.py, which are written from the standards. The sections on
 DHCP are those of leases.py, those on TFTP of transfers.py, those on whole boots
 of boots.py, those on imports of import_job.py, those on drills of drills.py, those on calls that fail of failures.py, and those on input from strangers
@@ -24,7 +24,7 @@ LAST = 0x0A400063
 RELAY = 0x0A400001
 GOLD = "24{ 1=0001 6=07 8=00989680 } 25{ 1=0002 6=07 8=05f5e100 }"
 TREES = {"gold": "24{ 1=0001 6=07 } 25{ 1=0002 6=07 }", "boost": "24{ 1=0005 6=07 } 22{ 1=03 3=0005 }", "unknown": "99=01"}
-OFFICE = ["site 10.0.0.2 736563726574 3600 86400 0.0.0.0", f'class 1 "gold" {GOLD}', 'subscriber 7 active 2 "Ann"', 'modem 02aabbccddee 7 1 "SN01"',
+OFFICE = ["hub 0 10.0.0.2 736563726574 3600 86400 0.0.0.0", f'class 1 "gold" {GOLD}', 'subscriber 7 active 2 "Ann"', 'modem 02aabbccddee 7 1 "SN01"',
           "pool 1 10.64.0.10 10.64.0.99 24 10.64.0.1 10.64.0.1"]
 PEER = "10.64.0.10:5000"
 OK = '{"ok":true}'
@@ -58,6 +58,7 @@ def turns(number):
 # A refusal: its status, its word, and what is at fault.
 NO_ROW, HAS_MODEMS, IN_USE = (404, "no-row", None), (409, "has-modems", None), (409, "class-in-use", None)
 NO_SUBSCRIBER, NO_CLASS, SIZE = (422, "no-subscriber", None), (422, "no-class", None), (422, "pool-size", None)
+NO_HUB = (422, "no-hub", None)
 DONE = (200, "", OK)
 
 
@@ -75,6 +76,10 @@ def lost(address):
 
 def limit(number):
     return 422, "limit", str(number)
+
+
+def in_use(number):
+    return 409, "hub-in-use", str(number)
 
 
 def site_field(number):
@@ -115,8 +120,13 @@ def tree_json(tree):
     return found
 
 
-def put_site(server, secret, offset, lease):
-    return "PUT", "/site", compact({"server": ip(server), "secret": b"secret"[:secret].hex(), "offset": offset, "lease": lease, "log": "0.0.0.0"})
+def put_site(server, secret, offset, lease, path="/site"):
+    """The hub 0, by the path of a site; or another one by its own path."""
+    return "PUT", path, compact({"server": ip(server), "secret": b"secret"[:secret].hex(), "offset": offset, "lease": lease, "log": "0.0.0.0"})
+
+
+def put_hub(number, server=0x0A000003, secret=6, offset=0, lease=60):
+    return put_site(server, secret, offset, lease, f"/hubs/{number}")
 
 
 def put_subscriber(number):
@@ -135,8 +145,10 @@ def put_class(number, tree):
     return "PUT", f"/classes/{number}", compact({"name": "gold", "settings": tree_json(TREES[tree])})
 
 
-def put_pool(number, first, last, relay):
-    return "PUT", f"/pools/{number}", compact({"first": ip(first), "last": ip(last), "prefix": 24, "router": ip(RELAY), "relay": ip(relay)})
+def put_pool(number, first, last, relay, hub=None):
+    """A pool; its body may leave the hub out."""
+    named = {} if hub is None else {"hub": hub}
+    return "PUT", f"/pools/{number}", compact({"first": ip(first), "last": ip(last), "prefix": 24, "router": ip(RELAY), "relay": ip(relay), **named})
 
 
 def remove(path):
@@ -341,6 +353,12 @@ def clerks():
         (show("/subscribers/7"), (200, "", compact({"active": True, "cpes": 2, "name": "Ann"}))),
         (show("/nothing"), (404, "no-path", None)),
         (remove("/site"), (405, "no-method", None)),
+        (show("/hubs/0"), (200, "", compact(shown_site))),
+        (show("/hubs/1"), NO_ROW),
+        (remove("/hubs/1"), NO_ROW),
+        (show("/hubs/4294967296"), (404, "no-path", None)),
+        (show("/hubs"), (404, "no-path", None)),
+        (("POST", "/hubs/1", ""), (405, "no-method", None)),
     ])
     section("a body has at most 1,048,576 bytes", "Spaces behind a JSON text say nothing (RFC 8259, section 2).")
     head = "PUT /subscribers/7 HTTP/1.1\\r\\nContent-Length: {}\\r\\n\\r\\n"
@@ -408,7 +426,7 @@ def failing():
             "Each call of the keeper fails in turn: of the opening, status 3; of the command, whose second question finds the tables as before; of the question.")
     shown_modem = (200, "", compact({"class": 1, "serial": "SN01", "subscriber": 7}))
     shown_subscriber = (200, "", compact({"active": True, "cpes": 2, "name": "Ann"}))
-    shown_pool = {"first": "10.64.0.10", "last": "10.64.0.99", "prefix": 24, "relay": "10.64.0.1", "router": "10.64.0.1"}
+    shown_pool = {"first": "10.64.0.10", "hub": 0, "last": "10.64.0.99", "prefix": 24, "relay": "10.64.0.1", "router": "10.64.0.1"}
     smaller = (200, "", compact({**shown_pool, "first": "10.64.0.11"}))
     more = ["lease 10.64.0.10 declined t", 'subscriber 8 active 2 "Ann"', f"add-on 8 3 {TREES['boost']}"]
     fails_each([], put_modem(0xEF, 7, 1), show(f"/modems/{mac(0xEF)}"), DONE, shown_modem, NO_ROW)
@@ -416,6 +434,9 @@ def failing():
     fails_each(more, put_pool(1, FIRST + 1, LAST, RELAY), show("/pools/1"), DONE, smaller, (200, "", compact(shown_pool)))
     fails_each(more, remove("/subscribers/8"), show("/subscribers/8"), DONE, NO_ROW, shown_subscriber)
     fails_each(more, remove("/pools/1"), show("/pools/1"), DONE, NO_ROW, (200, "", compact(shown_pool)))
+    fails_each(more + OTHER_HUB, put_pool(1, FIRST, LAST, RELAY, 1), show("/pools/1"), DONE, (200, "", compact({**shown_pool, "hub": 1})), (200, "", compact(shown_pool)))
+    fails_each([], put_hub(1), show("/hubs/1"), DONE, (200, "", compact(OTHER_SHOWN)), NO_ROW)
+    fails_each(OTHER_HUB, remove("/hubs/1"), show("/hubs/1"), DONE, NO_ROW, (200, "", compact(OTHER_SHOWN)))
     fails_each(more, remove(f"/modems/{mac(0xEE)}"), show(f"/modems/{mac(0xEE)}"), DONE, NO_ROW, shown_modem)
     section("the first command over empty tables is not done where its commit fails", "Each call of the keeper fails in turn.")
     site = put_site(0x0A000002, 6, 3600, 86400)
@@ -456,8 +477,11 @@ def change(text):
     if words[0] == "stray":
         return "stray " + key_of(words[1:])
     kind, rest = words[0], words[1:]
-    if kind == "site":
-        return f"site {ip(int(rest[0]))} {b'secret'[:int(rest[1])].hex() or '-'} {rest[2]} {rest[3]} 0.0.0.0"
+    if kind in ("site", "hub"):
+        server, secret, offset, lasts = rest[-4:]
+        return f"{key_of(words)} {ip(int(server))} {b'secret'[:int(secret)].hex() or '-'} {offset} {lasts} 0.0.0.0"
+    if kind == "pool-hub":
+        return f"{key_of(words)} {rest[1]}"
     if kind == "subscriber":
         return f'{key_of(words)} active {rest[1]} "Ann"'
     if kind == "add-on":
@@ -490,9 +514,28 @@ def key_of(words):
 
 # What makes the worked office bad, and its least bad key, or none. Pool 1 has the places 0 to 89 and the relay 1.
 JUDGED = {
-    "the values of a site have ranges": [("", ""), ("site 0 6 0 60", "site"), ("site 1 0 0 60", "site"), ("site 1 1 0 60", ""), ("site 1 1 86400 604800", ""),
-                                         ("site 1 1 -86400 60", ""), ("site 1 1 86401 60", "site"), ("site 1 1 -86401 60", "site"), ("site 1 1 0 59", "site"),
-                                         ("site 1 1 0 604801", "site")],
+    "the values of a hub have ranges": [
+        ("", ""), ("hub 0 0 6 0 60", "hub 0"), ("hub 0 1 0 0 60", "hub 0"), ("hub 0 1 1 0 60", ""), ("hub 0 1 1 86400 604800", ""), ("hub 0 1 1 -86400 60", ""),
+        ("hub 0 1 1 86401 60", "hub 0"), ("hub 0 1 1 -86401 60", "hub 0"), ("hub 0 1 1 0 59", "hub 0"), ("hub 0 1 1 0 604801", "hub 0"), ("hub 1 1 1 0 60", ""),
+        ("hub 4294967295 1 1 0 60", ""), ("hub 1 0 6 0 60", "hub 1"), ("hub 1 0 6 0 60; hub 0 1 0 0 60", "hub 0"), ("no hub 0", "")],
+    "the values of the site of earlier days have the same ranges": [
+        ("no hub 0; site 0 6 0 60", "site"), ("no hub 0; site 1 0 0 60", "site"), ("no hub 0; site 1 1 86401 60", "site"), ("no hub 0; site 1 1 -86401 60", "site"),
+        ("no hub 0; site 1 1 0 59", "site"), ("no hub 0; site 1 1 0 604801", "site")],
+    "the site of earlier days stands where no row is of hubs": [
+        ("no hub 0; site 1 1 0 60", ""), ("site 1 1 0 60", "site"), ("no hub 0; hub 1 1 1 0 60; site 1 1 0 60", "site"), ("no hub 0; site 1 1 0 60; pool-hub 1 0", "site"),
+        ("no hub 0; site 1 1 0 60; pool-hub 2 1", "site"), ("no hub 0; site 1 1 0 60; stray hub 5", "site"), ("no hub 0; site 1 1 0 60; stray pool-hub 1", "site")],
+    "a pool that names a hub is there, and so is the hub": [
+        ("hub 1 1 1 0 60; pool-hub 1 1", ""), ("no hub 0; hub 1 1 1 0 60; pool-hub 1 1", ""), ("pool-hub 1 1", "pool-hub 1"), ("hub 1 1 1 0 60; pool-hub 1 2", "pool-hub 1"),
+        ("pool-hub 1 0", "pool-hub 1"), ("hub 1 1 1 0 60; pool-hub 2 1", "pool-hub 2"), ("hub 1 1 1 0 60; pool-hub 1 1; pool-hub 2 1", "pool-hub 2"),
+        ("hub 1 0 1 0 60; pool-hub 1 1", "hub 1"), ("stray hub 1; pool-hub 1 1", "hub 1"), ("pool-hub 1 7; hub 7 1 1 0 60; pool 2 100 109 24 2; pool-hub 2 7", "")],
+    "a lease has its pool's hub": [
+        ("lease 0 declined; no hub 0", "lease 10.64.0.10"), ("lease 0 bound 5; held 5 0; no hub 0", "lease 10.64.0.10"),
+        ("no hub 0; site 1 1 0 60; lease 0 bound 5; held 5 0", ""), ("no hub 0; hub 1 1 1 0 60; pool-hub 1 1; lease 0 declined", ""),
+        ("pool-hub 1 1; lease 0 declined", "lease 10.64.0.10"), ("no hub 0; hub 1 1 1 0 60; lease 0 declined", "lease 10.64.0.10"),
+        ("no hub 0; hub 1 1 1 0 60; pool 2 100 109 24 2; pool-hub 2 1; lease 100 declined", ""),
+        ("no hub 0; hub 1 1 1 0 60; pool 2 100 109 24 2; pool-hub 2 1; lease 0 declined", "lease 10.64.0.10"), ("hub 0 0 6 0 60; lease 0 declined", "hub 0"),
+        ("stray hub 0; lease 0 declined", "hub 0"), ("stray pool-hub 1; lease 0 declined", "pool-hub 1"), ("pool-hub 1 0; lease 0 declined", "pool-hub 1"),
+        ("stray pool-hub 1; lease 0 declined; no hub 0", "lease 10.64.0.10")],
     "a subscriber has 1 to 254 devices, and an add-on its subscriber": [
         ("subscriber 7 0", "subscriber 7"), ("subscriber 7 1", ""), ("subscriber 8 254", ""), ("subscriber 8 255", "subscriber 8"), ("add-on 7 0 boost", ""),
         ("add-on 7 7 boost", ""), ("add-on 7 8 boost", "add-on 7 8"), ("add-on 8 0 boost", "add-on 8 0"), ("add-on 7 0 unknown", "add-on 7 0")],
@@ -513,7 +556,7 @@ JUDGED = {
     "a lease and the row of who holds it name each other": [
         ("lease 0 bound 238; held 238 0", ""), ("lease 0 offered 5; held 5 0", ""), ("lease 0 declined", ""), ("lease 0 bound 238", "lease 10.64.0.10"),
         ("lease 0 bound 238; held 238 1", "lease 10.64.0.10"), ("lease 0 bound 238; held 239 0", "lease 10.64.0.10"),
-        ("lease 0 bound 238; stray held 238", "lease 10.64.0.10"), ("lease 0 bound 5; held 5 0; no site", "lease 10.64.0.10")],
+        ("lease 0 bound 238; stray held 238", "lease 10.64.0.10")],
     "a lease lies in one pool": [
         ("lease 89 declined", ""), ("lease 90 declined", "lease 10.64.0.100"), ("lease 90 bound 5; held 5 90", "lease 10.64.0.100"),
         ("lease 5 declined; no pool 1", "lease 10.64.0.15"), ("lease 300 declined; pool 2 300 300 24 2", "")],
@@ -521,18 +564,18 @@ JUDGED = {
         ("held 5 0", "held 02aabbccdd05"), ("held 5 0; lease 0 declined", "held 02aabbccdd05"), ("held 5 0; held 6 0; lease 0 bound 6", "held 02aabbccdd05"),
         ("held 5 0; held 6 1; lease 0 bound 5", "held 02aabbccdd06"), ("held 5 0; stray lease 0", "lease 10.64.0.10")],
     "a row is of the kind of its key": [
-        ("stray site", "site"), ("stray subscriber 8", "subscriber 8"), ("stray add-on 7 0", "add-on 7 0"), ("stray modem 1", "modem 02aabbccdd01"),
+        ("stray site", "site"), ("no hub 0; stray site", "site"), ("stray hub 1", "hub 1"), ("stray pool-hub 1", "pool-hub 1"), ("stray subscriber 8", "subscriber 8"), ("stray add-on 7 0", "add-on 7 0"), ("stray modem 1", "modem 02aabbccdd01"),
         ("stray class 2", "class 2"), ("stray pool 2", "pool 2"), ("stray lease 3", "lease 10.64.0.13"), ("stray held 1", "held 02aabbccdd01"),
         ("stray batch 9", "batch 9"), ("batch 9", "")],
     "of two bad keys the lesser is named": [
         ("subscriber 9 0; subscriber 8 0", "subscriber 8"), ("held 1 0; subscriber 9 0", "subscriber 9"), ("stray batch 1; stray pool 4", "pool 4"),
-        ("lease 200 declined; lease 100 declined", "lease 10.64.0.110"), ("modem 2 8 1; modem 1 8 1", "modem 02aabbccdd01")],
+        ("lease 200 declined; lease 100 declined", "lease 10.64.0.110"), ("modem 2 8 1; modem 1 8 1", "modem 02aabbccdd01"),
+        ("pool-hub 9 1; pool-hub 8 1", "pool-hub 8"), ("pool-hub 1 9; stray hub 9", "hub 9"), ("pool-hub 1 9; stray batch 9", "batch 9")],
 }
 
 
 # A row of each kind that no good tables have yet.
-UNUSED = ("hub 1 10.0.0.3 6f74686572 0 60 0.0.0.0", "pool-hub 1 1", "device-pool 1 10.128.0.10 10.128.0.20 24 10.128.0.1 10.128.0.1",
-          "device 10.128.0.10 bound 02aabbccddee 0200000000a1 t+120")
+UNUSED = ("device-pool 1 10.128.0.10 10.128.0.20 24 10.128.0.1 10.128.0.1", "device 10.128.0.10 bound 02aabbccddee 0200000000a1 t+120")
 
 
 def judging():
@@ -541,11 +584,11 @@ def judging():
         for changes, bad in rows:
             lines = ["office", *(change(text.strip()) for text in changes.split(";") if text)]
             run("", lines, outcome(2, [f"tables refused {bad}"]) if bad else outcome())
-    section("no good tables have a kind of row that isn't in use yet", "Hubs, the hubs of pools, pools for devices, and devices' leases.")
+    section("no good tables have a kind of row that isn't in use yet", "Pools for devices, and devices' leases.")
     for row in UNUSED:
         run("", ["office", row], outcome(2, [f"tables refused {' '.join(row.split(' ')[:2])}"]))
-    run("", ["office", *UNUSED], outcome(2, ["tables refused hub 1"]))
-    run("", ["office", *reversed(UNUSED)], outcome(2, ["tables refused hub 1"]))
+    run("", ["office", *UNUSED], outcome(2, ["tables refused device-pool 1"]))
+    run("", ["office", *reversed(UNUSED)], outcome(2, ["tables refused device-pool 1"]))
 
 
 def customers():
@@ -564,16 +607,112 @@ def customers():
     is_done([], put_subscriber(7), OFFICE)
     is_done([], put_class(1, "gold"), with_rows(f'class 1 "gold" {TREES["gold"]}', without=["class 1"]))
     is_done([], put_pool(2, 0, 9, 2), with_rows("pool 2 0.0.0.0 0.0.0.9 24 10.64.0.1 0.0.0.2"))
-    is_done([], put_site(9, 3, 0, 60), with_rows("site 0.0.0.9 736563 0 60 0.0.0.0", without=["site"]))
+    is_done([], put_site(9, 3, 0, 60), with_rows("hub 0 0.0.0.9 736563 0 60 0.0.0.0", without=["hub 0"]))
     section("rows are shown", "A secret isn't.")
-    are_decided([], [(show("/pools/1"), (200, "", compact({"first": "10.64.0.10", "last": "10.64.0.99", "prefix": 24, "relay": "10.64.0.1", "router": "10.64.0.1"}))),
+    are_decided([], [(show("/pools/1"), (200, "", compact(SHOWN_POOL))),
                      (show("/classes/1"), (200, "", compact({"name": "gold", "settings": tree_json(GOLD)}))), (show("/pools/2"), NO_ROW)])
-    section("the values of a site have ranges, and the first that is out of its range is named",
+    section("the values of a hub have ranges, and the first that is out of its range is named",
             "1, its address is 0.0.0.0; 2, its secret has no bytes; 3, a lease lasts 60 to 604,800 seconds; 4, the offset is -86,400 to 86,400.")
     are_decided([], [(put_site(1, 1, 86_400, 60), DONE), (put_site(1, 6, -86_400, 604_800), DONE), (put_site(0, 1, 0, 60), site_field(1)),
                      (put_site(1, 0, 0, 60), site_field(2)), (put_site(1, 1, 0, 59), site_field(3)), (put_site(1, 1, 0, 604_801), site_field(3)),
                      (put_site(1, 1, 86_401, 60), site_field(4)), (put_site(1, 1, -86_401, 60), site_field(4)), (put_site(0, 0, 86_401, 59), site_field(1)),
                      (put_site(1, 0, 86_401, 59), site_field(2)), (put_site(1, 1, 86_401, 59), site_field(3))])
+    are_decided([], [(put_hub(0, 1, 1, 86_400, 60), DONE), (put_hub(1, 1, 1, 86_400, 60), DONE), (put_hub(4_294_967_295, 1, 6, -86_400, 604_800), DONE),
+                     (put_hub(1, 0, 1, 0, 60), site_field(1)), (put_hub(1, 1, 0, 0, 60), site_field(2)), (put_hub(1, 1, 1, 0, 59), site_field(3)),
+                     (put_hub(1, 1, 1, 86_401, 60), site_field(4)), (put_hub(1, 0, 0, 86_401, 59), site_field(1)), (put_hub(1, 1, 0, 86_401, 59), site_field(2)),
+                     (put_hub(1, 1, 1, 86_401, 59), site_field(3))])
+
+
+# Another hub, as a row and as it is shown; a pool of it behind the first one.
+OTHER_HUB = ["hub 1 10.0.0.3 736563726574 0 60 0.0.0.0"]
+OTHER_SHOWN = {"lease": 60, "log": "0.0.0.0", "offset": 0, "server": "10.0.0.3"}
+OTHER_POOL = ["pool 2 10.65.0.10 10.65.0.99 24 10.64.0.1 10.65.0.1", "pool-hub 2 1"]
+FAR, FAR_LAST, FAR_RELAY = 0x0A41000A, 0x0A410063, 0x0A410001
+SHOWN_POOL = {"first": "10.64.0.10", "hub": 0, "last": "10.64.0.99", "prefix": 24, "relay": "10.64.0.1", "router": "10.64.0.1"}
+
+
+def hubs():
+    section("a hub is put, shown and removed by its number, and the hub 0 as the site too", "A hub's secret isn't shown.")
+    is_done([], put_hub(1), with_rows(*OTHER_HUB))
+    is_done(OTHER_HUB, put_hub(1, lease=61), with_rows("hub 1 10.0.0.3 736563726574 0 61 0.0.0.0"))
+    is_done([], put_hub(0, 9, 3, 0, 60), with_rows("hub 0 0.0.0.9 736563 0 60 0.0.0.0", without=["hub 0"]))
+    is_done(OTHER_HUB, remove("/hubs/1"), OFFICE)
+    is_done([*OTHER_HUB, "pool-hub 1 1"], remove("/hubs/0"), with_rows(*OTHER_HUB, "pool-hub 1 1", without=["hub 0"]))
+    are_decided(OTHER_HUB, [(show("/hubs/1"), (200, "", compact(OTHER_SHOWN))), (show("/hubs/01?x"), (200, "", compact(OTHER_SHOWN))), (show("/hubs/2"), NO_ROW),
+                            (("PUT", "/hubs/1", '{"server":"10.0.0.3"}'), (400, "field", "secret")), (remove("/site"), (405, "no-method", None))])
+    are_decided(["drop hub 0"], [(show("/site"), NO_ROW), (show("/hubs/0"), NO_ROW), (remove("/hubs/0"), NO_ROW)])
+    section("a hub that a pool names isn't removed, and the least such pool is named", "A pool without a row that names a hub has the hub 0.")
+    gone = remove("/hubs/1")
+    are_decided([], [(remove("/hubs/0"), in_use(1)), (gone, NO_ROW)])
+    are_decided([*OTHER_HUB, *OTHER_POOL], [(gone, in_use(2)), (remove("/hubs/0"), in_use(1)), (remove("/hubs/2"), NO_ROW)])
+    are_decided([*OTHER_HUB, *OTHER_POOL, "pool-hub 1 1"], [(gone, in_use(1)), (remove("/hubs/0"), DONE)])
+    are_decided([*OTHER_HUB, *OTHER_POOL, "pool 0 0.0.0.1 0.0.0.2 24 10.64.0.1 0.0.0.5"], [(gone, in_use(2)), (remove("/hubs/0"), in_use(0))])
+    are_decided([*OTHER_HUB, "hub 2 10.0.0.4 78 0 60 0.0.0.0", *OTHER_POOL], [(remove("/hubs/2"), DONE), (gone, in_use(2))])
+    section("a pool names its hub, which must be there", "A body that leaves the hub out names the hub 0.")
+    second = lambda hub=None: put_pool(2, FAR, FAR_LAST, FAR_RELAY, hub)
+    is_done(OTHER_HUB, second(1), with_rows(*OTHER_HUB, *OTHER_POOL))
+    is_done(OTHER_HUB, second(0), with_rows(*OTHER_HUB, OTHER_POOL[0]))
+    is_done(OTHER_HUB, second(), with_rows(*OTHER_HUB, OTHER_POOL[0]))
+    is_done([*OTHER_HUB, *OTHER_POOL], second(0), with_rows(*OTHER_HUB, OTHER_POOL[0]))
+    is_done([*OTHER_HUB, *OTHER_POOL], second(), with_rows(*OTHER_HUB, OTHER_POOL[0]))
+    is_done([*OTHER_HUB, *OTHER_POOL, "hub 2 10.0.0.4 78 0 60 0.0.0.0"], second(2),
+            with_rows(*OTHER_HUB, OTHER_POOL[0], "hub 2 10.0.0.4 78 0 60 0.0.0.0", "pool-hub 2 2"))
+    are_decided([], [(second(), DONE), (second(0), DONE), (second(1), NO_HUB), (second(4_294_967_295), NO_HUB), (put_pool(1, FIRST, LAST, RELAY, 1), NO_HUB)])
+    are_decided(["drop hub 0", *OTHER_HUB], [(second(), NO_HUB), (second(0), NO_HUB), (second(1), DONE)])
+    section("a pool's hub is a whole number of 32 bits", "It is the last field that is read.")
+    hub = lambda text: ("PUT", "/pools/2", second()[2][:-1] + f',"hub":{text}}}')
+    are_decided(OTHER_HUB, [(hub("1"), DONE), *((hub(text), (400, "value", "hub")) for text in ("-1", "4294967296", '"1"', "1.0", "null", "[]", "true")),
+                            (("PUT", "/pools/2", '{"hub":null,"first":"x"}'), (400, "value", "first")), (("PUT", "/pools/2", '{"hub":1}'), (400, "field", "first"))])
+    section("a pool is shown with its hub, and goes with the row that names it", "")
+    shown_far = {**SHOWN_POOL, "first": "10.65.0.10", "hub": 1, "last": "10.65.0.99", "relay": "10.65.0.1"}
+    are_decided([*OTHER_HUB, *OTHER_POOL], [(show("/pools/2"), (200, "", compact(shown_far))), (show("/pools/1"), (200, "", compact(SHOWN_POOL))), (show("/pools/3"), NO_ROW)])
+    is_done([*OTHER_HUB, *OTHER_POOL], remove("/pools/2"), with_rows(*OTHER_HUB))
+    is_done([*OTHER_HUB, *OTHER_POOL], remove("/pools/1"), with_rows(*OTHER_HUB, *OTHER_POOL, without=["pool 1"]))
+    orders()
+
+
+def orders():
+    """Of two broken rules the first is told: each rule alone, and with the next."""
+    most = [f"pool {number} {ip(number)} {ip(number)} 24 10.64.0.1 {ip(number)}" for number in range(2, 65)]
+    section("the rules of a pool in their order: its size, addresses, relay, hub, leases, and how many there are", "Each alone, and with the next.")
+    are_decided([], [(put_pool(2, 6, 5, 2), SIZE), (put_pool(2, LAST, FIRST, 2), SIZE), (put_pool(2, LAST, LAST, 2), overlaps(1)), (put_pool(2, LAST, LAST, RELAY), overlaps(1)),
+                     (put_pool(2, 5, 6, RELAY), taken(1)), (put_pool(2, 5, 6, RELAY, 9), taken(1)), (put_pool(2, 5, 6, 2, 9), NO_HUB)])
+    live = ["lease 10.64.0.10 declined t+1"]
+    are_decided(live, [(put_pool(1, FIRST + 1, LAST, RELAY, 9), NO_HUB), (put_pool(1, FIRST + 1, LAST, RELAY), lost(FIRST)), (put_pool(1, FIRST, LAST, RELAY, 9), NO_HUB)])
+    are_decided(most, [(put_pool(65, 5_000, 5_000, 5_000), limit(64)), (put_pool(65, 5_000, 5_000, 5_000, 9), NO_HUB), (put_pool(64, 64, 64, 64, 9), NO_HUB)])
+    section("the rules of a hub in their order: its values, and how many there are", "")
+    are_decided(["repeat 1 63 hub # 10.0.0.3 6f74686572 0 60 0.0.0.0"],
+                [(put_hub(64), limit(64)), (put_hub(64, lease=59), site_field(3)), (put_hub(64, offset=86_401), site_field(4)), (put_hub(63), DONE), (put_hub(0), DONE)])
+
+
+# The office as earlier days left it: its one site is a row of its own.
+EARLIER = ["drop hub 0", "site 10.0.0.2 736563726574 3600 86400 0.0.0.0"]
+
+
+def earlier_days():
+    section("the site of earlier days becomes the hub 0 when an office opens", "All other rows stay. No turns are taken; a second start finds nothing to do.")
+    lease = [f"lease 10.64.0.10 bound {mac(0xEE)} t+120", f"held {mac(0xEE)} 10.64.0.10"]
+    for more in ([], lease, [f"add-on 7 0 {TREES['boost']}", f"batch 1 modems 2 {'00' * 16}", "pool 2 10.65.0.10 10.65.0.99 24 10.64.0.1 10.65.0.1"]):
+        run("", ["office", *EARLIER, *more, "show tables", turns(0)], outcome(tables=with_rows(*more)))
+        run("", ["show tables", turns(0)], outcome(tables=with_rows(*more)), again=True)
+    run("a site alone", [EARLIER[1], "show tables", turns(0)], outcome(tables=OFFICE[:1]))
+    run("no rows", ["show tables", turns(0)], outcome(tables=[]))
+    run("other values", ["site 0.0.0.9 736563 -1 60 0.0.0.7", "show tables", turns(0)], outcome(tables=["hub 0 0.0.0.9 736563 -1 60 0.0.0.7"]))
+    section("a site beside hubs isn't opened, and nothing is changed", "")
+    for more in (["hub 0 10.0.0.2 736563726574 3600 86400 0.0.0.0"], OTHER_HUB, ["pool-hub 1 1"]):
+        run("", ["office", *EARLIER, *more, "show tables", turns(0)], outcome(2, ["tables refused site"], tables=with_rows(EARLIER[1], *more, without=["hub 0"])))
+    section("words that open no tables leave the site of earlier days", "")
+    run("", ["office", *EARLIER, "show tables", "words serve"], outcome(1, ["words refused"], tables=with_rows(EARLIER[1], without=["hub 0"])))
+    run("", ["office", *EARLIER, "show tables", f"words seal {SECRET}", "source 030101ff"],
+        outcome(raw=sealed(b"\x03\x01\x01\xff", b"secret"), tables=with_rows(EARLIER[1], without=["hub 0"])))
+    section("an opening in which the keeper fails leaves the site of earlier days", "Each call of the keeper fails in turn, the commit of the opening among them.")
+    run("", ["office", *EARLIER, "fails each keeper", "show tables", turns(0)], outcome(tables=OFFICE),
+        outcome(3, ["keeper refused"], tables=with_rows(EARLIER[1], without=["hub 0"])))
+    section("after the opening an office of earlier days serves as another", "Its site is shown as the hub 0 too, and named by its pools.")
+    shown_site = {"lease": 86400, "log": "0.0.0.0", "offset": 3600, "server": "10.0.0.2"}
+    are_decided(EARLIER, [(show("/site"), (200, "", compact(shown_site))), (show("/hubs/0"), (200, "", compact(shown_site))), (remove("/hubs/0"), in_use(1)),
+                          (show("/pools/1"), (200, "", compact(SHOWN_POOL))), (put_pool(1, FIRST, LAST, RELAY, 1), NO_HUB), (put_hub(1), DONE)])
+    is_done(EARLIER, put_hub(1), with_rows(*OTHER_HUB))
 
 
 def pools():
@@ -673,7 +812,7 @@ def moments():
 
 def limits():
     section("there may be only so many rows of a kind, and a row that is there may be put again",
-            "200,000 subscribers and modems, 100,000 add-ons, 1,000 classes, 64 pools. The last that may come is put, and the next is refused.")
+            "200,000 subscribers and modems, 100,000 add-ons, 1,000 classes, 64 pools, 64 hubs. The last that may come is put, and the next is refused.")
     is_full(['repeat 1000 200997 subscriber # active 2 "Ann"'],
             [(put_subscriber(8), DONE), (put_subscriber(9), limit(200_000)), (put_subscriber(7), DONE), (remove("/subscribers/8"), DONE), (put_subscriber(9), DONE)])
     is_full(['repeat 0 199997 modem 0300% 7 1 "SN01"'],
@@ -685,6 +824,9 @@ def limits():
     is_full([f'repeat 2 999 class # "gold" {TREES["gold"]}'], [(put_class(9_999, "gold"), DONE), (put_class(9_998, "gold"), limit(1_000)), (put_class(2, "gold"), DONE)])
     others = [f"pool {number} {ip(number)} {ip(number)} 24 10.64.0.1 {ip(number)}" for number in range(2, 64)]
     is_full(others, [(put_pool(9_999, 9_999, 9_999, 9_999), DONE), (put_pool(9_998, 9_998, 9_998, 9_998), limit(64)), (put_pool(2, 2, 2, 2), DONE)])
+    is_full(["repeat 1 62 hub # 10.0.0.3 6f74686572 0 60 0.0.0.0"],
+            [(put_hub(9_999), DONE), (put_hub(9_998), limit(64)), (put_hub(0), DONE), (put_hub(5), DONE), (remove("/hubs/5"), DONE), (put_hub(9_998), DONE),
+             (put_hub(9_997), limit(64))])
 
 
 def main():
@@ -699,6 +841,8 @@ def main():
     openings()
     judging()
     customers()
+    hubs()
+    earlier_days()
     pools()
     clerks_leases()
     removals()

@@ -19,11 +19,17 @@ BAD = [
     ("a holder's address has no fifth byte", "0802aabbccddee", "0a40000a00"),
     ("a row has bytes", "0200000007", "-"),
     ("a kind of key is at least 1", "00", "0a"),
-    ("a kind of key is at most 9", "0a00000007", "0a"),
+    ("a kind of key is at most 13", "0e00000007", "0a"),
     ("a key has all bytes of its number", "02000007", "010203416e6e"),
     ("a key has no byte behind its number", "020000000700", "010203416e6e"),
     ("a site's secret is as long as it says", "01", "0a0000024173656372657400000e100001518000000000"),
     ("a site has no byte behind its fields", "01", SITE + "00"),
+    ("a hub's secret is as long as it says", "0a00000007", "0a0000024173656372657400000e100001518000000000"),
+    ("a hub has all its fields", "0a00000007", SITE[:-2]),
+    ("a hub has no byte behind its fields", "0a00000007", SITE + "00"),
+    ("a hub's key has its number", "0a", SITE),
+    ("the number of a pool's hub has four bytes", "0b00000001", "000001"),
+    ("the number of a pool's hub has no fifth byte", "0b00000001", "0000000100"),
     ("a subscriber is active or not", "0200000007", "020203416e6e"),
     ("a name is as long as it says", "0200000007", "010204416e6e"),
     ("a name is UTF-8", "0200000007", "010203416eff"),
@@ -76,6 +82,13 @@ def main():
         told_of_cells += f"run {title}\nstatus 3\n| keeper refused\n"
     cells += f"office\ncell 0200000009 010203416e6e\nshow tables\nrun a cell that is a row is one\n"
     told_of_cells += "run a cell that is a row is one\nstatus 0\n" + ROWS
+    # The site of earlier days becomes the hub 0; no other cell changes.
+    cells += f"office\ndrop hub 0\ncell 01 {SITE}\ncell 0200000009 010203416e6e\nshow tables\nrun a cell of the site of earlier days is moved\n"
+    told_of_cells += "run a cell of the site of earlier days is moved\nstatus 0\n" + ROWS
+    cells += f"office\ncell 01 {SITE}\nrun a cell of it beside a hub is refused\n"
+    told_of_cells += "run a cell of it beside a hub is refused\nstatus 2\n| tables refused site\n"
+    cells += f"office\ncell 0a00000001 {SITE}\ncell 0b00000001 00000001\ncell 0200000009 010203416e6e\nshow tables\nrun cells of a hub and of a pool's hub\n"
+    told_of_cells += f"run cells of a hub and of a pool's hub\nstatus 0\n{ROWS}row hub 1 10.0.0.2 736563726574 3600 86400 0.0.0.0\nrow pool-hub 1 1\n"
     files = {"stdin": both + "\n" + IN_CELLS + cells + "\n" + ALONE + alone, "stdout": told_of_both + told_of_cells + told_of_alone}
     where = CRATES / "store_script"
     if sys.argv[1:] == ["check"]:
@@ -85,12 +98,12 @@ def main():
     return 0
 
 
-ROWS = """row site 10.0.0.2 736563726574 3600 86400 0.0.0.0
-row subscriber 7 active 2 "Ann"
+ROWS = """row subscriber 7 active 2 "Ann"
 row subscriber 9 active 2 "Ann"
 row modem 02aabbccddee 7 1 "SN01"
 row class 1 "gold" 24{ 1=0001 6=07 8=00989680 } 25{ 1=0002 6=07 8=05f5e100 }
 row pool 1 10.64.0.10 10.64.0.99 24 10.64.0.1 10.64.0.1
+row hub 0 10.0.0.2 736563726574 3600 86400 0.0.0.0
 """
 
 if __name__ == "__main__":

@@ -152,8 +152,9 @@ class Rows:
     def __init__(self, office):
         self.office = office
 
-    def site_secret(self):
-        return self.office.site()["secret"]
+    def secret_at(self, held):
+        """The secret of an address's hub."""
+        return self.office.site_at(held)["secret"]
 
     def words(self, kind, *key):
         row = self.office.kept.get((kind, *key))
@@ -174,7 +175,7 @@ class Rows:
         numbers = [key[2] for key in self.office.kept if key[:2] == ("add-on", modem[2])]
         add_ons = {int(number): self.settings("add-on", modem[2], number) for number in numbers}
         profile = profile_of(subscriber[2] == "active", int(subscriber[3]), self.settings("class", modem[3]), add_ons)
-        return file_of(profile, moment, held, self.site_secret())
+        return file_of(profile, moment, held, self.secret_at(held))
 
 
 # ---- transfers
@@ -251,7 +252,7 @@ class Transfers:
         subscriber = self.rows.subscriber_of(owner)
         if subscriber is None:
             return self.refused(peer, "agreement", 2, "no longer agreed")
-        if name != name_of(self.rows.site_secret(), owner, held):
+        if name != name_of(self.rows.secret_at(held), owner, held):
             return self.refused(peer, "name", 1, "file not found")
         if old is None and len(self.live) >= MOST_TRANSFERS:
             return self.refused(peer, "full", 0, "too many transfers")
@@ -261,7 +262,7 @@ class Transfers:
     def agrees(self, peer, transfer):
         held = address(peer.split(":")[0])
         return (self.holder(held) == transfer.mac and self.rows.subscriber_of(transfer.mac) == transfer.subscriber
-                and transfer.name == name_of(self.rows.site_secret(), transfer.mac, held))
+                and transfer.name == name_of(self.rows.secret_at(held), transfer.mac, held))
 
     def acknowledged(self, peer, number):
         transfer = self.live.get(peer)

@@ -7,10 +7,10 @@ import hashlib
 import hmac
 import itertools
 
-from examples import answered, compact, datagram, ip, outcome, quoted
+from examples import answered, compact, datagram, ip, outcome, quoted, verdict
 from examples import request as asked_over_http
-from leases import (A, HELD, MAC, MOST, OTHER, SECOND, Clerk, Disagreement, Office, Player, address, declines, discover, leased, mac, modem_row, name_of,
-                    put_site, releases, remove, renews, selects)
+from leases import (A, BEHIND, HELD, HUBS, MAC, MOST, OTHER, SECOND, THERE, Clerk, Disagreement, Office, Player, address, declines, discover, leased, mac, modem_row,
+                    name_of, put_hub, put_pool, put_site, releases, remove, renews, selects)
 import leases
 from tftp import ERROR, OPTIONS, WRITE, Transfers, acknowledgement, data, error, extensions, headed, options, request, tree_in, tree_json
 
@@ -177,18 +177,18 @@ class TransferPlayer(Player):
     def section(self, title, *sources):
         self.script.section(title, *([source for source in sources if source] or [MODEL]))
 
+    def written(self, events):
+        return [line_of(turn, moment, what) for turn, (moment, _, what) in enumerate(events, 1)]
+
     def lines(self, rows, lines, events):
-        return ["office", *rows, *lines, *(line_of(turn, moment, what) for turn, (moment, _, what) in enumerate(events, 1))]
+        return ["office", *rows, *lines, *self.written(events)]
 
     def play(self, remark, events, rows=HELD, lines=(), tables=False, model_rows=None, calls=None):
         """A run of events over the office's rows and others. Where the script writes many rows as one, `model_rows` has them singly. `calls` are those of the
-        keeper behind the opening, which puts the rows by one, reads each, and that there is none behind the last; then the pools again, and the leases, each with
-        the row that comes behind them, or that there is none."""
+        keeper after the opening."""
         whole = [*self.rows, *(model_rows or rows)]
         made = played(whole, events)
-        rows_there = Office(whole).rows()
-        again = sum(row.split()[0] in ("pool", "lease") for row in rows_there)
-        opening = 2 + len(rows_there) + again + 2
+        opening = leases.calls_of_opening(Office(whole).rows())
         expected = outcome(wrote=made.wrote, sent=made.sent, tables=made.office.rows() if tables else None, calls=calls and opening + calls)
         shows = [*(["show tables"] if tables else []), *(["show calls"] if calls else [])]
         self.script.run(remark, self.lines(rows, [*lines, *shows], events), expected)
@@ -304,7 +304,7 @@ def changing(player):
     player.play("the secret is another", [
         *WHOLE[:2], ("t", "", put_site(secret=b"Secret")), *gone, ("t+1", "name", reads(44)), ("t+1", "oack", reads(44, secret=b"Secret")),
         ("t+1", "block 1", acks(0)), ("t+1", "block 2", acks(1))])
-    player.play("the site is another, and its secret isn't", [*WHOLE[:2], ("t", "", put_site(server="10.0.0.9", offset=0, lease=60)), *WHOLE[2:]])
+    player.play("the hub is another, and its secret isn't", [*WHOLE[:2], ("t", "", put_site(server="10.0.0.9", offset=0, lease=60)), *WHOLE[2:]])
     player.play("the lease is released", [*WHOLE[:2], ("t", "released", releases()), *gone, ("t+1", "no-lease", reads(44))])
     player.play("the address is declined", [*WHOLE[:2], ("t", "declined", declines()), *gone])
     short = leased("bound", A, 0xEE, "t+2")
@@ -326,6 +326,63 @@ def changing(player):
     player.play("who is told no more gives up its own file alone", [
         ("t", "block 1", reads()), ("t", "block 1", reads(port=PORT + 1)), ("t", "oack", reads(44, last=1, held=B)), ("t", "released", releases()),
         ("t", "done", acks(1)), ("t", "block 1", acks(0, held=B)), ("t", "done", acks(1, port=PORT + 1)), ("t", "block 2", acks(1, held=B))], rows=BOTH)
+
+
+def file_in(made, peer):
+    """The file that a run sent to a peer: what its blocks have, each once."""
+    packets = (bytes.fromhex(each.split(" ")[-1]) for each in got(made, peer))
+    return b"".join(block for _, block in sorted({packet[2:4]: packet[4:] for packet in packets if packet[:2] == headed(3, b"")}.items()))
+
+
+def is_signed_by(file, secret, other):
+    """Both checks of the file are right under the one secret, and that for the CMTS isn't under the other."""
+    if (verdict(file, secret), verdict(file, other)) != ((True, True), (True, False)):
+        raise Disagreement(f"{file.hex()} isn't signed by {secret}")
+
+
+def by_hubs(player):
+    """Two hubs: the secret of a file and of its name is that of the hub of its modem's address."""
+    other = {"held": THERE, "secret": b"other"}
+    held = [*HUBS, *leased("bound", THERE, 0xEE, "t+1000")]
+    there = [("t", "oack", reads(44, **other)), *(("t", word, acks(int(word.split(" ")[-1]) - 1 if word != "done" else 3, held=THERE)) for _, word, _ in WHOLE[1:])]
+    player.section("a file is signed by the secret of its address's hub, and so is its name", "Its checks by hashlib and hmac: right under that secret, and not under the other hub's.")
+    made = player.play("at hub 1", [("t", "name", reads(44, held=THERE)), *there], rows=held, tables=True)
+    is_signed_by(file_in(made, f"{THERE}:{PORT}"), b"other", b"secret")
+    made = player.play("at hub 0", [("t", "name", reads(44, secret=b"other")), *WHOLE], rows=[*HUBS, *HELD])
+    is_signed_by(file_in(made, f"{A}:{PORT}"), b"secret", b"other")
+    both = [*HUBS, SECOND, *HELD, *leased("bound", THERE, 1, "t+1000")]
+    second = [("t", "oack", reads(44, last=1, **other)), *(("t", word, acks(int(word.split(" ")[-1]) - 1, held=THERE)) for word in ("block 1", "block 2", "block 3"))]
+    made = player.play("two modems by turns", [event for pair in zip(WHOLE, second) for event in pair], rows=both)
+    is_signed_by(file_in(made, f"{A}:{PORT}"), b"secret", b"other")
+    is_signed_by(file_in(made, f"{THERE}:{PORT}"), b"other", b"secret")
+    player.section("a transfer ends at its next acknowledgement when its pool goes to a hub of another secret", "The lease stays; the name is another's now. Under one secret it goes on.")
+    moved = put_pool(1, A, "10.64.0.99", hub=1)
+    gone = [("t+1", "agreement", acks(1)), ("t+1", "unknown", acks(1)), ("t+1", "name", reads(44))]
+    made = player.play("the pool is moved", [
+        *WHOLE[:2], ("t", "", moved), *gone, ("t+2", "ack", renews()), ("t+2", "oack", reads(44, secret=b"other")), ("t+2", "block 1", acks(0)), ("t+2", "block 2", acks(1)),
+        ("t+2", "block 3", acks(2)), ("t+2", "done", acks(3))], rows=[*HUBS, *HELD])
+    is_signed_by(file_in(made, f"{A}:{PORT}"), b"other", b"secret")
+    player.play("before its first block", [WHOLE[0], ("t", "", moved), ("t", "again", reads(44)), ("t", "agreement", acks(0))], rows=[*HUBS, *HELD])
+    player.play("moved, and moved back", [*WHOLE[:2], ("t", "", moved), ("t", "", put_pool(1, A, "10.64.0.99")), *WHOLE[2:]], rows=[*HUBS, *HELD])
+    player.play("to a hub of the same secret", [
+        *WHOLE[:2], ("t", "", put_hub(1, "10.0.0.3", lease=60)), ("t", "", moved), ("t+1", "block 2", acks(1)), ("t+1", "", remove("/hubs/0")), ("t+1", "block 3", acks(2)),
+        ("t+1", "done", acks(3)), ("t+1", "oack", reads(45))], rows=HELD)
+    player.play("a move that is refused", [*WHOLE[:2], ("t", "no-hub", put_pool(1, A, "10.64.0.99", hub=9)), *WHOLE[2:]], rows=HELD)
+    player.play("the last block is acknowledged all the same", [*WHOLE[:4], ("t", "", moved), ("t", "done", acks(3))], rows=[*HUBS, *HELD])
+    player.play("a Tick sends it again all the same", [
+        *WHOLE[:2], ("t", "", moved), ("t+2", "again 1 closed 0", TICK), ("t+2", "agreement", acks(1))], rows=[*HUBS, *HELD])
+    player.play("another hub's secret", [
+        WHOLE[0], ("t", "oack", reads(44, last=1, **other)), ("t", "", put_hub(1, "10.0.0.3", b"Other")), *WHOLE[1:], ("t", "agreement", acks(0, held=THERE)),
+        ("t", "name", reads(44, last=1, **other)), ("t", "oack", reads(44, last=1, held=THERE, secret=b"Other"))], rows=both)
+    player.play("the hub 0's secret", [
+        WHOLE[0], *second[:2], ("t", "", put_site(secret=b"Secret")), ("t", "agreement", acks(0)), *second[2:], ("t", "oack", reads(44, secret=b"Secret"))], rows=both)
+    player.section("a body that is kept serves its modem at another hub too", "It has no secret in it; only what stands behind it is signed anew.")
+    made = player.play("", [
+        *WHOLE, ("t", "offer", discover(relay=BEHIND)), ("t", "ack", selects(THERE, server="10.0.0.3", relay=BEHIND)), *there], rows=[*HUBS, *HELD])
+    is_signed_by(file_in(made, f"{THERE}:{PORT}"), b"other", b"secret")
+    player.section("files of an office of earlier days are as before", "Its one site is the hub 0.")
+    now = player.play("after the opening", [*WHOLE, ("t", "ack", renews())], tables=True)
+    player.migrates("the same from earlier days", [*WHOLE, ("t", "ack", renews())], now, rows=HELD)
 
 
 def several(player):
@@ -632,7 +689,7 @@ def crowding(player):
     player.play("all are closed", [*everyone, *ends], rows=[*many, *wide], model_rows=[*single, *wide], lines=["room link 2000 200000"])
 
 
-# A request reads the lease of its address, the modem and the site; for a body that isn't kept the subscriber, the class and eight add-ons besides. So does the
+# A request reads the lease of its address, the modem and the hub; for a body that isn't kept the subscriber, the class and eight add-ons besides. So does the
 # acknowledgement of a block that isn't the last, but for the latter.
 JUDGED, BUILT = 3, 10
 
@@ -753,5 +810,5 @@ def failing(player):
 def sections(script, rows):
     """Writes the sections, over an office of these rows."""
     player = TransferPlayer(script, rows)
-    for write in (worked, changing, several, asking_again, ticking, reading_packets, negotiating, refusing, crowding, keeping, isolated, failing):
+    for write in (worked, changing, by_hubs, several, asking_again, ticking, reading_packets, negotiating, refusing, crowding, keeping, isolated, failing):
         write(player)

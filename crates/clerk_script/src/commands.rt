@@ -5,7 +5,7 @@ use crate::faults::show_fault;
 use off_base::{Bytes, NoMemory};
 use off_clerk::{CommandErr, Fault, command_of, reply_json};
 use off_defs::{Command, Hold, ImportKind, Key, Lease, Reply, ShownRow};
-use script_words::{Line, Page, Unread, show_key, show_seen};
+use script_words::{Line, Page, Unread, show_key, show_seen, show_seen_pool};
 use std::alloc::Global;
 
 /// `ask PUT /site {"server":..}`: what is asked, and for a row that is put how it is shown again,
@@ -90,7 +90,7 @@ fn as_shown(command: Command) -> Reply
     requires { IsTrue (is_sound command) }
 {
     match command {
-        Command::SetSite(site) => Reply::Shown(Key::Site, ShownRow::Site(site)),
+        Command::PutHub(number, site) => Reply::Shown(Key::Hub(number), ShownRow::Site(site)),
         Command::PutSubscriber(number, row) => {
             Reply::Shown(Key::Subscriber(number), ShownRow::Subscriber(row))
         }
@@ -99,19 +99,25 @@ fn as_shown(command: Command) -> Reply
         }
         Command::PutModem(mac, row) => Reply::Shown(Key::Modem(mac), ShownRow::Modem(row)),
         Command::PutClass(number, row) => Reply::Shown(Key::Class(number), ShownRow::Class(row)),
-        Command::PutPool(number, row) => Reply::Shown(Key::Pool(number), ShownRow::Pool(row)),
+        Command::PutPool(pool, row, hub) => Reply::ShownPool { pool, row, hub },
         _ => Reply::Done,
     }
 }
 
 fn show_put(alloc: Global, page: &mut Page, reply: &Reply) -> Result<(), Unread> {
-    let Reply::Shown(key, row) = reply else {
-        return Err(Unread::Words);
-    };
     page.text("put ")?;
-    show_seen(page, key, row)?;
+    show_shown(page, reply)?;
     page.text("; ")?;
     show_reply(page, reply_json(alloc, reply))
+}
+
+// The row that a reply shows.
+fn show_shown(page: &mut Page, reply: &Reply) -> Result<(), Unread> {
+    match reply {
+        Reply::Shown(key, row) => Ok(show_seen(page, key, row)?),
+        Reply::ShownPool { pool, row, hub } => Ok(show_seen_pool(page, *pool, row, *hub)?),
+        _ => Err(Unread::Words),
+    }
 }
 
 fn show_reply(page: &mut Page, text: Result<Bytes, NoMemory>) -> Result<(), Unread> {

@@ -9,7 +9,9 @@ use off_clerk::Fault;
 use off_defs::{Command, Reply, Write};
 use off_keepmem::MemKeeper;
 use off_rows::sound;
-use script_words::{Line, Page, Unread, read_command, show_key, show_row, show_seen};
+use script_words::{
+    Line, Page, Unread, read_command, show_key, show_row, show_seen, show_seen_pool,
+};
 use std::alloc::Global;
 
 /// `decide t remove pool 1; ROW; ROW`: what is to be written at a command over these rows, what is
@@ -105,6 +107,10 @@ fn show_answer(page: &mut Page, reply: &Reply) -> Result<(), NoMemory> {
         Reply::Shown(key, row) => {
             page.text("shown ")?;
             show_seen(page, key, row)
+        }
+        Reply::ShownPool { pool, row, hub } => {
+            page.text("shown ")?;
+            show_seen_pool(page, *pool, row, *hub)
         }
         Reply::Rows(count) => page.number(u64::from(*count)),
     }

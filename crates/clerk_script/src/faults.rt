@@ -62,6 +62,7 @@ fn read_kind(word: &[u8]) -> Result<Kind, Unread> {
         b"classes" => Ok(Kind::Classes),
         b"pools" => Ok(Kind::Pools),
         b"batches" => Ok(Kind::Batches),
+        b"hubs" => Ok(Kind::Hubs),
         _ => Err(Unread::Words),
     }
 }

@@ -23,7 +23,7 @@ fn an_impossible_row_is_none(rt: HostRuntime) -> Result<(), Fail> {
             "class 1 \"gold\" 24{ 1=0001 6=07 } 25{ 1=0002 6=07 }",
             Answer::Done(1),
         ),
-        ("pool 3 0.0.0.0 0.0.0.9 24 0.0.0.1 0.0.0.3", Answer::Done(1)),
+        ("pool 3 0.0.0.0 0.0.0.9 24 0.0.0.1 0.0.0.3", Answer::Done(2)),
     ] {
         assert_eq!(rt; answers(alloc, &mut keeper, &counts, row)?, wanted, "{row}");
     }
@@ -42,7 +42,7 @@ fn the_office_does_a_command(rt: HostRuntime) -> Result<(), Fail> {
     };
     for (at, command, done) in [
         (NOW + 50, Command::Remove(Key::Pool(1)), false),
-        (NOW + 100, Command::Show(Key::Site), true),
+        (NOW + 100, Command::Show(Key::Hub(0)), true),
         (NOW + 50, Command::Remove(Key::Pool(1)), true),
         (NOW, Command::Show(Key::Lease(Ip4(0x0a40_000a))), false),
         (

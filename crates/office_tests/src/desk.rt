@@ -15,7 +15,7 @@ use std::test::Fail;
 pub(crate) const NOW: u64 = 1_700_000_000;
 
 /// The office of the worked examples, a row a line.
-pub(crate) const OFFICE: &str = "site 10.0.0.2 736563726574 3600 86400 0.0.0.0
+pub(crate) const OFFICE: &str = "hub 0 10.0.0.2 736563726574 3600 86400 0.0.0.0
 class 1 \"gold\" 24{ 1=0001 6=07 } 25{ 1=0002 6=07 }
 subscriber 7 active 2 \"Ann\"
 modem 02aabbccddee 7 1 \"SN01\"
@@ -60,7 +60,7 @@ fn command_of(key: Key, row: Row) -> Option<Command>
         (Key::AddOn(owner, number), Row::AddOn(row)) => Some(Command::PutAddOn(owner, number, row)),
         (Key::Modem(mac), Row::Modem(row)) => Some(Command::PutModem(mac, row)),
         (Key::Class(number), Row::Class(row)) => Some(Command::PutClass(number, row)),
-        (Key::Pool(number), Row::Pool(row)) => Some(Command::PutPool(number, row)),
+        (Key::Pool(number), Row::Pool(row)) => Some(Command::PutPool(number, row, 0)),
         _ => None,
     }
 }
@@ -75,7 +75,7 @@ pub(crate) fn is_import(command: &Command) -> bool
     }
 }
 
-/// The command that puts a row.
+/// The command that puts a row; a pool's hub is the hub 0.
 pub(crate) fn put(alloc: Global, row: &str) -> Result<Option<Command>, Unread>
     ensures { IfOk result (λ asked. IfSome asked (λ c. is_import c ≡ false)) }
 {
@@ -89,6 +89,7 @@ fn answer_of(planned: &Result<Planned, AccountErr>) -> Answer {
     match planned {
         Ok(planned) => match planned.reply {
             Reply::Shown(_, _) => Answer::Shown,
+            Reply::ShownPool { .. } => Answer::Shown,
             _ => Answer::Done(planned.writes.len()),
         },
         Err(AccountErr::Refused { rule, .. }) => Answer::Refused(*rule),

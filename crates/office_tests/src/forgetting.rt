@@ -71,9 +71,9 @@ fn drilled(
     Ok(status == 0 && out.written() == line.as_bytes() && link.sent_len() == items)
 }
 
-// Of a keeper that keeps nothing the command for the modem is refused, since there is no
-// subscriber, and goes by; no DISCOVER has an offer, and the rest of its modem's steps are left
-// out.
+// Of a keeper that keeps nothing the commands for the pool and for the modem are refused, since
+// there is no hub and no subscriber, and go by; no DISCOVER has an offer, and the rest of its
+// modem's steps are left out.
 #[test]
 fn a_drill_goes_by_what_is_refused(rt: HostRuntime) -> Result<(), Fail> {
     let line = "drill 2 offers 0 acks 0 files 0 blocks 0 octets 0\n";
@@ -82,7 +82,7 @@ fn a_drill_goes_by_what_is_refused(rt: HostRuntime) -> Result<(), Fail> {
     Ok(())
 }
 
-// The site, the class, the pool, the subscriber, the modem, the offer and the lease are kept; the
+// The hub, the class, the pool, the subscriber, the modem, the offer and the lease are kept; the
 // lease is found for the read request, and not for its first acknowledgement. So the transfer is
 // broken off, and each of 200 acknowledgements is answered by an error.
 #[test]

@@ -1,5 +1,5 @@
-//! What is kept of free addresses, behind random writes and at moments that rise and fall: each
-//! answer is the one that plain reading of the rows gives, and a DISCOVER is offered the address
+//! What is kept of pools, their hubs and free addresses, behind random writes and at moments that
+//! rise and fall: each answer is the one that plain reading of the rows gives, and a DISCOVER is offered the address
 //! that plain reading chooses.
 
 ghost use Rattle.std.specs.Prelude.{◌≤◌};
@@ -60,7 +60,7 @@ fn relay(number: u32) -> Ip4 {
 
 // ---- random writes
 
-// The pool is put with some of its stretch's addresses, which lose their leases.
+// The pool is put with some of its stretch's addresses, which lose their leases, and with a hub.
 fn push_pool(writes: &mut Writes, number: u32, stretch: u32, seed: u64) -> Result<(), NoMemory> {
     let pool = Pool {
         first: address(stretch, part(seed, 4)),
@@ -70,7 +70,24 @@ fn push_pool(writes: &mut Writes, number: u32, stretch: u32, seed: u64) -> Resul
         relay: relay(number),
     };
     writes.push(Write::Put(Key::Pool(number), Row::Pool(pool)))?;
+    writes.push(hub_write(number, part(next_seed(next_seed(seed)), 3)))?;
     drop_leases(writes, stretch)
+}
+
+// A pool's row names its hub where it isn't the hub 0.
+fn hub_write(number: u32, hub: u32) -> Write {
+    let key = Key::PoolHub(number);
+    if hub == 0 {
+        Write::Drop(key)
+    } else {
+        Write::Put(key, Row::PoolHub(hub))
+    }
+}
+
+// The pool is removed, with the row that names its hub.
+fn drop_pool(writes: &mut Writes, number: u32) -> Result<(), NoMemory> {
+    writes.push(Write::Drop(Key::Pool(number)))?;
+    writes.push(Write::Drop(Key::PoolHub(number)))
 }
 
 fn drop_leases(writes: &mut Writes, stretch: u32) -> Result<(), NoMemory> {
@@ -120,7 +137,7 @@ fn push_held(writes: &mut Writes, stretch: u32, seed: u64) -> Result<(), NoMemor
 }
 
 impl World {
-    // Tables with a site and a modem, and no pools.
+    // Tables with three hubs and a modem, and no pools.
     fn new(alloc: Global) -> Result<World, KeepErr> {
         let mut keeper = MemKeeper::new(alloc, Calls::new(alloc));
         let rows = first_rows(alloc)?;
@@ -161,11 +178,11 @@ impl World {
         match kind {
             0 => self.trade(&mut writes)?,
             1 => {
-                writes.push(Write::Drop(Key::Pool(number)))?;
+                drop_pool(&mut writes, number)?;
                 drop_leases(&mut writes, self.home(number))?;
             }
             2 => {
-                writes.push(Write::Drop(Key::Pool(number)))?;
+                drop_pool(&mut writes, number)?;
                 push_pool(&mut writes, number, self.home(number), seed)?;
             }
             3 | 4 => push_pool(&mut writes, number, self.home(number), seed)?,
@@ -214,8 +231,10 @@ impl World {
 
 fn first_rows(alloc: Global) -> Result<Writes, NoMemory> {
     let mut writes = Writes::new(alloc);
-    if let Some(site) = site_row() {
-        writes.push(Write::Put(Key::Site, site))?;
+    for number in 0..3 {
+        if let Some(site) = site_row() {
+            writes.push(Write::Put(Key::Hub(number), site))?;
+        }
     }
     if let Some(modem) = modem_row() {
         writes.push(Write::Put(Key::Modem(MODEM), modem))?;
@@ -231,6 +250,15 @@ fn pool_in(alloc: Global, keeper: &mut MemKeeper, number: u32) -> Result<Option<
     Ok(match &row {
         Some(Row::Pool(pool)) => Some(*pool),
         _ => None,
+    })
+}
+
+// The number of a pool's hub.
+fn hub_in(alloc: Global, keeper: &mut MemKeeper, number: u32) -> Result<u32, KeepErr> {
+    let row = keeper.get(alloc, &Key::PoolHub(number))?;
+    Ok(match &row {
+        Some(Row::PoolHub(hub)) => *hub,
+        _ => 0,
     })
 }
 
@@ -355,11 +383,15 @@ fn given(reply: &[u8]) -> Option<Ip4> {
     }
 }
 
-// Whether pools and addresses are told as plain reading finds them.
+// Whether pools, their hubs and addresses are told as plain reading finds them.
 fn tells(alloc: Global, world: &mut World) -> Result<bool, KeepErr> {
     for number in 1..4 {
         let pool = pool_in(alloc, &mut world.keeper, number)?;
         let behind = pool.map(|_pool| number);
+        let hub = hub_in(alloc, &mut world.keeper, number)?;
+        if world.runs.hub_of(number) != pool.map(|_pool| hub) {
+            return Ok(false);
+        }
         let least = match &pool {
             Some(pool) => least_in(alloc, &mut world.keeper, world.now, pool)?,
             None => None,

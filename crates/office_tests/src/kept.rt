@@ -38,7 +38,7 @@ fn next_writes(alloc: Global) -> Result<Writes, NoMemory> {
     let mut writes = Writes::new(alloc);
     writes.push(Write::Put(HELD, Row::Held(Ip4(0x0a40_000a))))?;
     writes.push(Write::Put(LEASED, lease(2)))?;
-    writes.push(Write::Drop(Key::Site))?;
+    writes.push(Write::Drop(Key::Hub(0)))?;
     writes.push(Write::Put(ADD_ON, Row::AddOn(settings)))?;
     Ok(writes)
 }

@@ -1,4 +1,4 @@
-//! An office with one pool and one modem, and the modem's DISCOVER.
+//! An office with one hub, one pool and one modem, and the modem's DISCOVER.
 
 use off_base::{Bytes, Ip4, Mac, Moment, NoMemory, Secret, Short};
 use off_defs::{Key, Modem, Pool, Row, Site, Write, Writes};
@@ -18,7 +18,7 @@ const POOL: Pool = Pool {
     relay: RELAY,
 };
 
-/// The site, where its secret is one.
+/// The hub's row, where its secret is one.
 pub(crate) fn site_row() -> Option<Row> {
     let secret = Secret::read(b"secret")?;
     Some(Row::Site(Site {
@@ -46,7 +46,7 @@ pub(crate) fn modem_row() -> Option<Row> {
 pub(crate) fn office_rows(alloc: Global) -> Result<Writes, NoMemory> {
     let mut writes = Writes::new(alloc);
     if let Some(site) = site_row() {
-        writes.push(Write::Put(Key::Site, site))?;
+        writes.push(Write::Put(Key::Hub(0), site))?;
     }
     if let Some(modem) = modem_row() {
         writes.push(Write::Put(Key::Modem(MODEM), modem))?;

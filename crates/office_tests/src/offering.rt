@@ -82,7 +82,7 @@ fn a_modem_is_offered_an_address(rt: HostRuntime) -> Result<(), Fail> {
     Ok(())
 }
 
-// It takes four calls: the site, what the modem holds, the modem, and the lease of the address that
+// It takes four calls: the hub, what the modem holds, the modem, and the lease of the address that
 // is chosen.
 #[test]
 fn each_call_that_fails_fails_the_answer(rt: HostRuntime) -> Result<(), Fail> {

@@ -159,7 +159,7 @@ fn both_answers_are_one(rt: HostRuntime) -> Result<(), Fail> {
     Ok(())
 }
 
-// Without a walk a query by address takes two calls, the site and the lease, and one by hardware
+// Without a walk a query by address takes two calls, the hub and the lease, and one by hardware
 // address three, since what the modem holds comes first.
 #[test]
 fn each_call_that_fails_fails_a_query(rt: HostRuntime) -> Result<(), Fail> {

@@ -10,7 +10,7 @@ use off_runs::FreeRuns;
 use std::alloc::Global;
 use std::test::Fail;
 
-// It has a site; every other row that is asked for is of a wrong kind. Whatever the place, its next
+// It has each hub; every other row that is asked for is of a wrong kind. Whatever the place, its next
 // entry is a pool of the relay with one address too many, and each has the number below the last.
 #[derive(Drop)]
 struct Stray {
@@ -20,7 +20,7 @@ struct Stray {
 impl Answers for Stray {
     fn row(&mut self, _alloc: Global, key: &Key, _commits: u64) -> Option<Option<Row>> {
         Some(match key {
-            Key::Site => site_row(),
+            Key::Hub(_) => site_row(),
             _ => Some(Row::Held(Ip4(1))),
         })
     }
@@ -42,7 +42,8 @@ impl Answers for Stray {
     }
 }
 
-// The word of the answer, and how many calls that took, with those that read the pools.
+// The word of the answer, and how many calls that took, with those that read the pools and their
+// hubs.
 fn word_over(alloc: Global, keeper: &mut Silent<Stray>) -> Result<(DhcpWord, u64), KeepErr> {
     let Ok(datagram) = discover(alloc) else {
         return Err(KeepErr::Memory);
@@ -59,7 +60,7 @@ fn word_over(alloc: Global, keeper: &mut Silent<Stray>) -> Result<(DhcpWord, u64
 #[test]
 fn an_impossible_row_gives_no_lease(rt: HostRuntime) -> Result<(), Fail> {
     let mut keeper = unasked(Stray { number: 9 });
-    let expected = (DhcpWord::NoRelayPool, 5);
+    let expected = (DhcpWord::NoRelayPool, 6);
     assert_eq!(rt; word_over(rt.alloc(), &mut keeper), Ok(expected));
     Ok(())
 }

@@ -22,5 +22,5 @@ pub use line::{Line, Unread};
 pub use page::Page;
 pub use playing::{Answers, answer_all};
 pub use rows::read_key;
-pub use shown::{show_key, show_row, show_seen};
+pub use shown::{show_key, show_row, show_seen, show_seen_pool};
 pub use trees::{read_settings_of, show_settings};

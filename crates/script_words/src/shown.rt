@@ -46,6 +46,13 @@ pub fn show_seen(page: &mut Page, key: &Key, row: &ShownRow) -> Result<(), NoMem
     }
 }
 
+/// Prints a pool as a clerk is shown it: its key, its row, and the number of its hub.
+pub fn show_seen_pool(page: &mut Page, number: u32, pool: &Pool, hub: u32) -> Result<(), NoMemory> {
+    show_key(page, &Key::Pool(number))?;
+    show_pool(page, pool)?;
+    spaced(page, u64::from(hub))
+}
+
 fn spaced(page: &mut Page, number: u64) -> Result<(), NoMemory> {
     page.text(" ")?;
     page.number(number)
