@@ -105,7 +105,7 @@ def check_paths(text, api):
 
 
 # Rules of rows that no request puts yet.
-NOT_YET = {"no-hub", "hub-in-use", "device-overlap"}
+NOT_YET = {"device-overlap"}
 
 
 def check_faults(text, api):
@@ -173,7 +173,7 @@ def check_examples(text, api):
 def check_fields(text, api):
     schemas = api["components"]["schemas"]
     told = [[bare(row[0]) for row in rows[1:]] for rows in tables(text) if rows[0][0] == "Field"]
-    known = [list(schemas[name]["properties"]) for name in ("Site", "Class", "Pool", "Subscriber", "AddOn", "Modem", "Lease")]
+    known = [list(schemas[name]["properties"]) for name in ("Hub", "Class", "Pool", "Subscriber", "AddOn", "Modem", "Lease")]
     check(told == known, f"the fields: {told}")
     for name, schema in schemas.items():
         for field in schema.get("required", []):

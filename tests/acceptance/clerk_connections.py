@@ -130,16 +130,20 @@ def beyond_the_table(port):
 FLOWS = ('[{"code":24,"parts":[{"code":1,"hex":"0001"},{"code":6,"hex":"07"},{"code":8,"hex":"00989680"}]},'
          '{"code":25,"parts":[{"code":1,"hex":"0002"},{"code":6,"hex":"07"},{"code":8,"hex":"05f5e100"}]}]')
 ADDED = '[{"code":24,"parts":[{"code":1,"hex":"0005"},{"code":6,"hex":"07"}]},{"code":22,"parts":[{"code":1,"hex":"03"},{"code":3,"hex":"0005"}]}]'
-# Each row's path, the body that puts it, and what is shown of it: keys ascend, and the site's secret isn't shown.
+# Each row's path, the body that puts it, and what is shown of it: keys ascend, a hub's secret isn't shown, and a pool's hub is where none was named.
 OFFICE = [
     ("/site", '{"server":"10.0.0.2","secret":"%s","offset":3600,"lease":86400,"log":"0.0.0.0"}' % SECRET.hex(),
      '{"lease":86400,"log":"0.0.0.0","offset":3600,"server":"10.0.0.2"}'),
+    ("/hubs/1", '{"server":"10.0.0.3","secret":"%s","offset":0,"lease":60,"log":"10.0.0.9"}' % SECRET.hex(),
+     '{"lease":60,"log":"10.0.0.9","offset":0,"server":"10.0.0.3"}'),
     ("/classes/1", '{"name":"gold","settings":%s}' % FLOWS, '{"name":"gold","settings":%s}' % FLOWS),
     ("/subscribers/7", '{"active":true,"cpes":2,"name":"Ann"}', '{"active":true,"cpes":2,"name":"Ann"}'),
     ("/subscribers/7/addons/0", '{"settings":%s}' % ADDED, '{"settings":%s}' % ADDED),
     ("/modems/02:AA:bb:cc:dd:ee", '{"subscriber":7,"class":1,"serial":"SN01"}', '{"class":1,"serial":"SN01","subscriber":7}'),
     ("/pools/1", '{"first":"10.64.0.10","last":"10.64.0.99","prefix":24,"router":"10.64.0.1","relay":"10.64.0.1"}',
-     '{"first":"10.64.0.10","last":"10.64.0.99","prefix":24,"relay":"10.64.0.1","router":"10.64.0.1"}'),
+     '{"first":"10.64.0.10","hub":0,"last":"10.64.0.99","prefix":24,"relay":"10.64.0.1","router":"10.64.0.1"}'),
+    ("/pools/2", '{"first":"10.65.0.10","last":"10.65.0.99","prefix":24,"router":"10.65.0.1","relay":"10.65.0.1","hub":1}',
+     '{"first":"10.65.0.10","hub":1,"last":"10.65.0.99","prefix":24,"relay":"10.65.0.1","router":"10.65.0.1"}'),
 ]
 
 

@@ -67,7 +67,9 @@ def furnished(port, folder):
     for words, given in ((("put", "site", json.dumps(SITE)), None),
                          (("put", "/classes/1", "@" + page), None),
                          (("put", "subscribers/7", "-"), json.dumps(ANN).encode()),
-                         (("put", "pools/1", json.dumps(POOL)), None)):
+                         (("put", "pools/1", json.dumps(POOL)), None),
+                         (("put", "hubs/7", json.dumps(SITE)), None),
+                         (("delete", "hubs/7"), None)):
         found = clerk(port, *words, given=given)
         check(found[0] == 0 and json.loads(found[1]) == {"ok": True}, f"{words}: {found}")
     for _ in range(2):
@@ -99,6 +101,11 @@ REFUSED = [
     (("put", "pools/2", json.dumps({**POOL, "relay": "10.0.0.3"})), b"", "pool-overlap", "pool 1"),
     (("put", "pools/2", json.dumps({**OTHER_POOL, "relay": "10.0.0.1"})), b"", "relay-taken",
      "pool 1 has this relay"),
+    (("put", "pools/2", json.dumps({**OTHER_POOL, "hub": 9})), b"", "no-hub", "put the hub first"),
+    (("put", "pools/2", json.dumps({**OTHER_POOL, "hub": "1"})), b"", "value", "`hub`"),
+    (("put", "hubs/1", json.dumps({**SITE, "secret": ""})), b"", "site", "`secret` has no bytes"),
+    (("delete", "hubs/0"), b"", "hub-in-use", "pool 1 has the hub"),
+    (("delete", "hubs/1"), b"", "no-row", "no such row"),
     (("delete", "subscribers/7"), b"", "has-modems", "remove the modem first"),
     (("delete", "classes/1"), b"", "class-in-use", "another class first"),
     (("import", "-"), b"mac,subscriber,class\n", "header", "mac,subscriber,class,serial"),

@@ -37,7 +37,7 @@ CHROMIUM = next(filter(None, map(shutil.which, ("chromium", "chromium-browser",
 SITE = {"server": "10.0.0.2", "secret": SECRET.hex(), "offset": "3600", "lease": "86400",
         "log": "0.0.0.0"}
 POOL = {"first": "10.64.0.10", "last": "10.64.0.99", "prefix": "24", "router": "10.64.0.1",
-        "relay": "10.64.0.1"}
+        "relay": "10.64.0.1", "hub": "0"}
 ANN = {"active": "on", "cpes": "2", "name": "Ann <O'Neil> & \"Sons\""}
 MODEM = {"subscriber": "7", "class": "1", "serial": "SN01"}
 
@@ -47,7 +47,7 @@ class Browser:
 
     def __init__(self, port):
         self.port = port
-        self.token = re.search(r'name="token" value="(\w+)"', self.get("/site"))[1]
+        self.token = re.search(r'name="token" value="(\w+)"', self.get("/hub/0"))[1]
 
     def ask(self, method, path, body=None, **heads):
         held = http.client.HTTPConnection("127.0.0.1", self.port, timeout=30)
@@ -102,11 +102,17 @@ def row(port, path):
 
 def rows(browser, port):
     """Each kind of row is put by its form, is shown, and is what the office has."""
-    for path, fields in (("/site", SITE), ("/pool/1", POOL), ("/subscriber/7", ANN)):
+    for path, fields in (("/hub/0", SITE), ("/hub/1", {**SITE, "server": "10.0.0.3"}),
+                         ("/pool/1", POOL), ("/subscriber/7", ANN)):
         check(browser.post(path, fields)[0] == "Done.", f"{path} is put")
-    check(row(port, "/site") == {"lease": 86400, "log": "0.0.0.0", "offset": 3600,
-                                 "server": "10.0.0.2"}, "the site")
-    check(row(port, "/pools/1") == {**POOL, "prefix": 24}, "the pool")
+    shown = {"lease": 86400, "log": "0.0.0.0", "offset": 3600, "server": "10.0.0.2"}
+    check(row(port, "/site") == row(port, "/hubs/0") == shown, "the hub 0")
+    check(row(port, "/hubs/1") == {**shown, "server": "10.0.0.3"}, "another hub")
+    check(row(port, "/pools/1") == {**POOL, "prefix": 24, "hub": 0}, "the pool")
+    check(browser.post("/pool/1", {**POOL, "hub": "1"})[0] == "Done.", "the pool's hub is another")
+    check(row(port, "/pools/1")["hub"] == 1, "its hub")
+    check(browser.fields(browser.get("/pool/1"))["hub"] == "1", "which its form shows")
+    check(browser.post("/pool/1", POOL)[0] == "Done." and row(port, "/pools/1")["hub"] == 0, "back")
     check(row(port, "/subscribers/7") == {"active": True, "cpes": 2, "name": ANN["name"]}, "Ann")
     shown = browser.get("/subscriber/7")
     check("<O'Neil>" not in shown and browser.fields(shown)["name"] == ANN["name"], "the name")
@@ -148,9 +154,14 @@ def refused(browser):
     """What the office refuses is told by its word and in words."""
     fields = browser.fields(browser.get("/class/1"))
     for path, given, action, word, part in (
-            ("/site", {**SITE, "lease": "59"}, "save", "site", "`lease` isn't 60"),
-            ("/site", {**SITE, "lease": "x"}, "save", "", "lease: a whole number"),
-            ("/site", {**SITE, "secret": "zz"}, "save", "value", "`secret`"),
+            ("/hub/0", {**SITE, "lease": "59"}, "save", "site", "`lease` isn't 60"),
+            ("/hub/1", {**SITE, "lease": "x"}, "save", "", "lease: a whole number"),
+            ("/hub/0", {**SITE, "secret": "zz"}, "save", "value", "`secret`"),
+            ("/hub/0", {}, "delete", "hub-in-use", "give the pool another hub first"),
+            ("/hub/9", {}, "delete", "no-row", "no such row"),
+            ("/pool/2", {**POOL, "first": "10.65.0.1", "last": "10.65.0.2", "relay": "10.65.0.1",
+                         "hub": "9"}, "save", "no-hub", "put the hub first"),
+            ("/pool/2", {**POOL, "hub": ""}, "save", "", "hub: a whole number"),
             ("/pool/2", {**POOL, "first": "10.64.0.100"}, "save", "pool-size", "above"),
             ("/pool/2", {**POOL, "relay": "10.64.0.2"}, "save", "pool-overlap", "pool 1"),
             ("/pool/2", {**POOL, "first": "10.65.0.1", "last": "10.65.0.2"}, "save", "relay-taken",
@@ -164,7 +175,7 @@ def refused(browser):
             ("/modem/02aabbccddef", {**MODEM, "subscriber": "9"}, "save", "no-subscriber", "first"),
             ("/class/1", {**fields, "remove:s.0": "on"}, "save", "tree", "a class needs 24")):
         told, text = browser.post(path, given, action)
-        if path.startswith("/site") and action == "save":
+        if path.startswith("/hub") and action == "save":
             check(f'value="{given["lease"]}"' in text, "what was typed stands there again")
         check(part in told and (not word or f" {word}: " in told), f"{path} {given}: {told}")
 
@@ -172,10 +183,12 @@ def refused(browser):
 def others(browser):
     """Another page, host or token changes nothing."""
     body = urllib.parse.urlencode({**SITE, "token": "0" * 32, "action": "save"})
-    check(browser.ask("POST", "/site", body)[0] == 403, "another token")
+    check(browser.ask("POST", "/hub/0", body)[0] == 403, "another token")
     for host in ("office.example", "127.0.0.1", f"127.0.0.2:{browser.port}"):
         check(browser.ask("GET", "/", Host=host)[0] == 403, f"the host {host}")
     check(browser.ask("GET", "/none")[0] == 404, "no such page")
+    found = browser.ask("GET", "/find?hub=3")
+    check(found[::2] == (303, "/hub/3"), f"a new hub is at {found[2]}")
     for what, where in (("7", "/subscriber/7"), ("02:AA:bb:cc:dd:ee", "/modem/02aabbccddee"),
                         ("10.64.0.10", "/lease/10.64.0.10"), ("?", "/")):
         found = browser.ask("GET", "/find?" + urllib.parse.urlencode({"what": what}))
@@ -186,6 +199,7 @@ def lists(browser):
     """What the copy and the lines say."""
     for path, parts in (
             ("/pools", ["10.64.0.10 to 10.64.0.14", "As of the copy of "]),
+            ("/hubs", ["/hub/0", "10.0.0.2", "As of the copy of "]), ("/hub/1", ["Hub 1"]),
             ("/subscribers", ["/subscriber/8"]), ("/classes", ["/class/1", "gold"]),
             ("/subscriber/7", ["02aabbccddf0", "10.64.0.10"]),
             ("/modem/02aabbccddee", ["Its lease: 10.64.0.10, "]),
@@ -366,8 +380,8 @@ def filled(page, port, folder):
         held.write(people())
     browser = Chromium(os.path.join(folder, "chromium"))
     try:
-        for name in ("", "pools", "classes", "subscribers", "lines", "site", "subscriber/7",
-                     "class/1"):
+        for name in ("", "pools", "classes", "subscribers", "lines", "hubs", "hub/0",
+                     "subscriber/7", "class/1"):
             browser.go(f"{home}/{name}")
             browser.picture(name.replace("/", "-") or "overview")
         browser.run("document.querySelector('[aria-label=\"parameter sets\"]').value = '7'")

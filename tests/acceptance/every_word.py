@@ -18,7 +18,7 @@ QUERIES = "query-relay query-form query-active query-unassigned query-unknown".s
 TFTP = """form write mode again no-lease agreement name full oack block unknown stale-ack done
 peer-error""".split()
 FAULTS = """head body too-long no-path no-method not-json field value header width import-field
-too-many site no-row no-subscriber no-class no-hub tree pool-size pool-overlap relay-taken pool-has-leases
+too-many site no-row no-subscriber no-class tree pool-size pool-overlap relay-taken no-hub pool-has-leases
 has-modems class-in-use hub-in-use device-overlap batch-differs limit""".split()
 TOLD = ["illegal operation", "access violation", "octet only", "no lease", "no longer agreed",
         "file not found", "too many transfers", "unknown transfer"]

@@ -71,7 +71,7 @@ def put(row):
         return f"/subscribers/{words[0]}", {"active": words[1] == "active", "cpes": int(words[2]), "name": "Ann"}
     if kind == "modem":
         return f"/modems/{words[0]}", {"subscriber": int(words[1]), "class": int(words[2]), "serial": row.split('"')[1]}
-    return ("/site", office.SITE) if kind == "site" else ("/pools/1", office.POOL)
+    return ("/site", office.SITE) if kind == "hub" else ("/pools/1", office.POOL)
 
 
 # ---- a modem's own reader of files

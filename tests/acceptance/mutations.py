@@ -88,11 +88,12 @@ def request_seeds():
     settings = {"settings": tftp.tree_json(tftp.tree_in(files.BOOST))}
     bodies = [("PUT", "/subscribers/7", {"active": True, "cpes": 2, "name": "Ann"}), ("PUT", modem, {"subscriber": 7, "class": 1, "serial": office.serial(MODEM)}),
               ("PUT", "/classes/1", {"name": "gold", "settings": office.GOLD}), ("PUT", "/subscribers/7/addons/3", settings), ("PUT", "/pools/1", office.POOL),
-              ("PUT", "/site", {**office.SITE, "secret": SECRET.hex()})]
+              ("PUT", "/site", {**office.SITE, "secret": SECRET.hex()}), ("PUT", "/hubs/1", {**office.SITE, "secret": SECRET.hex()}),
+              ("PUT", "/pools/1", {**office.POOL, "hub": 1})]
     rows = "subscriber,active,cpes,name\n7,yes,2,Ann\n7,no,254,\"A, \"\"B\"\"\"\n"
     seeds = [request(method, path, compact(body).encode()) for method, path, body in bodies]
     seeds += [request("PUT", "/imports/subscribers/9", rows.encode())]
-    return seeds + [request("GET", path) for path in ("/site", "/subscribers/7", modem, "/classes/1", "/pools/1", f"/leases/{ip(office.FIRST)}", "/nowhere")]
+    return seeds + [request("GET", path) for path in ("/site", "/hubs/0", "/hubs/1", "/subscribers/7", modem, "/classes/1", "/pools/1", f"/leases/{ip(office.FIRST)}", "/nowhere")]
 
 
 class Fuzzing:

@@ -1,9 +1,9 @@
 #!/usr/bin/env python3
-"""The site's secret is told nowhere: a clerk puts it, the store's file keeps it, and no answer, line or error shows it, that of `GET /site` neither.
+"""A hub's secret is told nowhere: a clerk puts it, the store's file keeps it, and no answer, line or error shows it, that of `GET /hubs/1` neither.
 
 The search is that of harness/told.py, by which each script of this folder ends. Here it's tested that it finds what was told, in each form and by each way;
-an office over a file is asked for its site in every way and refused in every way; and what the examples of crates/, docs/, examples/ and packaging/ say is
-searched: there the secret stands where it is given to the office, and where a program that runs examples prints the site's row itself, and nowhere else.
+an office over a file is asked for its hubs in every way and refused in every way; and what the examples of crates/, docs/, examples/ and packaging/ say is
+searched: there the secret stands where it is given to the office, and where a program that runs examples prints a hub's row itself, and nowhere else.
 """
 import contextlib
 import json
@@ -24,9 +24,11 @@ SITE = {"server": "10.0.0.2", "secret": SECRET.hex(), "offset": 3600, "lease": 8
 SHOWN = b'{"lease":86400,"log":"0.0.0.0","offset":3600,"server":"10.0.0.2"}'
 FAULTS = {word: b'{"at":"secret","fault":"%s"}' % word.encode() for word in ("field", "value")}
 # A line of the documents and examples that gives the secret to the office, to a modem, or to `seal` and `check`.
-GIVES = re.compile(r'PUT http\S+/site |--secret |^ *HEX=|`HEX=|"secret": "|\b(seal|check) 736563726574')
-# Where the examples' own programs print the site's row, which clerks put: behind a run, as a command that was read, and as the bytes of the row.
-PRINTED = {"office_script": r"row site ", "store_script": r"row site ", "clerk_script": r"put site ", "format_script": r"site "}
+GIVES = re.compile(r'PUT http\S+/(site|hubs/\d+) |--secret |^ *HEX=|`HEX=|"secret": "|\b(seal|check) 736563726574')
+# Where the examples' own programs print a hub's row, which clerks put, and that of the site of earlier days: after a run, as a command that was read or its
+# answer, and as the bytes of the row.
+ROW = r"row (hub \d+|site) "
+PRINTED = {"office_script": ROW, "store_script": ROW, "clerk_script": r"(put|shown) hub \d+ ", "format_script": r"(hub \d+|site) "}
 
 
 # ---- the search itself
@@ -71,26 +73,29 @@ def child(way, data):
 def refusals():
     """Requests with the secret in them that are refused, and the answers."""
     site = json.dumps(SITE)
-    yield "PUT", "/site", site.replace(SITE["secret"], SITE["secret"] + "7"), 400, FAULTS["value"]
-    yield "PUT", "/site", site.replace(SITE["secret"], SITE["secret"] * 4), 400, FAULTS["value"]
-    yield "PUT", "/site", site.replace(f'"{SITE["secret"]}"', json.dumps([SITE["secret"]])), 400, FAULTS["value"]
-    yield "PUT", "/site", site.replace('"secret"', '"Secret"'), 400, FAULTS["field"]
-    yield "PUT", "/site", site.replace(SITE["secret"], SECRET.decode()), 400, FAULTS["value"]
-    yield "PUT", "/site", site[:-1], 400, b'{"fault":"not-json"}'
-    yield "PUT", "/site", json.dumps({**SITE, "lease": SITE["secret"]}), 400, b'{"at":"lease","fault":"value"}'
-    yield "PUT", f"/site/{SITE['secret']}", site, 404, b'{"fault":"no-path"}'
-    yield SECRET.decode(), "/site", site, 405, b'{"fault":"no-method"}'
+    for path in ("/site", "/hubs/0", "/hubs/1"):
+        yield "PUT", path, site.replace(SITE["secret"], SITE["secret"] + "7"), 400, FAULTS["value"]
+        yield "PUT", path, site.replace(SITE["secret"], SITE["secret"] * 4), 400, FAULTS["value"]
+        yield "PUT", path, site.replace(f'"{SITE["secret"]}"', json.dumps([SITE["secret"]])), 400, FAULTS["value"]
+        yield "PUT", path, site.replace('"secret"', '"Secret"'), 400, FAULTS["field"]
+        yield "PUT", path, site.replace(SITE["secret"], SECRET.decode()), 400, FAULTS["value"]
+        yield "PUT", path, site[:-1], 400, b'{"fault":"not-json"}'
+        yield "PUT", path, json.dumps({**SITE, "lease": SITE["secret"]}), 400, b'{"at":"lease","fault":"value"}'
+        yield "PUT", f"{path}/{SITE['secret']}", site, 404, b'{"fault":"no-path"}'
+        yield SECRET.decode(), path, site, 405, b'{"fault":"no-method"}'
     yield "PUT", "/imports/subscribers/1", f"{SECRET.decode()}\n", 422, b'{"fault":"header"}'
 
 
 def asked(port):
-    """A clerk puts the site, and is refused with it; what is shown of it is all but the secret."""
-    check(ask(port, request("PUT", "/site", json.dumps(SITE).encode())) == DONE, "the site is put, and that's all that is said")
+    """A clerk puts hubs, and is refused with them; what is shown of them is all but the secret."""
+    for path in ("/site", "/hubs/1"):
+        check(ask(port, request("PUT", path, json.dumps(SITE).encode())) == DONE, f"{path} is put, and that's all that is said")
     for method, path, body, status, wanted in refusals():
         answer = ask(port, request(method, path, body.encode())) or b""
         head, _, told = answer.partition(b"\r\n\r\n")
         check((head.split(b" ")[1:2], told) == ([str(status).encode()], wanted), f"{method} {path} {body}: {answer}")
-    check(ask(port, request("GET", "/site")) == reply(200, SHOWN), "GET /site shows all but the secret")
+    for path in ("/site", "/hubs/0", "/hubs/1"):
+        check(ask(port, request("GET", path)) == reply(200, SHOWN), f"GET {path} shows all but the secret")
 
 
 def at_the_office(folder):
@@ -115,13 +120,20 @@ def at_the_office(folder):
 
 
 def refused_at_the_start(store):
-    """A site that isn't good, or can't be read, is named and not shown."""
-    for value, line in ((bytes(4) + bytes([len(SECRET)]) + SECRET + bytes(12), b"tables refused site\n"), (bytes(4) + b"\x40" + SECRET, b"keeper refused\n")):
+    """A hub or a site that isn't good, or can't be read, is named and not shown; and the site of earlier days that becomes the hub 0 isn't shown either."""
+    server, secret = bytes([10, 0, 0, 2]), bytes([len(SECRET)]) + SECRET
+    good = server + secret + (3600).to_bytes(4, "big") + (86400).to_bytes(4, "big") + bytes(4)
+    hub, site = b"\x0a\0\0\0\0", b"\1"
+    for rows, line in (({hub: bytes(4) + secret + bytes(12)}, b"tables refused hub 0\n"), ({hub: bytes(4) + b"\x40" + SECRET}, b"keeper refused\n"),
+                       ({hub: good, site: good}, b"tables refused site\n"), ({site: good}, b"")):
         with contextlib.closing(sqlite3.connect(store)) as held, held:
-            held.execute("UPDATE office SET val = ? WHERE ident = x'01'", (value,))
+            held.execute("DELETE FROM office WHERE substr(ident, 1, 1) IN (x'01', x'0a')")
+            held.executemany("INSERT INTO office VALUES (?, ?)", rows.items())
         words = [PROGRAM, "serve", "--store", store, "--ports", ",".join(map(str, free_ports())), "--turns", "0"]
         done = subprocess.run(words, stdout=subprocess.PIPE, stderr=subprocess.PIPE, timeout=300)
         check((done.stdout, done.stderr) == (line, b""), f"{line}: {done}")
+    with contextlib.closing(sqlite3.connect(store)) as held:
+        check(dict(held.execute("SELECT ident, val FROM office")).get(hub) == good, "the site is the hub 0 now")
 
 
 # ---- what is written down
@@ -136,7 +148,7 @@ def in_examples():
     for crate, printed in PRINTED.items():
         lines = expected(crate)
         having = [line for line in lines if found_in(line.encode(), all_forms())]
-        check(having and all(re.match(printed, line) for line in having), f"{crate} prints it with the site's row alone: {having[:3]}")
+        check(having and all(re.match(printed, line) for line in having), f"{crate} prints it with a hub's row alone: {having[:3]}")
         for line in lines:
             name = line.encode().replace(FAULTS["field"], b"").replace(FAULTS["value"], b"")
             check(EXAMPLE not in name, f"{crate}: its text stands as the name of the field alone: {line}")

@@ -26,7 +26,7 @@ INSTALLED = {
         "UPGRADING.md", "PAST_ONE_MACHINE.md", "COMPARISON.md", "nginx.conf",
         "prometheus-rules.yml")},
     **{f"{DOC}/first-office/{name}": 0o644 for name in (
-        "site.json", "class-1.json", "pool-1.json", "subscriber-7.json",
+        "hub-0.json", "class-1.json", "pool-1.json", "subscriber-7.json",
         "modem-02aabbccddee.json")},
     f"{DOC}/first-office/set-up": 0o755,
 }

@@ -44,7 +44,7 @@ nsenter -t {0} -n ip link set ve1 up
 ip route add 10.64.0.0/24 via 10.0.0.1
 """
 # The office's rows as dhcpd is configured.
-ROWS = [f"site {SERVER} {SECRET.hex()} 0 {LEASE} 0.0.0.0", f"pool 1 {HELD} 10.64.0.99 24 {RELAY} {RELAY}", leases.modem_row(0xEE)]
+ROWS = [f"hub 0 {SERVER} {SECRET.hex()} 0 {LEASE} 0.0.0.0", f"pool 1 {HELD} 10.64.0.99 24 {RELAY} {RELAY}", leases.modem_row(0xEE)]
 
 
 class Both:

@@ -100,7 +100,7 @@ class Serving:
         check(found is not None and found[0] == 200, f"PUT {path}: {found}")
 
     def shows(self, path, body, what):
-        """A row is shown as it was put, but for the site's secret."""
+        """A row is shown as it was put, but for a hub's secret."""
         body = {name: value for name, value in body.items() if name != "secret"}
         found = self.ask("GET", path)
         shown = json.loads(found[1]) if found and found[0] == 200 else found
@@ -155,7 +155,7 @@ def new_file():
 SETTINGS = [{"code": code, "parts": [{"code": 1, "hex": reference}, {"code": 6, "hex": "07"}]} for code, reference in ((24, "0001"), (25, "0002"))]
 CHANGES = [("/site", {"server": "10.0.0.2", "secret": SECRET.hex(), "offset": -18000, "lease": 3600, "log": "0.0.0.0"}),
            ("/classes/1", {"name": "gold", "settings": SETTINGS}), ("/subscribers/7", subscriber(7)),
-           ("/pools/1", {"first": "10.64.0.10", "last": "10.64.0.99", "prefix": 24, "router": "10.64.0.1", "relay": "10.64.0.1"}),
+           ("/pools/1", {"first": "10.64.0.10", "last": "10.64.0.99", "prefix": 24, "router": "10.64.0.1", "relay": "10.64.0.1", "hub": 0}),
            ("/modems/02aabbccddee", {"subscriber": 7, "class": 1, "serial": "SN01"})]
 
 
@@ -245,7 +245,8 @@ def refusals():
             ("a good row", [(b"\2\0\0\0\7", b"\1\2\3Ann")], (0, "")),
             ("a row that isn't spelled so", [(held, b"\x0a")], (3, "keeper refused\n")),
             ("a row with a byte too many", [(held, b"\x0a\x40\0\x0a\0")], (3, "keeper refused\n")),
-            ("a key of no kind", [(b"\x0a\0\0\0\7", b"")], (3, "keeper refused\n")),
+            ("a key of no kind", [(b"\x0e\0\0\0\7", b"")], (3, "keeper refused\n")),
+            ("a hub of no bytes", [(b"\x0a\0\0\0\7", b"")], (3, "keeper refused\n")),
             ("a key of two bytes", [(b"\2\7", b"\1\2\3Ann")], (3, "keeper refused\n")),
             ("a key of no bytes", [(b"", b"")], (3, "keeper refused\n")),
             ("a key of ten bytes", [(bytes(10), b"")], (3, "keeper refused\n")),

@@ -56,8 +56,13 @@ def leased(held, hold, owner, expiry):
         yield b"\x08" + named, ip(held)
 
 
+def hub(number, server, offset, lease, log="0.0.0.0"):
+    values = ip(server) + text(SECRET) + offset.to_bytes(4, "big", signed=True) + big(lease, 4)
+    return b"\x0a" + big(number, 4), values + ip(log)
+
+
 ROWS = [
-    (b"\x01", ip("10.0.0.2") + text(SECRET) + big(3600, 4) + big(86400, 4) + bytes(4)),
+    hub(0, "10.0.0.2", 3600, 86400),
     (b"\x02" + big(7, 4), b"\x01\x02" + text(b"Ann")),
     (b"\x02" + big(8, 4), b"\x00\x02" + text("Bö".encode())),
     modem(0xEE, 7, 1, b"SN01"), modem(0xEF, 8, 1), modem(0xF0, 7, 2, b"a,b"), modem(0xF1, 7, 1),
@@ -94,8 +99,10 @@ ANSWERS = [
                    ["10.64.0.12", "02aabbccddef", "offered", SOON],
                    ["10.64.0.13", "", "ended", BEFORE],
                    ["10.65.0.10", "02aabbccdd77", "bound", LATER]]),
-    (("pools",), [["pool", "relay", "first", "last", "addresses", "taken", "free", "full"],
-                  ["1", "10.64.0.1", "10.64.0.10", "10.64.0.14", "5", "2", "3", "40%"]]),
+    (("pools",), [["pool", "hub", "relay", "first", "last", "addresses", "taken", "free", "full"],
+                  ["1", "0", "10.64.0.1", "10.64.0.10", "10.64.0.14", "5", "2", "3", "40%"]]),
+    (("hubs",), [["hub", "server", "offset", "lease", "log", "pools"],
+                 ["0", "10.0.0.2", "3600", "86400", "0.0.0.0", "1"]]),
     (("batches",), [["batch", "kind", "rows", "digest"],
                     ["9", "modems", "2", bytes(range(16)).hex()],
                     [str(2**64 - 1), "subscribers", "2000", "00" * 16]]),
@@ -176,6 +183,33 @@ def refusals(folder):
         check(asked(bad, *words)[0] == 2, f"a row of another form: {words}")
 
 
+def tables(path, words):
+    status, came, said = asked(path, "--csv", words)
+    check(status == 0, f"{words}: {status} {said}")
+    return list(csv.reader(io.StringIO(came)))[1:]
+
+
+def several_hubs(folder):
+    """Pools with their hubs; leases end by those of their pool's hub; a store of earlier days."""
+    path, earlier = os.path.join(folder, "hubs.db"), os.path.join(folder, "earlier.db")
+    pool = ip("10.65.0.10") + ip("10.65.0.19") + b"\x18" + ip("10.65.0.1") * 2
+    made(path, [*ROWS, hub(7, "10.0.0.3", -1, 60, "10.0.0.9"), (b"\x06" + big(2, 4), pool),
+                (b"\x0b" + big(2, 4), big(7, 4))]).close()
+    check([line[:3] for line in tables(path, "pools")]
+          == [["1", "0", "10.64.0.1"], ["2", "7", "10.65.0.1"]], "the hubs of pools")
+    check(tables(path, "hubs") == [["0", "10.0.0.2", "3600", "86400", "0.0.0.0", "1"],
+                                   ["7", "10.0.0.3", "-1", "60", "10.0.0.9", "1"]], "the hubs")
+    status, came, said = asked(path, "--csv", "end-leases")
+    lines = [line.split(",") for line in came.splitlines()[1:]]
+    check(status == 0 and [(line[0], line[4]) for line in lines]
+          == [("10.65.0.10", moment(NOW + 60))], f"a lease of a hub of short ones: {came} {said}")
+    site = (b"\x01", ROWS[0][1])
+    made(earlier, [site, *ROWS[1:], *leased("10.65.0.11", BOUND, 0x78, NOW + 86401)]).close()
+    check(tables(earlier, "hubs") == [["0", "10.0.0.2", "3600", "86400", "0.0.0.0", "1"]],
+          "the site of earlier days is the hub 0")
+    check(asked(earlier, "--csv", "end-leases")[1].count("\n") == 2, "which says how long they last")
+
+
 TOLD = ["address", "modem", "lease", "before (UTC)", "now (UTC)"]
 # Each with the leases that it changes: their addresses, and their ends before and after it.
 ENDED = [
@@ -232,7 +266,7 @@ def ends_leases(folder):
     locked.close()
     bare = os.path.join(folder, "bare.db")
     made(bare, ROWS[1:]).close()
-    check(asked(bare, "end-leases")[0] == 1, "without a site a moment is to be given")
+    check(asked(bare, "end-leases")[0] == 1, "without a hub a moment is to be given")
 
 
 def to_no_reader(path):
@@ -291,6 +325,7 @@ def main():
         stores(folder)
         refusals(folder)
         ends_leases(folder)
+        several_hubs(folder)
         by_the_program(folder)
         status, came, _ = asked(os.path.join(folder, "office.db"), "free", "1")
         lines = ["address     last modem    ended (UTC)", f"10.64.0.11  02aabbccddf0  {MOMENT}",

@@ -35,7 +35,7 @@ def modem(number):
     return {"last": number, "cable": leases.vendor(serial(number).encode()), "xid": 0xABCD0000 + number}
 
 
-ROWS = [f"site {SERVER} {SECRET.hex()} -18000 {LEASE} 10.0.0.3", f"pool 1 {POOL['first']} {POOL['last']} 20 {RELAY} {RELAY}",
+ROWS = [f"hub 0 {SERVER} {SECRET.hex()} -18000 {LEASE} 10.0.0.3", f"pool 1 {POOL['first']} {POOL['last']} 20 {RELAY} {RELAY}",
         *(leases.modem_row(number, serial(number)) for number in range(MODEMS + 1))]
 
 

@@ -107,7 +107,7 @@ QUERIED = {"query-relay", "query-form", "query-active", "query-unassigned", "que
 
 
 def words_of_message(data):
-    """What may become of a DHCP datagram, where the office has a site."""
+    """What may become of a DHCP datagram, where each pool has its hub."""
     if messages.is_query(data):
         return QUERIED
     fault = messages.fault_of(data)
@@ -151,7 +151,7 @@ def statuses():
 
 
 STATUSES = statuses()
-PATHS = re.compile(rb"/(site|subscribers/\d{1,20}(/addons/\d{1,20})?|modems/[0-9A-Fa-f:.-]{12,17}|classes/\d{1,20}|pools/\d{1,20}|leases/[0-9.]{7,15}"
+PATHS = re.compile(rb"/(site|hubs/\d{1,20}|subscribers/\d{1,20}(/addons/\d{1,20})?|modems/[0-9A-Fa-f:.-]{12,17}|classes/\d{1,20}|pools/\d{1,20}|leases/[0-9.]{7,15}"
                    rb"|imports/(subscribers|modems)/\d{1,20})")
 
 

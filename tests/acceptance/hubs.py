@@ -1,0 +1,324 @@
+#!/usr/bin/env python3
+"""officed with two hubs as their modems see it, and over stores of earlier days, whose one site becomes the hub 0.
+
+Two relays, at 127.0.0.1 and 127.0.0.2, each with a pool of its own hub: a modem boots at the one and then at the other, by that hub's server and secret, and reads
+its file, which is checked here; a pool is moved to the other hub in the midst of a transfer. Each reply and each word of the log is compared with the models of
+tests/examples. That needs port 67, and is skipped by name where no network of its own can be had. Then stores of earlier days, made by Python's sqlite3: their site
+is moved at the first start, by an office and by an import, whatever becomes of the import; 50 starts, or as many as OFFICE_KILLS says, are killed, and leave the
+store as it was or moved. It ends what it started, and takes about half a minute.
+"""
+import contextlib
+import os
+import random
+import re
+import socket
+import sqlite3
+import subprocess
+import sys
+import tempfile
+import time
+
+# Before the modems, whose models have a module of this name too.
+from imports import table
+import journal_kills
+from store import Serving, ended, folder, made_with, rows_of
+from store_reader import BOUND, big, hub, ip, leased, modem, text
+from harness import PROGRAM, alone, check, failures, free_ports, may_be_alone, start, stop, written
+from harness import modems as office
+from harness.told import SECRET
+
+sys.dont_write_bytecode = True
+import leases  # noqa: E402
+import tftp  # noqa: E402
+from examples import verdict  # noqa: E402
+from messages import ACK, OFFER, reply_in  # noqa: E402
+
+KILLS = int(os.environ.get("OFFICE_KILLS", "50"))
+# Port 67 belongs to the relays here.
+PORTS, CLIENT = [6700, 6701, 6702, 8080], 5000
+OTHER = SECRET[::-1]
+# A hub's server, a relay, the secret, and the addresses of its pool.
+HUBS = [("127.0.0.3", "127.0.0.1", SECRET, "127.64.0.10", "127.64.0.99"), ("127.0.0.4", "127.0.0.2", OTHER, "127.65.0.10", "127.65.0.99")]
+GOLD = "24{ 1=0001 6=07 } 25{ 1=0002 6=07 }"
+ROWS = [*(f"hub {number} {server} {secret.hex()} 0 3600 0.0.0.0" for number, (server, _, secret, _, _) in enumerate(HUBS)), f'class 1 "gold" {GOLD}',
+        'subscriber 7 active 2 "Ann"', leases.modem_row(0xEE),
+        *(f"pool {number} {first} {last} 24 {relay} {relay}" for number, (_, relay, _, first, last) in enumerate(HUBS)), "pool-hub 1 1"]
+
+
+def site_of(number):
+    server, _, secret, _, _ = HUBS[number]
+    return {"server": server, "secret": secret.hex(), "offset": 0, "lease": 3600, "log": "0.0.0.0"}
+
+
+def pool_of(number, at):
+    _, relay, _, first, last = HUBS[number]
+    return {"first": first, "last": last, "prefix": 24, "router": relay, "relay": relay, "hub": at}
+
+
+def furnish():
+    """The rows of the model, by a clerk; a pool needs its hub first."""
+    check(office.clerk("PUT", "/pools/1", pool_of(1, 1)) == ([b"422"], b'{"fault":"no-hub"}'), "a pool without its hub")
+    rows = [("/site", site_of(0)), ("/hubs/1", site_of(1)), ("/classes/1", {"name": "gold", "settings": tftp.tree_json(tftp.tree_in(GOLD))}),
+            ("/subscribers/7", {"active": True, "cpes": 2, "name": "Ann"}), ("/pools/0", pool_of(0, 0)), ("/pools/1", pool_of(1, 1)),
+            ("/modems/02aabbccddee", {"subscriber": 7, "class": 1, "serial": ""})]
+    for path, body in rows:
+        check(office.clerk("PUT", path, body)[0] == [b"200"], f"PUT {path}")
+    check(office.clerk("GET", "/site") == office.clerk("GET", "/hubs/0"), "the site is the hub 0")
+    check(b'"hub":1' in office.clerk("GET", "/pools/1")[1], "a pool is shown with its hub")
+    check(office.clerk("DELETE", "/hubs/1") == ([b"409"], b'{"at":"1","fault":"hub-in-use"}'), "a hub in use")
+    check(office.clerk("DELETE", "/hubs/9") == ([b"404"], b'{"fault":"no-row"}'), "no such hub")
+
+
+# ---- modems at two hubs
+
+class Talk:
+    """What modems and relays say to the office, and what the models say of it."""
+
+    def __init__(self):
+        self.model = leases.Office(ROWS)
+        self.transfers, self.said = tftp.Transfers(self.model), []
+        self.relays = {relay: office.port_of(relay, 67) for _, relay, _, _, _ in HUBS}
+        self.sockets = {}
+
+    def relayed(self, number, data):
+        """A datagram through a hub's relay; gives what the reply says, which is the model's to the byte."""
+        server, relay, _, _, _ = HUBS[number]
+        word, reply = self.model.take(int(time.time()), data)
+        self.said.append(f"dhcp {word}")
+        self.relays[relay].sendto(data, (server, PORTS[0]))
+        if reply is None:
+            return None
+        came = office.took(self.relays[relay])
+        check(came is not None and came[0] == reply[1], f"{word} by {relay}: the reply of {len(reply[1])} bytes")
+        return reply_in(reply[1])
+
+    def asks(self, held, number, packet):
+        """A TFTP packet from a modem's address to its hub's server; gives the answer, which is the model's but for the file's moment."""
+        if held not in self.sockets:
+            self.sockets[held] = socket.socket(socket.AF_INET, socket.SOCK_DGRAM)
+            self.sockets[held].bind((held, CLIENT))
+            self.sockets[held].settimeout(5)
+        word, reply = self.transfers.take(int(time.time()), f"{held}:{CLIENT}", packet)
+        self.said.append(f"tftp {word}")
+        self.sockets[held].sendto(packet, (HUBS[number][0], PORTS[2]))
+        if reply is None:
+            return None
+        came = self.sockets[held].recv(4096)
+        check(came[:4] == reply[1][:4] and len(came) == len(reply[1]), f"{word} to {held}: {came[:30]}")
+        return came
+
+    def begins(self, number, held):
+        """A read request for the modem's own file by its hub's secret, and its first block."""
+        name = leases.name_of(HUBS[number][2], leases.mac(0xEE), leases.address(held))
+        self.asks(held, number, tftp.request(name, (b"blksize", b"44")))
+        return self.asks(held, number, tftp.acknowledgement(0))[4:]
+
+    def reads(self, number, held):
+        """A whole file, which is signed by this hub's secret and not by the other's."""
+        file, block = self.begins(number, held), 1
+        while len(file) == 44 * block:
+            file, block = file + self.asks(held, number, tftp.acknowledgement(block))[4:], block + 1
+        self.asks(held, number, tftp.acknowledgement(block))
+        found = [verdict(file, secret) for secret in (HUBS[number][2], HUBS[1 - number][2])]
+        check(found == [(True, True), (True, False)], f"a file at hub {number}: {found}")
+
+    def boots(self, number):
+        """A whole boot through a hub's relay: the OFFER and the ACK are of its server. Gives the modem's address."""
+        server, relay, _, first, _ = HUBS[number]
+        offer = self.relayed(number, leases.discover(relay=relay))
+        check(offer["kind"] == OFFER and offer["address"] == leases.address(first), f"hub {number}: its pool's first address is offered")
+        held = first
+        check(self.relayed(number, leases.selects(held, server=HUBS[1 - number][0], relay=relay)) is None, "the other hub's server is another server")
+        ack = self.relayed(number, leases.selects(held, server=server, relay=relay))
+        check(ack["kind"] == ACK, f"hub {number}: the address is the modem's")
+        self.reads(number, held)
+        return held
+
+    def clerk(self, path, body, row):
+        """A row that is put, in the office and in the model."""
+        check(office.clerk("PUT", path, body)[0] == [b"200"], f"PUT {path}")
+        status, _, _ = self.model.clerk(int(time.time()), path, row)
+        check(status == 200, f"the model's {path}")
+
+
+def lines_of(log, count):
+    """The log's lines on datagrams, when so many are there; the last packet of a file isn't answered."""
+    for _ in range(100):
+        lines = [line.split(" ", 1)[1] for line in written(log).decode().splitlines() if re.match(r"[0-9]+ (dhcp|tftp) ", line)]
+        if len(lines) >= count:
+            break
+        time.sleep(0.05)
+    return lines
+
+
+def booting():
+    office.PORTS[:] = PORTS
+    office.address_of_lo(b"lo", "127.0.0.1", "255.0.0.0")
+    with tempfile.TemporaryFile() as log:
+        program = start(PORTS, 10**9, log)
+        try:
+            check(office.is_ready(), "the program answers within some seconds")
+            furnish()
+            talk = Talk()
+            first = talk.boots(0)
+            second = talk.boots(1)
+            check(office.clerk("GET", f"/leases/{first}")[0] == [b"404"], "it gave up its address at the first hub")
+            talk.begins(1, second)
+            # The second pool goes to the first hub, and then back.
+            _, relay, _, low, high = HUBS[1]
+            row = f"pool 1 {low} {high} 24 {relay} {relay}"
+            talk.clerk("/pools/1", pool_of(1, 0), f"{row} 0")
+            gone = talk.asks(second, 1, tftp.acknowledgement(1))
+            check(gone == tftp.error(2, "no longer agreed"), f"a transfer of a pool that was moved: {gone}")
+            check(talk.relayed(1, leases.selects(second, server=HUBS[1][0], relay=relay)) is None, "the hub's server of before is another server")
+            renewed = talk.relayed(1, leases.selects(second, server=HUBS[0][0], relay=relay))
+            check(renewed["kind"] == ACK, "its lease is there, and is the other hub's to renew")
+            talk.clerk("/pools/1", pool_of(1, 1), f"{row} 1")
+            talk.reads(1, second)
+            check(talk.boots(0) == first, "and back")
+            lines = lines_of(log, len(talk.said))
+        finally:
+            stop(program)
+    # What comes to two ports at once is taken in either order.
+    for service in ("dhcp ", "tftp "):
+        found, said = ([line for line in each if line.startswith(service)] for each in (lines, talk.said))
+        check(found == said, f"each datagram has its line: {[pair for pair in zip(found, said) if pair[0] != pair[1]][:3]}")
+    return 1 if failures else 0
+
+
+# ---- stores of earlier days
+
+HUB_KEY, SITE_KEY = hub(0, "10.0.0.2", 3600, 86400)[0], b"\x01"
+VALUES = hub(0, "10.0.0.2", 3600, 86400)[1]
+FLOWS = bytes.fromhex("18070102000106010719070102000206" + "0107")
+REST = {b"\x02" + big(7, 4): b"\x01\x02" + text(b"Ann"), b"\x05" + big(1, 4): text(b"gold") + big(len(FLOWS), 2) + FLOWS,
+        b"\x06" + big(1, 4): ip("10.64.0.10") + ip("10.64.0.99") + b"\x18" + ip("10.64.0.1") * 2, **dict([modem(0xEE, 7, 1, b"SN01")]),
+        **dict(leased("10.64.0.10", BOUND, 0xEE, 2**62))}
+EARLIER, MOVED = {SITE_KEY: VALUES, **REST}, {HUB_KEY: VALUES, **REST}
+SHOWN = {"lease": 86400, "log": "0.0.0.0", "offset": 3600, "server": "10.0.0.2"}
+
+
+def in_database(path, rows):
+    made_with(path, rows.items())
+
+
+def in_journal(path, rows):
+    journal_kills.made(path, journal_kills.journal_of(list(rows.items())))
+
+
+KINDS = {"": (in_database, rows_of), "journal:": (in_journal, journal_kills.rows_of)}
+
+
+@contextlib.contextmanager
+def store_of(kind, rows):
+    """A new store of these rows: its path, its name as a store, and its reader."""
+    make, read = KINDS[kind]
+    with folder() as (_, path):
+        make(path, rows)
+        yield path, kind + path, lambda: read(path)
+
+
+def starts(kind):
+    """The first start moves the site, and nothing else; the second finds nothing to do."""
+    with store_of(kind, EARLIER) as (_, store, rows):
+        for what in ("the first start", "the second one"):
+            check(ended(store) == (0, ""), f"{kind} {what}: status 0")
+            check(rows() == MOVED, f"{kind} {what}: the site is the hub 0, and all else stays")
+        with Serving(store) as served:
+            for path in ("/site", "/hubs/0"):
+                served.shows(path, SHOWN, "after the start")
+            served.shows("/leases/10.64.0.10", {"expiry": 2**62, "owner": "02aabbccddee", "state": "bound"}, "a lease")
+            check(served.ask("GET", "/pools/1")[1].startswith(b'{"first":"10.64.0.10","hub":0,'), "the pool has the hub 0")
+            served.puts("/hubs/1", {**SHOWN, "secret": SECRET.hex(), "server": "10.0.0.3"})
+            served.kill()
+        check(rows().pop(hub(1, "10.0.0.3", 3600, 86400)[0], None) is not None, "after a kill the new hub is there")
+    with store_of(kind, {SITE_KEY: VALUES}) as (_, store, rows):
+        check((ended(store), rows()) == ((0, ""), {HUB_KEY: VALUES}), f"{kind} a site alone")
+    for more in ({HUB_KEY: VALUES}, dict([hub(3, "10.0.0.3", 0, 60)]), {b"\x0b" + big(1, 4): big(1, 4)}):
+        with store_of(kind, {**EARLIER, **more}) as (_, store, rows):
+            check(ended(store) == (2, "tables refused site\n"), f"{kind} a site beside {more}")
+            check(rows() == {**EARLIER, **more}, f"{kind} and nothing is changed")
+    without = {key: row for key, row in EARLIER.items() if key != SITE_KEY}
+    with store_of(kind, without) as (_, store, rows):
+        check(ended(store) == (2, "tables refused lease 10.64.0.10\n") and rows() == without, f"{kind} a lease without its pool's hub")
+
+
+def kills(kind):
+    """Starts that are killed leave the store as it was or moved; the next start moves it, whichever it was."""
+    with store_of(kind, EARLIER) as (_, store, _):
+        began = time.perf_counter()
+        check(ended(store) == (0, ""), f"{kind} a start")
+        whole = time.perf_counter() - began
+    words = ["--ports", ",".join(map(str, free_ports())), "--turns", "0"]
+    moved, unlike = 0, []
+    for _ in range(KILLS):
+        with store_of(kind, EARLIER) as (_, store, rows):
+            with subprocess.Popen([PROGRAM, "serve", "--store", store, *words], stdout=subprocess.DEVNULL, stderr=subprocess.DEVNULL) as program:
+                time.sleep(random.uniform(0.2 * whole, whole))
+                program.kill()
+            found = rows()
+            moved += found == MOVED
+            if found not in (EARLIER, MOVED):
+                unlike.append(sorted(found))
+            check(ended(store) == (0, "") and rows() == MOVED, f"{kind} the next start moves the site")
+    check(not unlike, f"{kind} a kill leaves the store as it was, or moved: {unlike[:1]}")
+    print(f"{KILLS} kills of a first start over {'a journal' if kind else 'a database'}: {moved} after its commit")
+
+
+def imports(kind):
+    """An import's opening moves the site, whatever becomes of the import; where nothing is opened it stays."""
+    people, wrong = table("subscribers", [["8", "no", "1", ""]]), table("modems", [["02:00:00:00:00:01", "7", "9", ""]])
+    person = {b"\x02" + big(8, 4): b"\x00\x01" + text(b"")}
+    for what, data, words, expected, then in (
+            ("is done", people, ("subscribers", "9"), (0, "rows 1\n"), {**MOVED, **person}),
+            ("has other words", people, ("subscribers",), (1, "words refused\n"), EARLIER),
+            ("has another header", b"x\n", ("modems", "9"), (9, "refused header\n"), MOVED),
+            ("breaks a rule", wrong, ("modems", "9"), (9, "refused no-class row 1\n"), MOVED)):
+        with store_of(kind, EARLIER) as (_, store, rows):
+            check(ended(store, "import", *words, data=data) == expected, f"{kind} an import that {what}")
+            check({key: row for key, row in rows().items() if key[0] != 9} == then, f"{kind} an import that {what}: the rows")
+    # A record of a journal that isn't changes of rows is no record.
+    unread = (11, "") if kind else (3, "keeper refused\n")
+    for more, expected in (({HUB_KEY: VALUES}, (2, "tables refused site\n")), ({b"\x08" + bytes(6): b"\x0a"}, unread)):
+        with store_of(kind, {**EARLIER, **more}) as (_, store, rows):
+            check((ended(store, "import", "subscribers", "9", data=people), rows()) == (expected, {**EARLIER, **more}), f"{kind} an import: {expected}")
+    for what, given, taken, status, then in (("standard input fails", "/", subprocess.DEVNULL, 7, MOVED), ("standard output is full", None, "/dev/full", 4, {**MOVED, **person})):
+        with store_of(kind, EARLIER) as (_, store, rows), contextlib.ExitStack() as files:
+            source = os.open(given, os.O_RDONLY) if given else files.enter_context(tempfile.TemporaryFile())
+            if given is None:
+                source.write(people)
+                source.seek(0)
+            sink = files.enter_context(open(taken, "wb")) if isinstance(taken, str) else taken
+            found = subprocess.run([PROGRAM, "import", "--store", store, "subscribers", "9"], stdin=source, stdout=sink, timeout=60).returncode
+            check(found == status, f"{kind} {what}: status {found}")
+            check({key: row for key, row in rows().items() if key[0] != 9} == then, f"{kind} {what}: the rows")
+            if given:
+                os.close(source)
+    with store_of("", EARLIER) as (path, store, rows):
+        locked = sqlite3.connect(path, isolation_level=None)
+        locked.execute("BEGIN EXCLUSIVE")
+        check(ended(store, "import", "subscribers", "9", data=people) == (11, ""), "an import into a store that is locked")
+        locked.close()
+        check(rows() == EARLIER, "and it stays")
+
+
+def main():
+    if not os.path.exists(PROGRAM):
+        print("officed isn't built: run bin/officed once")
+        return 1
+    if sys.argv[1:] == ["booting"]:
+        return booting()
+    if may_be_alone():
+        alone(__file__, "booting", 60, "modems boot at two hubs")
+    else:
+        print("modems at two hubs: skipped, since `unshare -rn` gives no network of its own here")
+    for kind in KINDS:
+        starts(kind)
+        kills(kind)
+        imports(kind)
+    print(f"acceptance: {len(failures)} failed")
+    return 1 if failures else 0
+
+
+if __name__ == "__main__":
+    sys.exit(main())
