@@ -117,6 +117,10 @@ class Fuzzing:
         for each in (self.relay, self.asker, self.clients):
             each.setblocking(False)
 
+    def end(self):
+        for each in (self.relay, self.asker, self.clients):
+            each.close()
+
     def drain(self):
         for each in (self.relay, self.asker, self.clients):
             while True:

@@ -51,6 +51,7 @@ def furnished(store="memory"):
     """An office with the rows of tests/acceptance/mutations.py, whose reader has its address."""
     with tempfile.TemporaryFile() as log:
         program = start(office.PORTS, 10**12, log, {"OFFICED_UDP": office.SERVER}, store=store)
+        fuzz = None
         try:
             if not office.is_ready():
                 raise SystemExit("officed doesn't answer")
@@ -59,6 +60,8 @@ def furnished(store="memory"):
             yield program, fuzz
         finally:
             stop(program)
+            if fuzz is not None:
+                fuzz.end()
 
 
 def spent(pid):
