@@ -5,12 +5,14 @@ Two relays, at 127.0.0.1 and 127.0.0.2, each with a pool of its own hub: a modem
 its file, which is checked here; a pool is moved to the other hub in the midst of a transfer. Each reply and each word of the log is compared with the models of
 tests/examples. That needs port 67, and is skipped by name where no network of its own can be had. Then stores of earlier days, made by Python's sqlite3: their site
 is moved at the first start, by an office and by an import, whatever becomes of the import; 50 starts, or as many as OFFICE_KILLS says, are killed, and leave the
-store as it was or moved. It ends what it started, and takes about half a minute.
+store as it was or moved. Where there is `cc`, starts are refused growths of memory, each of the last before the program ends among them, and do likewise. It ends
+what it started, and takes about a minute.
 """
 import contextlib
 import os
 import random
 import re
+import shutil
 import socket
 import sqlite3
 import subprocess
@@ -26,6 +28,7 @@ from store_reader import BOUND, big, hub, ip, leased, modem, text
 from harness import PROGRAM, alone, check, failures, free_ports, may_be_alone, start, stop, written
 from harness import modems as office
 from harness.told import SECRET
+from files_without_memory import Refuser
 
 sys.dont_write_bytecode = True
 import leases  # noqa: E402
@@ -34,6 +37,7 @@ from examples import verdict  # noqa: E402
 from messages import ACK, OFFER, reply_in  # noqa: E402
 
 KILLS = int(os.environ.get("OFFICE_KILLS", "50"))
+LAST_GROWTHS = 60
 # Port 67 belongs to the relays here.
 PORTS, CLIENT = [6700, 6701, 6702, 8080], 5000
 OTHER = SECRET[::-1]
@@ -265,6 +269,39 @@ def kills(kind):
     print(f"{KILLS} kills of a first start over {'a journal' if kind else 'a database'}: {moved} after its commit")
 
 
+def without_memory(kind, refuser):
+    """A start whose next growth of memory is refused ends with a status that says so, and leaves the store as it was or moved; the next one moves it."""
+    words = ["--ports", ",".join(map(str, free_ports())), "--turns", "0"]
+    environment = {**os.environ, "LD_PRELOAD": refuser.library, "REFUSED": refuser.path}
+
+    def start_of(store, growth):
+        refuser.refuses(growth)
+        done = subprocess.run([PROGRAM, "serve", "--store", store, *words], stdout=subprocess.PIPE, stderr=subprocess.DEVNULL, env=environment, timeout=60)
+        refused = refuser.is_done()
+        refuser.refuses(0)
+        return done.returncode, refused
+
+    def tried(growth):
+        with store_of(kind, EARLIER) as (_, store, rows):
+            status, refused = start_of(store, growth)
+            found = rows()
+            check(status in (0, 6, 10, 11) and found in (EARLIER, MOVED), f"{kind} growth {growth}: status {status}, {len(found)} rows")
+            check(status != 0 or found == MOVED, f"{kind} growth {growth}: a start that ends well has moved the site")
+            check(start_of(store, 0)[0] == 0 and rows() == MOVED, f"{kind} growth {growth}: the next start moves the site")
+            return refused, status, found == MOVED
+
+    least, most = 1, 1
+    while tried(most)[0]:
+        least, most = most, 2 * most
+    while least + 1 < most:
+        middle = (least + most) // 2
+        least, most = (middle, most) if tried(middle)[0] else (least, middle)
+    growths = sorted({*range(max(1, most - LAST_GROWTHS), most), *random.sample(range(1, most), min(most - 1, LAST_GROWTHS))})
+    came = [tried(growth) for growth in growths]
+    print(f"a first start over {'a journal' if kind else 'a database'} has {most - 1} growths; {len(growths)} of them refused: "
+          f"{sum(status == 6 for _, status, _ in came)} with status 6, {sum(moved for _, _, moved in came)} of them after its commit")
+
+
 def imports(kind):
     """An import's opening moves the site, whatever becomes of the import; where nothing is opened it stays."""
     people, wrong = table("subscribers", [["8", "no", "1", ""]]), table("modems", [["02:00:00:00:00:01", "7", "9", ""]])
@@ -316,6 +353,13 @@ def main():
         starts(kind)
         kills(kind)
         imports(kind)
+    if shutil.which("cc"):
+        with tempfile.TemporaryDirectory() as name:
+            refuser = Refuser(name)
+            for kind in KINDS:
+                without_memory(kind, refuser)
+    else:
+        print("starts without memory: skipped, since there is no cc here")
     print(f"acceptance: {len(failures)} failed")
     return 1 if failures else 0
 
