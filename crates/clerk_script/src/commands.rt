@@ -100,6 +100,9 @@ fn as_shown(command: Command) -> Reply
         Command::PutModem(mac, row) => Reply::Shown(Key::Modem(mac), ShownRow::Modem(row)),
         Command::PutClass(number, row) => Reply::Shown(Key::Class(number), ShownRow::Class(row)),
         Command::PutPool(pool, row, hub) => Reply::ShownPool { pool, row, hub },
+        Command::PutDevicePool(number, row) => {
+            Reply::Shown(Key::DevicePool(number), ShownRow::Pool(row))
+        }
         _ => Reply::Done,
     }
 }

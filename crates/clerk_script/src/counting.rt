@@ -42,7 +42,8 @@ pub fn show_counts(page: &mut Page, counts: &Counts) -> Result<(), NoMemory> {
     show_count(page, " classes ", counts.classes)?;
     show_count(page, " pools ", counts.pools)?;
     show_count(page, " batches ", counts.batches)?;
-    show_count(page, " hubs ", counts.hubs)
+    show_count(page, " hubs ", counts.hubs)?;
+    show_count(page, " device-pools ", counts.device_pools)
 }
 
 /// `count ROW; ROW`: how many possible rows of each kind the tables have.

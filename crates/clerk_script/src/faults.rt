@@ -63,6 +63,7 @@ fn read_kind(word: &[u8]) -> Result<Kind, Unread> {
         b"pools" => Ok(Kind::Pools),
         b"batches" => Ok(Kind::Batches),
         b"hubs" => Ok(Kind::Hubs),
+        b"device-pools" => Ok(Kind::DevicePools),
         _ => Err(Unread::Words),
     }
 }

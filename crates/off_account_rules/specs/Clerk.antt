@@ -17,12 +17,13 @@ use Rattle.off_defs.specs.declared.tables.Row.TheVariants as row
 use Rattle.off_defs.specs.declared.tables.Pool.{Pool}
 use Rattle.off_defs.specs.declared.tables.Lease.{Lease}
 use Rattle.off_defs.specs.declared.tables.Batch.{Batch}
+use Rattle.off_defs.specs.declared.tables.DeviceLease.{DeviceLease}
 use Rattle.off_defs.specs.declared.tables.ImportKind.{ImportKind}
 use Rattle.off_defs.specs.declared.tables.ImportKind.TheVariants as import
 use Rattle.off_defs.specs.declared.orders.Kind.{Kind}
-use Rattle.off_defs.specs.declared.orders.Kind.TheVariants.{Subscribers, AddOns, Modems, Classes, Pools, Batches, Hubs}
+use Rattle.off_defs.specs.declared.orders.Kind.TheVariants.{Subscribers, AddOns, Modems, Classes, Pools, Batches, Hubs, DevicePools}
 use Rattle.off_defs.specs.declared.orders.Command.{Command}
-use Rattle.off_defs.specs.declared.orders.Command.TheVariants.{PutHub, PutSubscriber, PutAddOn, PutModem, PutClass, PutPool, Remove, Show, Import}
+use Rattle.off_defs.specs.declared.orders.Command.TheVariants.{PutHub, PutSubscriber, PutAddOn, PutModem, PutClass, PutPool, PutDevicePool, Remove, Show, Import}
 use Rattle.off_defs.specs.declared.orders.ImportRow.{ImportRow}
 use Rattle.off_defs.specs.declared.orders.ImportRow.TheVariants as imported
 use Rattle.off_defs.specs.declared.orders.Reply.{Reply}
@@ -34,7 +35,7 @@ use Rattle.off_defs.specs.declared.rules.Rule.TheVariants as rule
 use Rattle.off_defs.specs.Shown.{shown_row}
 use Rattle.off_defs.specs.State.{Tables}
 use Rattle.off_defs.specs.Tables.{write_all}
-use Rattle.off_account_rules.specs.Rows.{is_offset, is_lease_time, has_pool_size, seen_at, hub_in, subscriber_in, class_in, pool_in, pool_hub_in, batch_in, as_pool, modems, pools, leases, has_address, overlaps, count_of}
+use Rattle.off_account_rules.specs.Rows.{is_offset, is_lease_time, has_pool_size, seen_at, hub_in, subscriber_in, class_in, pool_in, pool_hub_in, batch_in, as_pool, modems, pools, device_pool_in, device_pools, leases, devices, has_address, overlaps, count_of}
 use Rattle.off_account_rules.specs.Good.{owner_of}
 
 -- there may be only so many rows of a kind
@@ -46,6 +47,7 @@ limit_of Classes = 1000
 limit_of Pools = 64
 limit_of Batches = 100000
 limit_of Hubs = 64
+limit_of DevicePools = 64
 
 -- the limit is broken by a key that is new, where there are as many rows as there may be
 abbrev pub limit : Tables → Key → Kind → Option Rule
@@ -81,6 +83,29 @@ abbrev pub relay_taken : Tables → ℕ → Pool → Option Rule
 relay_taken tables n pool =
     option_map (λ other. rule.RelayTaken other.0) (find (is_other_with_relay n pool) (pools tables))
 
+-- Pools for devices have numbers of their own. The least that has an address of a pool of modems,
+-- or of another pool for devices; the least that has its relay; and the least pool of modems that
+-- has an address of a pool for devices
+abbrev pub device_overlap : Tables → Pool → Option Rule
+device_overlap tables pool =
+    option_map (λ other. rule.DeviceOverlap other.0)
+    (find (λ other. overlaps pool other.1) (device_pools tables))
+
+abbrev pub other_device_overlap : Tables → ℕ → Pool → Option Rule
+other_device_overlap tables n pool =
+    option_map (λ other. rule.DeviceOverlap other.0)
+    (find (is_other_overlapping n pool) (device_pools tables))
+
+abbrev pub device_relay_taken : Tables → ℕ → Pool → Option Rule
+device_relay_taken tables n pool =
+    option_map (λ other. rule.RelayTaken other.0)
+    (find (is_other_with_relay n pool) (device_pools tables))
+
+abbrev pub modems_overlap : Tables → Pool → Option Rule
+modems_overlap tables pool =
+    option_map (λ other. rule.PoolOverlap other.0)
+    (find (λ other. overlaps pool other.1) (pools tables))
+
 -- the least pool whose hub it is
 abbrev pub hub_in_use : Tables → ℕ → Option Rule
 hub_in_use tables hub =
@@ -105,6 +130,19 @@ abbrev pub pool_has_leases : Tables → ℕ → ℕ → Option Pool → Option R
 pool_has_leases tables now n new =
     option_map (λ entry. rule.PoolHasLeases entry.0) (find (is_live now) (lost_leases tables n new))
 
+-- the same of a pool for devices and the leases of devices
+abbrev pub lost_devices : Tables → ℕ → Option Pool → List (Ip4 × DeviceLease)
+lost_devices tables n new =
+    filter (λ entry. gives_up (device_pool_in tables n) new entry.0) (devices tables)
+
+abbrev pub is_live_device : ℕ → Ip4 × DeviceLease → Bool
+is_live_device now entry = nat_lt now entry.1.expiry.0
+
+abbrev pub pool_has_devices : Tables → ℕ → ℕ → Option Pool → Option Rule
+pool_has_devices tables now n new =
+    option_map (λ entry. rule.PoolHasLeases entry.0)
+    (find (is_live_device now) (lost_devices tables n new))
+
 -- some modem belongs to the subscriber, or has the class
 abbrev pub has_modems : Tables → ℕ → Option Rule
 has_modems tables n =
@@ -128,7 +166,8 @@ removal_rules tables now (key.Held mac) = no_row tables (key.Held mac) ∷ []
 removal_rules tables now (key.Batch n) = no_row tables (key.Batch n) ∷ []
 removal_rules tables now (key.Hub n) = no_row tables (key.Hub n) ∷ hub_in_use tables n ∷ []
 removal_rules tables now (key.PoolHub n) = no_row tables (key.PoolHub n) ∷ []
-removal_rules tables now (key.DevicePool n) = no_row tables (key.DevicePool n) ∷ []
+removal_rules tables now (key.DevicePool n) =
+    no_row tables (key.DevicePool n) ∷ pool_has_devices tables now n None ∷ []
 removal_rules tables now (key.Device address) = no_row tables (key.Device address) ∷ []
 
 -- the rules of a command in their order. An import has rules for each of its rows, below
@@ -153,10 +192,19 @@ rules_of tables now (PutClass n class) =
 rules_of tables now (PutPool n pool hub) =
     when (not (has_pool_size pool)) rule.PoolSize
     ∷ pool_overlap tables n pool
+    ∷ device_overlap tables pool
     ∷ relay_taken tables n pool
     ∷ no_hub tables hub
     ∷ pool_has_leases tables now n (Some pool)
     ∷ limit tables (key.Pool n) Pools
+    ∷ []
+rules_of tables now (PutDevicePool n pool) =
+    when (not (has_pool_size pool)) rule.PoolSize
+    ∷ modems_overlap tables pool
+    ∷ other_device_overlap tables n pool
+    ∷ device_relay_taken tables n pool
+    ∷ pool_has_devices tables now n (Some pool)
+    ∷ limit tables (key.DevicePool n) DevicePools
     ∷ []
 rules_of tables now (Remove removed) = removal_rules tables now removed
 rules_of tables now (Show shown) = no_row tables shown ∷ []
@@ -169,6 +217,9 @@ held_drop (Some mac) = Drop (key.Held mac) ∷ []
 
 abbrev pub lease_drops : Ip4 × Lease → List Write
 lease_drops entry = Drop (key.Lease entry.0) ∷ held_drop (owner_of entry.1.hold)
+
+abbrev pub device_drop : Ip4 × DeviceLease → Write
+device_drop entry = Drop (key.Device entry.0)
 
 -- the keys of a subscriber's add-ons
 abbrev pub add_on_keys : ℕ → List Key
@@ -192,7 +243,8 @@ removal_writes tables (key.Held mac) = Drop (key.Held mac) ∷ []
 removal_writes tables (key.Batch n) = Drop (key.Batch n) ∷ []
 removal_writes tables (key.Hub n) = Drop (key.Hub n) ∷ []
 removal_writes tables (key.PoolHub n) = Drop (key.PoolHub n) ∷ []
-removal_writes tables (key.DevicePool n) = Drop (key.DevicePool n) ∷ []
+removal_writes tables (key.DevicePool n) =
+    Drop (key.DevicePool n) ∷ map device_drop (lost_devices tables n None)
 removal_writes tables (key.Device address) = Drop (key.Device address) ∷ []
 
 -- what a command writes that no rule refuses
@@ -206,6 +258,8 @@ writes_of tables (PutClass n class) = Put (key.Class n) (row.Class class) ∷ []
 writes_of tables (PutPool n pool hub) =
     Put (key.Pool n) (row.Pool pool) ∷ pool_hub_write n hub
     ∷ flat_map lease_drops (lost_leases tables n (Some pool))
+writes_of tables (PutDevicePool n pool) =
+    Put (key.DevicePool n) (row.Pool pool) ∷ map device_drop (lost_devices tables n (Some pool))
 writes_of tables (Remove removed) = removal_writes tables removed
 writes_of tables (Show shown) = []
 writes_of tables (Import kind batch digest rows) = []

@@ -22,7 +22,10 @@ use Rattle.off_defs.specs.State.{Tables}
 use Rattle.off_defs.specs.Tables.{row_at}
 use Rattle.off_defs.specs.declared.tables.Modem.{Modem}
 use Rattle.off_defs.specs.declared.tables.Lease.{Lease}
-use Rattle.off_account_rules.specs.Rows.{passes, is_possible, has_address, overlaps, as_modem, as_pool, as_lease, as_held, as_pool_hub, number_or_0}
+use Rattle.off_defs.specs.declared.tables.DeviceLease.{DeviceLease}
+use Rattle.off_defs.specs.declared.tables.DeviceHold.{DeviceHold}
+use Rattle.off_defs.specs.declared.tables.DeviceHold.TheVariants as device
+use Rattle.off_account_rules.specs.Rows.{passes, is_possible, has_address, overlaps, as_modem, as_pool, as_lease, as_held, as_pool_hub, as_device, number_or_0}
 
 abbrev pub is_there : Tables → Key → Bool
 is_there tables key = is_some (row_at tables key)
@@ -34,6 +37,25 @@ raw_pool_of entry = None
 
 abbrev pub raw_pools : Tables → List (ℕ × Pool)
 raw_pools tables = filter_map raw_pool_of (map.entries tables)
+
+-- the same of pools for devices, and all leases of devices
+abbrev pub raw_device_pool_of : Key × Row → Option (ℕ × Pool)
+raw_device_pool_of (key.DevicePool n, row.Pool pool) = Some (n, pool)
+raw_device_pool_of entry = None
+
+abbrev pub raw_device_pools : Tables → List (ℕ × Pool)
+raw_device_pools tables = filter_map raw_device_pool_of (map.entries tables)
+
+abbrev pub raw_device_of : Key × Row → Option (Ip4 × DeviceLease)
+raw_device_of (key.Device address, row.Device lease) = Some (address, lease)
+raw_device_of entry = None
+
+abbrev pub raw_devices : Tables → List (Ip4 × DeviceLease)
+raw_devices tables = filter_map raw_device_of (map.entries tables)
+
+-- a pool of modems and one for devices have no address in common
+abbrev pub is_disjoint : Pool → ℕ × Pool → Bool
+is_disjoint pool other = not (overlaps pool other.1)
 
 -- no other pool has an address of this one or its relay
 abbrev pub is_apart : ℕ → Pool → ℕ × Pool → Bool
@@ -71,6 +93,11 @@ pool_hub_stands tables n hub = is_there tables (key.Pool n) && is_hub_there tabl
 abbrev pub pools_around : Tables → Ip4 → ℕ
 pools_around tables address = count_by (λ other. has_address other.1 address) (raw_pools tables)
 
+-- how many pools for devices have it
+abbrev pub device_pools_around : Tables → Ip4 → ℕ
+device_pools_around tables address =
+    count_by (λ other. has_address other.1 address) (raw_device_pools tables)
+
 -- the modem that has an address
 abbrev pub owner_of : Hold → Option Mac
 owner_of (Offered mac) = Some mac
@@ -79,6 +106,38 @@ owner_of Declined = None
 
 abbrev pub is_mac : Mac → Mac → Bool
 is_mac mac other = eq_by_cmp (slice_cmp nat_cmp) mac.0 other.0
+
+-- the modem and its device that have an address
+abbrev pub device_owner : DeviceHold → Option (Mac × Mac)
+device_owner (device.Offered modem behind) = Some (modem, behind)
+device_owner (device.Bound modem behind) = Some (modem, behind)
+device_owner device.Declined = None
+
+-- no other address has the same owner
+abbrev pub is_same_owner : Mac × Mac → Mac × Mac → Bool
+is_same_owner one other = is_mac one.0 other.0 && is_mac one.1 other.1
+
+abbrev pub is_owned_apart : Ip4 → Option (Mac × Mac) → Ip4 × DeviceLease → Bool
+is_owned_apart address None other = true
+is_owned_apart address (Some owner) other =
+    (other.0.0 == address.0) || not (passes (is_same_owner owner) (device_owner other.1.hold))
+
+-- a device's lease has its one pool for devices, and a device of a modem has one lease
+abbrev pub device_stands : Tables → Ip4 → DeviceLease → Bool
+device_stands tables address lease =
+    (device_pools_around tables address == 1)
+    && list_all (is_owned_apart address (device_owner lease.hold)) (raw_devices tables)
+
+-- a pool is apart from all others, and one for devices too
+abbrev pub pool_stands : Tables → ℕ → Pool → Bool
+pool_stands tables n pool =
+    list_all (is_apart n pool) (raw_pools tables)
+    && list_all (is_disjoint pool) (raw_device_pools tables)
+
+abbrev pub device_pool_stands : Tables → ℕ → Pool → Bool
+device_pool_stands tables n pool =
+    list_all (is_apart n pool) (raw_device_pools tables)
+    && list_all (is_disjoint pool) (raw_pools tables)
 
 -- the modem holds this address; this modem owns the lease of an address
 abbrev pub is_address : Ip4 → Ip4 → Bool
@@ -122,16 +181,15 @@ stands_right tables (key.Subscriber n) held = true
 stands_right tables (key.AddOn n number) held = is_there tables (key.Subscriber n)
 stands_right tables (key.Modem mac) held = passes (modem_stands tables) (as_modem held)
 stands_right tables (key.Class n) held = true
-stands_right tables (key.Pool n) held =
-    passes (λ pool. list_all (is_apart n pool) (raw_pools tables)) (as_pool held)
+stands_right tables (key.Pool n) held = passes (pool_stands tables n) (as_pool held)
 stands_right tables (key.Lease address) held = passes (lease_stands tables address) (as_lease held)
 stands_right tables (key.Held mac) held = passes (owns tables mac) (as_held held)
 stands_right tables (key.Batch n) held = true
 stands_right tables (key.Hub n) held = true
 stands_right tables (key.PoolHub n) held = passes (pool_hub_stands tables n) (as_pool_hub held)
--- no tables have these yet
-stands_right tables (key.DevicePool n) held = false
-stands_right tables (key.Device address) held = false
+stands_right tables (key.DevicePool n) held = passes (device_pool_stands tables n) (as_pool held)
+stands_right tables (key.Device address) held =
+    passes (device_stands tables address) (as_device held)
 
 abbrev pub keeps : Tables → Key → Row → Bool
 keeps tables key held = is_possible key held && stands_right tables key held

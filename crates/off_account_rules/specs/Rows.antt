@@ -24,8 +24,9 @@ use Rattle.off_defs.specs.declared.tables.Class.{Class}
 use Rattle.off_defs.specs.declared.tables.Pool.{Pool}
 use Rattle.off_defs.specs.declared.tables.Lease.{Lease}
 use Rattle.off_defs.specs.declared.tables.Batch.{Batch}
+use Rattle.off_defs.specs.declared.tables.DeviceLease.{DeviceLease}
 use Rattle.off_defs.specs.declared.orders.Kind.{Kind}
-use Rattle.off_defs.specs.declared.orders.Kind.TheVariants.{Subscribers, AddOns, Modems, Classes, Pools, Batches, Hubs}
+use Rattle.off_defs.specs.declared.orders.Kind.TheVariants.{Subscribers, AddOns, Modems, Classes, Pools, Batches, Hubs, DevicePools}
 use Rattle.off_defs.specs.State.{Tables}
 use Rattle.off_defs.specs.Tables.{row_at}
 use Rattle.off_account_rules.specs.declared.counts.Counts.{Counts}
@@ -104,6 +105,10 @@ abbrev pub as_pool_hub : Row → Option ℕ
 as_pool_hub (row.PoolHub hub) = Some hub
 as_pool_hub row = None
 
+abbrev pub as_device : Row → Option DeviceLease
+as_device (row.Device lease) = Some lease
+as_device row = None
+
 -- the row is of the wanted kind, and passes the test
 abbrev pub passes : {X : Type 0} → (X → Bool) → Option X → Bool
 passes test None = false
@@ -123,9 +128,8 @@ is_possible (key.Batch n) held = is_some (as_batch held)
 is_possible (key.Hub n) held = passes site_fits (as_site held)
 -- a pool without a row has the hub 0
 is_possible (key.PoolHub n) held = passes (λ hub. not (hub == 0)) (as_pool_hub held)
--- the office has no use for these yet: whoever reads one takes it as one that isn't there
-is_possible (key.DevicePool n) held = false
-is_possible (key.Device address) held = false
+is_possible (key.DevicePool n) held = passes pool_fits (as_pool held)
+is_possible (key.Device address) held = is_some (as_device held)
 
 -- the row of a key, as whoever reads it takes it
 abbrev pub possible : Key → Option Row → Option Row
@@ -171,6 +175,12 @@ number_or_0 (Some hub) = hub
 abbrev pub pool_hub_in : Tables → ℕ → ℕ
 pool_hub_in tables n = number_or_0 (option_and_then as_pool_hub (seen_at tables (key.PoolHub n)))
 
+abbrev pub device_pool_in : Tables → ℕ → Option Pool
+device_pool_in tables n = option_and_then as_pool (seen_at tables (key.DevicePool n))
+
+abbrev pub device_in : Tables → Ip4 → Option DeviceLease
+device_in tables address = option_and_then as_device (seen_at tables (key.Device address))
+
 -- All rows of a kind with their keys, in the order of keys
 abbrev pub modem_of : Key × Row → Option (Mac × Modem)
 modem_of (key.Modem mac, row.Modem modem) = Some (mac, modem)
@@ -196,6 +206,20 @@ lease_of entry = None
 
 abbrev pub leases : Tables → List (Ip4 × Lease)
 leases tables = filter_map lease_of (map.entries tables)
+
+abbrev pub device_pool_of : Key × Row → Option (ℕ × Pool)
+device_pool_of (key.DevicePool n, row.Pool pool) = fitting_pool (pool_fits pool) n pool
+device_pool_of entry = None
+
+abbrev pub device_pools : Tables → List (ℕ × Pool)
+device_pools tables = filter_map device_pool_of (map.entries tables)
+
+abbrev pub device_of : Key × Row → Option (Ip4 × DeviceLease)
+device_of (key.Device address, row.Device lease) = Some (address, lease)
+device_of entry = None
+
+abbrev pub devices : Tables → List (Ip4 × DeviceLease)
+devices tables = filter_map device_of (map.entries tables)
 
 -- the addresses of a pool, and the pools that have an address in common
 abbrev pub has_address : Pool → Ip4 → Bool
@@ -230,7 +254,7 @@ kind_counted (key.Held mac) = None
 kind_counted (key.Batch n) = Some Batches
 kind_counted (key.Hub n) = Some Hubs
 kind_counted (key.PoolHub n) = None
-kind_counted (key.DevicePool n) = None
+kind_counted (key.DevicePool n) = Some DevicePools
 kind_counted (key.Device address) = None
 
 abbrev pub kind_number : Kind → ℕ
@@ -241,6 +265,7 @@ kind_number Classes = 4
 kind_number Pools = 5
 kind_number Batches = 6
 kind_number Hubs = 7
+kind_number DevicePools = 8
 
 -- How many possible rows there are of a kind
 abbrev pub is_of_kind : Kind → Key → Bool
@@ -264,4 +289,5 @@ counts_of tables = record {
   pools = count_of Pools tables;
   batches = min greatest_u64 (count_of Batches tables);
   hubs = count_of Hubs tables;
+  device_pools = count_of DevicePools tables;
 }

@@ -8,4 +8,5 @@ pub struct Counts {
     pub pools: u64,
     pub batches: u64,
     pub hubs: u64,
+    pub device_pools: u64,
 }

@@ -14,15 +14,15 @@ use Rattle.off_defs.specs.declared.tables.Site.{Site}
 use Rattle.off_base.specs.declared.macs.Mac.{Mac}
 use Rattle.off_defs.specs.declared.rules.Rule.{Rule}
 use Rattle.off_defs.specs.declared.orders.Kind.{Kind}
-use Rattle.off_defs.specs.declared.orders.Kind.TheVariants.{Subscribers, AddOns, Modems, Classes, Pools, Hubs}
+use Rattle.off_defs.specs.declared.orders.Kind.TheVariants.{Subscribers, AddOns, Modems, Classes, Pools, Hubs, DevicePools}
 use Rattle.off_defs.specs.declared.orders.Command.{Command}
-use Rattle.off_defs.specs.declared.orders.Command.TheVariants.{PutHub, PutSubscriber, PutAddOn, PutModem, PutClass, PutPool, Remove}
+use Rattle.off_defs.specs.declared.orders.Command.TheVariants.{PutHub, PutSubscriber, PutAddOn, PutModem, PutClass, PutPool, PutDevicePool, Remove}
 use Rattle.off_defs.specs.State.{Tables}
 use Rattle.off_defs.specs.Tables.{with_row, without}
 use Rattle.off_rows.specs.Sound.{is_add_on_number, is_sound_pool, is_sound_subscriber}
 use Rattle.off_account_rules.specs.declared.counts.Counts.{Counts}
 use Rattle.off_account_rules.specs.Rows.{seen_at, is_possible, is_of_kind, counts_of}
-use Rattle.off_account_rules.specs.Clerk.{limit, rules_of, lost_leases, lease_drops, add_on_keys}
+use Rattle.off_account_rules.specs.Clerk.{limit, rules_of, lost_leases, lost_devices, lease_drops, add_on_keys}
 use Rattle.off_accounts.specs.declared.subject.Subject.{Subject}
 use Rattle.off_accounts.specs.Changes.{count_in, with_count, counts_put, counts_drop}
 use Rattle.off_accounts.specs.Tests.{limit_rule}
@@ -30,8 +30,8 @@ use Rattle.off_accounts.specs.After.{CountsAfter, CountsAfterRemoval}
 use Rattle.off_accounts.proofs.CountsLemmas.{kept, counts_with, counts_without_other}
 use Rattle.off_accounts.proofs.LimitLemmas.{limit_is}
 use Rattle.std.specs.List.{flat_map}
-use Rattle.off_accounts.proofs.RemovalLemmas.{drop_counts, lease_counts, subscriber_counts}
-use Rattle.off_accounts.proofs.PlanLemmas.{no_kind, hub_counts, good_add_on, good_class, good_hub, good_pool}
+use Rattle.off_accounts.proofs.RemovalLemmas.{drop_counts, lease_counts, device_counts, subscriber_counts}
+use Rattle.off_accounts.proofs.PlanLemmas.{no_kind, hub_counts, good_add_on, good_class, good_hub, good_pool, good_device_pool}
 
 -- all rules are passed
 abbrev Whole : List (Option Rule) → Type 0
@@ -79,8 +79,14 @@ module _ (counts after : Counts) (subject : Subject) (t : Tables) where
   pub pool_put : (n : ℕ) (pool : Pool) (hub : ℕ) → is_sound_pool pool ≡ true → PutSays counts Pools subject.is_there after → CountsAfter counts subject (PutPool n pool hub) t after
   pool_put n pool hub sound put now agree stands none =
       let passed = unbroken (rules_of t now (PutPool n pool hub)) none in
-      put_after Pools (key.Pool n) (row.Pool pool) t counts after subject.is_there (λ m. refl) refl (good_pool n pool sound passed.0) stands.0 agree passed.1.1.1.1.1.0 put
+      put_after Pools (key.Pool n) (row.Pool pool) t counts after subject.is_there (λ m. refl) refl (good_pool n pool sound passed.0) stands.0 agree passed.1.1.1.1.1.1.0 put
       ∙ sym (hub_counts n hub (flat_map lease_drops (lost_leases t n (Some pool))) (with_row t (key.Pool n) (row.Pool pool)) (lease_counts (lost_leases t n (Some pool))))
+
+  pub device_pool_put : (n : ℕ) (pool : Pool) → is_sound_pool pool ≡ true → PutSays counts DevicePools subject.is_there after → CountsAfter counts subject (PutDevicePool n pool) t after
+  device_pool_put n pool sound put now agree stands none =
+      let passed = unbroken (rules_of t now (PutDevicePool n pool)) none in
+      put_after DevicePools (key.DevicePool n) (row.Pool pool) t counts after subject.is_there (λ m. refl) refl (good_device_pool n pool sound passed.0) stands.0 agree passed.1.1.1.1.1.0 put
+      ∙ sym (device_counts (lost_devices t n (Some pool)) (with_row t (key.DevicePool n) (row.Pool pool)))
 
   pub hub_put : (n : ℕ) (site : Site) → length site.secret ≤ 64 → PutSays counts Hubs subject.is_there after → CountsAfter counts subject (PutHub n site) t after
   hub_put n site fits put now agree stands none =
@@ -101,6 +107,10 @@ module _ (counts after : Counts) (t : Tables) where
   pool_removed n less agree there =
       drop_counts Pools (key.Pool n) t counts after (λ m. refl) refl there less agree
       ∙ sym (lease_counts (lost_leases t n None) (without (without t (key.Pool n)) (key.PoolHub n)) ∙ counts_without_other (key.PoolHub n) (without t (key.Pool n)) (no_kind n))
+
+  pub device_pool_removed : (n : ℕ) → after ≡ counts_drop DevicePools true counts → CountsAfterRemoval counts (key.DevicePool n) t after
+  device_pool_removed n less agree there =
+      drop_counts DevicePools (key.DevicePool n) t counts after (λ m. refl) refl there less agree ∙ sym (device_counts (lost_devices t n None) (without t (key.DevicePool n)))
 
   pub hub_removed : (n : ℕ) → after ≡ counts_drop Hubs true counts → CountsAfterRemoval counts (key.Hub n) t after
   hub_removed n less agree there = drop_counts Hubs (key.Hub n) t counts after (λ m. refl) refl there less agree

@@ -6,23 +6,25 @@ use Rattle.off_defs.specs.declared.tables.Pool.{Pool}
 use Rattle.off_defs.specs.declared.orders.Command.{Command}
 use Rattle.off_defs.specs.declared.orders.ImportRow.{ImportRow}
 use Rattle.off_defs.specs.declared.tables.ImportKind.{ImportKind}
-use Rattle.off_defs.specs.declared.orders.Command.TheVariants.{PutHub, PutSubscriber, PutAddOn, PutModem, PutClass, PutPool, Remove, Show, Import}
+use Rattle.off_defs.specs.declared.orders.Command.TheVariants.{PutHub, PutSubscriber, PutAddOn, PutModem, PutClass, PutPool, PutDevicePool, Remove, Show, Import}
 use Rattle.off_defs.specs.State.{Tables}
 use Rattle.off_outside.specs.KeeperSeen.{KeeperSeen}
 use Rattle.off_outside.specs.KeeperCalls.{Reads, Spent}
 use Rattle.off_outside.proofs.KeeperLemmas.{spent_then, spent_within}
 use Rattle.off_base.specs.declared.moments.Moment.{Moment}
 use Rattle.off_account_rules.specs.declared.counts.Counts.{Counts}
+use Rattle.off_accounts.specs.declared.whose.Whose.{Whose}
+use Rattle.off_accounts.specs.declared.whose.Whose.TheVariants.{Modems as OfModems, Devices as OfDevices}
 use Rattle.off_accounts.specs.declared.subject.Subject.{Subject}
 use Rattle.off_accounts.specs.declared.testing.Test.{Test}
-use Rattle.off_account_rules.specs.Rows.{pool_in}
+use Rattle.off_account_rules.specs.Rows.{pool_in, device_pool_in}
 use Rattle.off_accounts.specs.Tests.{tests_of, live_test, calls_for_subject, lookups, any_searches}
 use Rattle.off_accounts.specs.Deciding.{most_calls, calls_to_show, calls_to_count}
-use Rattle.off_accounts.specs.Walking.{is_of_pool, rows_at, hub_calls, lease_calls, walking_calls, WalksWithin, test_calls, tests_calls, drop_calls, IsPoolAt}
+use Rattle.off_accounts.specs.Walking.{hub_calls, lease_calls, pool_calls, device_pool_calls, walking_calls, WalksWithin, test_calls, tests_calls, drop_calls, IsPoolAt}
 
-live_calls : (at : Moment) (old new : Option Pool) (t : Tables) → test_calls t (live_test at old new) ≡ lease_calls old t
-live_calls at None new t = refl
-live_calls at (Some old) new t = refl
+live_calls : (whose : Whose) (at : Moment) (old new : Option Pool) (t : Tables) → test_calls t (live_test whose at old new) ≡ lease_calls whose old t
+live_calls whose at None new t = refl
+live_calls whose at (Some old) new t = refl
 
 if_spent : (most : Option ℕ) (k : ℕ) {a b : KeeperSeen} → IfSome most (λ n. k ≤ n) → Spent k a b → IfSome most (λ n. Spent n a b)
 if_spent None k fits spent = tt
@@ -44,6 +46,7 @@ first_walks (PutAddOn n number settings) spent t told = tt
 first_walks (PutModem mac modem) spent t told = tt
 first_walks (PutClass n class) spent t told = tt
 first_walks (PutPool n pool hub) spent t told = spent_within spent (omega arith)
+first_walks (PutDevicePool n pool) spent t told = spent_within spent (omega arith)
 first_walks (Remove key.Site) spent t told = tt
 first_walks (Remove (key.Subscriber n)) spent t told = tt
 first_walks (Remove (key.AddOn n number)) spent t told = tt
@@ -55,19 +58,22 @@ first_walks (Remove (key.Held mac)) spent t told = tt
 first_walks (Remove (key.Batch n)) spent t told = tt
 first_walks (Remove (key.Hub n)) spent t told = spent_within spent (omega arith)
 first_walks (Remove (key.PoolHub n)) spent t told = tt
-first_walks (Remove (key.DevicePool n)) spent t told = tt
+first_walks (Remove (key.DevicePool n)) spent t told = spent_within spent (omega arith)
 first_walks (Remove (key.Device address)) spent t told = tt
 first_walks (Show shown) spent t told = tt
 first_walks (Import kind batch digest rows) spent t told = tt
 
--- twice the pools and twice the leases
-sum_put : (p l m : ℕ) → l ≡ m → 1 + ((0 + (p + (p + (1 + (l + (0 + 0)))))) + (l + 0)) ≤ 2 + 2 * p + 2 * m
-sum_put p l m same = omega (arith, same)
+-- twice the pools, once those for the others, and twice the leases
+sum_put : (p d l m : ℕ) → l ≡ m → 1 + ((0 + (p + (d + (p + (1 + (l + (0 + 0))))))) + (l + 0)) ≤ 2 + 2 * p + d + 2 * m
+sum_put p d l m same = omega (arith, same)
 
-sum_removed : (l m : ℕ) → l ≡ m → 1 + ((0 + (l + (0 + (0 + (0 + (0 + 0)))))) + (l + 0)) ≤ 1 + 2 * m
+sum_put_device : (p d l m : ℕ) → l ≡ m → 1 + ((0 + (p + (d + (d + (l + (0 + (0 + 0))))))) + (l + 0)) ≤ 1 + p + 2 * d + 2 * m
+sum_put_device p d l m same = omega (arith, same)
+
+sum_removed : (l m : ℕ) → l ≡ m → 1 + ((0 + (l + (0 + (0 + (0 + (0 + (0 + 0))))))) + (l + 0)) ≤ 1 + 2 * m
 sum_removed l m same = omega (arith, same)
 
-sum_of_hub : (h : ℕ) → 1 + ((0 + (h + (0 + (0 + (0 + (0 + 0)))))) + (0 + 0)) ≤ 1 + h
+sum_of_hub : (h : ℕ) → 1 + ((0 + (h + (0 + (0 + (0 + (0 + (0 + 0))))))) + (0 + 0)) ≤ 1 + h
 sum_of_hub h = omega arith
 
 module _ (counts : Counts) (at : Moment) (subject : Subject) where
@@ -81,24 +87,31 @@ module _ (counts : Counts) (at : Moment) (subject : Subject) where
   fits_in (PutModem mac modem) t is = tt
   fits_in (PutClass n class) t is = tt
   fits_in (PutPool n pool hub) t is =
-      subst (λ (l : ℕ). 1 + ((0 + ((rows_at is_of_pool t + 1) + ((rows_at is_of_pool t + 1) + (1 + (l + (0 + 0)))))) + (lease_calls subject.pool t + 0)) ≤ 2 + 2 * (rows_at is_of_pool t + 1) + 2 * lease_calls (pool_in t n) t)
-      (sym (live_calls at subject.pool (Some pool) t))
-      (sum_put (rows_at is_of_pool t + 1) (lease_calls subject.pool t) (lease_calls (pool_in t n) t) (ap (λ (o : Option Pool). lease_calls o t) is))
+      subst (λ (l : ℕ). 1 + ((0 + (pool_calls t + (device_pool_calls t + (pool_calls t + (1 + (l + (0 + 0))))))) + (lease_calls OfModems subject.pool t + 0)) ≤ 2 + 2 * pool_calls t + device_pool_calls t + 2 * lease_calls OfModems (pool_in t n) t)
+      (sym (live_calls OfModems at subject.pool (Some pool) t))
+      (sum_put (pool_calls t) (device_pool_calls t) (lease_calls OfModems subject.pool t) (lease_calls OfModems (pool_in t n) t) (ap (λ (o : Option Pool). lease_calls OfModems o t) is))
+  fits_in (PutDevicePool n pool) t is =
+      subst (λ (l : ℕ). 1 + ((0 + (pool_calls t + (device_pool_calls t + (device_pool_calls t + (l + (0 + (0 + 0))))))) + (lease_calls OfDevices subject.pool t + 0)) ≤ 1 + pool_calls t + 2 * device_pool_calls t + 2 * lease_calls OfDevices (device_pool_in t n) t)
+      (sym (live_calls OfDevices at subject.pool (Some pool) t))
+      (sum_put_device (pool_calls t) (device_pool_calls t) (lease_calls OfDevices subject.pool t) (lease_calls OfDevices (device_pool_in t n) t) (ap (λ (o : Option Pool). lease_calls OfDevices o t) is))
   fits_in (Remove key.Site) t is = tt
   fits_in (Remove (key.Subscriber n)) t is = tt
   fits_in (Remove (key.AddOn n number)) t is = tt
   fits_in (Remove (key.Modem mac)) t is = tt
   fits_in (Remove (key.Class n)) t is = tt
   fits_in (Remove (key.Pool n)) t is =
-      subst (λ (l : ℕ). 1 + ((0 + (l + (0 + (0 + (0 + (0 + 0)))))) + (lease_calls subject.pool t + 0)) ≤ 1 + 2 * lease_calls (pool_in t n) t)
-      (sym (live_calls at subject.pool None t))
-      (sum_removed (lease_calls subject.pool t) (lease_calls (pool_in t n) t) (ap (λ (o : Option Pool). lease_calls o t) is))
+      subst (λ (l : ℕ). 1 + ((0 + (l + (0 + (0 + (0 + (0 + (0 + 0))))))) + (lease_calls OfModems subject.pool t + 0)) ≤ 1 + 2 * lease_calls OfModems (pool_in t n) t)
+      (sym (live_calls OfModems at subject.pool None t))
+      (sum_removed (lease_calls OfModems subject.pool t) (lease_calls OfModems (pool_in t n) t) (ap (λ (o : Option Pool). lease_calls OfModems o t) is))
   fits_in (Remove (key.Lease address)) t is = tt
   fits_in (Remove (key.Held mac)) t is = tt
   fits_in (Remove (key.Batch n)) t is = tt
   fits_in (Remove (key.Hub n)) t is = sum_of_hub (hub_calls t)
   fits_in (Remove (key.PoolHub n)) t is = tt
-  fits_in (Remove (key.DevicePool n)) t is = tt
+  fits_in (Remove (key.DevicePool n)) t is =
+      subst (λ (l : ℕ). 1 + ((0 + (l + (0 + (0 + (0 + (0 + (0 + 0))))))) + (lease_calls OfDevices subject.pool t + 0)) ≤ 1 + 2 * lease_calls OfDevices (device_pool_in t n) t)
+      (sym (live_calls OfDevices at subject.pool None t))
+      (sum_removed (lease_calls OfDevices subject.pool t) (lease_calls OfDevices (device_pool_in t n) t) (ap (λ (o : Option Pool). lease_calls OfDevices o t) is))
   fits_in (Remove (key.Device address)) t is = tt
   fits_in (Show shown) t is = tt
   fits_in (Import kind batch digest rows) t is = tt
@@ -111,6 +124,7 @@ module _ (counts : Counts) (at : Moment) (subject : Subject) where
   few_in (PutModem mac modem) some = refl
   few_in (PutClass n class) some = refl
   few_in (PutPool n pool hub) some = cc
+  few_in (PutDevicePool n pool) some = cc
   few_in (Remove key.Site) some = refl
   few_in (Remove (key.Subscriber n)) some = refl
   few_in (Remove (key.AddOn n number)) some = refl
@@ -122,7 +136,7 @@ module _ (counts : Counts) (at : Moment) (subject : Subject) where
   few_in (Remove (key.Batch n)) some = refl
   few_in (Remove (key.Hub n)) some = cc
   few_in (Remove (key.PoolHub n)) some = refl
-  few_in (Remove (key.DevicePool n)) some = refl
+  few_in (Remove (key.DevicePool n)) some = cc
   few_in (Remove (key.Device address)) some = refl
   few_in (Show shown) some = refl
   few_in (Import kind batch digest rows) some = refl
@@ -134,6 +148,7 @@ module _ (counts : Counts) (at : Moment) (subject : Subject) where
   most_in (PutModem mac modem) = omega arith
   most_in (PutClass n class) = omega arith
   most_in (PutPool n pool hub) = tt
+  most_in (PutDevicePool n pool) = tt
   most_in (Remove key.Site) = omega arith
   most_in (Remove (key.Subscriber n)) = omega arith
   most_in (Remove (key.AddOn n number)) = omega arith
@@ -145,7 +160,7 @@ module _ (counts : Counts) (at : Moment) (subject : Subject) where
   most_in (Remove (key.Batch n)) = omega arith
   most_in (Remove (key.Hub n)) = tt
   most_in (Remove (key.PoolHub n)) = omega arith
-  most_in (Remove (key.DevicePool n)) = omega arith
+  most_in (Remove (key.DevicePool n)) = tt
   most_in (Remove (key.Device address)) = omega arith
   most_in (Show shown) = one_shown shown
   most_in (Import kind batch digest rows) = tt

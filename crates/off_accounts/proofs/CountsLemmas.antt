@@ -4,10 +4,10 @@ use Rattle.std.specs.FinMap as map
 use Rattle.std.specs.FinMap.Entries as list
 use Rattle.off_base.specs.Number.{greatest_u64}
 use Rattle.off_defs.specs.declared.keys.Key.{Key}
-use Rattle.off_defs.specs.declared.keys.Key.TheVariants.{Subscriber, AddOn, Modem, Class, Pool, Batch, Hub}
+use Rattle.off_defs.specs.declared.keys.Key.TheVariants.{Subscriber, AddOn, Modem, Class, Pool, Batch, Hub, DevicePool}
 use Rattle.off_defs.specs.declared.tables.Row.{Row}
 use Rattle.off_defs.specs.declared.orders.Kind.{Kind}
-use Rattle.off_defs.specs.declared.orders.Kind.TheVariants.{Subscribers, AddOns, Modems, Classes, Pools, Batches, Hubs}
+use Rattle.off_defs.specs.declared.orders.Kind.TheVariants.{Subscribers, AddOns, Modems, Classes, Pools, Batches, Hubs, DevicePools}
 use Rattle.off_defs.specs.Keys.{key_cmp}
 use Rattle.off_defs.specs.State.{Tables}
 use Rattle.off_defs.specs.Tables.{row_at, with_row, without}
@@ -62,6 +62,7 @@ same_counts c d same = λ i. record {
   pools = same Pools i;
   batches = same Batches i;
   hubs = same Hubs i;
+  device_pools = same DevicePools i;
 }
 
 -- what the counts say of a number of rows of a kind
@@ -77,6 +78,7 @@ counted_of Classes t = refl
 counted_of Pools t = refl
 counted_of Batches t = refl
 counted_of Hubs t = refl
+counted_of DevicePools t = refl
 
 abbrev same_kind : Kind → Kind → Bool
 same_kind Subscribers Subscribers = true
@@ -86,6 +88,7 @@ same_kind Classes Classes = true
 same_kind Pools Pools = true
 same_kind Batches Batches = true
 same_kind Hubs Hubs = true
+same_kind DevicePools DevicePools = true
 same_kind kind other = false
 
 counted_with : (kind other : Kind) (n : ℕ) (c : Counts) → count_in other (with_count kind n c) ≡ cond (same_kind kind other) n (count_in other c)
@@ -96,6 +99,7 @@ counted_with Classes Classes n c = refl
 counted_with Pools Pools n c = refl
 counted_with Batches Batches n c = refl
 counted_with Hubs Hubs n c = refl
+counted_with DevicePools DevicePools n c = refl
 counted_with _ _ n c = refl
 
 own_kind : (kind other : Kind) (key : Key) → is_of_kind kind key ≡ true → is_of_kind other key ≡ same_kind kind other
@@ -120,6 +124,9 @@ own_kind Batches _ _ e = cc
 own_kind Hubs Hubs (Hub n) e = refl
 own_kind Hubs _ (Hub n) e = refl
 own_kind Hubs _ _ e = cc
+own_kind DevicePools DevicePools (DevicePool n) e = refl
+own_kind DevicePools _ (DevicePool n) e = refl
+own_kind DevicePools _ _ e = cc
 
 same_then : (kind other : Kind) → same_kind kind other ≡ true → kind ≡ other
 same_then Subscribers Subscribers e = refl
@@ -129,6 +136,7 @@ same_then Classes Classes e = refl
 same_then Pools Pools e = refl
 same_then Batches Batches e = refl
 same_then Hubs Hubs e = refl
+same_then DevicePools DevicePools e = refl
 same_then _ _ e = cc
 
 -- a number that is kept whole for a kind, also where the kind is said as another one

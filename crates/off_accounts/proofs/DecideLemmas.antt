@@ -5,7 +5,7 @@ use Rattle.off_defs.specs.declared.rules.Rule.{Rule}
 use Rattle.off_defs.specs.declared.orders.Write.{Write}
 use Rattle.off_defs.specs.declared.orders.Reply.TheVariants.{Done}
 use Rattle.off_defs.specs.declared.orders.Command.{Command}
-use Rattle.off_defs.specs.declared.orders.Command.TheVariants.{PutHub, PutSubscriber, PutAddOn, PutModem, PutClass, PutPool, Remove, Show, Import}
+use Rattle.off_defs.specs.declared.orders.Command.TheVariants.{PutHub, PutSubscriber, PutAddOn, PutModem, PutClass, PutPool, PutDevicePool, Remove, Show, Import}
 use Rattle.off_defs.specs.State.{Tables}
 use Rattle.off_defs.specs.Tables.{write_all}
 use Rattle.off_account_rules.specs.declared.counts.Counts.{Counts}
@@ -39,6 +39,7 @@ by_rules (PutAddOn n number settings) e f = λ t now. refl
 by_rules (PutModem mac modem) e f = λ t now. refl
 by_rules (PutClass n class) e f = λ t now. refl
 by_rules (PutPool n pool hub) e f = λ t now. refl
+by_rules (PutDevicePool n pool) e f = λ t now. refl
 by_rules (Remove removed) e f = λ t now. refl
 by_rules (Show shown) e f = cc
 by_rules (Import kind batch digest rows) e f = cc

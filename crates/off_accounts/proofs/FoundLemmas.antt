@@ -1,5 +1,5 @@
 -- What a search finds, as the rule says it.
-use Rattle.std.proofs.Common.{◌≡◌, ℕ, Bool, true, false, cond, ◌&&◌, Option, Some, None, option_map, List, [], ◌∷◌, refl, sym, ap, ◌∙◌}
+use Rattle.std.proofs.Common.{◌≡◌, ℕ, Bool, true, false, cond, ◌&&◌, Option, Some, None, option_map, option_and_then, List, [], ◌∷◌, refl, sym, ap, ◌∙◌}
 use Rattle.std.specs.List.{find, filter, filter_map, cons_option}
 use Rattle.std.specs.FinMap as map
 use Rattle.off_base.specs.declared.addresses.Ip4.{Ip4}
@@ -9,17 +9,19 @@ use Rattle.off_defs.specs.declared.tables.Row.{Row}
 use Rattle.off_defs.specs.declared.tables.Row.TheVariants as row
 use Rattle.off_defs.specs.declared.tables.Pool.{Pool}
 use Rattle.off_defs.specs.declared.tables.Lease.{Lease}
+use Rattle.off_defs.specs.declared.tables.DeviceLease.{DeviceLease}
 use Rattle.off_defs.specs.declared.rules.Rule.{Rule}
 use Rattle.off_defs.specs.declared.rules.Rule.TheVariants as rule
 use Rattle.off_defs.specs.State.{Tables}
-use Rattle.off_account_rules.specs.Rows.{pool_of, fitting_pool, pool_fits, lease_of, leases}
-use Rattle.off_account_rules.specs.Clerk.{pool_overlap, relay_taken, is_other_overlapping, is_other_with_relay, is_live}
+use Rattle.off_account_rules.specs.Rows.{passes, fitting_pool, pool_fits, lease_of, device_of, leases, devices}
+use Rattle.off_account_rules.specs.Clerk.{is_other_with_relay, gives_up, is_live, is_live_device}
+use Rattle.off_accounts.specs.declared.whose.Whose.{Whose}
+use Rattle.off_accounts.specs.declared.whose.Whose.TheVariants.{Modems as OfModems, Devices as OfDevices}
 use Rattle.off_accounts.specs.declared.lost.Lost.{Lost}
 use Rattle.off_accounts.specs.declared.searching.Sought.{Sought}
-use Rattle.off_accounts.specs.Tests.{found_rule, sought_rule}
 use Rattle.off_accounts.specs.declared.searching.Sought.TheVariants.{Overlapping, WithRelay, LiveLost}
-use Rattle.off_account_rules.specs.Rows.{passes}
-use Rattle.off_accounts.specs.Searches.{is_given_up, least_wanted, pool_number, lease_address, live_lost}
+use Rattle.off_accounts.specs.Tests.{found_rule, overlap_in, relay_in, sought_rule}
+use Rattle.off_accounts.specs.Searches.{pool_number, lease_address, pool_given, is_overlapping, is_live_lost, least_wanted, live_lost}
 
 module _ {X : Type 0} (give : Key × Row → Option X) (test : X → Bool) where
   abbrev tested : Key × Row → Bool
@@ -56,44 +58,73 @@ pub find_in_none : {X : Type 0} (test : X → Bool) (xs : List X) → find test 
 find_in_none test [] = refl
 find_in_none test (x ∷ xs) = find_in_none test xs
 
-abbrev read_pool : (ℕ → Rule) → Option Key → Option Rule
-read_pool says found = option_map says (pool_number found)
+-- ---- pools
 
 fitting_read : (says : ℕ → Rule) (b : Bool) (n : ℕ) (p : Pool) (x : ℕ × Pool) → fitting_pool b n p ≡ Some x → Some (says n) ≡ Some (says x.0)
 fitting_read says true n p x e = cc
 fitting_read says false n p x e = cc
 
-pool_read : (says : ℕ → Rule) (e : Key × Row) (x : ℕ × Pool) → pool_of e ≡ Some x → read_pool says (Some e.0) ≡ Some (says x.0)
-pool_read says (key.Pool n, row.Pool p) x e = fitting_read says (pool_fits p) n p x e
-pool_read says (_, _) x e = cc
+pool_read : (whose : Whose) (says : ℕ → Rule) (e : Key × Row) (x : ℕ × Pool) → pool_given whose e ≡ Some x → option_map says (pool_number whose e.0) ≡ Some (says x.0)
+pool_read OfModems says (key.Pool n, row.Pool p) x e = fitting_read says (pool_fits p) n p x e
+pool_read OfModems says (_, _) x e = cc
+pool_read OfDevices says (key.DevicePool n, row.Pool p) x e = fitting_read says (pool_fits p) n p x e
+pool_read OfDevices says (_, _) x e = cc
 
-lease_read : (e : Key × Row) (x : Ip4 × Lease) → lease_of e ≡ Some x → option_map rule.PoolHasLeases (lease_address (Some e.0)) ≡ Some (rule.PoolHasLeases x.0)
+module _ (whose : Whose) (says : ℕ → Rule) (test : ℕ × Pool → Bool) where
+  abbrev number_said : Option Key → Option Rule
+  number_said found = option_and_then (λ (k : Key). option_map says (pool_number whose k)) found
+
+  pool_found : (t : Tables)
+      → option_map (λ (other : ℕ × Pool). says other.0) (find test (filter_map (pool_given whose) (map.entries t)))
+      ≡ number_said (option_map (λ (entry : Key × Row). entry.0) (find (λ (e : Key × Row). passes test (pool_given whose e)) (map.entries t)))
+  pool_found t = said_found (pool_given whose) test (λ (other : ℕ × Pool). says other.0) number_said (pool_read whose says) refl (map.entries t)
+
+overlap_found : (whose : Whose) (own : Option ℕ) (pool : Pool) (t : Tables) → overlap_in t whose own pool ≡ found_rule (Overlapping whose own pool) (least_wanted (Overlapping whose own pool) t)
+overlap_found OfModems None pool t = pool_found OfModems rule.PoolOverlap (is_overlapping None pool) t
+overlap_found OfModems (Some n) pool t = pool_found OfModems rule.PoolOverlap (is_overlapping (Some n) pool) t
+overlap_found OfDevices None pool t = pool_found OfDevices rule.DeviceOverlap (is_overlapping None pool) t
+overlap_found OfDevices (Some n) pool t = pool_found OfDevices rule.DeviceOverlap (is_overlapping (Some n) pool) t
+
+relay_found : (whose : Whose) (n : ℕ) (pool : Pool) (t : Tables) → relay_in t whose n pool ≡ found_rule (WithRelay whose n pool) (least_wanted (WithRelay whose n pool) t)
+relay_found OfModems n pool t = pool_found OfModems rule.RelayTaken (is_other_with_relay n pool) t
+relay_found OfDevices n pool t = pool_found OfDevices rule.RelayTaken (is_other_with_relay n pool) t
+
+-- ---- leases
+
+lease_read : (e : Key × Row) (x : Ip4 × Lease) → lease_of e ≡ Some x → option_map rule.PoolHasLeases (lease_address OfModems e.0) ≡ Some (rule.PoolHasLeases x.0)
 lease_read (key.Lease a, row.Lease l) x e = cc
 lease_read (_, _) x e = cc
 
-pub overlap_found : (n : ℕ) (pool : Pool) (found : Option Key) (t : Tables) → found ≡ least_wanted (Overlapping n pool) t → pool_overlap t n pool ≡ option_map rule.PoolOverlap (pool_number found)
-overlap_found n pool found t is =
-    said_found pool_of (is_other_overlapping n pool) (λ (other : ℕ × Pool). rule.PoolOverlap other.0) (read_pool rule.PoolOverlap) (pool_read rule.PoolOverlap) refl (map.entries t)
-    ∙ ap (read_pool rule.PoolOverlap) (sym is)
+device_read : (e : Key × Row) (x : Ip4 × DeviceLease) → device_of e ≡ Some x → option_map rule.PoolHasLeases (lease_address OfDevices e.0) ≡ Some (rule.PoolHasLeases x.0)
+device_read (key.Device a, row.Device l) x e = cc
+device_read (_, _) x e = cc
 
-pub relay_found : (n : ℕ) (pool : Pool) (found : Option Key) (t : Tables) → found ≡ least_wanted (WithRelay n pool) t → relay_taken t n pool ≡ option_map rule.RelayTaken (pool_number found)
-relay_found n pool found t is =
-    said_found pool_of (is_other_with_relay n pool) (λ (other : ℕ × Pool). rule.RelayTaken other.0) (read_pool rule.RelayTaken) (pool_read rule.RelayTaken) refl (map.entries t)
-    ∙ ap (read_pool rule.RelayTaken) (sym is)
+abbrev address_said : Whose → Option Key → Option Rule
+address_said whose found = option_and_then (λ (k : Key). option_map rule.PoolHasLeases (lease_address whose k)) found
 
--- Without a pool before nothing is lost.
-pub none_lost : (now : ℕ) (new : Option Pool) (t : Tables) → live_lost now None new t ≡ None
-none_lost now new t = ap (option_map (λ (entry : Ip4 × Lease). rule.PoolHasLeases entry.0)) (find_in_none (is_live now) (leases t))
+-- without a pool before nothing is lost
+pub none_lost : (whose : Whose) (now : ℕ) (new : Option Pool) (t : Tables) → live_lost whose now None new t ≡ None
+none_lost OfModems now new t = ap (option_map (λ (entry : Ip4 × Lease). rule.PoolHasLeases entry.0)) (find_in_none (is_live now) (leases t))
+none_lost OfDevices now new t = ap (option_map (λ (entry : Ip4 × DeviceLease). rule.PoolHasLeases entry.0)) (find_in_none (is_live_device now) (devices t))
 
-lost_found : (now : ℕ) (lost : Lost) (found : Option Key) (t : Tables) → found ≡ least_wanted (LiveLost (record { 0 = now }) lost) t
-    → live_lost now (Some lost.old) lost.new t ≡ option_map rule.PoolHasLeases (lease_address found)
-lost_found now lost found t is =
-    ap (option_map (λ (entry : Ip4 × Lease). rule.PoolHasLeases entry.0)) (find_filter (is_given_up lost) (is_live now) (leases t))
-    ∙ said_found lease_of (λ lease. is_given_up lost lease && is_live now lease) (λ (entry : Ip4 × Lease). rule.PoolHasLeases entry.0) (λ key. option_map rule.PoolHasLeases (lease_address key)) lease_read refl (map.entries t)
-    ∙ ap (λ key. option_map rule.PoolHasLeases (lease_address key)) (sym is)
+module _ (now : ℕ) (lost : Lost) (t : Tables) where
+  abbrev goes : Ip4 → Bool
+  goes address = gives_up (Some lost.old) lost.new address
+
+  lost_found : (whose : Whose)
+      → live_lost whose now (Some lost.old) lost.new t ≡ address_said whose (option_map (λ (entry : Key × Row). entry.0) (find (is_live_lost whose now lost) (map.entries t)))
+  lost_found OfModems =
+      ap (option_map (λ (entry : Ip4 × Lease). rule.PoolHasLeases entry.0)) (find_filter (λ (lease : Ip4 × Lease). goes lease.0) (is_live now) (leases t))
+      ∙ said_found lease_of (λ lease. goes lease.0 && is_live now lease) (λ (entry : Ip4 × Lease). rule.PoolHasLeases entry.0) (address_said OfModems) lease_read refl (map.entries t)
+  lost_found OfDevices =
+      ap (option_map (λ (entry : Ip4 × DeviceLease). rule.PoolHasLeases entry.0)) (find_filter (λ (lease : Ip4 × DeviceLease). goes lease.0) (is_live_device now) (devices t))
+      ∙ said_found device_of (λ lease. goes lease.0 && is_live_device now lease) (λ (entry : Ip4 × DeviceLease). rule.PoolHasLeases entry.0) (address_said OfDevices) device_read refl (map.entries t)
 
 -- what is found says the rule
+says_so : (sought : Sought) (t : Tables) → sought_rule sought t ≡ found_rule sought (least_wanted sought t)
+says_so (Overlapping whose own pool) t = overlap_found whose own pool t
+says_so (WithRelay whose n pool) t = relay_found whose n pool t
+says_so (LiveLost now lost) t = lost_found now.0 lost t lost.whose
+
 pub found_is : (sought : Sought) (found : Option Key) (t : Tables) → found ≡ least_wanted sought t → found_rule sought found ≡ sought_rule sought t
-found_is (Overlapping n pool) found t is = sym (overlap_found n pool found t is)
-found_is (WithRelay n pool) found t is = sym (relay_found n pool found t is)
-found_is (LiveLost now lost) found t is = sym (lost_found now.0 lost found t is)
+found_is sought found t is = ap (found_rule sought) is ∙ sym (says_so sought t)

@@ -16,7 +16,7 @@ use Rattle.off_defs.specs.declared.orders.ImportRow.{ImportRow}
 use Rattle.off_defs.specs.declared.orders.Command.{Command}
 use Rattle.off_defs.specs.declared.orders.Command.TheVariants.{Import}
 use Rattle.off_defs.specs.declared.orders.Kind.{Kind}
-use Rattle.off_defs.specs.declared.orders.Kind.TheVariants.{Subscribers, AddOns, Modems, Classes, Pools, Batches, Hubs}
+use Rattle.off_defs.specs.declared.orders.Kind.TheVariants.{Subscribers, AddOns, Modems, Classes, Pools, Batches, Hubs, DevicePools}
 use Rattle.off_defs.specs.declared.orders.Write.{Write}
 use Rattle.off_defs.specs.declared.orders.Write.TheVariants.{Put}
 use Rattle.off_defs.specs.declared.orders.Reply.{Reply}
@@ -87,6 +87,7 @@ module _ (n : ℕ) (batch : Batch) (u : Tables) where
   each_count Classes c agree low absent = ap (λ (d : Counts). d.classes) agree ∙ sym (others_stay Classes refl)
   each_count Pools c agree low absent = ap (λ (d : Counts). d.pools) agree ∙ sym (others_stay Pools refl)
   each_count Hubs c agree low absent = ap (λ (d : Counts). d.hubs) agree ∙ sym (others_stay Hubs refl)
+  each_count DevicePools c agree low absent = ap (λ (d : Counts). d.device_pools) agree ∙ sym (others_stay DevicePools refl)
   each_count Batches c agree low absent = counted_one c.batches (ap (λ (d : Counts). d.batches) agree) low absent
 
   batch_counts : (c : Counts) → c ≡ counts_of u → c.batches < 100000 → is_some (seen_at u (key.Batch n)) ≡ false

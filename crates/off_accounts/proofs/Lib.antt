@@ -5,6 +5,7 @@ pub mod DecideLemmas
 pub mod DropLemmas
 pub mod FoundLemmas
 pub mod LimitLemmas
+pub mod LostLemmas
 pub mod PlanLemmas
 pub mod PresentLemmas
 pub mod RemovalLemmas

@@ -6,7 +6,7 @@ use Rattle.off_base.specs.Choices.{when}
 use Rattle.off_base.specs.Number.{greatest_u64}
 use Rattle.off_defs.specs.declared.keys.Key.{Key}
 use Rattle.off_defs.specs.declared.orders.Kind.{Kind}
-use Rattle.off_defs.specs.declared.orders.Kind.TheVariants.{Subscribers, AddOns, Modems, Classes, Pools, Batches, Hubs}
+use Rattle.off_defs.specs.declared.orders.Kind.TheVariants.{Subscribers, AddOns, Modems, Classes, Pools, Batches, Hubs, DevicePools}
 use Rattle.off_defs.specs.declared.rules.Rule.{Rule}
 use Rattle.off_defs.specs.declared.rules.Rule.TheVariants as rule
 use Rattle.off_defs.specs.State.{Tables}
@@ -34,6 +34,7 @@ same_side Modems n = refl
 same_side Classes n = refl
 same_side Pools n = refl
 same_side Hubs n = refl
+same_side DevicePools n = refl
 
 -- the limit's rule from the counts that are known is that of the tables
 pub limit_is : (key : Key) (kind : Kind) (counts : Counts) (t : Tables) (there : Bool) → there ≡ is_some (seen_at t key) → counts ≡ counts_of t
@@ -54,6 +55,7 @@ low_limit Classes = omega arith
 low_limit Pools = omega arith
 low_limit Batches = omega arith
 low_limit Hubs = omega arith
+low_limit DevicePools = omega arith
 
 below_most : (most n : ℕ) (broken : Rule) → when (nat_le most n) broken ≡ None → n < most
 below_most most n broken none = elim (nat_le most n) as (λ b. nat_le most n ≡ b → when b broken ≡ None → n < most) [

@@ -16,7 +16,7 @@ use Rattle.off_defs.specs.declared.tables.Site.{Site}
 use Rattle.off_defs.specs.declared.rules.Rule.{Rule}
 use Rattle.off_defs.specs.declared.rules.Rule.TheVariants as rule
 use Rattle.off_defs.specs.declared.orders.Kind.{Kind}
-use Rattle.off_defs.specs.declared.orders.Kind.TheVariants.{Subscribers, AddOns, Modems, Classes, Pools, Batches, Hubs}
+use Rattle.off_defs.specs.declared.orders.Kind.TheVariants.{Subscribers, AddOns, Modems, Classes, Pools, Batches, Hubs, DevicePools}
 use Rattle.off_defs.specs.declared.orders.Write.{Write}
 use Rattle.off_defs.specs.declared.orders.Write.TheVariants.{Put, Drop}
 use Rattle.off_defs.specs.State.{Tables}
@@ -35,6 +35,7 @@ no_kind n Classes = refl
 no_kind n Pools = refl
 no_kind n Batches = refl
 no_kind n Hubs = refl
+no_kind n DevicePools = refl
 
 pub hub_counts : (n hub : ℕ) (more : List Write) (t : Tables) → ((u : Tables) → counts_of (write_all u more) ≡ counts_of u) → counts_of (write_all t (pool_hub_write n hub ∷ more)) ≡ counts_of t
 hub_counts n hub more t rest =
@@ -77,3 +78,6 @@ good_hub n site fits server secret lease offset =
 
 pub good_pool : (n : ℕ) (pool : Pool) → is_sound_pool pool ≡ true → when (not (has_pool_size pool)) rule.PoolSize ≡ None → is_possible (key.Pool n) (row.Pool pool) ≡ true
 good_pool n pool sound sized = ap (λ b. b && is_sound_pool pool) (when_none (has_pool_size pool) rule.PoolSize sized) ∙ sound
+
+pub good_device_pool : (n : ℕ) (pool : Pool) → is_sound_pool pool ≡ true → when (not (has_pool_size pool)) rule.PoolSize ≡ None → is_possible (key.DevicePool n) (row.Pool pool) ≡ true
+good_device_pool n pool sound sized = good_pool n pool sound sized

@@ -5,10 +5,11 @@ use Rattle.std.specs.Ordering.{eq_by_cmp}
 use Rattle.off_base.specs.declared.addresses.Ip4.{Ip4}
 use Rattle.off_base.specs.declared.macs.Mac.{Mac}
 use Rattle.off_defs.specs.declared.keys.Key.{Key}
-use Rattle.off_defs.specs.declared.keys.Key.TheVariants.{Subscriber, AddOn, Lease, Held}
+use Rattle.off_defs.specs.declared.keys.Key.TheVariants.{Subscriber, AddOn, Lease, Held, Device}
 use Rattle.off_defs.specs.declared.tables.Lease.{Lease as LeaseRow}
+use Rattle.off_defs.specs.declared.tables.DeviceLease.{DeviceLease}
 use Rattle.off_defs.specs.declared.orders.Kind.{Kind}
-use Rattle.off_defs.specs.declared.orders.Kind.TheVariants.{Subscribers, AddOns, Modems, Classes, Pools, Batches, Hubs}
+use Rattle.off_defs.specs.declared.orders.Kind.TheVariants.{Subscribers, AddOns, Modems, Classes, Pools, Batches, Hubs, DevicePools}
 use Rattle.off_defs.specs.declared.orders.Write.{Write}
 use Rattle.off_defs.specs.declared.orders.Write.TheVariants.{Drop}
 use Rattle.off_defs.specs.Keys.{key_cmp}
@@ -18,7 +19,7 @@ use Rattle.off_defs.proofs.TableLemmas.{row_without, same_key}
 use Rattle.off_account_rules.specs.declared.counts.Counts.{Counts}
 use Rattle.off_account_rules.specs.Rows.{possible, seen_at, is_of_kind, counts_of}
 use Rattle.off_account_rules.specs.Good.{owner_of}
-use Rattle.off_account_rules.specs.Clerk.{no_row, lease_drops, held_drop, add_on_keys}
+use Rattle.off_account_rules.specs.Clerk.{no_row, lease_drops, held_drop, device_drop, add_on_keys}
 use Rattle.off_accounts.specs.Changes.{count_in, with_count, counts_drop}
 use Rattle.off_accounts.proofs.CountsLemmas.{kept, counts_without, counts_without_other}
 use Rattle.off_accounts.proofs.PresentLemmas.{row_present}
@@ -37,6 +38,7 @@ no_kind_of_lease a Classes = refl
 no_kind_of_lease a Pools = refl
 no_kind_of_lease a Batches = refl
 no_kind_of_lease a Hubs = refl
+no_kind_of_lease a DevicePools = refl
 
 no_kind_of_held : (mac : Mac) (kind : Kind) → is_of_kind kind (Held mac) ≡ false
 no_kind_of_held a Subscribers = refl
@@ -46,6 +48,17 @@ no_kind_of_held a Classes = refl
 no_kind_of_held a Pools = refl
 no_kind_of_held a Batches = refl
 no_kind_of_held a Hubs = refl
+no_kind_of_held a DevicePools = refl
+
+no_kind_of_device : (address : Ip4) (kind : Kind) → is_of_kind kind (Device address) ≡ false
+no_kind_of_device a Subscribers = refl
+no_kind_of_device a AddOns = refl
+no_kind_of_device a Modems = refl
+no_kind_of_device a Classes = refl
+no_kind_of_device a Pools = refl
+no_kind_of_device a Batches = refl
+no_kind_of_device a Hubs = refl
+no_kind_of_device a DevicePools = refl
 
 held_counts : (owner : Option Mac) (t : Tables) (more : List Write) → ((u : Tables) → counts_of (write_all u more) ≡ counts_of u) → counts_of (write_all t (held_drop owner ++ more)) ≡ counts_of t
 held_counts None t more rest = rest t
@@ -57,6 +70,10 @@ lease_counts [] t = refl
 lease_counts (lease ∷ leases) t =
     held_counts (owner_of lease.1.hold) (without t (Lease lease.0)) (flat_map lease_drops leases) (lease_counts leases)
     ∙ counts_without_other (Lease lease.0) t (no_kind_of_lease lease.0)
+
+pub device_counts : (leases : List (Ip4 × DeviceLease)) (t : Tables) → counts_of (write_all t (map device_drop leases)) ≡ counts_of t
+device_counts [] t = refl
+device_counts (lease ∷ leases) t = device_counts leases (without t (Device lease.0)) ∙ counts_without_other (Device lease.0) t (no_kind_of_device lease.0)
 
 -- the subscriber's add-ons of lesser numbers: how many have rows, their drops, and the tables without them
 abbrev pub add_ons_below : Tables → ℕ → ℕ → ℕ

@@ -20,16 +20,17 @@ use Rattle.off_account_rules.specs.Rows.{seen_at, as_pool, pool_in, pool_hub_in,
 use Rattle.off_account_rules.specs.Clerk.{shown, shown_as, accepted}
 use Rattle.off_users.specs.Users.{UsersHeld}
 use Rattle.off_accounts.specs.Deciding.{IsRuling, ShowsRow, ShowsAt}
+use Rattle.off_accounts.specs.declared.whose.Whose.TheVariants.{Modems as OfModems}
 use Rattle.off_accounts.specs.Searches.{pool_number}
 use Rattle.off_accounts.specs.Walking.{is_of_pool}
 
 -- ---- which of both it is
 
-pub is_pool : (k : Key) (n : ℕ) → Some n ≡ pool_number (Some k) → key.Pool n ≡ k
+pub is_pool : (k : Key) (n : ℕ) → Some n ≡ pool_number OfModems k → key.Pool n ≡ k
 is_pool (key.Pool m) n is = cc
 is_pool _ n is = cc
 
-pub is_other : (k : Key) → None ≡ pool_number (Some k) → is_of_pool k ≡ false
+pub is_other : (k : Key) → None ≡ pool_number OfModems k → is_of_pool k ≡ false
 is_other (key.Pool m) is = cc
 is_other _ is = refl
 

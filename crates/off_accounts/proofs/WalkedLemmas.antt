@@ -1,20 +1,13 @@
 -- How many calls the walks over pools and over leases make.
-use Rattle.std.proofs.Common.{◌≡◌, ℕ, ◌+◌, ◌<◌, ◌≤◌, inl, inr, Bool, true, false, true≢false, cond, ◌&&◌, Option, Some, List, [], ◌∷◌, refl, sym, ap, subst, ◌∙◌, arith}
-use Rattle.std.specs.Prelude.{nat_le, nat_lt}
+use Rattle.std.proofs.Common.{◌≡◌, ℕ, ◌+◌, ◌≤◌, Bool, true, false, cond, Option, Some, List, [], ◌∷◌, sym, ap, subst, ◌∙◌, arith}
 use Rattle.std.specs.List.{filter}
-use Rattle.std.specs.Ordering.{is_lt, nat_cmp}
-use Rattle.std.specs.declared.cmp.Ordering.TheVariants.{Equal, Greater}
-use Rattle.std.specs.Cmp.{nat_cmp_is}
-use Rattle.std.proofs.lemmas.Bool.{cases_lt, le-leb, ltb-false}
+use Rattle.std.specs.Ordering.{is_lt}
 use Rattle.std.specs.FinMap as map
 use Rattle.std.proofs.lemmas.List.Sums.{sum_by-cons}
-use Rattle.off_base.specs.declared.moments.Moment.{Moment}
 use Rattle.off_defs.specs.declared.keys.Key.{Key}
-use Rattle.off_defs.specs.declared.keys.Key.TheVariants as key
 use Rattle.off_defs.specs.declared.tables.Row.{Row}
 use Rattle.off_defs.specs.declared.tables.Pool.{Pool}
 use Rattle.off_defs.specs.Keys.{key_cmp}
-use Rattle.off_defs.specs.Kinds.{kind_of}
 use Rattle.off_defs.specs.State.{Tables}
 use Rattle.off_defs.specs.Tables.{is_after, behind, next_entry}
 use Rattle.off_defs.proofs.KeyLemmas.{key_total}
@@ -23,10 +16,11 @@ use Rattle.off_defs.proofs.TableLemmas.{next_of}
 use Rattle.off_outside.specs.KeeperSeen.{KeeperSeen}
 use Rattle.off_outside.specs.KeeperCalls.{Reads, Spent, WasCounted}
 use Rattle.off_outside.proofs.KeeperLemmas.{spent_one}
-use Rattle.off_accounts.specs.declared.lost.Lost.{Lost}
+use Rattle.off_accounts.specs.declared.whose.Whose.{Whose}
 use Rattle.off_accounts.specs.declared.searching.Sought.{Sought}
 use Rattle.off_accounts.specs.declared.searching.Sought.TheVariants.{Overlapping, WithRelay, LiveLost}
-use Rattle.off_accounts.specs.Walking.{is_of_pool, is_lease_in, count_keys, rows_at, lease_calls, WalksOver, looks_at, is_past_first, is_past_last, is_reached, is_passed, AllBehind}
+use Rattle.off_accounts.specs.Walking.{is_lease_in, count_keys, rows_at, lease_calls, WalksOver, looks_at, is_reached, is_passed, AllBehind}
+use Rattle.off_accounts.proofs.LostLemmas.{pool_looked, lease_looked}
 
 -- ---- one walk
 
@@ -78,106 +72,14 @@ walk_ends looks place so_far counted t told =
 
 -- ---- which keys it looks at
 
-is_above : (a b : ℕ) → is_lt (nat_cmp a b) ≡ true → a < b
-is_above a b e =
-    elim (cases_lt a b) [
-      | inl l ↦ l
-      | inr g ↦ elim (cases_lt b a) [
-        | inl h ↦ absurd (true≢false (sym e ∙ ap is_lt (sym (nat_cmp_is a b Greater h))))
-        | inr h ↦ absurd (true≢false (sym e ∙ ap is_lt (sym (nat_cmp_is a b Equal (omega arith)))))
-      ]
-    ]
-
 -- what comes behind a place comes behind the places before it
 pub begins_on : (reached : Key → Bool) (place : Key) (entry : Key × Row) → AllBehind reached place → is_after (Some place) entry ≡ true → AllBehind reached entry.0
 begins_on reached place entry begins after other row ranged behind =
     begins other row ranged (ap is_lt (key_total.trans place entry.0 other (is_less (key_cmp place entry.0) after) (is_less (key_cmp entry.0 other) behind)))
 
--- behind the last key of classes the pools come
-pub pools_begin : AllBehind (λ other. nat_lt 5 (kind_of other)) (key.Class 4294967295)
-pools_begin key.Site row ranged e = e
-pools_begin (key.Subscriber n) row ranged e = e
-pools_begin (key.AddOn n number) row ranged e = e
-pools_begin (key.Modem mac) row ranged e = e
-pools_begin (key.Class n) row ranged e = absurd (omega (arith, is_above 4294967295 n e, ranged))
-pools_begin (key.Pool n) row ranged e = refl
-pools_begin (key.Lease address) row ranged e = refl
-pools_begin (key.Held mac) row ranged e = refl
-pools_begin (key.Batch n) row ranged e = refl
-pools_begin (key.Hub n) row ranged e = refl
-pools_begin (key.PoolHub n) row ranged e = refl
-pools_begin (key.DevicePool n) row ranged e = refl
-pools_begin (key.Device address) row ranged e = refl
-
--- behind the last key of pools, and behind the address before the pool's first, its leases come
-pub first_begins : (lost : Lost) → lost.old.first.0 ≡ 0 → AllBehind (is_past_first lost) (key.Pool 4294967295)
-first_begins lost none key.Site row ranged e = e
-first_begins lost none (key.Subscriber n) row ranged e = e
-first_begins lost none (key.AddOn n number) row ranged e = e
-first_begins lost none (key.Modem mac) row ranged e = e
-first_begins lost none (key.Class n) row ranged e = e
-first_begins lost none (key.Pool n) row ranged e = absurd (omega (arith, is_above 4294967295 n e, ranged))
-first_begins lost none (key.Lease address) row ranged e = le-leb lost.old.first.0 address.0 (omega (arith, none))
-first_begins lost none (key.Held mac) row ranged e = refl
-first_begins lost none (key.Batch n) row ranged e = refl
-first_begins lost none (key.Hub n) row ranged e = refl
-first_begins lost none (key.PoolHub n) row ranged e = refl
-first_begins lost none (key.DevicePool n) row ranged e = refl
-first_begins lost none (key.Device address) row ranged e = refl
-
-pub next_begins : (lost : Lost) (n : ℕ) → lost.old.first.0 ≤ n + 1 → AllBehind (is_past_first lost) (key.Lease (record { 0 = n }))
-next_begins lost n fits key.Site row ranged e = e
-next_begins lost n fits (key.Subscriber m) row ranged e = e
-next_begins lost n fits (key.AddOn m number) row ranged e = e
-next_begins lost n fits (key.Modem mac) row ranged e = e
-next_begins lost n fits (key.Class m) row ranged e = e
-next_begins lost n fits (key.Pool m) row ranged e = e
-next_begins lost n fits (key.Lease address) row ranged e = le-leb lost.old.first.0 address.0 (omega (arith, fits, is_above n address.0 e))
-next_begins lost n fits (key.Held mac) row ranged e = refl
-next_begins lost n fits (key.Batch m) row ranged e = refl
-next_begins lost n fits (key.Hub m) row ranged e = refl
-next_begins lost n fits (key.PoolHub m) row ranged e = refl
-next_begins lost n fits (key.DevicePool m) row ranged e = refl
-next_begins lost n fits (key.Device address) row ranged e = refl
-
-pub lost_begins : (sought : Sought) (now : Moment) (lost : Lost) (place : Key) → sought ≡ LiveLost now lost → AllBehind (is_past_first lost) place → AllBehind (is_reached sought) place
-lost_begins sought now lost place is begins = subst (λ (s : Sought). AllBehind (is_reached s) place) (sym is) begins
-
--- between the first key and the last stand those that are looked at
-pub pool_looked : (other : Key) → nat_lt 5 (kind_of other) ≡ true → nat_lt 6 (kind_of other) ≡ false → is_of_pool other ≡ true
-pool_looked key.Site e f = e
-pool_looked (key.Subscriber n) e f = e
-pool_looked (key.AddOn n number) e f = e
-pool_looked (key.Modem mac) e f = e
-pool_looked (key.Class n) e f = e
-pool_looked (key.Pool n) e f = refl
-pool_looked (key.Lease address) e f = sym f
-pool_looked (key.Held mac) e f = sym f
-pool_looked (key.Batch n) e f = sym f
-pool_looked (key.Hub n) e f = sym f
-pool_looked (key.PoolHub n) e f = sym f
-pool_looked (key.DevicePool n) e f = sym f
-pool_looked (key.Device address) e f = sym f
-
-pub lease_looked : (lost : Lost) (other : Key) → is_past_first lost other ≡ true → is_past_last lost other ≡ false → is_lease_in lost.old other ≡ true
-lease_looked lost key.Site e f = e
-lease_looked lost (key.Subscriber n) e f = e
-lease_looked lost (key.AddOn n number) e f = e
-lease_looked lost (key.Modem mac) e f = e
-lease_looked lost (key.Class n) e f = e
-lease_looked lost (key.Pool n) e f = e
-lease_looked lost (key.Lease address) e f =
-    ap (λ b. b && nat_le address.0 lost.old.last.0) e ∙ le-leb address.0 lost.old.last.0 (omega (arith, ltb-false lost.old.last.0 address.0 f))
-lease_looked lost (key.Held mac) e f = sym f
-lease_looked lost (key.Batch n) e f = sym f
-lease_looked lost (key.Hub n) e f = sym f
-lease_looked lost (key.PoolHub n) e f = sym f
-lease_looked lost (key.DevicePool n) e f = sym f
-lease_looked lost (key.Device address) e f = sym f
-
 pub sought_looked : (sought : Sought) (other : Key) → is_reached sought other ≡ true → is_passed sought other ≡ false → looks_at sought other ≡ true
-sought_looked (Overlapping n pool) other e f = pool_looked other e f
-sought_looked (WithRelay n pool) other e f = pool_looked other e f
+sought_looked (Overlapping whose own pool) other e f = pool_looked whose other e f
+sought_looked (WithRelay whose n pool) other e f = pool_looked whose other e f
 sought_looked (LiveLost now lost) other e f = lease_looked lost other e f
 
 -- no call at all
@@ -185,9 +87,7 @@ pub unspent : (n : ℕ) (a : KeeperSeen) → Spent n a a
 unspent n a = record { later = omega arith; most = omega arith }
 
 -- a walk over the leases of the pool that was there
-pub some_walks : (old : Option Pool) (pool : Pool) {a b : KeeperSeen} → old ≡ Some pool → WalksOver (is_lease_in pool) a b → (t : Tables) → a.tables t → Spent (lease_calls old t) a b
-some_walks old pool {a} {b} is walks t told = subst (λ (o : Option Pool). Spent (lease_calls o t) a b) (sym is) (walks t told)
+pub some_walks : (whose : Whose) (old : Option Pool) (pool : Pool) {a b : KeeperSeen} → old ≡ Some pool → WalksOver (is_lease_in whose pool) a b → (t : Tables) → a.tables t → Spent (lease_calls whose old t) a b
+some_walks whose old pool {a} {b} is walks t told = subst (λ (o : Option Pool). Spent (lease_calls whose o t) a b) (sym is) (walks t told)
 
 pub ruleset drop_rules = (unspent, some_walks)
-
-pub ruleset begin_rules = (pools_begin, first_begins, next_begins)

@@ -1,7 +1,7 @@
 -- How the counts of rows change where a key gets a row, and where it loses it.
 use Rattle.std.specs.Prelude.{ℕ, ◌+◌, ◌-◌, Bool, true, false}
 use Rattle.off_defs.specs.declared.orders.Kind.{Kind}
-use Rattle.off_defs.specs.declared.orders.Kind.TheVariants.{Subscribers, AddOns, Modems, Classes, Pools, Batches, Hubs}
+use Rattle.off_defs.specs.declared.orders.Kind.TheVariants.{Subscribers, AddOns, Modems, Classes, Pools, Batches, Hubs, DevicePools}
 use Rattle.off_account_rules.specs.declared.counts.Counts.{Counts}
 
 -- the count of a kind
@@ -13,6 +13,7 @@ count_in Classes counts = counts.classes
 count_in Pools counts = counts.pools
 count_in Batches counts = counts.batches
 count_in Hubs counts = counts.hubs
+count_in DevicePools counts = counts.device_pools
 
 -- the counts with another count of a kind
 abbrev pub with_count : Kind → ℕ → Counts → Counts
@@ -23,6 +24,7 @@ with_count Classes n counts = record counts { classes = n }
 with_count Pools n counts = record counts { pools = n }
 with_count Batches n counts = record counts { batches = n }
 with_count Hubs n counts = record counts { hubs = n }
+with_count DevicePools n counts = record counts { device_pools = n }
 
 -- after a key of the kind got a row, which was there before or wasn't
 abbrev pub counts_put : Kind → Bool → Counts → Counts

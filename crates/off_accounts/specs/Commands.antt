@@ -1,7 +1,7 @@
 -- What `decide` says of an import besides what it says of each command.
 use Rattle.std.specs.Prelude.{◌≡◌, ℕ, ◌+◌, ◌*◌, Option, Some, None, length, IsTrue}
 use Rattle.off_defs.specs.declared.orders.Command.{Command}
-use Rattle.off_defs.specs.declared.orders.Command.TheVariants.{PutHub, PutSubscriber, PutAddOn, PutModem, PutClass, PutPool, Remove, Show, Import}
+use Rattle.off_defs.specs.declared.orders.Command.TheVariants.{PutHub, PutSubscriber, PutAddOn, PutModem, PutClass, PutPool, PutDevicePool, Remove, Show, Import}
 use Rattle.off_defs.specs.declared.orders.Reply.TheVariants.{Rows}
 use Rattle.off_defs.specs.State.{Tables}
 use Rattle.off_defs.specs.Tables.{write_all}
@@ -22,6 +22,7 @@ AnswersImport (PutAddOn n number settings) planned = Unit {0}
 AnswersImport (PutModem mac modem) planned = Unit {0}
 AnswersImport (PutClass n class) planned = Unit {0}
 AnswersImport (PutPool n pool hub) planned = Unit {0}
+AnswersImport (PutDevicePool n pool) planned = Unit {0}
 AnswersImport (Remove key) planned = Unit {0}
 AnswersImport (Show key) planned = Unit {0}
 
@@ -41,5 +42,6 @@ most_import_calls (PutAddOn n number settings) = None
 most_import_calls (PutModem mac modem) = None
 most_import_calls (PutClass n class) = None
 most_import_calls (PutPool n pool hub) = None
+most_import_calls (PutDevicePool n pool) = None
 most_import_calls (Remove key) = None
 most_import_calls (Show key) = None

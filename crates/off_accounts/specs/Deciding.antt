@@ -2,7 +2,7 @@
 use Rattle.std.specs.Prelude.{◌≡◌, ℕ, Bool, true, false, IsTrue, [], Option, Some, None, Result, Ok, Err}
 use Rattle.off_base.specs.Choices.{first_there}
 use Rattle.off_defs.specs.declared.orders.Command.{Command}
-use Rattle.off_defs.specs.declared.orders.Command.TheVariants.{PutHub, PutSubscriber, PutAddOn, PutModem, PutClass, PutPool, Remove, Show, Import}
+use Rattle.off_defs.specs.declared.orders.Command.TheVariants.{PutHub, PutSubscriber, PutAddOn, PutModem, PutClass, PutPool, PutDevicePool, Remove, Show, Import}
 use Rattle.off_defs.specs.declared.keys.Key.{Key}
 use Rattle.off_defs.specs.declared.keys.Key.TheVariants as key
 use Rattle.off_defs.specs.declared.orders.Reply.TheVariants.{Done, Shown, ShownPool}
@@ -36,6 +36,7 @@ is_import (PutAddOn n number settings) = false
 is_import (PutModem mac modem) = false
 is_import (PutClass n class) = false
 is_import (PutPool n pool hub) = false
+is_import (PutDevicePool n pool) = false
 is_import (Remove key) = false
 is_import (Show key) = false
 
@@ -53,7 +54,7 @@ most_calls_removing (key.Held mac) = Some 1
 most_calls_removing (key.Batch n) = Some 1
 most_calls_removing (key.Hub n) = None
 most_calls_removing (key.PoolHub n) = Some 1
-most_calls_removing (key.DevicePool n) = Some 1
+most_calls_removing (key.DevicePool n) = None
 most_calls_removing (key.Device address) = Some 1
 
 -- a pool is shown with its hub, which is a call of its own
@@ -68,6 +69,7 @@ most_calls (PutAddOn n number settings) = Some 2
 most_calls (PutModem mac modem) = Some 3
 most_calls (PutClass n class) = Some 1
 most_calls (PutPool n pool hub) = None
+most_calls (PutDevicePool n pool) = None
 most_calls (Remove removed) = most_calls_removing removed
 most_calls (Show shown) = Some (calls_to_show shown)
 most_calls (Import kind batch digest rows) = None
@@ -96,6 +98,7 @@ calls_to_count (PutAddOn n number settings) = 0
 calls_to_count (PutModem mac modem) = 0
 calls_to_count (PutClass n class) = 0
 calls_to_count (PutPool n pool hub) = 0
+calls_to_count (PutDevicePool n pool) = 0
 calls_to_count (Show shown) = 0
 calls_to_count (Import kind batch digest rows) = 0
 
@@ -171,4 +174,5 @@ AnswersCommand (PutAddOn n number settings) planned = planned.reply ≡ Done
 AnswersCommand (PutModem mac modem) planned = planned.reply ≡ Done
 AnswersCommand (PutClass n class) planned = planned.reply ≡ Done
 AnswersCommand (PutPool n pool hub) planned = planned.reply ≡ Done
+AnswersCommand (PutDevicePool n pool) planned = planned.reply ≡ Done
 AnswersCommand (Remove key) planned = planned.reply ≡ Done

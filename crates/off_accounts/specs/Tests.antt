@@ -12,15 +12,17 @@ use Rattle.off_defs.specs.declared.rules.Rule.TheVariants as rule
 use Rattle.off_base.specs.declared.moments.Moment.{Moment}
 use Rattle.off_defs.specs.declared.tables.Site.{Site}
 use Rattle.off_defs.specs.declared.orders.Kind.{Kind}
-use Rattle.off_defs.specs.declared.orders.Kind.TheVariants.{Subscribers, AddOns, Modems, Classes, Pools, Hubs}
+use Rattle.off_defs.specs.declared.orders.Kind.TheVariants.{Subscribers, AddOns, Modems, Classes, Pools, Hubs, DevicePools}
 use Rattle.off_defs.specs.declared.orders.Command.{Command}
-use Rattle.off_defs.specs.declared.orders.Command.TheVariants.{PutHub, PutSubscriber, PutAddOn, PutModem, PutClass, PutPool, Remove, Show, Import}
+use Rattle.off_defs.specs.declared.orders.Command.TheVariants.{PutHub, PutSubscriber, PutAddOn, PutModem, PutClass, PutPool, PutDevicePool, Remove, Show, Import}
 use Rattle.off_defs.specs.State.{Tables}
 use Rattle.off_account_rules.specs.declared.counts.Counts.{Counts}
 use Rattle.off_account_rules.specs.Rows.{seen_at, as_pool, is_lease_time, is_offset, has_pool_size}
-use Rattle.off_account_rules.specs.Clerk.{limit_of, no_subscriber, no_class, no_hub, hub_in_use, pool_overlap, relay_taken}
+use Rattle.off_account_rules.specs.Clerk.{limit_of, no_subscriber, no_class, no_hub, hub_in_use, pool_overlap, relay_taken, modems_overlap, device_overlap, other_device_overlap, device_relay_taken}
 use Rattle.off_users.specs.Users.{subscriber_uses, class_uses}
 use Rattle.off_accounts.specs.declared.subject.Subject.{Subject}
+use Rattle.off_accounts.specs.declared.whose.Whose.{Whose}
+use Rattle.off_accounts.specs.declared.whose.Whose.TheVariants.{Modems as OfModems, Devices as OfDevices}
 use Rattle.off_accounts.specs.declared.searching.Sought.{Sought}
 use Rattle.off_accounts.specs.declared.searching.Sought.TheVariants.{Overlapping, WithRelay, LiveLost}
 use Rattle.off_accounts.specs.declared.testing.Test.{Test}
@@ -29,15 +31,32 @@ use Rattle.off_accounts.specs.Changes.{count_in}
 use Rattle.off_accounts.specs.Searches.{live_lost, pool_number, lease_address}
 
 -- the rule that is broken by what is found, and the same as the book says it
+abbrev pub overlap_rule : Whose → ℕ → Rule
+overlap_rule OfModems n = rule.PoolOverlap n
+overlap_rule OfDevices n = rule.DeviceOverlap n
+
+abbrev pub rule_at : Sought → Key → Option Rule
+rule_at (Overlapping whose own pool) at = option_map (overlap_rule whose) (pool_number whose at)
+rule_at (WithRelay whose n pool) at = option_map rule.RelayTaken (pool_number whose at)
+rule_at (LiveLost now lost) at = option_map rule.PoolHasLeases (lease_address lost.whose at)
+
 abbrev pub found_rule : Sought → Option Key → Option Rule
-found_rule (Overlapping n pool) found = option_map rule.PoolOverlap (pool_number found)
-found_rule (WithRelay n pool) found = option_map rule.RelayTaken (pool_number found)
-found_rule (LiveLost now lost) found = option_map rule.PoolHasLeases (lease_address found)
+found_rule sought found = option_and_then (rule_at sought) found
+
+abbrev pub overlap_in : Tables → Whose → Option ℕ → Pool → Option Rule
+overlap_in t OfModems (Some n) pool = pool_overlap t n pool
+overlap_in t OfModems None pool = modems_overlap t pool
+overlap_in t OfDevices (Some n) pool = other_device_overlap t n pool
+overlap_in t OfDevices None pool = device_overlap t pool
+
+abbrev pub relay_in : Tables → Whose → ℕ → Pool → Option Rule
+relay_in t OfModems n pool = relay_taken t n pool
+relay_in t OfDevices n pool = device_relay_taken t n pool
 
 abbrev pub sought_rule : Sought → Tables → Option Rule
-sought_rule (Overlapping n pool) t = pool_overlap t n pool
-sought_rule (WithRelay n pool) t = relay_taken t n pool
-sought_rule (LiveLost now lost) t = live_lost now.0 (Some lost.old) lost.new t
+sought_rule (Overlapping whose own pool) t = overlap_in t whose own pool
+sought_rule (WithRelay whose n pool) t = relay_in t whose n pool
+sought_rule (LiveLost now lost) t = live_lost lost.whose now.0 (Some lost.old) lost.new t
 
 -- what a test says of tables: the rule that is broken
 abbrev pub says : Tables → Test → Option Rule
@@ -95,6 +114,7 @@ IsSubject (PutAddOn n number settings) subject t = SubjectStands t (key.AddOn n 
 IsSubject (PutModem mac modem) subject t = SubjectStands t (key.Modem mac) subject
 IsSubject (PutClass n class) subject t = SubjectStands t (key.Class n) subject
 IsSubject (PutPool n pool hub) subject t = SubjectStands t (key.Pool n) subject
+IsSubject (PutDevicePool n pool) subject t = SubjectStands t (key.DevicePool n) subject
 IsSubject (Remove removed) subject t = SubjectStands t removed subject
 IsSubject (Show shown) subject t = SubjectStands t shown subject
 IsSubject (Import kind batch digest rows) subject t = Unit {0}
@@ -108,6 +128,7 @@ calls_for_subject (PutAddOn n number settings) = 1
 calls_for_subject (PutModem mac modem) = 1
 calls_for_subject (PutClass n class) = 1
 calls_for_subject (PutPool n pool hub) = 1
+calls_for_subject (PutDevicePool n pool) = 1
 calls_for_subject (Remove removed) = 1
 calls_for_subject (Show shown) = 1
 
@@ -129,17 +150,19 @@ use_test subject broken = Tested (when (not (subject.uses == 0)) broken)
 
 -- no lease that hasn't expired is lost where a pool, or none, takes the place of the pool, or none,
 -- that is there
-abbrev pub live_test : Moment → Option Pool → Option Pool → Test
-live_test now None new = Tested None
-live_test now (Some old) new = FindsNone (LiveLost now (record { old = old; new = new }))
+abbrev pub live_test : Whose → Moment → Option Pool → Option Pool → Test
+live_test whose now None new = Tested None
+live_test whose now (Some old) new =
+    FindsNone (LiveLost now (record { whose = whose; old = old; new = new }))
 
 -- what is tested of no rule
 abbrev pub no_test : Test
 no_test = Tested None
 
--- The tests of a command, one for each of its rules, six in all; most commands have fewer rules.
+-- The tests of a command, one for each of its rules, seven in all; most commands have fewer rules.
 abbrev pub three_tests : Test → Test → Test → List Test
-three_tests first second third = first ∷ second ∷ third ∷ no_test ∷ no_test ∷ no_test ∷ []
+three_tests first second third =
+    first ∷ second ∷ third ∷ no_test ∷ no_test ∷ no_test ∷ no_test ∷ []
 
 abbrev pub two_tests : Test → Test → List Test
 two_tests first second = three_tests first second no_test
@@ -153,7 +176,7 @@ removal_tests now subject (key.Subscriber n) =
 removal_tests now subject (key.Class n) =
     two_tests (row_test subject) (use_test subject rule.ClassInUse)
 removal_tests now subject (key.Pool n) =
-    two_tests (row_test subject) (live_test now subject.pool None)
+    two_tests (row_test subject) (live_test OfModems now subject.pool None)
 removal_tests now subject (key.Hub n) = two_tests (row_test subject) (HasNoPool n)
 removal_tests now subject key.Site = one_test (row_test subject)
 removal_tests now subject (key.AddOn n number) = one_test (row_test subject)
@@ -162,7 +185,8 @@ removal_tests now subject (key.Lease address) = one_test (row_test subject)
 removal_tests now subject (key.Held mac) = one_test (row_test subject)
 removal_tests now subject (key.Batch n) = one_test (row_test subject)
 removal_tests now subject (key.PoolHub n) = one_test (row_test subject)
-removal_tests now subject (key.DevicePool n) = one_test (row_test subject)
+removal_tests now subject (key.DevicePool n) =
+    two_tests (row_test subject) (live_test OfDevices now subject.pool None)
 removal_tests now subject (key.Device address) = one_test (row_test subject)
 
 abbrev pub hub_tests : Counts → Subject → Site → List Test
@@ -173,16 +197,29 @@ hub_tests counts subject site =
     ∷ Tested (when (not (is_offset site.offset)) (rule.Site 4))
     ∷ limit_test counts Hubs subject
     ∷ no_test
+    ∷ no_test
     ∷ []
 
 abbrev pub pool_tests : Counts → Moment → Subject → ℕ → Pool → ℕ → List Test
 pool_tests counts now subject n pool hub =
     Tested (when (not (has_pool_size pool)) rule.PoolSize)
-    ∷ FindsNone (Overlapping n pool)
-    ∷ FindsNone (WithRelay n pool)
+    ∷ FindsNone (Overlapping OfModems (Some n) pool)
+    ∷ FindsNone (Overlapping OfDevices None pool)
+    ∷ FindsNone (WithRelay OfModems n pool)
     ∷ HasHub hub
-    ∷ live_test now subject.pool (Some pool)
+    ∷ live_test OfModems now subject.pool (Some pool)
     ∷ limit_test counts Pools subject
+    ∷ []
+
+abbrev pub device_pool_tests : Counts → Moment → Subject → ℕ → Pool → List Test
+device_pool_tests counts now subject n pool =
+    Tested (when (not (has_pool_size pool)) rule.PoolSize)
+    ∷ FindsNone (Overlapping OfModems None pool)
+    ∷ FindsNone (Overlapping OfDevices (Some n) pool)
+    ∷ FindsNone (WithRelay OfDevices n pool)
+    ∷ live_test OfDevices now subject.pool (Some pool)
+    ∷ limit_test counts DevicePools subject
+    ∷ no_test
     ∷ []
 
 abbrev pub tests_of : Counts → Moment → Subject → Command → List Test
@@ -199,6 +236,7 @@ tests_of counts now subject (PutClass n class) =
     two_tests (Tested (option_map rule.Tree (first_fault tree.Class class.settings)))
     (limit_test counts Classes subject)
 tests_of counts now subject (PutPool n pool hub) = pool_tests counts now subject n pool hub
+tests_of counts now subject (PutDevicePool n pool) = device_pool_tests counts now subject n pool
 tests_of counts now subject (Remove removed) = removal_tests now subject removed
 tests_of counts now subject (Show shown) = one_test (row_test subject)
 tests_of counts now subject (Import kind batch digest rows) = one_test no_test

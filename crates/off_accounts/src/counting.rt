@@ -40,6 +40,7 @@ pub(crate) fn counts_after<K: Keeper>(
         Command::PutModem(_, _) => Ok(counts_put(counts, Kind::Modems, is_there)),
         Command::PutClass(_, _) => Ok(counts_put(counts, Kind::Classes, is_there)),
         Command::PutPool(_, _, _) => Ok(counts_put(counts, Kind::Pools, is_there)),
+        Command::PutDevicePool(_, _) => Ok(counts_put(counts, Kind::DevicePools, is_there)),
         Command::Remove(key) => counts_after_removal(alloc, keeper, counts, key),
         Command::Show(_) => Ok(*counts),
         Command::Import { .. } => Ok(*counts),
@@ -78,9 +79,10 @@ fn counts_after_removal<K: Keeper>(
         Key::Class(_) => Ok(one_less(counts, Kind::Classes)),
         Key::Pool(_) => Ok(one_less(counts, Kind::Pools)),
         Key::Hub(_) => Ok(one_less(counts, Kind::Hubs)),
+        Key::DevicePool(_) => Ok(one_less(counts, Kind::DevicePools)),
         // A clerk doesn't remove these.
         Key::Site | Key::Lease(_) | Key::Held(_) | Key::Batch(_) => unreachable!(),
-        Key::PoolHub(_) | Key::DevicePool(_) | Key::Device(_) => unreachable!(),
+        Key::PoolHub(_) | Key::Device(_) => unreachable!(),
     }
 }
 

@@ -30,8 +30,9 @@ use std::alloc::Global;
 /// only where the keeper counted a fault.
 ///
 /// A command that needs no walk over pools or leases makes nine calls of the keeper at most, and
-/// three where it doesn't remove a subscriber. One that puts a pool goes over the pools twice at
-/// most. One that removes a pool, or puts one where another was, goes over the leases in the range
+/// three where it doesn't remove a subscriber. One that puts a pool of modems goes over those pools
+/// twice at most, and once over those for devices; one that puts a pool for devices the other way
+/// round. One that removes a pool, or puts one where another was, goes over the leases in the range
 /// of the pool that was there twice at most. One that removes a hub goes over the pools once, and
 /// looks up the hub of each. How many calls that makes is known over tables that are told.
 pub fn decide<K: Keeper>(

@@ -2,9 +2,10 @@
 //!
 //! A command is decided in three steps: what the tables have at its key (`subject`), the first of
 //! its rules that is broken (`ruling` lists them, `testing` walks them), and what it writes and how
-//! many rows there are then (`planning`, `counting`). Walks over the pools and over the leases are
-//! in `searching`, and the one that looks up the hub of each pool is in `hubs`. One that shows a row
-//! has no other rule than that there is one (`showing`).
+//! many rows there are then (`planning`, `counting`). Walks over the pools and over the leases, of
+//! modems or of devices (`whose`), are in `searching` and `dropping`, and the one that looks up the
+//! hub of each pool is in `hubs`. One that shows a row has no other rule than that there is one
+//! (`showing`).
 //!
 //! An import stands for the commands that put its rows, each over the tables that those before it
 //! left. Its rows aren't sorted, and the tables aren't written meanwhile: which keys the rows so
@@ -35,6 +36,7 @@ mod subject;
 mod testing;
 mod values;
 mod wanted;
+mod whose;
 
 pub use commands::decide;
 pub use off_account_rules::Counts;

@@ -61,6 +61,7 @@ fn limit_of(kind: Kind) -> u32
         Kind::Pools => 64,
         Kind::Batches => 100_000,
         Kind::Hubs => 64,
+        Kind::DevicePools => 64,
     }
 }
 
@@ -75,6 +76,7 @@ fn count_of(counts: &Counts, kind: Kind) -> u64
         Kind::Pools => counts.pools,
         Kind::Batches => counts.batches,
         Kind::Hubs => counts.hubs,
+        Kind::DevicePools => counts.device_pools,
     }
 }
 
@@ -90,6 +92,7 @@ fn with_count(counts: &Counts, kind: Kind, n: u64) -> Counts
         Kind::Pools => changed.pools = n,
         Kind::Batches => changed.batches = n,
         Kind::Hubs => changed.hubs = n,
+        Kind::DevicePools => changed.device_pools = n,
     }
     changed
 }

@@ -1,14 +1,13 @@
-ghost use Rattle.std.specs.Prelude.{◌≡◌, true, false};
+ghost use Rattle.std.specs.Prelude.{◌≡◌, false, Some};
 ghost use Rattle.off_defs.specs.declared.keys.Key.{Key};
 ghost use Rattle.off_defs.specs.declared.tables.Row.{Row};
 ghost use Rattle.off_defs.specs.Tables.{is_after};
-ghost use Rattle.off_account_rules.specs.Rows.{lease_of};
 ghost use Rattle.off_account_rules.specs.Clerk.{gives_up};
-ghost use Rattle.off_account_rules.specs.Rows.{passes};
 ghost use Rattle.off_rows.specs.KeyBytes.{IsRanged};
 ghost use Rattle.off_accounts.specs.Searches.{is_given_up};
 ghost use Rattle.off_accounts.specs.Walking.{AllBehind, is_past_first, is_past_last};
 
+use crate::whose::{Whose, before_leases, is_past_leases, lease_address, lease_key};
 use off_base::Ip4;
 use off_defs::{Key, Pool};
 use off_readers::has_address;
@@ -16,6 +15,7 @@ use off_readers::has_address;
 /// A pool in whose place there comes another one, or none.
 #[derive(Clone, Copy, Debug, PartialEq, Eq)]
 pub struct Lost {
+    pub whose: Whose,
     pub old: Pool,
     pub new: Option<Pool>,
 }
@@ -31,33 +31,25 @@ pub(crate) fn gives_up(lost: &Lost, address: Ip4) -> bool
 }
 
 /// The place from which a walk finds all leases that are lost.
-#[tactic(auto, using(crate::proofs::WalkedLemmas::begin_rules))]
 pub(crate) fn before_lost(lost: &Lost) -> Key
     ensures none { (entry : Key × Row) → is_after (Some result) entry ≡ false
-        → passes (is_given_up lost.now) (lease_of entry) ≡ false }
+        → is_given_up lost.now entry.0 ≡ false }
     ensures begins { AllBehind (is_past_first lost.now) result }
 {
     let first = lost.old.first.0;
     if first == 0 {
-        return Key::Pool(u32::MAX);
+        return before_leases(lost.whose);
     }
-    Key::Lease(Ip4(first - 1))
+    lease_key(lost.whose, Ip4(first - 1))
 }
 
 /// Whether the walk has passed by all leases that are lost.
 pub(crate) fn is_past_lost(lost: &Lost, key: Key) -> bool
-    ensures here { (row : Row) → result ≡ true
-        → passes (is_given_up lost.now) (lease_of (key, row)) ≡ false }
-    ensures later { (entry : Key × Row) → result ≡ true → is_after (Some key) entry ≡ true
-        → passes (is_given_up lost.now) (lease_of entry) ≡ false }
     ensures last { result ≡ is_past_last lost.now key }
     ensures ranged { IsRanged key }
 {
-    match key {
-        Key::Lease(address) => lost.old.last.0 < address.0,
-        Key::Held(_) | Key::Batch(_) | Key::Hub(_) | Key::PoolHub(_) => true,
-        Key::DevicePool(_) | Key::Device(_) => true,
-        Key::Site | Key::Subscriber(_) | Key::AddOn(_, _) => false,
-        Key::Modem(_) | Key::Class(_) | Key::Pool(_) => false,
+    match lease_address(lost.whose, key) {
+        Some(address) => lost.old.last.0 < address.0,
+        None => is_past_leases(lost.whose, &key),
     }
 }

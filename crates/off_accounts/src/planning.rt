@@ -10,13 +10,17 @@ ghost use Rattle.off_outside.specs.KeeperCalls.{Looks, Spent};
 ghost use Rattle.off_account_rules.specs.Clerk.{add_on_keys, pool_hub_write, removal_writes, writes_of};
 ghost use Rattle.off_accounts.specs.Deciding.{most_calls, most_calls_removing};
 ghost use Rattle.off_accounts.specs.Tests.{SubjectStands, IsSubject};
-ghost use Rattle.off_accounts.specs.Walking.{drop_calls, drop_calls_removing};
+ghost use Rattle.off_accounts.specs.Walking.{drop_calls, drop_calls_removing, lease_calls};
+ghost use Rattle.off_accounts.specs.Searches.{drops_from};
+ghost use Rattle.off_accounts.specs.declared.whose.Whose.TheVariants.{Modems as OfModems};
+ghost use Rattle.off_accounts.specs.declared.whose.Whose.TheVariants.{Devices as OfDevices};
 ghost use Rattle.off_defs.specs.State.{Tables};
 
 use crate::dropping::with_drops;
 use crate::subject::Subject;
+use crate::whose::Whose;
 use off_base::Settings;
-use off_defs::{ADD_ONS, Class, Command, Key, Row, Write, Writes};
+use off_defs::{ADD_ONS, Class, Command, Key, Pool, Row, Write, Writes};
 use off_outside::{KeepErr, Keeper};
 use std::alloc::Global;
 
@@ -56,11 +60,18 @@ pub(crate) fn writes_for<K: Keeper>(
             alloc,
             Write::Put(Key::Class(*n), class_row(class)?),
         ),
-        Command::PutPool(n, pool, hub) => with_drops(
+        Command::PutPool(n, pool, hub) => pool_writes(
             alloc,
             keeper,
             Write::Put(Key::Pool(*n), Row::Pool(*pool)),
             pool_hub_write(*n, *hub),
+            subject.pool,
+            Some(*pool),
+        ),
+        Command::PutDevicePool(n, pool) => device_pool_writes(
+            alloc,
+            keeper,
+            Write::Put(Key::DevicePool(*n), Row::Pool(*pool)),
             subject.pool,
             Some(*pool),
         ),
@@ -85,7 +96,7 @@ fn removal_writes<K: Keeper>(
 {
     match *key {
         Key::Subscriber(n) => subscriber_drops(alloc, n),
-        Key::Pool(n) => with_drops(
+        Key::Pool(n) => pool_writes(
             alloc,
             keeper,
             Write::Drop(*key),
@@ -93,12 +104,50 @@ fn removal_writes<K: Keeper>(
             subject.pool,
             None,
         ),
+        Key::DevicePool(_) => {
+            device_pool_writes(alloc, keeper, Write::Drop(*key), subject.pool, None)
+        }
         Key::Site | Key::AddOn(_, _) | Key::Modem(_) => one_write(alloc, Write::Drop(*key)),
         Key::Class(_) | Key::Lease(_) => one_write(alloc, Write::Drop(*key)),
         Key::Held(_) | Key::Batch(_) | Key::Hub(_) => one_write(alloc, Write::Drop(*key)),
-        Key::PoolHub(_) | Key::DevicePool(_) => one_write(alloc, Write::Drop(*key)),
-        Key::Device(_) => one_write(alloc, Write::Drop(*key)),
+        Key::PoolHub(_) | Key::Device(_) => one_write(alloc, Write::Drop(*key)),
     }
+}
+
+// A pool's own write and that of its hub, and behind them the drops of the leases that are lost by
+// them.
+fn pool_writes<K: Keeper>(
+    alloc: Global,
+    keeper: &mut K,
+    write: Write,
+    hub: Write,
+    old: Option<Pool>,
+    new: Option<Pool>,
+) -> Result<Writes, KeepErr>
+    ensures told { Looks result (K.seen keeper.old) (K.seen keeper.new)
+        (λ writes t. writes ≡ write ∷ hub ∷ drops_from OfModems old new t) }
+    ensures walks { (t : Tables) → (K.seen keeper.old).tables t
+        → Spent (lease_calls OfModems old t) (K.seen keeper.old) (K.seen keeper.new) }
+{
+    let first = two_writes(alloc, write, hub)?;
+    with_drops(alloc, keeper, first, Whose::Modems, old, new)
+}
+
+// A write of a pool for devices, and behind it the drops of the leases that are lost by it.
+fn device_pool_writes<K: Keeper>(
+    alloc: Global,
+    keeper: &mut K,
+    write: Write,
+    old: Option<Pool>,
+    new: Option<Pool>,
+) -> Result<Writes, KeepErr>
+    ensures told { Looks result (K.seen keeper.old) (K.seen keeper.new)
+        (λ writes t. writes ≡ write ∷ drops_from OfDevices old new t) }
+    ensures walks { (t : Tables) → (K.seen keeper.old).tables t
+        → Spent (lease_calls OfDevices old t) (K.seen keeper.old) (K.seen keeper.new) }
+{
+    let first = one_write(alloc, write)?;
+    with_drops(alloc, keeper, first, Whose::Devices, old, new)
 }
 
 // A pool's hub has a row where it isn't the hub 0.
@@ -117,6 +166,16 @@ fn one_write(alloc: Global, write: Write) -> Result<Writes, KeepErr>
 {
     let mut writes = Writes::new(alloc);
     writes.push(write)?;
+    Ok(writes)
+}
+
+fn two_writes(alloc: Global, first: Write, second: Write) -> Result<Writes, KeepErr>
+    ensures { MatchResult result
+        (λ writes. writes ≡ first ∷ second ∷ []) (λ err. err ≡ Memory) }
+{
+    let mut writes = Writes::new(alloc);
+    writes.push(first)?;
+    writes.push(second)?;
     Ok(writes)
 }
 

@@ -1,7 +1,8 @@
 //! The rules of each command, in their order.
 
 ghost use Rattle.std.specs.Prelude.{◌≡◌};
-ghost use Rattle.off_accounts.specs.Tests.{tests_of, pool_tests, removal_tests, hub_tests};
+ghost use Rattle.off_accounts.specs.Tests.{tests_of, pool_tests, device_pool_tests};
+ghost use Rattle.off_accounts.specs.Tests.{removal_tests, hub_tests};
 ghost use Rattle.off_accounts.specs.Tests.{one_test, two_tests, three_tests};
 ghost use Rattle.off_accounts.specs.Tests.{live_test, limit_test, row_test, use_test};
 
@@ -12,6 +13,7 @@ use crate::searching::Sought;
 use crate::subject::Subject;
 use crate::testing::{Test, unless};
 use crate::values::{add_on_fault, class_fault};
+use crate::whose::Whose;
 use off_base::Moment;
 use off_defs::{Command, Key, Kind, Pool, Rule, Site};
 use off_readers::{has_pool_size, is_lease_time, is_offset};
@@ -20,7 +22,7 @@ use off_readers::{has_pool_size, is_lease_time, is_offset};
 const NO_TEST: Test = Test::Tested(None);
 
 /// The tests of a command, one for each of its rules, behind what the tables have at its key.
-pub(crate) fn tests_of(asked: &Asked, subject: &Subject, c: &Command) -> [Test; 6]
+pub(crate) fn tests_of(asked: &Asked, subject: &Subject, c: &Command) -> [Test; 7]
     ensures { result ≡ tests_of asked.now.counts asked.now.at subject.now c.now }
 {
     match c {
@@ -41,13 +43,14 @@ pub(crate) fn tests_of(asked: &Asked, subject: &Subject, c: &Command) -> [Test; 
             limit_test(asked, Kind::Classes, subject),
         ),
         Command::PutPool(n, pool, hub) => pool_tests(asked, subject, *n, pool, *hub),
+        Command::PutDevicePool(n, pool) => device_pool_tests(asked, subject, *n, pool),
         Command::Remove(key) => removal_tests(asked.at, subject, key),
         Command::Show(_) => one_test(row_test(subject)),
         Command::Import { .. } => one_test(NO_TEST),
     }
 }
 
-fn hub_tests(asked: &Asked, subject: &Subject, site: &Site) -> [Test; 6]
+fn hub_tests(asked: &Asked, subject: &Subject, site: &Site) -> [Test; 7]
     ensures { result ≡ hub_tests asked.now.counts subject.now site.now }
 {
     [
@@ -57,53 +60,70 @@ fn hub_tests(asked: &Asked, subject: &Subject, site: &Site) -> [Test; 6]
         Test::Tested(unless(is_offset(site.offset), Rule::Site(4))),
         limit_test(asked, Kind::Hubs, subject),
         NO_TEST,
+        NO_TEST,
     ]
 }
 
-fn pool_tests(asked: &Asked, subject: &Subject, n: u32, pool: &Pool, hub: u32) -> [Test; 6]
+fn pool_tests(asked: &Asked, subject: &Subject, n: u32, pool: &Pool, hub: u32) -> [Test; 7]
     ensures { result ≡ pool_tests asked.now.counts asked.now.at subject.now n pool.now hub }
 {
     [
         Test::Tested(unless(has_pool_size(pool), Rule::PoolSize)),
-        Test::FindsNone(Sought::Overlapping(n, *pool)),
-        Test::FindsNone(Sought::WithRelay(n, *pool)),
+        Test::FindsNone(Sought::Overlapping(Whose::Modems, Some(n), *pool)),
+        Test::FindsNone(Sought::Overlapping(Whose::Devices, None, *pool)),
+        Test::FindsNone(Sought::WithRelay(Whose::Modems, n, *pool)),
         Test::HasHub(hub),
-        live_test(asked.at, subject.pool, Some(*pool)),
+        live_test(Whose::Modems, asked.at, subject.pool, Some(*pool)),
         limit_test(asked, Kind::Pools, subject),
     ]
 }
 
-fn removal_tests(at: Moment, subject: &Subject, key: &Key) -> [Test; 6]
+fn device_pool_tests(asked: &Asked, subject: &Subject, n: u32, pool: &Pool) -> [Test; 7]
+    ensures { result ≡ device_pool_tests asked.now.counts asked.now.at subject.now n pool.now }
+{
+    [
+        Test::Tested(unless(has_pool_size(pool), Rule::PoolSize)),
+        Test::FindsNone(Sought::Overlapping(Whose::Modems, None, *pool)),
+        Test::FindsNone(Sought::Overlapping(Whose::Devices, Some(n), *pool)),
+        Test::FindsNone(Sought::WithRelay(Whose::Devices, n, *pool)),
+        live_test(Whose::Devices, asked.at, subject.pool, Some(*pool)),
+        limit_test(asked, Kind::DevicePools, subject),
+        NO_TEST,
+    ]
+}
+
+fn removal_tests(at: Moment, subject: &Subject, key: &Key) -> [Test; 7]
     ensures { result ≡ removal_tests at subject.now key.now }
 {
     let second = match *key {
         Key::Subscriber(_) => use_test(subject, Rule::HasModems),
         Key::Class(_) => use_test(subject, Rule::ClassInUse),
-        Key::Pool(_) => live_test(at, subject.pool, None),
+        Key::Pool(_) => live_test(Whose::Modems, at, subject.pool, None),
+        Key::DevicePool(_) => live_test(Whose::Devices, at, subject.pool, None),
         Key::Hub(n) => Test::HasNoPool(n),
         Key::Site | Key::AddOn(_, _) | Key::Modem(_) => NO_TEST,
         Key::Lease(_) | Key::Held(_) | Key::Batch(_) => NO_TEST,
-        Key::PoolHub(_) | Key::DevicePool(_) | Key::Device(_) => NO_TEST,
+        Key::PoolHub(_) | Key::Device(_) => NO_TEST,
     };
     two_tests(row_test(subject), second)
 }
 
-fn one_test(first: Test) -> [Test; 6]
+fn one_test(first: Test) -> [Test; 7]
     ensures { result ≡ one_test first }
 {
     two_tests(first, NO_TEST)
 }
 
-fn two_tests(first: Test, second: Test) -> [Test; 6]
+fn two_tests(first: Test, second: Test) -> [Test; 7]
     ensures { result ≡ two_tests first second }
 {
     three_tests(first, second, NO_TEST)
 }
 
-fn three_tests(first: Test, second: Test, third: Test) -> [Test; 6]
+fn three_tests(first: Test, second: Test, third: Test) -> [Test; 7]
     ensures { result ≡ three_tests first second third }
 {
-    [first, second, third, NO_TEST, NO_TEST, NO_TEST]
+    [first, second, third, NO_TEST, NO_TEST, NO_TEST, NO_TEST]
 }
 
 fn limit_test(asked: &Asked, kind: Kind, subject: &Subject) -> Test
@@ -127,11 +147,11 @@ fn use_test(subject: &Subject, rule: Rule) -> Test
 
 // No lease that hasn't expired is lost where a pool, or none, takes the place of another, or of
 // none.
-fn live_test(at: Moment, old: Option<Pool>, new: Option<Pool>) -> Test
-    ensures { result ≡ live_test at old new }
+fn live_test(whose: Whose, at: Moment, old: Option<Pool>, new: Option<Pool>) -> Test
+    ensures { result ≡ live_test whose at old new }
 {
     match old {
         None => NO_TEST,
-        Some(old) => Test::FindsNone(Sought::LiveLost(at, Lost { old, new })),
+        Some(old) => Test::FindsNone(Sought::LiveLost(at, Lost { whose, old, new })),
     }
 }

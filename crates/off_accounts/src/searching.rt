@@ -1,4 +1,4 @@
-ghost use Rattle.std.specs.Prelude.{◌≡◌, true, false};
+ghost use Rattle.std.specs.Prelude.{◌≡◌, false};
 ghost use Rattle.off_defs.specs.declared.keys.Key.{Key};
 ghost use Rattle.off_defs.specs.declared.tables.Row.{Row};
 ghost use Rattle.off_defs.specs.Tables.{is_after};
@@ -9,19 +9,20 @@ ghost use Rattle.off_accounts.specs.Walking.{WalksOver, AllBehind, looks_at, is_
 
 use crate::lost::{Lost, before_lost, is_past_lost};
 use crate::wanted::is_wanted;
+use crate::whose::{Whose, before_pools, is_past_pools};
 use off_base::Moment;
 use off_defs::{Key, Pool};
 use off_outside::{KeepErr, Keeper};
-use off_readers::{is_past_pools, next_behind};
+use off_readers::next_behind;
 use std::alloc::Global;
 
 /// What is looked for: the least key of such a row.
 #[derive(Clone, Copy, Debug, PartialEq, Eq)]
 pub enum Sought {
-    /// Another pool than that of the number, which has an address of this one.
-    Overlapping(u32, Pool),
+    /// A pool which has an address of this one, another than that of the number, if there is one.
+    Overlapping(Whose, Option<u32>, Pool),
     /// Another pool than that of the number, which has the relay of this one.
-    WithRelay(u32, Pool),
+    WithRelay(Whose, u32, Pool),
     /// A lease that is lost before it has expired.
     LiveLost(Moment, Lost),
 }
@@ -54,30 +55,26 @@ pub(crate) fn search<K: Keeper>(
 }
 
 // The place from which a walk finds all that is sought.
-#[tactic(auto, using(crate::proofs::WalkedLemmas::begin_rules))]
 fn before(sought: &Sought) -> Key
     ensures none { (entry : Key × Row) → is_after (Some result) entry ≡ false
         → is_wanted sought.now entry ≡ false }
     ensures begins { AllBehind (is_reached sought.now) result }
 {
     match sought {
-        Sought::Overlapping(_, _) => Key::Class(u32::MAX),
-        Sought::WithRelay(_, _) => Key::Class(u32::MAX),
+        Sought::Overlapping(whose, _, _) => before_pools(*whose),
+        Sought::WithRelay(whose, _, _) => before_pools(*whose),
         Sought::LiveLost(_, lost) => before_lost(lost),
     }
 }
 
 // Whether the walk has passed by all that is sought.
 fn is_past(sought: &Sought, key: Key) -> bool
-    ensures here { (row : Row) → result ≡ true → is_wanted sought.now (key, row) ≡ false }
-    ensures later { (entry : Key × Row) → result ≡ true → is_after (Some key) entry ≡ true
-        → is_wanted sought.now entry ≡ false }
     ensures passed { result ≡ is_passed sought.now key }
     ensures ranged { IsRanged key }
 {
     match sought {
-        Sought::Overlapping(_, _) => is_past_pools(&key),
-        Sought::WithRelay(_, _) => is_past_pools(&key),
+        Sought::Overlapping(whose, _, _) => is_past_pools(*whose, &key),
+        Sought::WithRelay(whose, _, _) => is_past_pools(*whose, &key),
         Sought::LiveLost(_, lost) => is_past_lost(lost, key),
     }
 }

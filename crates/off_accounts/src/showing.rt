@@ -5,12 +5,11 @@ ghost use Rattle.off_defs.specs.declared.keys.Key.TheVariants as key;
 ghost use Rattle.off_defs.specs.declared.orders.Command.TheVariants.{Show};
 ghost use Rattle.off_outside.specs.KeeperCalls.{Looks, Spent};
 ghost use Rattle.off_accounts.specs.Deciding.{IsRuling, AnswersCommand, calls_to_show};
-ghost use Rattle.off_accounts.specs.Searches.{pool_number};
 ghost use Rattle.off_accounts.specs.Walking.{is_of_pool};
 
 use crate::results::Planned;
 use crate::subject::as_pool;
-use crate::testing::pool_number;
+use crate::whose::{Whose, pool_number};
 use off_account_rules::Counts;
 use off_base::Moment;
 use off_defs::{Key, Reply, Rule, ShownRow, Writes};
@@ -34,7 +33,7 @@ pub(crate) fn show<K: Keeper>(
         AnswersCommand (Show key.now) planned)) }
     ensures spent { Spent (calls_to_show key.now) (K.seen keeper.old) (K.seen keeper.new) }
 {
-    match pool_number(Some(*key)) {
+    match pool_number(Whose::Modems, *key) {
         Some(n) => show_pool(alloc, keeper, counts, users, now, n),
         None => show_other(alloc, keeper, counts, users, now, key),
     }

@@ -44,6 +44,7 @@ pub(crate) fn subject_of<K: Keeper>(
         Command::PutModem(mac, _) => at_key(alloc, keeper, users, &Key::Modem(*mac)),
         Command::PutClass(n, _) => at_key(alloc, keeper, users, &Key::Class(*n)),
         Command::PutPool(n, _, _) => at_key(alloc, keeper, users, &Key::Pool(*n)),
+        Command::PutDevicePool(n, _) => at_key(alloc, keeper, users, &Key::DevicePool(*n)),
         Command::Remove(key) => at_key(alloc, keeper, users, key),
         Command::Show(key) => at_key(alloc, keeper, users, key),
         Command::Import { .. } => Ok(nothing()),

@@ -2,15 +2,14 @@ ghost use Rattle.std.specs.Prelude.{◌≡◌, false, not, map};
 ghost use Rattle.off_base.specs.Choices.{when, first_there};
 ghost use Rattle.off_outside.specs.KeeperCalls.{Looks, Spent, WasCounted};
 ghost use Rattle.off_account_rules.specs.Clerk.{no_subscriber, no_class, no_hub};
-ghost use Rattle.off_accounts.specs.Searches.{pool_number, lease_address};
 ghost use Rattle.off_accounts.specs.Tests.{says, looks_up, searches, lookups, any_searches};
-ghost use Rattle.off_accounts.specs.Tests.{found_rule, sought_rule};
+ghost use Rattle.off_accounts.specs.Tests.{found_rule, rule_at, overlap_rule, sought_rule};
 ghost use Rattle.off_accounts.specs.Walking.{WalksOver, looks_at, test_calls, tests_calls};
 ghost use Rattle.off_defs.specs.State.{Tables};
 
 use crate::hubs::hub_in_use;
 use crate::searching::{Sought, search};
-use off_base::Ip4;
+use crate::whose::{Whose, lease_address, pool_number};
 use off_defs::{Key, Rule};
 use off_outside::{KeepErr, Keeper};
 use off_readers::has_row;
@@ -127,39 +126,35 @@ fn what_is_found<K: Keeper>(
 fn found_rule(sought: &Sought, found: Option<Key>) -> Option<Rule>
     ensures { result ≡ found_rule sought.now found }
 {
-    match sought {
-        Sought::Overlapping(_, _) => match pool_number(found) {
-            Some(n) => Some(Rule::PoolOverlap(n)),
+    let Some(key) = found else { return None };
+    rule_at(sought, key)
+}
+
+// The rule that is broken by the row of the key.
+fn rule_at(sought: &Sought, key: Key) -> Option<Rule>
+    ensures { result ≡ rule_at sought.now key }
+{
+    match *sought {
+        Sought::Overlapping(whose, _, _) => match pool_number(whose, key) {
+            Some(n) => Some(overlap_rule(whose, n)),
             None => None,
         },
-        Sought::WithRelay(_, _) => match pool_number(found) {
+        Sought::WithRelay(whose, _, _) => match pool_number(whose, key) {
             Some(n) => Some(Rule::RelayTaken(n)),
             None => None,
         },
-        Sought::LiveLost(_, _) => match lease_address(found) {
+        Sought::LiveLost(_, lost) => match lease_address(lost.whose, key) {
             Some(address) => Some(Rule::PoolHasLeases(address)),
             None => None,
         },
     }
 }
 
-/// The number of a pool's key.
-pub(crate) fn pool_number(found: Option<Key>) -> Option<u32>
-    ensures { result ≡ pool_number found }
+fn overlap_rule(whose: Whose, n: u32) -> Rule
+    ensures { result ≡ overlap_rule whose n }
 {
-    let Some(key) = found else { return None };
-    match key {
-        Key::Pool(n) => Some(n),
-        _ => None,
-    }
-}
-
-fn lease_address(found: Option<Key>) -> Option<Ip4>
-    ensures { result ≡ lease_address found }
-{
-    let Some(key) = found else { return None };
-    match key {
-        Key::Lease(address) => Some(address),
-        _ => None,
+    match whose {
+        Whose::Modems => Rule::PoolOverlap(n),
+        Whose::Devices => Rule::DeviceOverlap(n),
     }
 }

@@ -91,12 +91,12 @@ fn put(alloc: Global, key: Key, body: &[u8]) -> Result<Command, CommandErr>
         Key::Modem(mac) => put_modem(alloc, mac, body),
         Key::Class(number) => put_class(alloc, number, body),
         Key::Pool(number) => put_pool(alloc, number, body),
+        Key::DevicePool(number) => put_device_pool(alloc, number, body),
         Key::Site => Err(CommandErr::Fault(ClerkErr::NoMethod)),
         Key::Lease(_) => Err(CommandErr::Fault(ClerkErr::NoMethod)),
         Key::Held(_) => Err(CommandErr::Fault(ClerkErr::NoMethod)),
         Key::Batch(_) => Err(CommandErr::Fault(ClerkErr::NoMethod)),
         Key::PoolHub(_) => Err(CommandErr::Fault(ClerkErr::NoMethod)),
-        Key::DevicePool(_) => Err(CommandErr::Fault(ClerkErr::NoMethod)),
         Key::Device(_) => Err(CommandErr::Fault(ClerkErr::NoMethod)),
     }
 }
@@ -155,4 +155,13 @@ fn put_pool(alloc: Global, number: u32, body: &[u8]) -> Result<Command, CommandE
     let pool = pool_of(&fields)?;
     let hub = hub_of_pool(&fields)?;
     Ok(Command::PutPool(number, pool, hub))
+}
+
+fn put_device_pool(alloc: Global, number: u32, body: &[u8]) -> Result<Command, CommandErr>
+    ensures exact { GivesWanted (put_read (key.DevicePool number) body.now) result }
+    ensures sound { IfOk result (λ command. IsTrue (is_sound command)) }
+{
+    let fields = object_of(alloc, body)?;
+    let pool = pool_of(&fields)?;
+    Ok(Command::PutDevicePool(number, pool))
 }

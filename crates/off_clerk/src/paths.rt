@@ -5,7 +5,8 @@ ghost use Rattle.off_base.specs.Number.{number_read};
 ghost use Rattle.off_defs.specs.Bounds.{last_add_on};
 ghost use Rattle.off_clerk_rules.specs.Paths.{path_of, length_before, read_behind, last_number};
 ghost use Rattle.off_clerk_rules.specs.Paths.{add_on_named, site_at, hub_at, subscriber_at, add_on_at};
-ghost use Rattle.off_clerk_rules.specs.Paths.{modem_at, class_at, pool_at, lease_at, place_at};
+ghost use Rattle.off_clerk_rules.specs.Paths.{modem_at, class_at, pool_at, device_pool_at};
+ghost use Rattle.off_clerk_rules.specs.Paths.{lease_at, place_at};
 ghost use Rattle.off_clerk_rules.specs.Paths.{import_named, subscribers_at, modems_at};
 ghost use Rattle.off_clerk_rules.specs.Paths.{only_shown, kept, removable, IsNamed};
 
@@ -35,6 +36,7 @@ pub(crate) fn place_at(path: &[u8]) -> Option<Place>
         .or(modem_at(path))
         .or(class_at(path))
         .or(pool_at(path))
+        .or(device_pool_at(path))
         .or(lease_at(path))
         .or(subscribers_at(path))
         .or(modems_at(path))
@@ -220,6 +222,19 @@ fn pool_at(path: &[u8]) -> Option<Place>
         return None;
     };
     Some(removable(Key::Pool(number)))
+}
+
+fn device_pool_at(path: &[u8]) -> Option<Place>
+    ensures exact { result ≡ device_pool_at path.now }
+    ensures named { IfSome result IsNamed }
+{
+    let Some(text) = read_behind(b"/device-pools/", path) else {
+        return None;
+    };
+    let Some(number) = number_of(text) else {
+        return None;
+    };
+    Some(removable(Key::DevicePool(number)))
 }
 
 fn lease_at(path: &[u8]) -> Option<Place>

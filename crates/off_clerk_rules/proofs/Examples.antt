@@ -15,7 +15,7 @@ use Rattle.off_defs.specs.declared.keys.Key.TheVariants as key
 use Rattle.off_defs.specs.declared.tables.Pool.{Pool}
 use Rattle.off_defs.specs.declared.tables.ImportKind.TheVariants.{Subscribers}
 use Rattle.off_defs.specs.declared.shown.ShownRow.TheVariants as row
-use Rattle.off_defs.specs.declared.orders.Command.TheVariants.{PutHub, PutSubscriber, PutAddOn, PutPool, Remove, Show, Import}
+use Rattle.off_defs.specs.declared.orders.Command.TheVariants.{PutHub, PutSubscriber, PutAddOn, PutPool, PutDevicePool, Remove, Show, Import}
 use Rattle.off_defs.specs.declared.orders.Reply.TheVariants.{Shown, ShownPool}
 use Rattle.off_defs.specs.declared.rules.Rule.TheVariants as rule
 use Rattle.off_import_rules.specs.declared.faults.ImportFault.TheVariants as import
@@ -90,6 +90,24 @@ a_pool_names_its_hub = refl
 a_pool_that_names_none : command_read (codes "PUT") (codes "/pools/2") (codes "{\"first\":\"10.65.0.10\",\"last\":\"10.65.0.99\",\"prefix\":24,\"router\":\"10.65.0.1\",\"relay\":\"10.65.0.1\"}") ≡ Ok (PutPool 2 second_pool 0)
 unfolding number_read is_utf8 chars ip_of digits serde_json_on_literals
 a_pool_that_names_none = refl
+
+-- a pool for devices has no hub: a field of that name is passed over like any other
+a_pool_for_devices_is_put : command_read (codes "PUT") (codes "/device-pools/2") (codes "{\"first\":\"10.65.0.10\",\"last\":\"10.65.0.99\",\"prefix\":24,\"router\":\"10.65.0.1\",\"relay\":\"10.65.0.1\",\"hub\":-1}") ≡ Ok (PutDevicePool 2 second_pool)
+unfolding number_read is_utf8 chars ip_of digits serde_json_on_literals
+a_pool_for_devices_is_put = refl
+
+a_pool_for_devices_is_removed : command_read (codes "DELETE") (codes "/device-pools/2") [] ≡ Ok (Remove (key.DevicePool 2))
+unfolding number_read mac_of
+a_pool_for_devices_is_removed = refl
+
+a_pool_for_devices_is_shown : reply_text (Shown (key.DevicePool 2) (row.Pool second_pool))
+    ≡ codes "{\"first\":\"10.65.0.10\",\"last\":\"10.65.0.99\",\"prefix\":24,\"relay\":\"10.65.0.1\",\"router\":\"10.65.0.1\"}"
+unfolding digits ip_text_of
+a_pool_for_devices_is_shown = refl
+
+a_pool_that_has_a_device_pool's_address : fault_text (fault.Rule 0 (rule.DeviceOverlap 2)) ≡ codes "{\"at\":\"2\",\"fault\":\"device-overlap\"}"
+unfolding digits
+a_pool_that_has_a_device_pool's_address = refl
 
 no_hub_below_zero : command_read (codes "PUT") (codes "/pools/2") (codes "{\"first\":\"10.65.0.10\",\"last\":\"10.65.0.99\",\"prefix\":24,\"router\":\"10.65.0.1\",\"relay\":\"10.65.0.1\",\"hub\":-1}") ≡ Err (Value field.Hub)
 unfolding number_read is_utf8 chars ip_of digits serde_json_on_literals

@@ -15,7 +15,7 @@ use Rattle.off_defs.specs.declared.tables.Class.{Class}
 use Rattle.off_defs.specs.declared.tables.Pool.{Pool}
 use Rattle.off_defs.specs.declared.tables.ImportKind.{ImportKind}
 use Rattle.off_defs.specs.declared.orders.Command.{Command}
-use Rattle.off_defs.specs.declared.orders.Command.TheVariants.{PutHub, PutSubscriber, PutAddOn, PutModem, PutClass, PutPool, Remove, Show}
+use Rattle.off_defs.specs.declared.orders.Command.TheVariants.{PutHub, PutSubscriber, PutAddOn, PutModem, PutClass, PutPool, PutDevicePool, Remove, Show}
 use Rattle.off_import_rules.specs.Reading.{import_in}
 use Rattle.off_import_rules.specs.declared.faults.ImportFault.{ImportFault}
 use Rattle.off_clerk_rules.specs.Paths.{path_of, place_at, last_number}
@@ -77,7 +77,8 @@ pool_in body = do
   relay ← field_in field.Relay relay_in body
   Ok (record { first = first; last = last; prefix = prefix; router = router; relay = relay })
 
--- a pool's hub is the last field of its body
+-- a pool's hub is the last field of its body. A pool for devices has none: a device goes by the hub
+-- of its modem's pool
 abbrev pub hub_of_pool_in : Data → Result ℕ ClerkErr
 hub_of_pool_in body = field_or 0 field.Hub (number_in 0 last_number) body
 
@@ -119,12 +120,15 @@ put_read (key.Pool number) body = do
   pool ← pool_in fields
   hub ← hub_of_pool_in fields
   Ok (PutPool number pool hub)
+put_read (key.DevicePool number) body = do
+  fields ← object_in body
+  pool ← pool_in fields
+  Ok (PutDevicePool number pool)
 put_read key.Site body = Err NoMethod
 put_read (key.Lease address) body = Err NoMethod
 put_read (key.Held mac) body = Err NoMethod
 put_read (key.Batch number) body = Err NoMethod
 put_read (key.PoolHub pool) body = Err NoMethod
-put_read (key.DevicePool number) body = Err NoMethod
 put_read (key.Device address) body = Err NoMethod
 
 -- the body of an import isn't JSON

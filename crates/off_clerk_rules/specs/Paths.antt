@@ -29,7 +29,7 @@ abbrev pub read_behind : {A : Type 0} → List ℕ → (List ℕ → Option A) �
 read_behind front read text =
     if starts_with nat_eq text front then read (drop (length front) text) else None
 
--- the greatest number of a hub, a subscriber, a class or a pool
+-- the greatest number of a hub, a subscriber, a class, a pool or a pool for devices
 abbrev pub last_number : ℕ
 last_number = 2 ^ 32 - 1
 
@@ -86,6 +86,9 @@ class_at path = read_behind (codes "/classes/") (numbered key.Class) path
 abbrev pub pool_at : List ℕ → Option Place
 pool_at path = read_behind (codes "/pools/") (numbered key.Pool) path
 
+abbrev pub device_pool_at : List ℕ → Option Place
+device_pool_at path = read_behind (codes "/device-pools/") (numbered key.DevicePool) path
+
 abbrev pub lease_at : List ℕ → Option Place
 lease_at path =
     read_behind (codes "/leases/")
@@ -105,7 +108,8 @@ abbrev pub place_at : List ℕ → Option Place
 place_at path =
     fold option_or (site_at path)
     (hub_at path ∷ subscriber_at path ∷ add_on_at path ∷ modem_at path ∷ class_at path
-    ∷ pool_at path ∷ lease_at path ∷ subscribers_at path ∷ modems_at path ∷ [])
+    ∷ pool_at path ∷ device_pool_at path ∷ lease_at path ∷ subscribers_at path ∷ modems_at path
+    ∷ [])
 
 -- a clerk may be shown the row, and remove it where its path has DELETE
 abbrev pub IsNamed : Place → Type 0

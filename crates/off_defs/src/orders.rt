@@ -42,6 +42,8 @@ pub enum Command {
     PutClass(u32, Class),
     /// Puts the pool of this number, and the number of its hub.
     PutPool(u32, Pool, u32),
+    /// Puts the pool for devices of this number.
+    PutDevicePool(u32, Pool),
     /// Removes the row of a key.
     Remove(Key),
     /// Shows the row of a key.
@@ -79,4 +81,5 @@ pub enum Kind {
     Pools,
     Batches,
     Hubs,
+    DevicePools,
 }

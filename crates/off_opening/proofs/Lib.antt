@@ -1,4 +1,5 @@
 pub mod MarkLemmas
 pub mod OrderLemmas
+pub mod OwnerLemmas
 pub mod StandingLemmas
 pub mod UsingLemmas

@@ -59,7 +59,7 @@ module _ {K : Type 0} (R : K → K → Ordering) (o : IsTotalOrder R) where
       ]
 
 module _ {K X : Type 0} (R : K → K → Ordering) where
-  below_among : (k : K) (es : List (K × X)) (e : K × X) → T (list.below_all R k es) → Among e es → R k e.0 ≡ Less
+  pub below_among : (k : K) (es : List (K × X)) (e : K × X) → T (list.below_all R k es) → Among e es → R k e.0 ≡ Less
   below_among k [] e h among = absurd among
   below_among k (x ∷ es) e h among =
       elim among [

@@ -10,7 +10,7 @@ use Rattle.off_defs.specs.declared.tables.Pool.{Pool}
 use Rattle.off_defs.specs.declared.orders.Kind.{Kind}
 use Rattle.off_defs.specs.State.{Tables}
 use Rattle.off_account_rules.specs.Rows.{is_possible, is_of_kind}
-use Rattle.off_account_rules.specs.Good.{owner_of}
+use Rattle.off_account_rules.specs.Good.{owner_of, device_owner}
 use Rattle.off_users.specs.declared.named.Named.{Named}
 use Rattle.off_users.specs.Users.{is_same_mac}
 use Rattle.off_opening.specs.declared.marks.Mark.{Mark}
@@ -29,7 +29,7 @@ tie_of (row.Lease lease) = tie.Lease (owner_of lease.hold)
 tie_of (row.Held address) = tie.Held address
 tie_of (row.Batch batch) = tie.Free
 tie_of (row.PoolHub hub) = tie.PoolHub hub
-tie_of (row.Device lease) = tie.Free
+tie_of (row.Device lease) = tie.Device (device_owner lease.hold)
 
 abbrev pub mark_of : Key × Row → Mark
 mark_of entry = record { key = entry.0; fits = is_possible entry.0 entry.1; tie = tie_of entry.1 }
@@ -45,6 +45,21 @@ tied_pool key tie = None
 
 abbrev pub marked_pool : Mark → Option (ℕ × Pool)
 marked_pool mark = tied_pool mark.key mark.tie
+
+abbrev pub tied_device_pool : Key → Tie → Option (ℕ × Pool)
+tied_device_pool (key.DevicePool n) (tie.Pool pool) = Some (n, pool)
+tied_device_pool key tie = None
+
+abbrev pub marked_device_pool : Mark → Option (ℕ × Pool)
+marked_device_pool mark = tied_device_pool mark.key mark.tie
+
+-- the modem and its device that have the lease of a mark
+abbrev pub tied_owner : Key → Tie → Option (Mac × Mac)
+tied_owner (key.Device address) (tie.Device owner) = owner
+tied_owner key tie = None
+
+abbrev pub marked_owner : Mark → Option (Mac × Mac)
+marked_owner mark = tied_owner mark.key mark.tie
 
 -- what the modem of a mark names
 abbrev pub named_tied : Key → Tie → Option (Mac × Named)

@@ -36,6 +36,7 @@ pub(crate) fn counts_in(marks: &[Mark]) -> Counts
         pools: count_in(marks, Kind::Pools),
         batches: count_in(marks, Kind::Batches),
         hubs: count_in(marks, Kind::Hubs),
+        device_pools: count_in(marks, Kind::DevicePools),
     }
 }
 
@@ -60,5 +61,6 @@ fn is_of_kind(kind: Kind, key: Key) -> bool
         Kind::Pools => matches!(key, Key::Pool(_)),
         Kind::Batches => matches!(key, Key::Batch(_)),
         Kind::Hubs => matches!(key, Key::Hub(_)),
+        Kind::DevicePools => matches!(key, Key::DevicePool(_)),
     }
 }

@@ -9,6 +9,7 @@ mod counting;
 mod marks;
 mod migrating;
 mod opening;
+mod owners;
 mod standing;
 mod using;
 

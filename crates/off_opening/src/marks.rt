@@ -7,10 +7,12 @@ ghost use Rattle.off_defs.specs.declared.keys.Key.{Key};
 ghost use Rattle.off_defs.specs.State.{Tables};
 ghost use Rattle.off_defs.specs.Tables.{row_at};
 ghost use Rattle.off_outside.specs.KeeperCalls.{Looks, WalksOnce};
+ghost use Rattle.off_account_rules.specs.Good.{device_owner};
 ghost use Rattle.off_opening.specs.Marks.{mark_of, marks_of, tie_of, marked_pool};
+ghost use Rattle.off_opening.specs.Marks.{marked_device_pool};
 
 use off_base::{Ip4, Mac};
-use off_defs::{Key, Pool, Row};
+use off_defs::{DeviceHold, Key, Pool, Row};
 use off_outside::{KeepErr, Keeper};
 use off_readers::{is_possible, next_behind, owner_of};
 use std::alloc::Global;
@@ -31,6 +33,8 @@ pub(crate) enum Tie {
     Held(Ip4),
     /// The hub that a pool names.
     PoolHub(u32),
+    /// The modem and its device that have a lease, or `None` where it's declined.
+    Device(Option<(Mac, Mac)>),
 }
 
 /// A row, as the test of the tables keeps it.
@@ -106,7 +110,18 @@ fn tie_of(row: &Row) -> Tie
         Row::Site(_) | Row::Subscriber(_) | Row::AddOn(_) | Row::Class(_) | Row::Batch(_) => {
             Tie::Free
         }
-        Row::Device(_) => Tie::Free,
+        Row::Device(lease) => Tie::Device(device_owner(lease.hold)),
+    }
+}
+
+// The modem and its device that have an address, or `None` where it's declined.
+fn device_owner(hold: DeviceHold) -> Option<(Mac, Mac)>
+    ensures { result ≡ device_owner hold }
+{
+    match hold {
+        DeviceHold::Offered(modem, device) => Some((modem, device)),
+        DeviceHold::Bound(modem, device) => Some((modem, device)),
+        DeviceHold::Declined => None,
     }
 }
 
@@ -129,6 +144,29 @@ pub(crate) fn pools_in(alloc: Global, marks: &[Mark]) -> Result<Vec<NumberedPool
     match marks.iter().filter_map(pool_in).collect(alloc) {
         Ok(pools) => Ok(pools),
         Err(_refused) => Err(KeepErr::Memory),
+    }
+}
+
+/// The same of pools for devices.
+pub(crate) fn device_pools_in(alloc: Global, marks: &[Mark]) -> Result<Vec<NumberedPool>, KeepErr>
+    ensures ok { IfOk result (λ pools. pools.items ≡ filter_map marked_device_pool marks.now) }
+    ensures err { IfErr result (λ err. err ≡ KeepErr.Memory) }
+{
+    match marks.iter().filter_map(device_pool_in).collect(alloc) {
+        Ok(pools) => Ok(pools),
+        Err(_refused) => Err(KeepErr::Memory),
+    }
+}
+
+fn device_pool_in(mark: &Mark) -> Option<NumberedPool>
+    ensures { result ≡ marked_device_pool mark.now }
+{
+    match mark.key {
+        Key::DevicePool(number) => match mark.tie {
+            Tie::Pool(pool) => Some(NumberedPool { number, pool }),
+            _ => None,
+        },
+        _ => None,
     }
 }
 

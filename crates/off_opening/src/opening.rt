@@ -1,13 +1,14 @@
 ghost use Rattle.std.specs.Prelude.{◌≡◌, IfOk, IfErr};
 ghost use Rattle.off_defs.specs.State.{Tables};
 ghost use Rattle.off_outside.specs.KeeperCalls.{Looks, WalksOnce};
-ghost use Rattle.off_account_rules.specs.Good.{raw_pools, Opens, Judged};
+ghost use Rattle.off_account_rules.specs.Good.{Opens, Judged};
 ghost use Rattle.off_opening.specs.Marks.{marks_of};
-ghost use Rattle.off_opening.specs.Standing.{OpensAs};
+ghost use Rattle.off_opening.specs.Standing.{IsCompared, OpensAs};
 
 use crate::counting::counts_in;
-use crate::marks::{Mark, NumberedPool, pools_in, read_marks};
-use crate::standing::keeps;
+use crate::marks::{Mark, device_pools_in, pools_in, read_marks};
+use crate::owners::several_in;
+use crate::standing::{Compared, keeps};
 use crate::using::users_in;
 use off_account_rules::Counts;
 use off_defs::Key;
@@ -28,8 +29,9 @@ pub enum Opening {
 /// changes nothing.
 ///
 /// An error is the keeper's, or `Memory` where what is kept of the rows has no memory: 48 bytes a
-/// row, and up to three times as much while they grow, besides what `Users` keeps. The time grows as
-/// the number of rows times its logarithm, and as the number of leases times the number of pools.
+/// row, and up to three times as much while they grow, besides what `Users` keeps and the devices
+/// that have leases. The time grows as the number of rows times its logarithm, and as the number of
+/// leases times the number of pools.
 pub fn open_tables<K: Keeper>(alloc: Global, keeper: &mut K) -> Result<Opening, KeepErr>
     ensures told { Looks result (K.seen keeper.old) (K.seen keeper.new)
         (λ opening t. OpensAs t opening) }
@@ -78,17 +80,34 @@ fn bad_in(alloc: Global, marks: &[Mark]) -> Result<Option<Key>, KeepErr>
     ensures ok { IfOk result (λ bad. (t : Tables) → marks.now ≡ marks_of t → Judged t bad) }
     ensures err { IfErr result (λ err. err ≡ KeepErr.Memory) }
 {
-    let pools = pools_in(alloc, marks)?;
-    let bad = least_bad(marks, pools.as_slice());
+    let compared = compared_in(alloc, marks)?;
+    let bad = least_bad(marks, &compared);
     Ok(bad)
 }
 
-// Likewise, where these are the tables' pools.
-fn least_bad(marks: &[Mark], pools: &[NumberedPool]) -> Option<Key>
-    ensures { (t : Tables) → marks.now ≡ marks_of t → pools.now ≡ raw_pools t → Judged t result }
+// What the rows are compared with besides single ones.
+fn compared_in(alloc: Global, marks: &[Mark]) -> Result<Compared, KeepErr>
+    ensures ok { IfOk result (λ compared. (t : Tables) → marks.now ≡ marks_of t
+        → IsCompared compared t) }
+    ensures err { IfErr result (λ err. err ≡ KeepErr.Memory) }
+{
+    let pools = pools_in(alloc, marks)?;
+    let device_pools = device_pools_in(alloc, marks)?;
+    let several = several_in(alloc, marks)?;
+    Ok(Compared {
+        pools,
+        device_pools,
+        several,
+    })
+}
+
+// Likewise, where this is what the tables' rows are compared with.
+fn least_bad(marks: &[Mark], compared: &Compared) -> Option<Key>
+    ensures { (t : Tables) → marks.now ≡ marks_of t → IsCompared compared.now t
+        → Judged t result }
 {
     for mark in marks {
-        if !keeps(marks, pools, mark) {
+        if !keeps(marks, compared, mark) {
             return Some(mark.key);
         }
     }

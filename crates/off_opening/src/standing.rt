@@ -5,30 +5,43 @@ ghost use Rattle.std.specs.List.{list_all, list_any, find};
 ghost use Rattle.off_opening.specs.declared.marks.Mark.{Mark};
 ghost use Rattle.off_defs.specs.State.{Tables};
 ghost use Rattle.off_account_rules.specs.Rows.{passes, has_address};
-ghost use Rattle.off_account_rules.specs.Good.{raw_pools, is_there, is_apart, is_mac};
+ghost use Rattle.off_account_rules.specs.Good.{raw_pools, is_there, is_apart, is_disjoint, is_mac};
+ghost use Rattle.off_account_rules.specs.Good.{pool_stands, device_pool_stands};
 ghost use Rattle.off_account_rules.specs.Good.{owner_holds, owns, is_of_hubs, names_hubs, is_hub_there};
 ghost use Rattle.off_account_rules.specs.Good.{pool_hub_stands, stored_hub, stored_hub_of};
 ghost use Rattle.off_defs.specs.declared.tables.Pool.{Pool};
 ghost use Rattle.std.specs.Option.{option_map};
 ghost use Rattle.off_opening.specs.Marks.{marks_of};
 ghost use Rattle.off_opening.specs.Standing.{tie_stands, lease_tied, modem_tied, is_kept};
+ghost use Rattle.off_opening.specs.Standing.{device_tied, is_sole, SeveralIn, IsCompared};
 
 use crate::marks::{Mark, NumberedPool, Tie, tie_at};
+use crate::owners::has_owner;
 use off_base::{Ip4, Mac};
 use off_defs::{Key, Pool};
 use off_readers::{has_address, overlaps};
 use std::cmp::Ordering;
+use std::collections::BTreeSet;
 
-/// Whether the row of a mark keeps its line, in tables that have these marks and these pools.
-pub(crate) fn keeps(marks: &[Mark], pools: &[NumberedPool], mark: &Mark) -> bool
-    ensures { (t : Tables) → marks.now ≡ marks_of t → pools.now ≡ raw_pools t
-        → result ≡ is_kept t mark.now }
-{
-    mark.fits && stands_right(marks, pools, mark)
+/// What the rows are compared with besides single ones: all pools, and the devices that have
+/// several leases.
+#[derive(Drop)]
+pub(crate) struct Compared {
+    pub pools: Vec<NumberedPool>,
+    pub device_pools: Vec<NumberedPool>,
+    pub several: BTreeSet<(Mac, Mac)>,
 }
 
-fn stands_right(marks: &[Mark], pools: &[NumberedPool], mark: &Mark) -> bool
-    ensures { (t : Tables) → marks.now ≡ marks_of t → pools.now ≡ raw_pools t
+/// Whether the row of a mark keeps its line, in tables that have these marks.
+pub(crate) fn keeps(marks: &[Mark], compared: &Compared, mark: &Mark) -> bool
+    ensures { (t : Tables) → marks.now ≡ marks_of t → IsCompared compared.now t
+        → result ≡ is_kept t mark.now }
+{
+    mark.fits && stands_right(marks, compared, mark)
+}
+
+fn stands_right(marks: &[Mark], compared: &Compared, mark: &Mark) -> bool
+    ensures { (t : Tables) → marks.now ≡ marks_of t → IsCompared compared.now t
         → result ≡ tie_stands t mark.now.key mark.now.tie }
 {
     match mark.key {
@@ -40,11 +53,11 @@ fn stands_right(marks: &[Mark], pools: &[NumberedPool], mark: &Mark) -> bool
             _ => false,
         },
         Key::Pool(number) => match mark.tie {
-            Tie::Pool(pool) => pool_stands(pools, number, &pool),
+            Tie::Pool(pool) => pool_stands(compared, number, &pool),
             _ => false,
         },
         Key::Lease(address) => match mark.tie {
-            Tie::Lease(owner) => lease_stands(marks, pools, address, owner),
+            Tie::Lease(owner) => lease_stands(marks, compared.pools.as_slice(), address, owner),
             _ => false,
         },
         Key::Held(mac) => match mark.tie {
@@ -55,7 +68,14 @@ fn stands_right(marks: &[Mark], pools: &[NumberedPool], mark: &Mark) -> bool
             Tie::PoolHub(hub) => pool_hub_stands(marks, number, hub),
             _ => false,
         },
-        Key::DevicePool(_) | Key::Device(_) => false,
+        Key::DevicePool(number) => match mark.tie {
+            Tie::Pool(pool) => device_pool_stands(compared, number, &pool),
+            _ => false,
+        },
+        Key::Device(address) => match mark.tie {
+            Tie::Device(owner) => device_stands(compared, address, owner),
+            _ => false,
+        },
     }
 }
 
@@ -137,8 +157,38 @@ fn modem_stands(marks: &[Mark], subscriber: u32, class: u32) -> bool
     is_there(marks, Key::Subscriber(subscriber)) && is_there(marks, Key::Class(class))
 }
 
+// A pool of modems is apart from the others, and has no address of one for devices.
+fn pool_stands(compared: &Compared, number: u32, pool: &Pool) -> bool
+    ensures { (t : Tables) → IsCompared compared.now t → result ≡ pool_stands t number pool.now }
+{
+    stands_apart(compared.pools.as_slice(), number, pool)
+        && is_clear_of(compared.device_pools.as_slice(), pool)
+}
+
+// A pool for devices the other way round.
+fn device_pool_stands(compared: &Compared, number: u32, pool: &Pool) -> bool
+    ensures { (t : Tables) → IsCompared compared.now t
+        → result ≡ device_pool_stands t number pool.now }
+{
+    stands_apart(compared.device_pools.as_slice(), number, pool)
+        && is_clear_of(compared.pools.as_slice(), pool)
+}
+
+// None of these pools has an address of this one.
+fn is_clear_of(pools: &[NumberedPool], pool: &Pool) -> bool
+    ensures { result ≡ list_all (is_disjoint pool.now) pools.now }
+{
+    pools.iter().all(|other| is_disjoint(pool, other))
+}
+
+fn is_disjoint(pool: &Pool, other: &NumberedPool) -> bool
+    ensures { result ≡ is_disjoint pool.now other.now }
+{
+    !overlaps(pool, &other.pool)
+}
+
 // No other pool has an address of this one or its relay.
-fn pool_stands(pools: &[NumberedPool], number: u32, pool: &Pool) -> bool
+fn stands_apart(pools: &[NumberedPool], number: u32, pool: &Pool) -> bool
     ensures { result ≡ list_all (is_apart number pool.now) pools.now }
 {
     pools.iter().all(|other| is_apart(number, pool, other))
@@ -158,6 +208,23 @@ fn lease_stands(marks: &[Mark], pools: &[NumberedPool], address: Ip4, owner: Opt
     is_in_one(pools, address)
         && has_hub(marks, pools, address)
         && owner_holds(marks, address, owner)
+}
+
+// A device's lease has its one pool for devices, and the device has no other lease.
+fn device_stands(compared: &Compared, address: Ip4, owner: Option<(Mac, Mac)>) -> bool
+    ensures { (t : Tables) → IsCompared compared.now t → result ≡ device_tied t address owner }
+{
+    is_in_one(compared.device_pools.as_slice(), address) && is_sole(&compared.several, owner)
+}
+
+// Whether who has a lease, if somebody has it, isn't among those that have several.
+fn is_sole(several: &BTreeSet<(Mac, Mac)>, owner: Option<(Mac, Mac)>) -> bool
+    ensures { (t : Tables) → SeveralIn t several.now → result ≡ is_sole t owner }
+{
+    match owner {
+        Some(owner) => !has_owner(several, owner),
+        None => true,
+    }
 }
 
 // Whether exactly one pool has the address.

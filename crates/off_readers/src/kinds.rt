@@ -5,6 +5,13 @@ ghost use Rattle.off_rows.specs.KeyBytes.{kind_of};
 
 use off_defs::Key;
 
+/// Whether all keys of pools for devices are below this one.
+pub fn is_past_device_pools(key: &Key) -> bool
+    ensures { result ≡ nat_lt 12 (kind_of key.now) }
+{
+    matches!(*key, Key::Device(_))
+}
+
 /// Whether all keys of pools are below this one.
 pub fn is_past_pools(key: &Key) -> bool
     ensures { result ≡ nat_lt 6 (kind_of key.now) }

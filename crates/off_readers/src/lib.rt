@@ -17,11 +17,11 @@ mod rows;
 mod walking;
 
 pub use addresses::{has_address, overlaps, owner_of};
-pub use kinds::is_past_pools;
+pub use kinds::{is_past_device_pools, is_past_pools};
 pub use possible::{has_pool_size, is_lease_time, is_offset, is_possible};
 pub use reading::{has_row, read_row};
 pub use rows::{
-    read_add_on, read_batch, read_class, read_held, read_hub, read_lease, read_modem, read_pool,
-    read_pool_hub, read_site, read_subscriber,
+    read_add_on, read_batch, read_class, read_device, read_device_pool, read_held, read_hub,
+    read_lease, read_modem, read_pool, read_pool_hub, read_site, read_subscriber,
 };
 pub use walking::next_behind;

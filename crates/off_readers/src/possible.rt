@@ -40,7 +40,8 @@ pub fn is_possible(key: &Key, row: &Row) -> bool
         Key::Batch(_) => matches!(row, Row::Batch(_)),
         Key::Hub(_) => is_possible_site(row),
         Key::PoolHub(_) => is_possible_pool_hub(row),
-        Key::DevicePool(_) | Key::Device(_) => false,
+        Key::DevicePool(_) => is_possible_pool(row),
+        Key::Device(_) => matches!(row, Row::Device(_)),
     }
 }
 

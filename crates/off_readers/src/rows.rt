@@ -5,13 +5,14 @@ ghost use Rattle.std.specs.Prelude.{◌≡◌, option_and_then};
 ghost use Rattle.off_account_rules.specs.Rows.{hub_in, pool_hub_in, number_or_0};
 ghost use Rattle.off_account_rules.specs.Rows.{subscriber_in, add_on_in, modem_in, class_in};
 ghost use Rattle.off_account_rules.specs.Rows.{pool_in, lease_in, held_in, batch_in};
+ghost use Rattle.off_account_rules.specs.Rows.{device_pool_in, device_in, as_device};
 ghost use Rattle.off_account_rules.specs.Rows.{as_site, as_subscriber, as_add_on, as_modem, as_class};
 ghost use Rattle.off_account_rules.specs.Rows.{as_pool, as_pool_hub, as_lease, as_held, as_batch};
 ghost use Rattle.off_outside.specs.KeeperCalls.{Looks, Spent, WasCounted};
 
 use crate::reading::read_row;
 use off_base::{Ip4, Mac, Settings};
-use off_defs::{Batch, Class, Key, Lease, Modem, Pool, Row, Site, Subscriber};
+use off_defs::{Batch, Class, DeviceLease, Key, Lease, Modem, Pool, Row, Site, Subscriber};
 use off_outside::{KeepErr, Keeper};
 use std::alloc::Global;
 
@@ -112,6 +113,32 @@ pub fn read_pool<K: Keeper>(alloc: Global, keeper: &mut K, n: u32) -> Result<Opt
     Ok(as_pool(read_row(alloc, keeper, &Key::Pool(n))?))
 }
 
+/// The pool for devices of a number, or `None` where there is none.
+pub fn read_device_pool<K: Keeper>(
+    alloc: Global,
+    keeper: &mut K,
+    n: u32,
+) -> Result<Option<Pool>, KeepErr>
+    ensures told { Looks result (K.seen keeper.old) (K.seen keeper.new)
+        (λ pool t. pool ≡ device_pool_in t n) }
+    ensures counted { WasCounted (K.seen keeper.old) (K.seen keeper.new) }
+{
+    Ok(as_pool(read_row(alloc, keeper, &Key::DevicePool(n))?))
+}
+
+/// The lease of a device's address, or `None` where there is none.
+pub fn read_device<K: Keeper>(
+    alloc: Global,
+    keeper: &mut K,
+    address: Ip4,
+) -> Result<Option<DeviceLease>, KeepErr>
+    ensures told { Looks result (K.seen keeper.old) (K.seen keeper.new)
+        (λ lease t. lease ≡ device_in t address) }
+    ensures counted { WasCounted (K.seen keeper.old) (K.seen keeper.new) }
+{
+    Ok(as_device(read_row(alloc, keeper, &Key::Device(address))?))
+}
+
 /// The lease of an address, or `None` where there is none.
 pub fn read_lease<K: Keeper>(
     alloc: Global,
@@ -155,6 +182,16 @@ fn named_hub(row: Option<Row>) -> u32
     match &row {
         Row::PoolHub(hub) => *hub,
         _ => 0,
+    }
+}
+
+fn as_device(row: Option<Row>) -> Option<DeviceLease>
+    ensures { result ≡ option_and_then as_device row }
+{
+    let Some(row) = row else { return None };
+    match &row {
+        Row::Device(lease) => Some(*lease),
+        _ => None,
     }
 }
 

@@ -13,7 +13,7 @@ use Rattle.off_defs.specs.declared.tables.ImportKind.TheVariants.{Subscribers, M
 use Rattle.off_defs.specs.declared.orders.ImportRow.{ImportRow}
 use Rattle.off_defs.specs.declared.orders.ImportRow.TheVariants as row
 use Rattle.off_defs.specs.declared.orders.Command.{Command}
-use Rattle.off_defs.specs.declared.orders.Command.TheVariants.{PutHub, PutSubscriber, PutAddOn, PutModem, PutClass, PutPool, Remove, Show, Import}
+use Rattle.off_defs.specs.declared.orders.Command.TheVariants.{PutHub, PutSubscriber, PutAddOn, PutModem, PutClass, PutPool, PutDevicePool, Remove, Show, Import}
 
 -- behind a modem may be 1 to 254 devices
 abbrev pub is_sound_subscriber : Subscriber → Bool
@@ -40,7 +40,7 @@ is_removable (key.Held mac) = false
 is_removable (key.Batch number) = false
 is_removable (key.Hub number) = true
 is_removable (key.PoolHub pool) = false
-is_removable (key.DevicePool number) = false
+is_removable (key.DevicePool number) = true
 is_removable (key.Device address) = false
 
 -- the rows that a clerk is shown: these, and the leases
@@ -56,7 +56,7 @@ is_shown (key.Held mac) = false
 is_shown (key.Batch number) = false
 is_shown (key.Hub number) = is_removable (key.Hub number)
 is_shown (key.PoolHub pool) = false
-is_shown (key.DevicePool number) = false
+is_shown (key.DevicePool number) = is_removable (key.DevicePool number)
 is_shown (key.Device address) = false
 
 -- a row that an import of the kind has
@@ -73,6 +73,7 @@ is_sound (PutAddOn subscriber number settings) = is_add_on_number number
 is_sound (PutModem mac modem) = true
 is_sound (PutClass number class) = true
 is_sound (PutPool number pool hub) = is_sound_pool pool
+is_sound (PutDevicePool number pool) = is_sound_pool pool
 is_sound (Remove removed) = is_removable removed
 is_sound (Show shown) = is_shown shown
 -- an import has at most 2,000 rows, all of its kind

@@ -24,6 +24,7 @@ pub fn sound(c: &Command) -> bool
         Command::PutModem(_, _) => true,
         Command::PutClass(_, _) => true,
         Command::PutPool(_, pool, _) => has_network(pool),
+        Command::PutDevicePool(_, pool) => has_network(pool),
         Command::Remove(key) => can_remove(key),
         Command::Show(key) => can_show(key),
         Command::Import { kind, rows, .. } => rows.len() <= MOST_ROWS && are_all(*kind, rows),
@@ -63,7 +64,7 @@ fn can_remove(key: &Key) -> bool
         Key::Batch(_) => false,
         Key::Hub(_) => true,
         Key::PoolHub(_) => false,
-        Key::DevicePool(_) => false,
+        Key::DevicePool(_) => true,
         Key::Device(_) => false,
     }
 }

@@ -1,5 +1,5 @@
 -- Each command that no rule refuses leaves good tables good.
-use Rattle.std.proofs.Common.{◌≡◌, ℕ, Bool, true, false, cond, not, ◌&&◌, eqb, leb, Option, Some, None, is_none, option_map, List, [], ◌∷◌, length, refl, sym, ap, subst, ◌∙◌, arith}
+use Rattle.std.proofs.Common.{◌≡◌, ℕ, Bool, true, false, cond, not, ◌&&◌, eqb, leb, Option, Some, None, is_none, option_map, List, [], ◌∷◌, map, length, refl, sym, ap, subst, ◌∙◌, arith}
 use Rattle.std.proofs.lemmas.Bool.{and_from, eqb-false, ne_eqb, le-leb, not-false, not_from_false, or_left}
 use Rattle.std.specs.List.{find, flat_map, list_any}
 use Rattle.std.specs.Ordering.{eq_by_cmp}
@@ -15,26 +15,27 @@ use Rattle.off_defs.specs.declared.tables.Site.{Site}
 use Rattle.off_defs.specs.declared.tables.Modem.{Modem}
 use Rattle.off_defs.specs.declared.tables.Pool.{Pool}
 use Rattle.off_defs.specs.declared.orders.Command.{Command}
-use Rattle.off_defs.specs.declared.orders.Command.TheVariants.{PutHub, PutSubscriber, PutAddOn, PutModem, PutClass, PutPool, Remove, Show, Import}
+use Rattle.off_defs.specs.declared.orders.Command.TheVariants.{PutHub, PutSubscriber, PutAddOn, PutModem, PutClass, PutPool, PutDevicePool, Remove, Show, Import}
 use Rattle.off_defs.specs.declared.orders.Write.TheVariants.{Put, Drop}
 use Rattle.off_defs.specs.declared.rules.Rule.{Rule}
 use Rattle.off_defs.specs.Keys.{key_cmp}
 use Rattle.off_defs.specs.State.{Tables}
 use Rattle.off_defs.specs.Tables.{row_at, write_all}
 use Rattle.off_rows.specs.Sound.{is_sound, is_sound_pool, is_removable}
-use Rattle.off_account_rules.specs.Rows.{is_lease_time, is_offset, site_fits, class_is_good, add_on_is_good, has_pool_size, pool_fits, overlaps, as_subscriber, as_class, modems, pools, hub_in, as_site, pool_hub_in}
+use Rattle.off_account_rules.specs.Rows.{is_lease_time, is_offset, site_fits, class_is_good, add_on_is_good, has_pool_size, pool_fits, overlaps, as_subscriber, as_class, modems, pools, device_pools, hub_in, as_site, pool_hub_in}
 use Rattle.off_account_rules.specs.Good.{Good}
-use Rattle.off_account_rules.specs.Clerk.{rules_of, removal_rules, writes_of, removal_writes, is_other_overlapping, is_other_with_relay, lost_leases, lease_drops, pool_hub_write}
+use Rattle.off_account_rules.specs.Clerk.{rules_of, removal_rules, writes_of, removal_writes, is_other_overlapping, is_other_with_relay, lost_leases, lease_drops, lost_devices, device_drop, pool_hub_write}
 use Rattle.off_table_laws.specs.Laws.{secret_fits}
 use Rattle.off_table_laws.proofs.ListLemmas.{In, none_in, none_found}
 use Rattle.off_table_laws.proofs.Rows.{Rows, rows_after, all_written, row_written, drop_row, put_row}
 use Rattle.off_table_laws.proofs.GoodRows.{GoodRows, HubThere, hub_at, hub_in_row}
-use Rattle.off_table_laws.proofs.Judging.{good_rows, good_tables, pool_in_raw}
+use Rattle.off_table_laws.proofs.Judging.{good_rows, good_tables, pool_in_raw, device_pool_in_raw}
 use Rattle.off_table_laws.proofs.PutLemmas.{put_hub, put_subscriber, put_add_on, put_modem, put_class}
 use Rattle.off_table_laws.proofs.DropLemmas.{drop_add_on, drop_modem, drop_class, drop_subscriber, drop_hub}
-use Rattle.off_table_laws.proofs.PoolLemmas.{IsApart, set_pool, pool_changed, set_both, set_hub}
+use Rattle.off_table_laws.proofs.PoolLemmas.{IsApart, IsApartOf, IsClearOf, set_pool, pool_changed, set_both, set_hub}
 use Rattle.off_table_laws.proofs.LostLeases.{lost_left, drops_other, is_other}
-use Rattle.off_table_laws.proofs.Reading.{has_read, row_pool, pools_raw, modem_in_all, seen_row}
+use Rattle.off_table_laws.proofs.DevicePools.{set_device_pool, device_pool_changed, devices_left, drops_aside, is_no_device}
+use Rattle.off_table_laws.proofs.Reading.{has_read, row_pool, row_device_pool, pools_raw, device_pools_raw, modem_in_all, seen_row}
 
 -- where no rule is broken, each isn't
 abbrev Whole : List (Option Rule) → Type 0
@@ -71,6 +72,10 @@ good_add_on : (settings : List Tree) → first_fault tree.AddOn settings ≡ Non
 unfolding add_on_is_good
 good_add_on settings e = ap is_none e
 
+-- what is known of a pool is known of the one that is put
+of_that : (pool : Pool) (P : Pool → Type 0) → P pool → (other : Pool) → Some pool ≡ Some other → P other
+of_that pool P p other e = let same : pool ≡ other = cc in subst P same p
+
 -- the write of a pool's hub leaves the rows with it set
 pub hub_written : (rows : Rows) (n hub : ℕ) → row_written rows (pool_hub_write n hub) ≡ set_hub rows n hub
 hub_written rows n hub =
@@ -79,28 +84,60 @@ hub_written rows n hub =
       | false ↦ refl
     ]
 
+abbrev does_overlap : Pool → ℕ × Pool → Bool
+does_overlap pool other = overlaps pool other.1
+
 abbrev is_of_hub : Tables → ℕ → ℕ × Pool → Bool
 is_of_hub t hub entry = eqb (pool_hub_in t entry.0) hub
 
 module _ (t : Tables) (g : GoodRows (row_at t)) (no_site : row_at t key.Site ≡ None) where
   -- a pool that overlaps no other, and whose relay is no other's
-  pool_apart : (n : ℕ) (pool : Pool) → find (is_other_overlapping n pool) (pools t) ≡ None → find (is_other_with_relay n pool) (pools t) ≡ None → IsApart (row_at t) n pool
-  pool_apart n pool none free m other away there =
-      let i : In (m, other) (pools t) = subst (λ (ps : List (ℕ × Pool)). In (m, other) ps) (sym (pools_raw t g.possible)) (pool_in_raw t m other there) in
+  other_apart : (m n : ℕ) (pool other : Pool) → (m ≡ n → ⊥) → is_other_overlapping n pool (m, other) ≡ false → is_other_with_relay n pool (m, other) ≡ false
+      → (overlaps pool other ≡ false) × (eqb other.relay.0 pool.relay.0 ≡ false)
+  other_apart m n pool other away a b =
       let not_it : eqb m n ≡ false = ne_eqb m n away in
-      let a = none_found (is_other_overlapping n pool) (pools t) none (m, other) i in
-      let b = none_found (is_other_with_relay n pool) (pools t) free (m, other) i in
       (ap (λ x. not x && overlaps pool other) (sym not_it) ∙ a, ap (λ x. not x && eqb other.relay.0 pool.relay.0) (sym not_it) ∙ b)
+
+  pool_listed : (m : ℕ) (other : Pool) → row_at t (key.Pool m) ≡ Some (row.Pool other) → In (m, other) (pools t)
+  pool_listed m other there = subst (λ (ps : List (ℕ × Pool)). In (m, other) ps) (sym (pools_raw t g.possible)) (pool_in_raw t m other there)
+
+  device_pool_listed : (m : ℕ) (other : Pool) → row_at t (key.DevicePool m) ≡ Some (row.Pool other) → In (m, other) (device_pools t)
+  device_pool_listed m other there = subst (λ (ps : List (ℕ × Pool)). In (m, other) ps) (sym (device_pools_raw t g.possible)) (device_pool_in_raw t m other there)
+
+  pool_apart : (n : ℕ) (pool : Pool) → find (is_other_overlapping n pool) (pools t) ≡ None → find (is_other_with_relay n pool) (pools t) ≡ None → IsApartOf key.Pool (row_at t) n pool
+  pool_apart n pool none free m other away there =
+      let i = pool_listed m other there in
+      other_apart m n pool other away (none_found (is_other_overlapping n pool) (pools t) none (m, other) i) (none_found (is_other_with_relay n pool) (pools t) free (m, other) i)
+
+  device_pool_apart : (n : ℕ) (pool : Pool) → find (is_other_overlapping n pool) (device_pools t) ≡ None → find (is_other_with_relay n pool) (device_pools t) ≡ None
+      → IsApartOf key.DevicePool (row_at t) n pool
+  device_pool_apart n pool none free m other away there =
+      let i = device_pool_listed m other there in
+      other_apart m n pool other away (none_found (is_other_overlapping n pool) (device_pools t) none (m, other) i) (none_found (is_other_with_relay n pool) (device_pools t) free (m, other) i)
+
+  -- and one that overlaps none of the other kind
+  clear_of_devices : (pool : Pool) → find (does_overlap pool) (device_pools t) ≡ None → IsClearOf key.DevicePool (row_at t) pool
+  clear_of_devices pool none m other there = none_found (does_overlap pool) (device_pools t) none (m, other) (device_pool_listed m other there)
+
+  clear_of_pools : (pool : Pool) → find (does_overlap pool) (pools t) ≡ None → IsClearOf key.Pool (row_at t) pool
+  clear_of_pools pool none m other there = none_found (does_overlap pool) (pools t) none (m, other) (pool_listed m other there)
 
   pool_possible : (pool : Pool) → is_sound_pool pool ≡ true → not (has_pool_size pool) ≡ false → pool_fits pool ≡ true
   pool_possible pool sound size = and_from (has_pool_size pool) (is_sound_pool pool) (not-false (has_pool_size pool) size) sound
 
   pool_step : (n : ℕ) (new : Option Pool) (hub : ℕ) → ((pool : Pool) → new ≡ Some pool → pool_fits pool ≡ true) → ((pool : Pool) → new ≡ Some pool → IsApart (row_at t) n pool)
-      → ((pool : Pool) → new ≡ Some pool → HubThere (row_at t) hub) → (new ≡ None → hub ≡ 0)
+      → ((pool : Pool) → new ≡ Some pool → IsClearOf key.DevicePool (row_at t) pool) → ((pool : Pool) → new ≡ Some pool → HubThere (row_at t) hub) → (new ≡ None → hub ≡ 0)
       → GoodRows (rows_after (set_both (row_at t) n new hub) (flat_map lease_drops (lost_leases t n new)))
-  pool_step n new hub fits apart there unnamed =
+  pool_step n new hub fits apart clear there unnamed =
       subst (λ (rows : Rows). GoodRows rows) (sym (lost_left t g n new hub))
-      (pool_changed (row_at t) g n _ new hub (λ pool e. row_pool t g.possible n pool e) fits apart there unnamed no_site)
+      (pool_changed (row_at t) g n _ new hub (λ pool e. row_pool t g.possible n pool e) fits apart clear there unnamed no_site)
+
+  device_pool_step : (n : ℕ) (new : Option Pool) → ((pool : Pool) → new ≡ Some pool → pool_fits pool ≡ true)
+      → ((pool : Pool) → new ≡ Some pool → IsApartOf key.DevicePool (row_at t) n pool) → ((pool : Pool) → new ≡ Some pool → IsClearOf key.Pool (row_at t) pool)
+      → GoodRows (rows_after (set_device_pool (row_at t) n new) (map device_drop (lost_devices t n new)))
+  device_pool_step n new fits apart clear =
+      subst (λ (rows : Rows). GoodRows rows) (sym (devices_left t g n new))
+      (device_pool_changed (row_at t) g n _ new (λ pool e. row_device_pool t g.possible n pool e) fits apart clear)
 
   -- a hub that is seen is there
   hub_seen : (hub : ℕ) → is_none (hub_in t hub) ≡ false → HubThere (row_at t) hub
@@ -109,8 +146,7 @@ module _ (t : Tables) (g : GoodRows (row_at t)) (no_site : row_at t key.Site ≡
   -- no pool is of a hub that isn't in use
   no_pool_of : (hub : ℕ) → find (is_of_hub t hub) (pools t) ≡ None → (m : ℕ) (pool : Pool) → row_at t (key.Pool m) ≡ Some (row.Pool pool) → hub_at (row_at t) m ≡ hub → ⊥
   no_pool_of hub none m pool there is =
-      let i : In (m, pool) (pools t) = subst (λ (ps : List (ℕ × Pool)). In (m, pool) ps) (sym (pools_raw t g.possible)) (pool_in_raw t m pool there) in
-      let no = none_found (is_of_hub t hub) (pools t) none (m, pool) i in
+      let no = none_found (is_of_hub t hub) (pools t) none (m, pool) (pool_listed m pool there) in
       eqb-false (pool_hub_in t m) hub no (ap hub_in_row (seen_row t g.possible (key.PoolHub m)) ∙ is)
 
   no_subscribers_modem : (n : ℕ) → list_any (λ (entry : Mac × Modem). eqb entry.1.subscriber n) (modems t) ≡ false → (mac : Mac) (modem : Modem) → row_at t (key.Modem mac) ≡ Some (row.Modem modem)
@@ -132,7 +168,8 @@ module _ (t : Tables) (g : GoodRows (row_at t)) (no_site : row_at t key.Site ≡
   removal now (key.Class n) sound h =
       let whole = unbroken (removal_rules t now (key.Class n)) h in
       drop_class (row_at t) g n (no_modem_of_class n (not_when _ _ whole.1.0))
-  removal now (key.Pool n) sound h = pool_step n None 0 (λ pool e. cc) (λ pool e. cc) (λ pool e. cc) (λ _. refl)
+  removal now (key.Pool n) sound h = pool_step n None 0 (λ pool e. cc) (λ pool e. cc) (λ pool e. cc) (λ pool e. cc) (λ _. refl)
+  removal now (key.DevicePool n) sound h = device_pool_step n None (λ pool e. cc) (λ pool e. cc) (λ pool e. cc)
   removal now (key.Hub n) sound h =
       let whole = unbroken (removal_rules t now (key.Hub n)) h in
       drop_hub (row_at t) g n (no_pool_of n (not_mapped _ _ whole.1.0))
@@ -157,13 +194,17 @@ module _ (t : Tables) (g : GoodRows (row_at t)) (no_site : row_at t key.Site ≡
       put_class (row_at t) g n class (good_class class.settings (not_mapped _ _ (unbroken (rules_of t now (PutClass n class)) h).0))
   command_rows now (PutPool n pool hub) sound short h =
       let whole = unbroken (rules_of t now (PutPool n pool hub)) h in
-      let named : HubThere (row_at t) hub = hub_seen hub (not_when _ _ whole.1.1.1.0) in
-      let fits = pool_possible pool sound (not_when _ _ whole.0) in
-      let apart = pool_apart n pool (not_mapped _ _ whole.1.0) (not_mapped _ _ whole.1.1.0) in
+      let named : HubThere (row_at t) hub = hub_seen hub (not_when _ _ whole.1.1.1.1.0) in
       subst (λ (rows : Rows). GoodRows (rows_after rows (flat_map lease_drops (lost_leases t n (Some pool)))))
       (sym (hub_written (set_pool (row_at t) n (Some pool)) n hub))
-      (pool_step n (Some pool) hub (λ other e. let same : pool ≡ other = cc in subst (λ (p : Pool). pool_fits p ≡ true) same fits)
-      (λ other e. let same : pool ≡ other = cc in subst (λ (p : Pool). IsApart (row_at t) n p) same apart) (λ other e. named) (λ e. cc))
+      (pool_step n (Some pool) hub (of_that pool (λ p. pool_fits p ≡ true) (pool_possible pool sound (not_when _ _ whole.0)))
+      (of_that pool (λ p. IsApart (row_at t) n p) (pool_apart n pool (not_mapped _ _ whole.1.0) (not_mapped _ _ whole.1.1.1.0)))
+      (of_that pool (λ p. IsClearOf key.DevicePool (row_at t) p) (clear_of_devices pool (not_mapped _ _ whole.1.1.0))) (λ other e. named) (λ e. cc))
+  command_rows now (PutDevicePool n pool) sound short h =
+      let whole = unbroken (rules_of t now (PutDevicePool n pool)) h in
+      device_pool_step n (Some pool) (of_that pool (λ p. pool_fits p ≡ true) (pool_possible pool sound (not_when _ _ whole.0)))
+      (of_that pool (λ p. IsApartOf key.DevicePool (row_at t) n p) (device_pool_apart n pool (not_mapped _ _ whole.1.1.0) (not_mapped _ _ whole.1.1.1.0)))
+      (of_that pool (λ p. IsClearOf key.Pool (row_at t) p) (clear_of_pools pool (not_mapped _ _ whole.1.0)))
   command_rows now (Remove removed) sound short h = removal now removed sound h
   command_rows now (Show shown) sound short h = g
   command_rows now (Import kind batch digest rows) sound short h = g
@@ -174,8 +215,9 @@ hub_aside rows n hub =
     elim (eqb hub 0) as (λ b. row_written rows (cond b (Drop (key.PoolHub n)) (Put (key.PoolHub n) (row.PoolHub hub))) key.Site ≡ rows key.Site) [ true ↦ refl | false ↦ refl ]
 
 removal_aside : (t : Tables) (removed : Key) → is_removable removed ≡ true → rows_after (row_at t) (removal_writes t removed) key.Site ≡ row_at t key.Site
-unfolding is_other
+unfolding is_other is_no_device
 removal_aside t (key.Pool n) sound = drops_other (drop_row (drop_row (row_at t) (key.Pool n)) (key.PoolHub n)) (lost_leases t n None) key.Site refl
+removal_aside t (key.DevicePool n) sound = drops_aside (drop_row (row_at t) (key.DevicePool n)) (lost_devices t n None) key.Site refl
 removal_aside t (key.Subscriber n) sound = refl
 removal_aside t (key.AddOn n k) sound = refl
 removal_aside t (key.Modem mac) sound = refl
@@ -184,10 +226,11 @@ removal_aside t (key.Hub n) sound = refl
 removal_aside t removed sound = cc
 
 pub site_aside : (t : Tables) (command : Command) → is_sound command ≡ true → rows_after (row_at t) (writes_of t command) key.Site ≡ row_at t key.Site
-unfolding is_other
+unfolding is_other is_no_device
 site_aside t (PutPool n pool hub) sound =
     drops_other (row_written (put_row (row_at t) (key.Pool n) (row.Pool pool)) (pool_hub_write n hub)) (lost_leases t n (Some pool)) key.Site refl
     ∙ hub_aside (put_row (row_at t) (key.Pool n) (row.Pool pool)) n hub
+site_aside t (PutDevicePool n pool) sound = drops_aside (put_row (row_at t) (key.DevicePool n) (row.Pool pool)) (lost_devices t n (Some pool)) key.Site refl
 site_aside t (Remove removed) sound = removal_aside t removed sound
 site_aside t (PutHub n site) sound = refl
 site_aside t (PutSubscriber n subscriber) sound = refl

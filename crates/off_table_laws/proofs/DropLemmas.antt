@@ -6,6 +6,7 @@ use Rattle.off_defs.specs.declared.tables.Pool.{Pool}
 use Rattle.off_defs.specs.Keys.{key_cmp}
 use Rattle.off_defs.proofs.TableLemmas.{same_key}
 use Rattle.std.proofs.lemmas.Bool.{leb-true, and_parts}
+use Rattle.off_base.specs.declared.addresses.Ip4.{Ip4}
 use Rattle.off_base.specs.declared.macs.Mac.{Mac}
 use Rattle.off_defs.specs.declared.keys.Key.TheVariants as key
 use Rattle.off_defs.specs.declared.tables.Row.{Row}
@@ -61,6 +62,7 @@ module _ (rows : Rows) (g : GoodRows rows) where
     one_pool = g.one_pool;
     holder = g.holder;
     owner = g.owner;
+    devices = g.devices;
   }
 
   pub drop_modem : (mac : Mac) → GoodRows (drop_row rows (key.Modem mac))
@@ -76,6 +78,7 @@ module _ (rows : Rows) (g : GoodRows rows) where
     one_pool = g.one_pool;
     holder = g.holder;
     owner = g.owner;
+    devices = g.devices;
   }
 
   pub drop_class : (n : ℕ) → ((mac : Mac) (modem : Modem) → rows (key.Modem mac) ≡ Some (row.Modem modem) → modem.class ≡ n → ⊥)
@@ -92,6 +95,7 @@ module _ (rows : Rows) (g : GoodRows rows) where
     one_pool = g.one_pool;
     holder = g.holder;
     owner = g.owner;
+    devices = g.devices;
   }
 
   hub_drop : (n h : ℕ) → (h ≡ n → ⊥) → hub_there rows h ≡ true → hub_there (drop_row rows (key.Hub n)) h ≡ true
@@ -118,6 +122,7 @@ module _ (rows : Rows) (g : GoodRows rows) where
     one_pool = g.one_pool;
     holder = g.holder;
     owner = g.owner;
+    devices = g.devices;
   }
 
   pub drop_subscriber : (n : ℕ) → ((mac : Mac) (modem : Modem) → rows (key.Modem mac) ≡ Some (row.Modem modem) → modem.subscriber ≡ n → ⊥)
@@ -143,4 +148,28 @@ module _ (rows : Rows) (g : GoodRows rows) where
         one_pool = g.one_pool;
         holder = g.holder;
         owner = g.owner;
+        devices = g.devices;
       }
+
+  pub drop_device : (address : Ip4) → GoodRows (drop_row rows (key.Device address))
+  drop_device address = record {
+    possible = possible_drop rows (key.Device address) g.possible;
+    add_on = g.add_on;
+    subscriber = g.subscriber;
+    class = g.class;
+    apart = g.apart;
+    site_alone = g.site_alone;
+    pool_hub = g.pool_hub;
+    lease_hub = g.lease_hub;
+    one_pool = g.one_pool;
+    holder = g.holder;
+    owner = g.owner;
+    devices = record {
+      disjoint = g.devices.disjoint;
+      apart = g.devices.apart;
+      one_pool = λ other lease e. g.devices.one_pool other lease (left_drop rows (key.Device address) (key.Device other) (row.Device lease) e);
+      one_address = λ one other lease left owner e f own also.
+          g.devices.one_address one other lease left owner (left_drop rows (key.Device address) (key.Device one) (row.Device lease) e)
+          (left_drop rows (key.Device address) (key.Device other) (row.Device left) f) own also;
+    };
+  }

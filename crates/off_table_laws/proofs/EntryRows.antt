@@ -26,7 +26,7 @@ module _ {K X : Type 0} (R : K → K → Ordering) where
       ] refl f
 
   module _ (o : IsTotalOrder R) where
-    below_in : (k : K) (es : List (K × X)) → T (list.below_all R k es) → (e : K × X) → In e es → R k e.0 ≡ Less
+    pub below_in : (k : K) (es : List (K × X)) → T (list.below_all R k es) → (e : K × X) → In e es → R k e.0 ≡ Less
     below_in k [] h e i = absurd i
     below_in k (y ∷ ys) h e (inl same) = is_less (R k e.0) (holds _ (subst (λ (v : K × X). T (is_lt (R k v.0))) (sym same) (first _ _ h)))
     below_in k (y ∷ ys) h e (inr rest) = below_in k ys (second _ _ h) e rest

@@ -1,7 +1,7 @@
 -- Tables open exactly where their rows are good.
-use Rattle.std.proofs.Common.{◌≡◌, ℕ, true, false, not, ◌&&◌, eqb, Option, Some, None, option_map, option_and_then, refl, sym, ap, subst, ◌∙◌}
-use Rattle.std.proofs.lemmas.Bool.{and_parts, and_from, not-true, eqb-true, eq-eqb}
-use Rattle.std.specs.List.{list_all}
+use Rattle.std.proofs.Common.{◌≡◌, ℕ, true, false, not, ◌&&◌, ◌||◌, eqb, Option, Some, None, option_map, option_and_then, inl, inr, refl, sym, ap, subst, ◌∙◌}
+use Rattle.std.proofs.lemmas.Bool.{and_parts, and_from, or_cases, or_left, or_right, not-true, not_from_false, eqb-true, eq-eqb}
+use Rattle.std.specs.List.{filter_map, list_all, count_by}
 use Rattle.std.specs.FinMap as map
 use Rattle.off_base.specs.declared.addresses.Ip4.{Ip4}
 use Rattle.off_base.specs.declared.macs.Mac.{Mac}
@@ -12,68 +12,154 @@ use Rattle.off_defs.specs.declared.tables.Row.TheVariants as row
 use Rattle.off_defs.specs.declared.tables.Modem.{Modem}
 use Rattle.off_defs.specs.declared.tables.Pool.{Pool}
 use Rattle.off_defs.specs.declared.tables.Lease.{Lease}
+use Rattle.off_defs.specs.declared.tables.DeviceLease.{DeviceLease}
 use Rattle.off_defs.specs.State.{Tables}
 use Rattle.off_defs.specs.Tables.{row_at}
 use Rattle.off_defs.proofs.TableLemmas.{same_key, own_key}
-use Rattle.off_account_rules.specs.Rows.{passes, is_possible, has_address, as_lease, as_held}
-use Rattle.off_account_rules.specs.Good.{is_address, is_there, raw_pool_of, raw_pools, is_apart, pools_around, owner_of, is_mac, holds, owner_holds, owns, is_of_hubs, names_hubs, is_hub_there, stored_hub, stored_hub_of, stands_right, Opens}
+use Rattle.off_account_rules.specs.Rows.{passes, is_possible, has_address, overlaps, as_lease, as_held}
+use Rattle.off_account_rules.specs.Good.{is_address, is_there, raw_pool_of, raw_pools, raw_device_pool_of, raw_device_pools, raw_device_of, raw_devices, is_apart, is_disjoint, pools_around, device_pools_around, owner_of, device_owner, is_same_owner, is_owned_apart, pool_stands, device_pool_stands, is_mac, holds, owner_holds, owns, is_of_hubs, names_hubs, is_hub_there, stored_hub, stored_hub_of, stands_right, Opens}
 use Rattle.off_table_laws.proofs.ListLemmas.{In, Distinct, all_in, in_all, none_in, any_none, some_found, one_counted, counted_one, in_made, made_in, distinct_made}
 use Rattle.off_table_laws.proofs.EntryRows.{row_in, in_row, distinct_entries}
-use Rattle.off_table_laws.proofs.GoodRows.{OnePool, OwnedBy, hub_at, GoodRows}
+use Rattle.off_table_laws.proofs.GoodRows.{OnePool, OnePoolOf, OwnedBy, DevicesStand, hub_at, GoodRows}
+use Rattle.off_table_laws.proofs.PoolLemmas.{turned}
 
--- pools of the list are the rows of pools
+-- what is listed of one kind of rows is the rows of its keys
+module _ {N Y : Type 0} (give : Key × Row → Option (N × Y)) (place : N → Key) (as_row : Y → Row) (gives : (n : N) (y : Y) → give (place n, as_row y) ≡ Some (n, y))
+    (made : (q : Key) (held : Row) (n : N) (y : Y) → give (q, held) ≡ Some (n, y) → (q ≡ place n) × (held ≡ as_row y)) (t : Tables) where
+  pub row_listed : (n : N) (y : Y) → row_at t (place n) ≡ Some (as_row y) → In (n, y) (filter_map give (map.entries t))
+  row_listed n y e = in_made give (map.entries t) (place n, as_row y) (n, y) (row_in t (place n) (as_row y) e) (gives n y)
+
+  pub listed_row : (n : N) (y : Y) → In (n, y) (filter_map give (map.entries t)) → row_at t (place n) ≡ Some (as_row y)
+  listed_row n y i =
+      let m = made_in give (map.entries t) (n, y) i in
+      let parts = made m.0.0 m.0.1 n y m.2 in
+      subst (λ (q : Key). row_at t q ≡ Some (as_row y)) parts.0 (in_row t m.0.0 m.0.1 m.1 ∙ ap Some parts.1)
+
+  pub distinct_listed : Distinct (filter_map give (map.entries t))
+  distinct_listed = distinct_made give (map.entries t) (λ a b y f g.
+      let one = made a.0 a.1 y.0 y.1 f in
+      let other = made b.0 b.1 y.0 y.1 g in
+      λ i. ((one.0 ∙ sym other.0) i, (one.1 ∙ sym other.1) i)) (distinct_entries t)
+
 raw_made : (q : Key) (held : Row) (n : ℕ) (pool : Pool) → raw_pool_of (q, held) ≡ Some (n, pool) → (q ≡ key.Pool n) × (held ≡ row.Pool pool)
 raw_made (key.Pool m) (row.Pool other) n pool e =
     let pair : (m, other) ≡ (n, pool) = cc in
     (ap (λ (p : ℕ × Pool). key.Pool p.0) pair, ap (λ (p : ℕ × Pool). row.Pool p.1) pair)
 raw_made q held n pool e = cc
 
+raw_device_pool_made : (q : Key) (held : Row) (n : ℕ) (pool : Pool) → raw_device_pool_of (q, held) ≡ Some (n, pool) → (q ≡ key.DevicePool n) × (held ≡ row.Pool pool)
+raw_device_pool_made (key.DevicePool m) (row.Pool other) n pool e =
+    let pair : (m, other) ≡ (n, pool) = cc in
+    (ap (λ (p : ℕ × Pool). key.DevicePool p.0) pair, ap (λ (p : ℕ × Pool). row.Pool p.1) pair)
+raw_device_pool_made q held n pool e = cc
+
+raw_device_made : (q : Key) (held : Row) (address : Ip4) (lease : DeviceLease) → raw_device_of (q, held) ≡ Some (address, lease) → (q ≡ key.Device address) × (held ≡ row.Device lease)
+raw_device_made (key.Device other) (row.Device own) address lease e =
+    let pair : (other, own) ≡ (address, lease) = cc in
+    (ap (λ (p : Ip4 × DeviceLease). key.Device p.0) pair, ap (λ (p : Ip4 × DeviceLease). row.Device p.1) pair)
+raw_device_made q held address lease e = cc
+
 pub pool_in_raw : (t : Tables) (n : ℕ) (pool : Pool) → row_at t (key.Pool n) ≡ Some (row.Pool pool) → In (n, pool) (raw_pools t)
-pool_in_raw t n pool e = in_made raw_pool_of (map.entries t) (key.Pool n, row.Pool pool) (n, pool) (row_in t (key.Pool n) (row.Pool pool) e) refl
+pool_in_raw t = row_listed raw_pool_of key.Pool row.Pool (λ n pool. refl) raw_made t
 
 pub raw_in_pool : (t : Tables) (n : ℕ) (pool : Pool) → In (n, pool) (raw_pools t) → row_at t (key.Pool n) ≡ Some (row.Pool pool)
-raw_in_pool t n pool i =
-    let m = made_in raw_pool_of (map.entries t) (n, pool) i in
-    let parts = raw_made m.0.0 m.0.1 n pool m.2 in
-    subst (λ (q : Key). row_at t q ≡ Some (row.Pool pool)) parts.0 (in_row t m.0.0 m.0.1 m.1 ∙ ap Some parts.1)
+raw_in_pool t = listed_row raw_pool_of key.Pool row.Pool (λ n pool. refl) raw_made t
 
-distinct_raw : (t : Tables) → Distinct (raw_pools t)
-distinct_raw t = distinct_made raw_pool_of (map.entries t) (λ a b y f g.
-    let one = raw_made a.0 a.1 y.0 y.1 f in
-    let other = raw_made b.0 b.1 y.0 y.1 g in
-    λ i. ((one.0 ∙ sym other.0) i, (one.1 ∙ sym other.1) i)) (distinct_entries t)
+pub device_pool_in_raw : (t : Tables) (n : ℕ) (pool : Pool) → row_at t (key.DevicePool n) ≡ Some (row.Pool pool) → In (n, pool) (raw_device_pools t)
+device_pool_in_raw t = row_listed raw_device_pool_of key.DevicePool row.Pool (λ n pool. refl) raw_device_pool_made t
+
+pub raw_in_device_pool : (t : Tables) (n : ℕ) (pool : Pool) → In (n, pool) (raw_device_pools t) → row_at t (key.DevicePool n) ≡ Some (row.Pool pool)
+raw_in_device_pool t = listed_row raw_device_pool_of key.DevicePool row.Pool (λ n pool. refl) raw_device_pool_made t
+
+pub device_in_raw : (t : Tables) (address : Ip4) (lease : DeviceLease) → row_at t (key.Device address) ≡ Some (row.Device lease) → In (address, lease) (raw_devices t)
+device_in_raw t = row_listed raw_device_of key.Device row.Device (λ address lease. refl) raw_device_made t
+
+pub raw_in_device : (t : Tables) (address : Ip4) (lease : DeviceLease) → In (address, lease) (raw_devices t) → row_at t (key.Device address) ≡ Some (row.Device lease)
+raw_in_device t = listed_row raw_device_of key.Device row.Device (λ address lease. refl) raw_device_made t
 
 -- one pool is around an address
+module _ (give : Key × Row → Option (ℕ × Pool)) (place : ℕ → Key) (gives : (n : ℕ) (pool : Pool) → give (place n, row.Pool pool) ≡ Some (n, pool))
+    (made : (q : Key) (held : Row) (n : ℕ) (pool : Pool) → give (q, held) ≡ Some (n, pool) → (q ≡ place n) × (held ≡ row.Pool pool)) (t : Tables) (address : Ip4) where
+  abbrev around : ℕ
+  around = count_by (λ (other : ℕ × Pool). has_address other.1 address) (filter_map give (map.entries t))
+
+  around_once : around ≡ 1 → OnePoolOf place (row_at t) address
+  around_once h =
+      let one = one_counted (λ (other : ℕ × Pool). has_address other.1 address) (filter_map give (map.entries t)) h in
+      record {
+        number = one.0.0;
+        pool = one.0.1;
+        there = listed_row give place row.Pool gives made t one.0.0 one.0.1 one.1.inside;
+        within = one.1.passes;
+        only = λ m other e w. ap (λ (p : ℕ × Pool). p.0) (one.1.only (m, other) (row_listed give place row.Pool gives made t m other e) w);
+      }
+
+  once_around : OnePoolOf place (row_at t) address → around ≡ 1
+  once_around one =
+      counted_one (λ (other : ℕ × Pool). has_address other.1 address) (filter_map give (map.entries t)) (distinct_listed give place row.Pool gives made t) (one.number, one.pool) (record {
+        inside = row_listed give place row.Pool gives made t one.number one.pool one.there;
+        passes = one.within;
+        only = λ y i w.
+            let there = listed_row give place row.Pool gives made t y.0 y.1 i in
+            let n = one.only y.0 y.1 there w in
+            let same : Some (row.Pool y.1) ≡ Some (row.Pool one.pool) = sym there ∙ ap (λ m. row_at t (place m)) n ∙ one.there in
+            let pool : y.1 ≡ one.pool = cc in
+            λ j. (n j, pool j);
+      })
+
 around_one : (t : Tables) (address : Ip4) → pools_around t address ≡ 1 → OnePool (row_at t) address
-around_one t address h =
-    let one = one_counted (λ (other : ℕ × Pool). has_address other.1 address) (raw_pools t) h in
-    record {
-      number = one.0.0;
-      pool = one.0.1;
-      there = raw_in_pool t one.0.0 one.0.1 one.1.inside;
-      within = one.1.passes;
-      only = λ m other e w. ap (λ (p : ℕ × Pool). p.0) (one.1.only (m, other) (pool_in_raw t m other e) w);
-    }
+around_one t address = around_once raw_pool_of key.Pool (λ n pool. refl) raw_made t address
 
 one_around : (t : Tables) (address : Ip4) → OnePool (row_at t) address → pools_around t address ≡ 1
-one_around t address one =
-    counted_one (λ (other : ℕ × Pool). has_address other.1 address) (raw_pools t) (distinct_raw t) (one.number, one.pool) (record {
-      inside = pool_in_raw t one.number one.pool one.there;
-      passes = one.within;
-      only = λ y i w.
-          let there = raw_in_pool t y.0 y.1 i in
-          let n = one.only y.0 y.1 there w in
-          let same : Some (row.Pool y.1) ≡ Some (row.Pool one.pool) = sym there ∙ ap (λ m. row_at t (key.Pool m)) n ∙ one.there in
-          let pool : y.1 ≡ one.pool = cc in
-          λ j. (n j, pool j);
-    })
+one_around t address = once_around raw_pool_of key.Pool (λ n pool. refl) raw_made t address
+
+devices_around_one : (t : Tables) (address : Ip4) → device_pools_around t address ≡ 1 → OnePoolOf key.DevicePool (row_at t) address
+devices_around_one t address = around_once raw_device_pool_of key.DevicePool (λ n pool. refl) raw_device_pool_made t address
+
+one_around_devices : (t : Tables) (address : Ip4) → OnePoolOf key.DevicePool (row_at t) address → device_pools_around t address ≡ 1
+one_around_devices t address = once_around raw_device_pool_of key.DevicePool (λ n pool. refl) raw_device_pool_made t address
 
 -- a modem is itself, and no other
-mac_same : (mac other : Mac) → is_mac mac other ≡ true → mac ≡ other
+pub mac_same : (mac other : Mac) → is_mac mac other ≡ true → mac ≡ other
 mac_same mac other e = let k : key.Modem mac ≡ key.Modem other = same_key (key.Modem mac) (key.Modem other) e in cc
 
-mac_own : (mac : Mac) → is_mac mac mac ≡ true
+pub mac_own : (mac : Mac) → is_mac mac mac ≡ true
 mac_own mac = own_key (key.Modem mac)
+
+-- a modem and its device are themselves, and no others
+pub owner_same : (one other : Mac × Mac) → is_same_owner one other ≡ true → one ≡ other
+owner_same one other e =
+    let parts = and_parts (is_mac one.0 other.0) (is_mac one.1 other.1) e in
+    let modem = mac_same one.0 other.0 parts.0 in
+    let device = mac_same one.1 other.1 parts.1 in
+    λ i. (modem i, device i)
+
+pub owner_own : (owner : Mac × Mac) → is_same_owner owner owner ≡ true
+owner_own owner = and_from (is_mac owner.0 owner.0) (is_mac owner.1 owner.1) (mac_own owner.0) (mac_own owner.1)
+
+owner_found : (o : Option (Mac × Mac)) (owner : Mac × Mac) → passes (is_same_owner owner) o ≡ true → o ≡ Some owner
+owner_found None owner e = cc
+owner_found (Some other) owner e = ap Some (sym (owner_same owner other e))
+
+-- leases that are owned apart and have one owner are at one address
+one_apart : (address : Ip4) (other : Ip4 × DeviceLease) (owner : Mac × Mac) → is_owned_apart address (Some owner) other ≡ true → device_owner other.1.hold ≡ Some owner → address ≡ other.0
+one_apart address other owner e also =
+    elim (or_cases (eqb other.0.0 address.0) (not (passes (is_same_owner owner) (device_owner other.1.hold))) e) as (λ c. address ≡ other.0) [
+      | inl same ↦ let n = eqb-true other.0.0 address.0 same in λ i. record { 0 = sym n i }
+      | inr clear ↦
+          let is : passes (is_same_owner owner) (device_owner other.1.hold) ≡ true = ap (passes (is_same_owner owner)) also ∙ owner_own owner in
+          let isnt = not-true (passes (is_same_owner owner) (device_owner other.1.hold)) clear in
+          cc
+    ]
+
+apart_one : (address : Ip4) (o : Option (Mac × Mac)) (other : Ip4 × DeviceLease) → ((owner : Mac × Mac) → o ≡ Some owner → device_owner other.1.hold ≡ Some owner → address ≡ other.0)
+    → is_owned_apart address o other ≡ true
+apart_one address None other h = refl
+apart_one address (Some owner) other h =
+    elim (passes (is_same_owner owner) (device_owner other.1.hold)) as (λ b. passes (is_same_owner owner) (device_owner other.1.hold) ≡ b → eqb other.0.0 address.0 || not b ≡ true) [
+      | true ↦ λ e. or_left _ _ (eq-eqb other.0.0 address.0 (ap (λ (a : Ip4). a.0) (sym (h owner refl (owner_found (device_owner other.1.hold) owner e)))))
+      | false ↦ λ e. or_right _ _ refl
+    ] refl
 
 -- who holds an address
 held_same : (o : Option Row) (address : Ip4) → passes (is_address address) (option_and_then as_held o) ≡ true → o ≡ Some (row.Held address)
@@ -140,8 +226,32 @@ modem_line : (t : Tables) → Opens t → (mac : Mac) (modem : Modem) → row_at
     → (is_there t (key.Subscriber modem.subscriber) ≡ true) × (is_there t (key.Class modem.class) ≡ true)
 modem_line t g mac modem e = and_parts (is_there t (key.Subscriber modem.subscriber)) (is_there t (key.Class modem.class)) (g (key.Modem mac) (row.Modem modem) e)
 
-pool_line : (t : Tables) → Opens t → (n : ℕ) (pool : Pool) → row_at t (key.Pool n) ≡ Some (row.Pool pool) → list_all (is_apart n pool) (raw_pools t) ≡ true
-pool_line t g n pool e = (and_parts (is_possible (key.Pool n) (row.Pool pool)) (list_all (is_apart n pool) (raw_pools t)) (g (key.Pool n) (row.Pool pool) e)).1
+pool_line : (t : Tables) → Opens t → (n : ℕ) (pool : Pool) → row_at t (key.Pool n) ≡ Some (row.Pool pool)
+    → (list_all (is_apart n pool) (raw_pools t) ≡ true) × (list_all (is_disjoint pool) (raw_device_pools t) ≡ true)
+pool_line t g n pool e =
+    and_parts (list_all (is_apart n pool) (raw_pools t)) (list_all (is_disjoint pool) (raw_device_pools t))
+    (and_parts (is_possible (key.Pool n) (row.Pool pool)) (pool_stands t n pool) (g (key.Pool n) (row.Pool pool) e)).1
+
+device_pool_line : (t : Tables) → Opens t → (n : ℕ) (pool : Pool) → row_at t (key.DevicePool n) ≡ Some (row.Pool pool) → list_all (is_apart n pool) (raw_device_pools t) ≡ true
+device_pool_line t g n pool e =
+    (and_parts (list_all (is_apart n pool) (raw_device_pools t)) (list_all (is_disjoint pool) (raw_pools t))
+    (and_parts (is_possible (key.DevicePool n) (row.Pool pool)) (device_pool_stands t n pool) (g (key.DevicePool n) (row.Pool pool) e)).1).0
+
+device_line : (t : Tables) → Opens t → (address : Ip4) (lease : DeviceLease) → row_at t (key.Device address) ≡ Some (row.Device lease)
+    → (device_pools_around t address ≡ 1) × (list_all (is_owned_apart address (device_owner lease.hold)) (raw_devices t) ≡ true)
+device_line t g address lease e =
+    let all = and_parts (eqb (device_pools_around t address) 1) (list_all (is_owned_apart address (device_owner lease.hold)) (raw_devices t)) (g (key.Device address) (row.Device lease) e) in
+    (eqb-true (device_pools_around t address) 1 all.0, all.1)
+
+devices_stand : (t : Tables) → Opens t → DevicesStand (row_at t)
+devices_stand t g = record {
+  disjoint = λ n pool m other e f. not-true (overlaps pool other) (all_in (is_disjoint pool) (raw_device_pools t) (pool_line t g n pool e).1 (m, other) (device_pool_in_raw t m other f));
+  apart = λ n pool m other e f. all_in (is_apart n pool) (raw_device_pools t) (device_pool_line t g n pool e) (m, other) (device_pool_in_raw t m other f);
+  one_pool = λ address lease e. devices_around_one t address (device_line t g address lease e).0;
+  one_address = λ one other lease left owner e f own also.
+      let said = all_in (is_owned_apart one (device_owner lease.hold)) (raw_devices t) (device_line t g one lease e).1 (other, left) (device_in_raw t other left f) in
+      one_apart one (other, left) owner (ap (λ o. is_owned_apart one o (other, left)) (sym own) ∙ said) also;
+}
 
 pub good_rows : (t : Tables) → Opens t → GoodRows (row_at t)
 good_rows t g = record {
@@ -149,7 +259,7 @@ good_rows t g = record {
   add_on = λ n k held e. (and_parts (is_possible (key.AddOn n k) held) (stands_right t (key.AddOn n k) held) (g (key.AddOn n k) held e)).1;
   subscriber = λ mac modem e. (modem_line t g mac modem e).0;
   class = λ mac modem e. (modem_line t g mac modem e).1;
-  apart = λ n pool m other e f. all_in (is_apart n pool) (raw_pools t) (pool_line t g n pool e) (m, other) (pool_in_raw t m other f);
+  apart = λ n pool m other e f. all_in (is_apart n pool) (raw_pools t) (pool_line t g n pool e).0 (m, other) (pool_in_raw t m other f);
   site_alone = λ held e n.
       let none = not-true (names_hubs t) (and_parts (is_possible key.Site held) (stands_right t key.Site held) (g key.Site held e)).1 in
       (no_row_at (row_at t (key.Hub n)) (λ other f. named_row t (key.Hub n) other none refl f), no_row_at (row_at t (key.PoolHub n)) (λ other f. named_row t (key.PoolHub n) other none refl f));
@@ -162,6 +272,7 @@ good_rows t g = record {
   one_pool = λ address lease e. around_one t address (lease_line t g address lease e).0;
   holder = λ address lease mac e o. holds_row t address mac (ap (owner_holds t address) (sym o) ∙ (lease_line t g address lease e).2);
   owner = λ mac address e. owns_row t mac address (g (key.Held mac) (row.Held address) e);
+  devices = devices_stand t g;
 }
 
 pub good_tables : (t : Tables) → GoodRows (row_at t) → Opens t
@@ -174,7 +285,16 @@ good_tables t g q held e = and_from (is_possible q held) (stands_right t q held)
     right : (q : Key) (held : Row) → row_at t q ≡ Some held → stands_right t q held ≡ true
     right (key.AddOn n k) held e = g.add_on n k held e
     right (key.Modem mac) (row.Modem modem) e = and_from _ _ (g.subscriber mac modem e) (g.class mac modem e)
-    right (key.Pool n) (row.Pool pool) e = in_all (is_apart n pool) (raw_pools t) (λ x i. g.apart n pool x.0 x.1 e (raw_in_pool t x.0 x.1 i))
+    right (key.Pool n) (row.Pool pool) e =
+        and_from _ _ (in_all (is_apart n pool) (raw_pools t) (λ x i. g.apart n pool x.0 x.1 e (raw_in_pool t x.0 x.1 i)))
+        (in_all (is_disjoint pool) (raw_device_pools t) (λ x i. not_from_false (overlaps pool x.1) (g.devices.disjoint n pool x.0 x.1 e (raw_in_device_pool t x.0 x.1 i))))
+    right (key.DevicePool n) (row.Pool pool) e =
+        and_from _ _ (in_all (is_apart n pool) (raw_device_pools t) (λ x i. g.devices.apart n pool x.0 x.1 e (raw_in_device_pool t x.0 x.1 i)))
+        (in_all (is_disjoint pool) (raw_pools t) (λ x i. not_from_false (overlaps pool x.1) (turned x.1 pool (g.devices.disjoint x.0 x.1 n pool (raw_in_pool t x.0 x.1 i) e))))
+    right (key.Device address) (row.Device lease) e =
+        and_from _ _ (eq-eqb _ _ (one_around_devices t address (g.devices.one_pool address lease e)))
+        (in_all (is_owned_apart address (device_owner lease.hold)) (raw_devices t) (λ x i. apart_one address (device_owner lease.hold) x
+        (λ owner own also. g.devices.one_address address x.0 lease x.1 owner e (raw_in_device t x.0 x.1 i) own also)))
     right (key.Lease address) (row.Lease lease) e =
         let one = g.one_pool address lease e in
         and_from _ _ (eq-eqb _ _ (one_around t address one))

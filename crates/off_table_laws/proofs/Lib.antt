@@ -8,6 +8,7 @@ pub mod PutLemmas
 pub mod DropLemmas
 pub mod PoolLemmas
 pub mod LostLeases
+pub mod DevicePools
 pub mod Reading
 pub mod ClerkSteps
 pub mod StepLaws

@@ -49,7 +49,7 @@ module _ {A : Type 0} (p : A → Bool) where
       ] refl h
 
   -- what is found passes, and is in the list; and where one is in it that passes, one is found
-  found_passes : (xs : List A) (x : A) → find p xs ≡ Some x → In x xs × (p x ≡ true)
+  pub found_passes : (xs : List A) (x : A) → find p xs ≡ Some x → In x xs × (p x ≡ true)
   found_passes [] x e = cc
   found_passes (y ∷ ys) x e =
       elim (p y) as (λ b. p y ≡ b → cond b (Some y) (find p ys) ≡ Some x → In x (y ∷ ys) × (p x ≡ true)) [
@@ -95,7 +95,7 @@ module _ {A : Type 0} (p : A → Bool) where
       let n : count_by p ys ≡ 0 = omega arith in
       uncounted ys n x i t
 
-  counted_none : (xs : List A) → ((x : A) → In x xs → p x ≡ true → ⊥) → count_by p xs ≡ 0
+  pub counted_none : (xs : List A) → ((x : A) → In x xs → p x ≡ true → ⊥) → count_by p xs ≡ 0
   counted_none [] h = refl
   counted_none (y ∷ ys) h =
       elim (p y) as (λ b. p y ≡ b → count_by p (y ∷ ys) ≡ 0) [

@@ -10,7 +10,7 @@ use Rattle.off_defs.specs.Keys.{key_cmp}
 use Rattle.off_defs.specs.State.{Tables}
 use Rattle.off_defs.specs.Tables.{row_at, write_all, with_row}
 use Rattle.off_defs.proofs.TableLemmas.{own_key, row_without, row_with}
-use Rattle.off_account_rules.specs.Rows.{possible, pools, number_or_0, hub_of, as_pool_hub, pool_hub_in, as_lease, as_held, pool_of, pool_with, has_address}
+use Rattle.off_account_rules.specs.Rows.{possible, pools, number_or_0, hub_of, as_pool_hub, pool_hub_in, as_lease, as_held, pool_of, pool_with, has_address, device_pool_of, device_pools, device_of, devices}
 use Rattle.off_account_rules.specs.Good.{Opens, Good}
 use Rattle.off_account_rules.specs.Migration.{migration_of, migrated}
 use Rattle.off_table_laws.specs.Laws.{MigratedAreGood, GoodStay, MigrationKeepsLeases}
@@ -42,6 +42,7 @@ module _ (rows : Rows) (g : GoodRows rows) (held : Row) (there : rows key.Site �
     one_pool = g.one_pool;
     holder = g.holder;
     owner = g.owner;
+    devices = g.devices;
   }
 
 good_if : (t : Tables) (o : Option Row) → row_at t key.Site ≡ o → Opens t → Good (write_all t (migration_of o))
@@ -61,7 +62,7 @@ pub good_stay : GoodStay
 unfolding migrated
 good_stay t good = ap (λ o. write_all t (migration_of o)) good.no_site
 
--- what stands for the tables stands for the migrated ones: pools, their hubs, and leases
+-- what stands for the tables stands for the migrated ones: pools, their hubs, and leases, of devices too
 
 -- a row of another key stays
 row_if : (t : Tables) (o : Option Row) (q : Key) → eq_by_cmp key_cmp q (key.Hub 0) ≡ false → eq_by_cmp key_cmp q key.Site ≡ false → row_at (write_all t (migration_of o)) q ≡ row_at t q
@@ -78,6 +79,14 @@ pools_if : (t : Tables) (o : Option Row) → pools (write_all t (migration_of o)
 pools_if t None = refl
 pools_if t (Some held) = made_without pool_of key.Site (λ r. refl) (with_row t (key.Hub 0) held) ∙ made_with pool_of (key.Hub 0) (λ r. refl) t held
 
+device_pools_if : (t : Tables) (o : Option Row) → device_pools (write_all t (migration_of o)) ≡ device_pools t
+device_pools_if t None = refl
+device_pools_if t (Some held) = made_without device_pool_of key.Site (λ r. refl) (with_row t (key.Hub 0) held) ∙ made_with device_pool_of (key.Hub 0) (λ r. refl) t held
+
+devices_if : (t : Tables) (o : Option Row) → devices (write_all t (migration_of o)) ≡ devices t
+devices_if t None = refl
+devices_if t (Some held) = made_without device_of key.Site (λ r. refl) (with_row t (key.Hub 0) held) ∙ made_with device_of (key.Hub 0) (λ r. refl) t held
+
 pub migration_keeps_leases : MigrationKeepsLeases
 unfolding migrated
 migration_keeps_leases t = record {
@@ -85,6 +94,8 @@ migration_keeps_leases t = record {
   hubs = λ n. ap (λ o. number_or_0 (option_and_then as_pool_hub (possible (key.PoolHub n) o))) (row_stays t (key.PoolHub n) refl refl);
   leases = λ address. ap (λ o. option_and_then as_lease (possible (key.Lease address) o)) (row_stays t (key.Lease address) refl refl);
   holders = λ mac. ap (λ o. option_and_then as_held (possible (key.Held mac) o)) (row_stays t (key.Held mac) refl refl);
+  device_pools = device_pools_if t (row_at t key.Site);
+  devices = devices_if t (row_at t key.Site);
 }
 
 pub same_hub_of : (t : Tables) (address : Ip4) → hub_of (migrated t) address ≡ hub_of t address

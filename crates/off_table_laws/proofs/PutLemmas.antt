@@ -4,6 +4,7 @@ use Rattle.std.specs.Ordering.{eq_by_cmp}
 use Rattle.off_defs.specs.Keys.{key_cmp}
 use Rattle.off_base.specs.Tree.{Tree}
 use Rattle.std.proofs.Common.{List}
+use Rattle.off_base.specs.declared.addresses.Ip4.{Ip4}
 use Rattle.off_base.specs.declared.macs.Mac.{Mac}
 use Rattle.off_defs.specs.declared.keys.Key.TheVariants as key
 use Rattle.off_defs.specs.declared.tables.Row.TheVariants as row
@@ -12,9 +13,10 @@ use Rattle.off_defs.specs.declared.tables.Subscriber.{Subscriber}
 use Rattle.off_defs.specs.declared.tables.Modem.{Modem}
 use Rattle.off_defs.specs.declared.tables.Class.{Class}
 use Rattle.off_defs.specs.declared.tables.Batch.{Batch}
+use Rattle.off_defs.specs.declared.tables.DeviceLease.{DeviceLease}
 use Rattle.off_account_rules.specs.Rows.{is_possible}
 use Rattle.off_table_laws.proofs.Rows.{Rows, put_row}
-use Rattle.off_table_laws.proofs.GoodRows.{Has, hub_there, hub_at, GoodRows}
+use Rattle.off_table_laws.proofs.GoodRows.{Has, OnePoolOf, OwnedOnce, hub_there, hub_at, GoodRows}
 use Rattle.off_table_laws.proofs.RowChanges.{put_case, has_put, possible_put}
 
 module _ (rows : Rows) (g : GoodRows rows) where
@@ -38,6 +40,7 @@ module _ (rows : Rows) (g : GoodRows rows) where
     one_pool = g.one_pool;
     holder = g.holder;
     owner = g.owner;
+    devices = g.devices;
   }
 
   pub put_subscriber : (n : ℕ) (subscriber : Subscriber) → is_possible (key.Subscriber n) (row.Subscriber subscriber) ≡ true
@@ -56,6 +59,7 @@ module _ (rows : Rows) (g : GoodRows rows) where
         one_pool = g.one_pool;
         holder = g.holder;
         owner = g.owner;
+        devices = g.devices;
       }
 
   pub put_add_on : (n k : ℕ) (settings : List Tree) → is_possible (key.AddOn n k) (row.AddOn settings) ≡ true → Has rows (key.Subscriber n)
@@ -73,6 +77,7 @@ module _ (rows : Rows) (g : GoodRows rows) where
     one_pool = g.one_pool;
     holder = g.holder;
     owner = g.owner;
+    devices = g.devices;
   }
 
   pub put_modem : (mac : Mac) (modem : Modem) → Has rows (key.Subscriber modem.subscriber) → Has rows (key.Class modem.class)
@@ -91,6 +96,7 @@ module _ (rows : Rows) (g : GoodRows rows) where
     one_pool = g.one_pool;
     holder = g.holder;
     owner = g.owner;
+    devices = g.devices;
   }
 
   pub put_class : (n : ℕ) (class : Class) → is_possible (key.Class n) (row.Class class) ≡ true → GoodRows (put_row rows (key.Class n) (row.Class class))
@@ -106,6 +112,7 @@ module _ (rows : Rows) (g : GoodRows rows) where
     one_pool = g.one_pool;
     holder = g.holder;
     owner = g.owner;
+    devices = g.devices;
   }
 
   pub put_batch : (n : ℕ) (batch : Batch) → GoodRows (put_row rows (key.Batch n) (row.Batch batch))
@@ -121,4 +128,30 @@ module _ (rows : Rows) (g : GoodRows rows) where
     one_pool = g.one_pool;
     holder = g.holder;
     owner = g.owner;
+    devices = g.devices;
+  }
+
+  -- a device's address lies in one pool for devices, and its owner has no other
+  pub put_device : (address : Ip4) (lease : DeviceLease) → OnePoolOf key.DevicePool rows address → OwnedOnce (put_row rows (key.Device address) (row.Device lease))
+      → GoodRows (put_row rows (key.Device address) (row.Device lease))
+  put_device address lease one once = record {
+    possible = possible_put rows (key.Device address) (row.Device lease) g.possible refl;
+    add_on = g.add_on;
+    subscriber = g.subscriber;
+    class = g.class;
+    apart = g.apart;
+    site_alone = g.site_alone;
+    pool_hub = g.pool_hub;
+    lease_hub = g.lease_hub;
+    one_pool = g.one_pool;
+    holder = g.holder;
+    owner = g.owner;
+    devices = record {
+      disjoint = g.devices.disjoint;
+      apart = g.devices.apart;
+      one_pool = λ other left e. put_case rows (key.Device address) (row.Device lease) (key.Device other) (row.Device left) (OnePoolOf key.DevicePool rows other) e
+          (λ is same. subst (OnePoolOf key.DevicePool rows) (let e : address ≡ other = cc in e) one)
+          (g.devices.one_pool other left);
+      one_address = once;
+    };
   }

@@ -9,7 +9,7 @@ use Rattle.off_defs.specs.declared.tables.Batch.{Batch}
 use Rattle.off_defs.specs.declared.tables.ImportKind.{ImportKind}
 use Rattle.off_defs.specs.declared.tables.ImportKind.TheVariants as import
 use Rattle.off_defs.specs.declared.orders.Command.{Command}
-use Rattle.off_defs.specs.declared.orders.Command.TheVariants.{PutHub, PutSubscriber, PutAddOn, PutModem, PutClass, PutPool, Remove, Show, Import}
+use Rattle.off_defs.specs.declared.orders.Command.TheVariants.{PutHub, PutSubscriber, PutAddOn, PutModem, PutClass, PutPool, PutDevicePool, Remove, Show, Import}
 use Rattle.off_defs.specs.declared.orders.ImportRow.{ImportRow}
 use Rattle.off_defs.specs.declared.orders.ImportRow.TheVariants as imported
 use Rattle.off_defs.specs.declared.orders.Reply.{Reply}
@@ -115,6 +115,7 @@ step_good t now (PutAddOn n number settings) sound short good =
 step_good t now (PutModem mac modem) sound short good = ruled t (writes_of t (PutModem mac modem)) Done (first_there (rules_of t now (PutModem mac modem))) good (command_good t now (PutModem mac modem) sound short good)
 step_good t now (PutClass n class) sound short good = ruled t (writes_of t (PutClass n class)) Done (first_there (rules_of t now (PutClass n class))) good (command_good t now (PutClass n class) sound short good)
 step_good t now (PutPool n pool hub) sound short good = ruled t (writes_of t (PutPool n pool hub)) Done (first_there (rules_of t now (PutPool n pool hub))) good (command_good t now (PutPool n pool hub) sound short good)
+step_good t now (PutDevicePool n pool) sound short good = ruled t (writes_of t (PutDevicePool n pool)) Done (first_there (rules_of t now (PutDevicePool n pool))) good (command_good t now (PutDevicePool n pool) sound short good)
 step_good t now (Remove removed) sound short good = ruled t (writes_of t (Remove removed)) Done (first_there (rules_of t now (Remove removed))) good (command_good t now (Remove removed) sound short good)
 
 pub step_keeps_good : StepKeepsGood

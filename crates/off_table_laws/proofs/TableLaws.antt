@@ -10,19 +10,20 @@ use Rattle.off_defs.specs.declared.keys.Key.TheVariants as key
 use Rattle.off_defs.specs.declared.tables.Row.{Row}
 use Rattle.off_defs.specs.declared.tables.Row.TheVariants as row
 use Rattle.off_defs.specs.declared.tables.Lease.{Lease}
+use Rattle.off_defs.specs.declared.tables.DeviceLease.{DeviceLease}
 use Rattle.off_defs.specs.declared.tables.Pool.{Pool}
 use Rattle.off_defs.specs.Keys.{key_cmp}
 use Rattle.off_defs.specs.State.{Tables}
 use Rattle.off_defs.specs.Tables.{row_at}
 use Rattle.off_defs.proofs.KeyLemmas.{key_total, key_exact}
-use Rattle.off_account_rules.specs.Rows.{is_possible, possible, overlaps, as_site, as_subscriber, as_add_on, as_class, hub_in, pool_hub_in, site_of, lease_in, has_address, pools}
-use Rattle.off_account_rules.specs.Good.{owner_of, Good, Keeps, IsLeastBad}
-use Rattle.off_table_laws.specs.Laws.{owner_in, OneLeaseAModem, OwnersHold, PoolsAreApart, ModemsStand, AddOnsStand, HubOfPool, LeasesStand, OpeningHaveNoBadKey, OneJudgement, SeenAsTheyStand}
+use Rattle.off_account_rules.specs.Rows.{is_possible, possible, overlaps, as_site, as_subscriber, as_add_on, as_class, hub_in, pool_hub_in, site_of, lease_in, device_in, has_address, pools}
+use Rattle.off_account_rules.specs.Good.{owner_of, device_owner, Good, Keeps, IsLeastBad}
+use Rattle.off_table_laws.specs.Laws.{owner_in, OneLeaseAModem, OwnersHold, PoolsAreApart, ModemsStand, AddOnsStand, HubOfPool, LeasesStand, OneAddressADevice, DevicesLieInAPool, PoolsHaveNoDevices, OpeningHaveNoBadKey, OneJudgement, SeenAsTheyStand}
 use Rattle.off_table_laws.proofs.ListLemmas.{In, some_found}
 use Rattle.off_table_laws.proofs.GoodRows.{Has, hub_in_row, hub_at, GoodRows}
 use Rattle.off_table_laws.proofs.Judging.{good_rows, pool_in_raw, raw_in_pool}
 use Rattle.off_table_laws.proofs.PoolLemmas.{share}
-use Rattle.off_table_laws.proofs.Reading.{seen_row, modem_row, lease_row, held_row, pool_row, row_lease, row_held, row_pool, pools_raw}
+use Rattle.off_table_laws.proofs.Reading.{seen_row, modem_row, lease_row, held_row, pool_row, device_row, device_pool_row, row_lease, row_held, row_pool, row_device_pool, pools_raw, device_pools_raw}
 
 -- who owns a lease
 owned : (o : Option Lease) (mac : Mac) → option_and_then (λ (lease : Lease). owner_of lease.hold) o ≡ Some mac → (lease : Lease) × (o ≡ Some lease) × (owner_of lease.hold ≡ Some mac)
@@ -147,6 +148,43 @@ leases_stand t good address lease e =
       },
     )
 
+-- what is known of devices' leases
+pub device_owned : (o : Option DeviceLease) (owner : Mac × Mac) → option_and_then (λ (lease : DeviceLease). device_owner lease.hold) o ≡ Some owner
+    → (lease : DeviceLease) × (o ≡ Some lease) × (device_owner lease.hold ≡ Some owner)
+device_owned None owner e = cc
+device_owned (Some lease) owner e = (lease, refl, e)
+
+pub one_address_a_device : OneAddressADevice
+one_address_a_device t good one other owner e f =
+    let g = good_rows t good.opens in
+    let a = device_owned (device_in t one) owner e in
+    let b = device_owned (device_in t other) owner f in
+    g.devices.one_address one other a.0 b.0 owner (device_row t one a.0 a.1) (device_row t other b.0 b.1) a.2 b.2
+
+pub devices_lie_in_a_pool : DevicesLieInAPool
+devices_lie_in_a_pool t good address lease e =
+    let g = good_rows t good.opens in
+    let one = g.devices.one_pool address lease (device_row t address lease e) in
+    record {
+      number = one.number;
+      pool = one.pool;
+      there = row_device_pool t g.possible one.number one.pool one.there;
+      within = one.within;
+      only = λ m other p w. one.only m other (device_pool_row t m other p) w;
+    }
+
+pub pools_have_no_devices : PoolsHaveNoDevices
+pools_have_no_devices t good address n pool there within = none (device_in t address) refl
+  where
+    none : (o : Option DeviceLease) → device_in t address ≡ o → o ≡ None
+    none None e = refl
+    none (Some lease) e =
+        let g = good_rows t good.opens in
+        let one = g.devices.one_pool address lease (device_row t address lease e) in
+        let clear = g.devices.disjoint n pool one.number one.pool (pool_row t n pool there) one.there in
+        let shared = share pool one.pool address within one.within in
+        cc
+
 -- what a test says
 pub opening_have_no_bad_key : OpeningHaveNoBadKey
 opening_have_no_bad_key t bad opens least =
@@ -172,4 +210,4 @@ one_judgement t (Some bad) None p q = absurd (opening_have_no_bad_key t bad q p)
 one_judgement t (Some one) (Some other) p q = ap Some (least_same t one other p q)
 
 pub seen_as_they_stand : SeenAsTheyStand
-seen_as_they_stand t good = let g = good_rows t good.opens in (seen_row t g.possible, pools_raw t g.possible)
+seen_as_they_stand t good = let g = good_rows t good.opens in (seen_row t g.possible, pools_raw t g.possible, device_pools_raw t g.possible)

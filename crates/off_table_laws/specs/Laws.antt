@@ -1,5 +1,5 @@
 -- Laws of good tables, and of what a clerk's command makes of them.
-use Rattle.std.specs.Prelude.{◌≡◌, ℕ, Bool, true, IsTrue, nat_le, List, length, Option, Some, IsSome, option_and_then, Err, ◌↔◌}
+use Rattle.std.specs.Prelude.{◌≡◌, ℕ, Bool, true, IsTrue, nat_le, List, length, Option, Some, IsSome, None, option_and_then, Err, ◌↔◌}
 use Rattle.off_base.specs.declared.addresses.Ip4.{Ip4}
 use Rattle.off_base.specs.declared.macs.Mac.{Mac}
 use Rattle.off_base.specs.Tree.{Tree}
@@ -7,13 +7,14 @@ use Rattle.off_defs.specs.declared.keys.Key.{Key}
 use Rattle.off_defs.specs.declared.tables.Modem.{Modem}
 use Rattle.off_defs.specs.declared.tables.Pool.{Pool}
 use Rattle.off_defs.specs.declared.tables.Lease.{Lease}
+use Rattle.off_defs.specs.declared.tables.DeviceLease.{DeviceLease}
 use Rattle.off_defs.specs.declared.orders.Command.{Command}
 use Rattle.off_defs.specs.declared.orders.Command.TheVariants.{PutHub}
 use Rattle.off_defs.specs.State.{Tables}
 use Rattle.off_defs.specs.Tables.{row_at}
 use Rattle.off_rows.specs.Sound.{is_sound}
-use Rattle.off_account_rules.specs.Rows.{has_address, seen_at, hub_of, site_of, pool_hub_in, subscriber_in, add_on_in, modem_in, class_in, pool_in, lease_in, held_in, pools}
-use Rattle.off_account_rules.specs.Good.{owner_of, raw_pools, Opens, Good, IsLeastBad, Judged}
+use Rattle.off_account_rules.specs.Rows.{has_address, seen_at, hub_of, site_of, pool_hub_in, subscriber_in, add_on_in, modem_in, class_in, pool_in, lease_in, held_in, pools, device_pool_in, device_in, device_pools, devices}
+use Rattle.off_account_rules.specs.Good.{owner_of, device_owner, raw_pools, raw_device_pools, Opens, Good, IsLeastBad, Judged}
 use Rattle.off_account_rules.specs.Migration.{migrated}
 use Rattle.off_account_rules.specs.Clerk.{Refusal, clerk_step}
 
@@ -96,6 +97,43 @@ LeasesStand =
     lease_in tables address ≡ Some lease
     → IsSome (site_of tables address) × LiesInOnePool tables address
 
+-- the modem and its device that have an address
+abbrev pub device_owner_in : Tables → Ip4 → Option (Mac × Mac)
+device_owner_in tables address =
+    option_and_then (λ lease. device_owner lease.hold) (device_in tables address)
+
+-- a device has one address at most behind a modem
+abbrev pub OneAddress : Tables → Type 0
+OneAddress tables =
+    (one other : Ip4) (owner : Mac × Mac) → device_owner_in tables one ≡ Some owner →
+    device_owner_in tables other ≡ Some owner
+    → one ≡ other
+
+abbrev pub OneAddressADevice : Type 0
+OneAddressADevice = (tables : Tables) → Good tables → OneAddress tables
+
+-- a pool for devices has the address, and no other
+pub record LiesInOneDevicePool (tables : Tables) (address : Ip4) : Type 0 where
+  pub number : ℕ
+  pub pool : Pool
+  pub there : device_pool_in tables number ≡ Some pool
+  pub within : IsTrue (has_address pool address)
+  pub only : (m : ℕ) (other : Pool) → device_pool_in tables m ≡ Some other →
+      IsTrue (has_address other address) → m ≡ number
+
+abbrev pub DevicesLieInAPool : Type 0
+DevicesLieInAPool =
+    (tables : Tables) → Good tables → (address : Ip4) (lease : DeviceLease) →
+    device_in tables address ≡ Some lease
+    → LiesInOneDevicePool tables address
+
+-- no address of a pool of modems is a device's
+abbrev pub PoolsHaveNoDevices : Type 0
+PoolsHaveNoDevices =
+    (tables : Tables) → Good tables → (address : Ip4) (n : ℕ) (pool : Pool) →
+    pool_in tables n ≡ Some pool → IsTrue (has_address pool address)
+    → device_in tables address ≡ None
+
 -- tables that open are good as soon as the site of earlier days is the hub 0; good ones stay
 abbrev pub MigratedAreGood : Type 0
 MigratedAreGood = (tables : Tables) → Opens tables → Good (migrated tables)
@@ -103,12 +141,15 @@ MigratedAreGood = (tables : Tables) → Opens tables → Good (migrated tables)
 abbrev pub GoodStay : Type 0
 GoodStay = (tables : Tables) → Good tables → migrated tables ≡ tables
 
--- pools, their hubs' numbers, leases and who holds them are the same in both
+-- pools, their hubs' numbers, leases and who holds them are the same in both, and so are the pools for
+-- devices and the leases of devices
 pub record KeepsLeases (old new : Tables) : Type 0 where
   pub pools : pools new ≡ pools old
   pub hubs : (n : ℕ) → pool_hub_in new n ≡ pool_hub_in old n
   pub leases : (address : Ip4) → lease_in new address ≡ lease_in old address
   pub holders : (mac : Mac) → held_in new mac ≡ held_in old mac
+  pub device_pools : device_pools new ≡ device_pools old
+  pub devices : devices new ≡ devices old
 
 abbrev pub MigrationKeepsLeases : Type 0
 MigrationKeepsLeases = (tables : Tables) → KeepsLeases tables (migrated tables)
@@ -128,3 +169,4 @@ abbrev pub SeenAsTheyStand : Type 0
 SeenAsTheyStand =
     (tables : Tables) → Good tables →
     ((key : Key) → seen_at tables key ≡ row_at tables key) × (pools tables ≡ raw_pools tables)
+    × (device_pools tables ≡ raw_device_pools tables)

@@ -6,7 +6,8 @@ ghost use Rattle.off_table_laws.specs.Laws.{StepKeepsGood, RefusedChangesNothing
 ghost use Rattle.off_table_laws.specs.Laws.{OwnersHold, PoolsAreApart, ModemsStand, AddOnsStand};
 ghost use Rattle.off_table_laws.specs.Laws.{LeasesStand, OpeningHaveNoBadKey, OneJudgement};
 ghost use Rattle.off_table_laws.specs.Laws.{SeenAsTheyStand, HubOfPool, MigratedAreGood, GoodStay};
-ghost use Rattle.off_table_laws.specs.Laws.{MigrationKeepsLeases};
+ghost use Rattle.off_table_laws.specs.Laws.{MigrationKeepsLeases, OneAddressADevice};
+ghost use Rattle.off_table_laws.specs.Laws.{DevicesLieInAPool, PoolsHaveNoDevices};
 
 /// What a clerk's command leaves of good tables is good, for each command that is sound, an import
 /// too. The premise that a new site's secret has at most 64 bytes holds of each site that a program
@@ -56,6 +57,21 @@ pub fn a_lease_lies_in_one_pool()
     ensures { LeasesStand }
 {}
 
+/// In good tables a device has one address at most behind a modem.
+pub fn a_device_has_one_address()
+    ensures { OneAddressADevice }
+{}
+
+/// In good tables a device's address lies in one pool for devices, and in no other.
+pub fn a_device_lies_in_one_pool()
+    ensures { DevicesLieInAPool }
+{}
+
+/// In good tables no address of a pool of modems is a device's.
+pub fn pools_of_modems_have_no_devices()
+    ensures { PoolsHaveNoDevices }
+{}
+
 /// Tables that open are good as soon as the site of earlier days is the hub 0.
 pub fn migrated_tables_are_good()
     ensures { MigratedAreGood }
@@ -66,7 +82,8 @@ pub fn good_tables_stay()
     ensures { GoodStay }
 {}
 
-/// Pools, their hubs' numbers, leases and who holds them are the same after the migration as before.
+/// Pools, their hubs' numbers, leases and who holds them are the same after the migration as before,
+/// and so are the pools for devices and the leases of devices.
 pub fn the_migration_keeps_leases()
     ensures { MigrationKeepsLeases }
 {}
@@ -81,7 +98,7 @@ pub fn tables_have_one_judgement()
     ensures { OneJudgement }
 {}
 
-/// In good tables each row is read as it stands, and the pools that are read are all.
+/// In good tables each row is read as it stands, and the pools of either kind that are read are all.
 pub fn good_tables_are_seen_as_they_stand()
     ensures { SeenAsTheyStand }
 {}

@@ -1,8 +1,8 @@
 use Rattle.std.proofs.Common.{sym, ap, ◌∙◌}
 use Rattle.off_outside.proofs.KeeperLemmas.{reads_none}
-use Rattle.off_defs.specs.declared.orders.Command.TheVariants.{PutHub, PutSubscriber, PutAddOn, PutModem, PutClass, PutPool}
+use Rattle.off_defs.specs.declared.orders.Command.TheVariants.{PutHub, PutSubscriber, PutAddOn, PutModem, PutClass, PutPool, PutDevicePool}
 use Rattle.off_rows.specs.Sound.{is_sound}
-use Rattle.off_accounts.proofs.AfterLemmas.{counted_as, hub_put, subscriber_put, add_on_put, modem_put, class_put, pool_put}
+use Rattle.off_accounts.proofs.AfterLemmas.{counted_as, hub_put, subscriber_put, add_on_put, modem_put, class_put, pool_put, device_pool_put}
 use Rattle.off_accounts.proofs.counting.counts_after.Goals as goal
 
 pub returns-in-PutSubscriber-clause-told : goal.returns-in-PutSubscriber-clause-told
@@ -29,6 +29,11 @@ pub returns-in-PutPool-clause-told : goal.returns-in-PutPool-clause-told
 returns-in-PutPool-clause-told g c = reads_none (λ t.
     counted_as c.args.counts.now c.counts_put-in-PutPool.result c.args.subject.now t c.args.c.now (PutPool c.in-PutPool.field-0 c.in-PutPool.field-1 c.in-PutPool.field-2) c.in-PutPool.is
     (pool_put c.args.counts.now c.counts_put-in-PutPool.result c.args.subject.now t c.in-PutPool.field-0 c.in-PutPool.field-1 c.in-PutPool.field-2 (sym (ap is_sound c.in-PutPool.is) ∙ c.requires) c.counts_put-in-PutPool.ensures))
+
+pub returns-in-PutDevicePool-clause-told : goal.returns-in-PutDevicePool-clause-told
+returns-in-PutDevicePool-clause-told g c = reads_none (λ t.
+    counted_as c.args.counts.now c.counts_put-in-PutDevicePool.result c.args.subject.now t c.args.c.now (PutDevicePool c.in-PutDevicePool.field-0 c.in-PutDevicePool.field-1) c.in-PutDevicePool.is
+    (device_pool_put c.args.counts.now c.counts_put-in-PutDevicePool.result c.args.subject.now t c.in-PutDevicePool.field-0 c.in-PutDevicePool.field-1 (sym (ap is_sound c.in-PutDevicePool.is) ∙ c.requires) c.counts_put-in-PutDevicePool.ensures))
 
 pub returns-in-PutHub-clause-told : goal.returns-in-PutHub-clause-told
 returns-in-PutHub-clause-told g c = reads_none (λ t.

@@ -1,6 +1,6 @@
 use Rattle.off_outside.proofs.KeeperLemmas.{reads_as, reads_none}
 use Rattle.off_defs.specs.declared.keys.Key.TheVariants as key
-use Rattle.off_accounts.proofs.AfterLemmas.{removed_as, subscriber_removed, add_on_removed, modem_removed, class_removed, pool_removed, hub_removed}
+use Rattle.off_accounts.proofs.AfterLemmas.{removed_as, subscriber_removed, add_on_removed, modem_removed, class_removed, pool_removed, device_pool_removed, hub_removed}
 use Rattle.off_accounts.proofs.counting.counts_after_removal.Goals as goal
 
 pub returns-in_ok-lost-in-Subscriber-clause-told : goal.returns-in_ok-lost-in-Subscriber-clause-told
@@ -28,6 +28,11 @@ pub returns-in-Pool-clause-told : goal.returns-in-Pool-clause-told
 returns-in-Pool-clause-told g c = reads_none (λ t.
     removed_as c.args.counts.now c.one_less-in-Pool.result t c.args.key.now (key.Pool c.in-Pool.field-0) c.in-Pool.is
     (pool_removed c.args.counts.now c.one_less-in-Pool.result t c.in-Pool.field-0 c.one_less-in-Pool.ensures))
+
+pub returns-in-DevicePool-clause-told : goal.returns-in-DevicePool-clause-told
+returns-in-DevicePool-clause-told g c = reads_none (λ t.
+    removed_as c.args.counts.now c.one_less-in-DevicePool.result t c.args.key.now (key.DevicePool c.in-DevicePool.field-0) c.in-DevicePool.is
+    (device_pool_removed c.args.counts.now c.one_less-in-DevicePool.result t c.in-DevicePool.field-0 c.one_less-in-DevicePool.ensures))
 
 pub returns-in-Hub-clause-told : goal.returns-in-Hub-clause-told
 returns-in-Hub-clause-told g c = reads_none (λ t.

@@ -43,3 +43,8 @@ pub returns-clause-spent : goal.returns-clause-spent
 returns-clause-spent g c =
     few_spent c.args.asked.now.counts c.args.asked.now.at c.in_ok-subject.subject c.args.c.now c.tests_of-tests.result c.tests_of-tests.ensures c.in_ok-subject.ensures.spent
     c.in_ok-rule.ensures.spent c.in_ok-writes.ensures.spent c.in_ok-counts.ensures.spent
+
+pub returns-in_err-counts-clause-spent : goal.returns-in_err-counts-clause-spent
+returns-in_err-counts-clause-spent g c =
+    few_spent c.args.asked.now.counts c.args.asked.now.at c.in_ok-subject.subject c.args.c.now c.tests_of-tests.result c.tests_of-tests.ensures c.in_ok-subject.ensures.spent
+    c.in_ok-rule.ensures.spent c.in_ok-writes.ensures.spent c.in_err-counts.ensures.spent

@@ -6,13 +6,14 @@ use Rattle.off_readers.specs.Walks.{IfBehind}
 use Rattle.off_outside.proofs.KeeperLemmas.{reads_then, reads_none, reads_as}
 use Rattle.off_accounts.specs.Walking.{is_lease_in, is_past_first}
 use Rattle.off_accounts.proofs.DropLemmas.{drop_begin, drop_none, drop_past, drop_on}
-use Rattle.off_accounts.proofs.WalkedLemmas.{walk_begins, walk_goes_on, begins_on, lease_looked}
+use Rattle.off_accounts.proofs.LostLemmas.{lease_looked, none_here, none_later}
+use Rattle.off_accounts.proofs.WalkedLemmas.{walk_begins, walk_goes_on, begins_on}
 use Rattle.off_accounts.proofs.dropping.drop_lost.Goals as goal
 
 pub walk-init : goal.walk-init
 walk-init g c = record {
   told = reads_none (λ t. drop_begin c.args.lost.now c.args.writes.now c.before_lost-place.result t c.before_lost-place.ensures.none);
-  walked = walk_begins (is_lease_in c.args.lost.now.old) c.before_lost-place.result (g.K.Keeper.seen c.args.keeper.now);
+  walked = walk_begins (is_lease_in c.args.lost.now.whose c.args.lost.now.old) c.before_lost-place.result (g.K.Keeper.seen c.args.keeper.now);
   begins = c.before_lost-place.ensures.begins;
 }
 
@@ -24,7 +25,8 @@ pub returns-then-is_past_lost-clause-told : goal.returns-then-is_past_lost-claus
 returns-then-is_past_lost-clause-told g c =
     reads_then c.walk.invariant.told c.in_ok-key.ensures.told (λ t left next.
     drop_past c.args.lost.now c.args.writes.now c.walk.writes c.walk.place (c.in-Some.key, c.in-Some.row) t left (sym c.in-Some.is ∙ next)
-    (c.is_past_lost.ensures.here c.in-Some.row c.if-is_past_lost.true) (λ other after. c.is_past_lost.ensures.later other c.if-is_past_lost.true after))
+    (none_here c.args.lost.now c.in-Some.key (sym c.is_past_lost.ensures.last ∙ c.if-is_past_lost.true))
+    (λ other after. none_later c.args.lost.now c.in-Some.key (sym c.is_past_lost.ensures.last ∙ c.if-is_past_lost.true) other after))
 
 pub walk-preserved-in_ok-push_drops : goal.walk-preserved-in_ok-push_drops
 walk-preserved-in_ok-push_drops g c =
@@ -34,7 +36,7 @@ walk-preserved-in_ok-push_drops g c =
     record {
       told = reads_then c.walk.invariant.told c.in_ok-key.ensures.told (λ t left next.
           drop_on c.args.lost.now c.args.writes.now c.walk.writes c.push_drops.new.writes c.walk.place entry t left (sym c.in-Some.is ∙ next) c.in_ok-push_drops.ensures);
-      walked = walk_goes_on (is_lease_in c.args.lost.now.old) c.walk.place entry here c.walk.invariant.walked c.walk.invariant.told (reads_as c.in_ok-key.ensures.told (λ t next. sym c.in-Some.is ∙ next)) c.in_ok-key.ensures.counted;
+      walked = walk_goes_on (is_lease_in c.args.lost.now.whose c.args.lost.now.old) c.walk.place entry here c.walk.invariant.walked c.walk.invariant.told (reads_as c.in_ok-key.ensures.told (λ t next. sym c.in-Some.is ∙ next)) c.in_ok-key.ensures.counted;
       begins = begins_on (is_past_first c.args.lost.now) c.walk.place entry c.walk.invariant.begins after;
     }
 
@@ -46,7 +48,7 @@ walk-preserved-in_ok-push_drops-2 g c =
     record {
       told = reads_then c.walk.invariant.told c.in_ok-key.ensures.told (λ t left next.
           drop_on c.args.lost.now c.args.writes.now c.walk.writes c.push_drops.new.writes c.walk.place entry t left (sym c.in-Some.is ∙ next) c.in_ok-push_drops.ensures);
-      walked = walk_goes_on (is_lease_in c.args.lost.now.old) c.walk.place entry here c.walk.invariant.walked c.walk.invariant.told (reads_as c.in_ok-key.ensures.told (λ t next. sym c.in-Some.is ∙ next)) c.in_ok-key.ensures.counted;
+      walked = walk_goes_on (is_lease_in c.args.lost.now.whose c.args.lost.now.old) c.walk.place entry here c.walk.invariant.walked c.walk.invariant.told (reads_as c.in_ok-key.ensures.told (λ t next. sym c.in-Some.is ∙ next)) c.in_ok-key.ensures.counted;
       begins = begins_on (is_past_first c.args.lost.now) c.walk.place entry c.walk.invariant.begins after;
     }
 
@@ -58,6 +60,6 @@ walk-preserved g c =
     record {
       told = reads_then c.walk.invariant.told c.in_ok-key.ensures.told (λ t left next.
           drop_on c.args.lost.now c.args.writes.now c.walk.writes c.push_drops.new.writes c.walk.place entry t left (sym c.in-Some.is ∙ next) c.in_ok-push_drops.ensures);
-      walked = walk_goes_on (is_lease_in c.args.lost.now.old) c.walk.place entry here c.walk.invariant.walked c.walk.invariant.told (reads_as c.in_ok-key.ensures.told (λ t next. sym c.in-Some.is ∙ next)) c.in_ok-key.ensures.counted;
+      walked = walk_goes_on (is_lease_in c.args.lost.now.whose c.args.lost.now.old) c.walk.place entry here c.walk.invariant.walked c.walk.invariant.told (reads_as c.in_ok-key.ensures.told (λ t next. sym c.in-Some.is ∙ next)) c.in_ok-key.ensures.counted;
       begins = begins_on (is_past_first c.args.lost.now) c.walk.place entry c.walk.invariant.begins after;
     }

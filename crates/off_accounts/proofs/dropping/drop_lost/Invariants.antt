@@ -11,7 +11,7 @@ use Rattle.off_accounts.proofs.dropping.drop_lost.Given as goal
 abbrev pub invariant-walk : goal.invariant-walk
 invariant-walk g l = record {
   told : Reads (IsLeftToDrop l.lost l.initial.writes l.writes l.place) (g.K.Keeper.seen l.initial.keeper) (g.K.Keeper.seen l.keeper);
-  walked : Walked (is_lease_in l.lost.old) l.place (g.K.Keeper.seen l.initial.keeper) (g.K.Keeper.seen l.keeper);
+  walked : Walked (is_lease_in l.lost.whose l.lost.old) l.place (g.K.Keeper.seen l.initial.keeper) (g.K.Keeper.seen l.keeper);
   begins : AllBehind (is_past_first l.lost) l.place;
 }
 

@@ -3,4 +3,4 @@ use Rattle.off_accounts.proofs.DropLemmas.{nothing_lost}
 use Rattle.off_accounts.proofs.dropping.with_drops.Goals as goal
 
 pub returns-in_default-clause-told : goal.returns-in_default-clause-told
-returns-in_default-clause-told g c = reads_none (λ t. nothing_lost c.args.old c.args.new c.args.write c.args.hub c.new-writes.result c.push.new.self c.push-2.new.self t c.in_default.is c.new-writes.ensures c.in_ok-push.ensures.ok c.in_ok-push-2.ensures.ok)
+returns-in_default-clause-told g c = reads_none (λ t. nothing_lost c.args.whose c.args.old c.args.new c.args.first t c.in_default.is)

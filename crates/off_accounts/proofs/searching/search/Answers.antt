@@ -5,7 +5,7 @@ use Rattle.off_defs.specs.Tables.{is_after}
 use Rattle.off_readers.specs.Walks.{IfBehind}
 use Rattle.off_outside.proofs.KeeperLemmas.{reads_then, reads_none, reads_as}
 use Rattle.off_accounts.specs.Walking.{looks_at, is_reached}
-use Rattle.off_accounts.proofs.SearchLemmas.{search_begin, search_none, search_past, search_found, search_on}
+use Rattle.off_accounts.proofs.SearchLemmas.{search_begin, search_none, search_past, search_found, search_on, none_at, none_behind}
 use Rattle.off_accounts.proofs.WalkedLemmas.{walk_begins, walk_goes_on, begins_on, sought_looked}
 use Rattle.off_accounts.proofs.searching.search.Goals as goal
 
@@ -23,7 +23,8 @@ pub returns-then-is_past-clause-told : goal.returns-then-is_past-clause-told
 returns-then-is_past-clause-told g c =
     reads_then c.walk.invariant.told c.in_ok-key.ensures.told (λ t left next.
     search_past c.args.sought.now c.walk.place (c.in-Some.key, c.in-Some.row) t left (sym c.in-Some.is ∙ next)
-    (c.is_past.ensures.here c.in-Some.row c.if-is_past.true) (λ other after. c.is_past.ensures.later other c.if-is_past.true after))
+    (none_at c.args.sought.now c.in-Some.key c.in-Some.row (sym c.is_past.ensures.passed ∙ c.if-is_past.true))
+    (λ other after. none_behind c.args.sought.now c.in-Some.key other (sym c.is_past.ensures.passed ∙ c.if-is_past.true) after))
 
 pub returns-then-is_wanted-clause-told : goal.returns-then-is_wanted-clause-told
 returns-then-is_wanted-clause-told g c =

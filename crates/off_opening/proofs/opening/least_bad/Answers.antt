@@ -4,13 +4,13 @@ use Rattle.off_opening.proofs.opening.least_bad.Goals as goal
 
 pub returns-then-not-keeps : goal.returns-then-not-keeps
 returns-then-not-keeps c =
-    bad_found c.args.marks.now c.args.pools.now c.loop-mark.mark-index no_mark _ c.keeps.result c.loop-mark.invariant (search rules) refl
+    bad_found c.args.marks.now c.args.compared.now c.loop-mark.mark-index no_mark _ c.keeps.result c.loop-mark.invariant (search rules) refl
     c.keeps.ensures (search rules)
 
 pub loop-mark-preserved : goal.loop-mark-preserved
 loop-mark-preserved c =
-    one_more_kept c.args.marks.now c.args.pools.now c.loop-mark.mark-index no_mark _ c.keeps.result c.loop-mark.invariant (search rules) refl
+    one_more_kept c.args.marks.now c.args.compared.now c.loop-mark.mark-index no_mark _ c.keeps.result c.loop-mark.invariant (search rules) refl
     c.keeps.ensures (search rules)
 
 pub returns : goal.returns
-returns c = all_kept c.args.marks.now c.args.pools.now c.loop-mark.mark-index c.loop-mark.invariant (search rules)
+returns c = all_kept c.args.marks.now c.args.compared.now c.loop-mark.mark-index c.loop-mark.invariant (search rules)
