@@ -10,7 +10,7 @@ use Rattle.off_docsis.specs.declared.spans.PartCut.{PartCut}
 use Rattle.off_docsis.specs.declared.spans.Span.{Span}
 use Rattle.off_docsis.specs.declared.vendor.DeviceParts.{DeviceParts}
 use Rattle.off_account_rules.specs.Rows.{passes}
-use Rattle.off_asking.specs.Asking.{value_in}
+use Rattle.off_asking.specs.Asking.{value_in, six_bytes}
 
 pub vendor_cut : (read : Result (List Part) ℕ) → is_err (device_of read) ≡ is_err read
 unfolding device_of
@@ -66,6 +66,11 @@ pub relay_none : (test : List ℕ → Bool) (code : ℕ) (read : Result (List Pa
 unfolding relay_of
 relay_none test code (Ok parts) cut is = cc
 relay_none test code (Err place) cut is = refl
+
+pub none_relayed : (read : Result (List Part) ℕ) (cut : PartCut) → Err cut ≡ relay_of read → None ≡ six_bytes (value_in 2 read)
+unfolding relay_of
+none_relayed (Ok parts) cut is = cc
+none_relayed (Err place) cut is = refl
 
 -- a span that is longer than a text isn't that text
 longer_differs : (xs ys : List ℕ) → length ys < length xs → (b : Bool) → bytes_eq xs ys ≡ b → b ≡ false

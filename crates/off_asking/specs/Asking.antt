@@ -113,3 +113,14 @@ serial_number m = value_in 4 (vendor_parts m)
 
 abbrev pub remote_identifier : Received → Option (List ℕ)
 remote_identifier m = value_in 2 (relay_parts m)
+
+-- the client that a relay names by the six bytes of its hardware address, where it names one so
+abbrev pub mac : List ℕ → Mac
+mac bytes = record { 0 = bytes }
+
+abbrev pub six_bytes : Option (List ℕ) → Option Mac
+six_bytes None = None
+six_bytes (Some bytes) = if length bytes == 6 then Some (mac bytes) else None
+
+abbrev pub relayed : Received → Option Mac
+relayed m = six_bytes (remote_identifier m)

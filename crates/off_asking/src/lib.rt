@@ -22,7 +22,7 @@ pub use claims::{claims_wrongly, has_no_form, is_served, lacks_record, names_ano
 pub use forms::{Form, Named};
 pub use kinds::Kind;
 pub use parts::{
-    is_relay_cut, is_vendor_cut, relays_other, says_modem, says_other, says_other_serial,
+    is_relay_cut, is_vendor_cut, relayed, relays_other, says_modem, says_other, says_other_serial,
 };
 pub use ruling::first_broken;
 pub use sending::{nak_to, offer_named, reply_to};

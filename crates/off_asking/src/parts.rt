@@ -1,14 +1,14 @@
 //! What a modem says of itself in options 43 and 60, and its relay of it in option 82.
 
 ghost use Rattle.std.specs.Prelude.{◌≡◌, ◌≤◌, ◌+◌, ◌==◌, ◌&&◌, not, length, take, drop};
-ghost use Rattle.std.specs.Prelude.{is_err, true};
+ghost use Rattle.std.specs.Prelude.{is_err, true, if◌then◌else◌, Some, None};
 ghost use Rattle.std.specs.Str.{bytes_eq};
 ghost use Rattle.off_base.specs.Parts.{bytes_of};
 ghost use Rattle.off_dhcp.specs.Datagram.{option_in};
 ghost use Rattle.off_docsis.specs.Cable.{begins_as_modem};
 ghost use Rattle.off_account_rules.specs.Rows.{passes};
 ghost use Rattle.off_asking.specs.Asking.{vendor_parts, relay_parts, serial_number};
-ghost use Rattle.off_asking.specs.Asking.{remote_identifier};
+ghost use Rattle.off_asking.specs.Asking.{remote_identifier, mac, relayed};
 ghost use Rattle.off_asking.specs.Said.{Says};
 
 use crate::asking::Asked;
@@ -111,6 +111,45 @@ pub fn relays_other(m: &Asked<'_>, mac: Mac) -> bool
         }
         Err(_cut) => false,
     }
+}
+
+/// The client that the relay names, where it names one by six bytes.
+pub fn relayed(m: &Asked<'_>) -> Option<Mac>
+    ensures { result ≡ relayed m.now }
+{
+    match &m.said.way {
+        Ok(parts) => mac_in(&m.said.relay, parts.remote),
+        Err(_cut) => None,
+    }
+}
+
+// The hardware address whose six bytes the span of a value has.
+fn mac_in(value: &Joined<'_>, span: Span) -> Option<Mac>
+    requires { span.there ≡ true → span.at + span.len ≤ length (bytes_of value.now) }
+    ensures { result ≡ (if span.there && (span.len == 6)
+        then Some (mac (take span.len (drop span.at (bytes_of value.now)))) else None) }
+{
+    if span.there && span.len == MAC_BYTES {
+        Some(mac_at(value, span.at))
+    } else {
+        None
+    }
+}
+
+// The hardware address at a place of a value.
+fn mac_at(value: &Joined<'_>, at: usize) -> Mac
+    requires { at + 6 ≤ length (bytes_of value.now) }
+    ensures { result.0 ≡ take 6 (drop at (bytes_of value.now)) }
+{
+    let mut bytes = value.bytes();
+    Mac([
+        bytes.byte_at(at),
+        bytes.byte_at(at + 1),
+        bytes.byte_at(at + 2),
+        bytes.byte_at(at + 3),
+        bytes.byte_at(at + 4),
+        bytes.byte_at(at + 5),
+    ])
 }
 
 // Whether the span of a value is there, and has other bytes than these.

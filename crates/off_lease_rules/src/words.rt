@@ -21,7 +21,7 @@ pub enum DhcpWord {
     OptionCut,
     NoType,
     Overload,
-    /// The office has no site.
+    /// The hub of the message's pool has no row.
     NoSite,
     /// The message is of a kind that the office doesn't serve.
     NotServed,

@@ -1,0 +1,5 @@
+mod Office
+pub mod Examples
+mod RefusalExamples
+mod LeaseExamples
+mod ModemExamples
