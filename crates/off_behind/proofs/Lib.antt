@@ -1,0 +1,10 @@
+pub mod BucketLemmas
+pub mod PlaceLemmas
+pub mod ListingLemmas
+pub mod BucketWrites
+pub mod StepLemmas
+pub mod WriteLemmas
+pub mod FormerLemmas
+pub mod ReadLemmas
+pub mod FollowLemmas
+pub mod DropLemmas

@@ -1,0 +1,4 @@
+pub mod Buckets
+pub mod Changes
+pub mod Codes
+pub mod Drops

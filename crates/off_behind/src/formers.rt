@@ -1,0 +1,106 @@
+//! The leases that the addresses of writes have, which are read before the writes are done.
+
+ghost use Rattle.std.specs.Prelude.{◌≡◌, ◌<◌, ◌+◌, ◌++◌, ◌∷◌, [], Option, Some, IfOk, OnOk};
+ghost use Rattle.std.specs.Prelude.{length, take, unwrap_or, vec_len, slice_get};
+ghost use Rattle.off_defs.specs.declared.orders.Write.{Write};
+ghost use Rattle.off_defs.specs.declared.tables.DeviceLease.{DeviceLease};
+ghost use Rattle.off_defs.specs.State.{Tables};
+ghost use Rattle.off_defs.specs.Tables.{written, write_all};
+ghost use Rattle.off_account_rules.specs.Rows.{device_in};
+ghost use Rattle.off_behind.specs.Changes.{old_at, olds_of};
+ghost use Rattle.off_outside.specs.KeeperCalls.{Looks, Spent};
+
+use crate::bucket::is_other;
+use crate::changes::change_of;
+use off_base::{Ip4, NoMemory};
+use off_defs::{DeviceLease, Write, Writes};
+use off_outside::{KeepErr, Keeper};
+use off_readers::read_device;
+use std::alloc::Global;
+
+/// The leases that the addresses of writes have, each before its own write. It's a call for each
+/// address of a device's lease that is written, and none for other writes.
+pub fn read_olds<K: Keeper>(
+    alloc: Global,
+    keeper: &mut K,
+    writes: &Writes,
+) -> Result<Vec<Option<DeviceLease>>, KeepErr>
+    ensures told { Looks result (K.seen keeper.old) (K.seen keeper.new)
+        (λ olds t. olds.items ≡ olds_of t writes.now) }
+    ensures len { IfOk result (λ olds. vec_len olds ≡ length writes.now) }
+    ensures spent { Spent (length writes.now) (K.seen keeper.old) (K.seen keeper.new) }
+{
+    let mut olds = Vec::new(alloc);
+    for place in 0..writes.len() {
+        let old = read_old(alloc, keeper, writes, place)?;
+        push_old(&mut olds, old)?;
+    }
+    Ok(olds)
+}
+
+fn push_old(olds: &mut Vec<Option<DeviceLease>>, old: Option<DeviceLease>) -> Result<(), NoMemory>
+    ensures items { OnOk result (olds.new.items ≡ olds.old.items ++ old ∷ []) }
+    ensures len { OnOk result (vec_len olds.new ≡ vec_len olds.old + 1) }
+{
+    match olds.push(old) {
+        Ok(()) => Ok(()),
+        Err(_refused) => Err(NoMemory),
+    }
+}
+
+// The lease that the address of a write has before it.
+#[tactic(auto, using(crate::proofs::FormerLemmas::one_read))]
+fn read_old<K: Keeper>(
+    alloc: Global,
+    keeper: &mut K,
+    writes: &Writes,
+    place: usize,
+) -> Result<Option<DeviceLease>, KeepErr>
+    requires { place < length writes.now }
+    ensures told { Looks result (K.seen keeper.old) (K.seen keeper.new)
+        (λ old t. (write : Write) → slice_get writes.now place ≡ Some write
+        → old ≡ old_at (write_all t (take place writes.now)) write) }
+    ensures once { Spent 1 (K.seen keeper.old) (K.seen keeper.new) }
+{
+    let Some((address, _lease)) = change_of(writes.get(place)) else {
+        return Ok(None);
+    };
+    match written_before(writes, place, address) {
+        Some(lease) => Ok(lease),
+        None => read_device(alloc, keeper, address),
+    }
+}
+
+// The lease that the writes before a place leave to an address, or `None` where they don't change
+// it.
+fn written_before(writes: &Writes, place: usize, address: Ip4) -> Option<Option<DeviceLease>>
+    requires { place < length writes.now }
+    ensures { (t : Tables) → device_in (write_all t (take place writes.now)) address
+        ≡ unwrap_or result (device_in t address) }
+{
+    let mut found = None;
+    for before in 0..place {
+        found = left_by(writes.get(before), address, found);
+    }
+    found
+}
+
+// The lease that a write leaves to an address, or what was found of the writes before it.
+fn left_by(
+    write: &Write,
+    address: Ip4,
+    found: Option<Option<DeviceLease>>,
+) -> Option<Option<DeviceLease>>
+    ensures { (t : Tables) (first : Option DeviceLease)
+        → device_in t address ≡ unwrap_or found first
+        → device_in (written t write.now) address ≡ unwrap_or result first }
+{
+    let Some((other, lease)) = change_of(write) else {
+        return found;
+    };
+    if is_other(address, other) {
+        found
+    } else {
+        Some(lease)
+    }
+}

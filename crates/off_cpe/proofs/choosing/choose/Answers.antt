@@ -1,0 +1,28 @@
+use Rattle.std.proofs.Common.{◌≡◌, ◌==◌, ℕ, true, cond, Option, option_map, option_and_then, sym, ap, ◌∙◌}
+use Rattle.std.specs.List.{find}
+use Rattle.off_base.specs.declared.addresses.Ip4.{Ip4}
+use Rattle.off_account_rules.specs.Rows.{device_pools}
+use Rattle.off_defs.specs.declared.tables.Pool.{Pool}
+use Rattle.off_asking.specs.Asking.{is_discover, at_address, named_address, claimed}
+use Rattle.off_asking.specs.Choice.{choice_by}
+use Rattle.off_cpe_rules.specs.Behind.{is_free}
+use Rattle.off_cpe.specs.Stages.{IsBehind}
+use Rattle.off_cpe.proofs.PoolLemmas.{discovered}
+use Rattle.off_cpe.proofs.choosing.choose.Goals as goal
+
+pub returns-in-Some : goal.returns-in-Some
+returns-in-Some c = λ t keeps served.
+    let m = c.args.m.now in
+    let now = c.args.pools.now.at in
+    let case = c.args.case.now in
+    let pool = c.in-Some.pool in
+    let d : is_discover m ≡ true = sym c.is_discover.ensures ∙ c.if-not-is_discover.false in
+    let behind : IsBehind c.args.pools.now.pools c.giaddr.result pool t = record {
+      keeps = keeps;
+      found = ap (λ (n : ℕ). option_map (λ (e : ℕ × Pool). e.1) (find (λ (e : ℕ × Pool). e.1.relay.0 == n) (device_pools t))) c.giaddr.ensures
+          ∙ discovered m (device_pools t) pool d (sym c.in-Some.is ∙ served);
+    } in
+    c.choice.ensures t behind
+    ∙ ap (λ (asked : Option Ip4). choice_by (is_free t now pool) pool case.own asked) (c.at_address.ensures ∙ ap at_address c.address.ensures)
+    ∙ ap (option_and_then (λ (p : Pool). choice_by (is_free t now p) p case.own (at_address (named_address m)))) (sym c.in-Some.is)
+    ∙ ap (λ b. cond b (option_and_then (λ (p : Pool). choice_by (is_free t now p) p case.own (at_address (named_address m))) case.pool) (claimed m)) (sym d)

@@ -1,0 +1,14 @@
+use off_behind::Devices;
+use off_device_runs::DeviceRuns;
+use off_runs::FreeRuns;
+
+/// What is known of the tables without a look at them.
+#[derive(Drop)]
+pub(crate) struct Known<'k> {
+    /// The leases of devices by the modem that they are behind.
+    pub(crate) devices: &'k Devices,
+    /// The pools for devices, with their free addresses.
+    pub(crate) pools: &'k DeviceRuns,
+    /// The pools of modems, with their hubs.
+    pub(crate) modems: &'k FreeRuns,
+}

@@ -1,0 +1,4 @@
+pub mod ListingLemmas
+pub mod SeenLemmas
+pub mod WriteLemmas
+pub mod ReadLemmas
