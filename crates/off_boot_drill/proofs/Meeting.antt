@@ -9,6 +9,7 @@ use Rattle.off_defs.specs.declared.keys.Key.TheVariants as key
 use Rattle.off_defs.specs.declared.tables.Lease.{Lease}
 use Rattle.off_defs.specs.State.{Tables, State, Transfer, peer_cmp}
 use Rattle.off_dhcp.specs.Datagram.{option_in}
+use Rattle.off_asking.specs.Asking.{relayed}
 use Rattle.off_docsis.specs.Cable.{begins_as_modem}
 use Rattle.off_account_rules.specs.Rows.{possible, as_pool, pool_in, lease_in}
 use Rattle.off_table_laws.proofs.Reading.{row_lease}
@@ -88,6 +89,14 @@ no_lease o one e f = let both : None ≡ Some one = sym e ∙ f in cc
 not_none : (o : Option (List ℕ)) (value : List ℕ) → o ≡ Some value → o ≡ None → ⊥
 not_none o value e f = let both : Some value ≡ None = sym e ∙ f in cc
 
+-- the relay names the modem
+no_mac : (o : Option Mac) (one : Mac) → o ≡ Some one → o ≡ None → ⊥
+no_mac o one e f = let both : Some one ≡ None = sym e ∙ f in cc
+
+unnamed : (i : ℕ) → relayed (requested i) ≡ None → ⊥
+unfolding parts_in
+unnamed i none = no_mac (relayed (requested i)) (mac i) refl none
+
 -- ---- the three messages
 
 module _ (n k : ℕ) (few : n ≤ 4000) (more : k < n) where
@@ -118,6 +127,7 @@ module _ (n k : ℕ) (few : n ≤ 4000) (more : k < n) where
     server = inr refl;
     claim = claim_is (suc k) (omega (arith, more, few));
     within = address_within (suc k) (omega arith) (omega (arith, more, few));
+    unset = λ none zero lease there. absurd (unnamed (suc k) none);
   }
 
   -- the address is bound to it

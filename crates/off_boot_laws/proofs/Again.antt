@@ -34,7 +34,9 @@ use Rattle.off_lease_laws.proofs.OutcomeLemmas.{outcome}
 use Rattle.off_lease_laws.proofs.LawLemmas.{messages_do}
 use Rattle.off_lease_laws.proofs.GoodLemmas.{good_agree}
 use Rattle.off_query_rules.specs.Asked.{query_of}
-use Rattle.off_book.specs.Dhcp.{DatagramDid}
+use Rattle.off_cpe_rules.specs.declared.results.DeviceStep.{DeviceStep}
+use Rattle.off_book.specs.Dhcp.{MessageDid, DatagramDid, device_of, device_effect}
+use Rattle.off_laws.proofs.Devices.{device_told, lease_aside}
 use Rattle.off_book.specs.Step.{Step, Does}
 use Rattle.off_book.specs.Run.{Turn, effect_of}
 use Rattle.off_laws.specs.Leases.{TakesMessage, DoesNotServe, moment_of}
@@ -172,23 +174,38 @@ module _ (t : Tables) (now : ℕ) (m : Received) (address : Ip4) (good : Good t)
 
 -- ---- the turn
 
-did_message : (s : State) (bytes : List ℕ) (effect : Effect) (query : Option (List ℕ)) → DatagramDid s bytes effect query
-    → (effect.after.tables ≡ s.tables) ⊎ (effect.after.tables ≡ write_all s.tables (dhcp_step s.tables s.held.now bytes).writes)
-did_message s bytes effect (Some q) did = inl (ap (λ (e : Effect). e.after.tables) did)
-did_message s bytes effect None did = inr (ap (λ (e : Effect). e.after.tables) did)
+-- all leases of modems are as they were
+abbrev LeasesStay : Tables → Tables → Type 0
+LeasesStay t u = (a : Ip4) → lease_in u a ≡ lease_in t a
 
--- a turn that takes a message leaves the tables, or does what the message asks
+stay_in : (s : State) (effect other : Effect) → effect ≡ other → other.after ≡ s → LeasesStay s.tables effect.after.tables
+stay_in s effect other is same a = ap (λ (e : Effect). lease_in e.after.tables a) is ∙ ap (λ (u : State). lease_in u.tables a) same
+
+-- a device's message leaves them
+did_own : (s : State) (bytes : List ℕ) (effect : Effect) (step : Option DeviceStep) → device_of s.tables s.held.now bytes ≡ step → MessageDid s bytes effect step
+    → LeasesStay s.tables effect.after.tables ⊎ (effect.after.tables ≡ write_all s.tables (dhcp_step s.tables s.held.now bytes).writes)
+did_own s bytes effect (Some step) is did =
+    let d = device_told s.tables s.held.now bytes step is in
+    inl (λ a. ap (λ (e : Effect). lease_in e.after.tables a) (did ∙ ap (device_effect s) d.does) ∙ lease_aside s.tables s.held.now d.message d.modem a)
+did_own s bytes effect None is did = inr (ap (λ (e : Effect). e.after.tables) did)
+
+did_message : (s : State) (bytes : List ℕ) (effect : Effect) (query : Option (List ℕ)) → DatagramDid s bytes effect query
+    → LeasesStay s.tables effect.after.tables ⊎ (effect.after.tables ≡ write_all s.tables (dhcp_step s.tables s.held.now bytes).writes)
+did_message s bytes effect (Some q) did = inl (stay_in s effect _ did refl)
+did_message s bytes effect None did = did_own s bytes effect (device_of s.tables s.held.now bytes) refl did
+
+-- a turn that takes a message leaves the leases, or does what the message asks
 does_message : (s : State) (from : Peer) (bytes : List ℕ) (outcome : Outcome) (effect : Effect) → Does s (Datagram Dhcp from bytes) outcome effect
-    → (effect.after.tables ≡ s.tables) ⊎ (effect.after.tables ≡ write_all s.tables (dhcp_step s.tables s.held.now bytes).writes)
+    → LeasesStay s.tables effect.after.tables ⊎ (effect.after.tables ≡ write_all s.tables (dhcp_step s.tables s.held.now bytes).writes)
 does_message s from bytes Did effect does = did_message s bytes effect (query_of bytes) does
-does_message s from bytes Memory effect does = inl (ap (λ (e : Effect). e.after.tables) does)
-does_message s from bytes Keeper effect does = inl (ap (λ (e : Effect). e.after.tables) does)
+does_message s from bytes Memory effect does = inl (stay_in s effect _ does refl)
+does_message s from bytes Keeper effect does = inl (stay_in s effect _ does refl)
 
 turn_message : (s after : State) (turn : Turn) (m : Received) → Step s turn.event turn.outcome (effect_of turn after) → TakesMessage m turn
-    → (after.tables ≡ s.tables) ⊎ (after.tables ≡ write_all s.tables (lease_step s.tables (moment_of s turn) m).writes)
+    → LeasesStay s.tables after.tables ⊎ (after.tables ≡ write_all s.tables (lease_step s.tables (moment_of s turn) m).writes)
 unfolding Step
 turn_message s after turn m step takes =
-    subst (λ (l : LeaseStep). (after.tables ≡ s.tables) ⊎ (after.tables ≡ write_all s.tables l.writes)) (messages_do s.tables (moment_of s turn) takes.bytes m takes.read)
+    subst (λ (l : LeaseStep). LeasesStay s.tables after.tables ⊎ (after.tables ≡ write_all s.tables l.writes)) (messages_do s.tables (moment_of s turn) takes.bytes m takes.read)
     (does_message (at_moment s turn.event.at.0) takes.from takes.bytes turn.outcome (effect_of turn after)
     (subst (λ (what : What). Does (at_moment s turn.event.at.0) what turn.outcome (effect_of turn after)) takes.came step))
 
@@ -197,7 +214,7 @@ module _ (s after : State) (turn : Turn) (mac : Mac) (address : Ip4) (step : Ste
   again_keeps : AsksAgain mac address s turn → KeepsAddress mac address s.tables after.tables
   again_keeps a =
       elim (turn_message s after turn a.message step a.takes) as (λ c. KeepsAddress mac address s.tables after.tables) [
-        | inl same ↦ same_tables mac address s.tables after.tables same owned
+        | inl same ↦ same_lease mac address s.tables after.tables (same address) owned
         | inr written ↦
             subst (λ (u : Tables). KeepsAddress mac address s.tables u) (sym written)
             (subst (λ (w : Mac). KeepsAddress w address s.tables (write_all s.tables (lease_step s.tables (moment_of s turn) a.message).writes)) a.sender

@@ -1,6 +1,7 @@
 pub mod Between
 pub mod Went
 pub mod Pooling
+pub mod Own
 pub mod Messages
 pub mod Again
 pub mod Waiting

@@ -60,6 +60,8 @@ use Rattle.off_laws.specs.Leases.{TakesMessage, moment_of}
 use Rattle.off_boot_laws.proofs.Pooling.{pool_is_found, site_is_found}
 use Rattle.off_boot_laws.specs.Known.{IsOwn, SaysModem, IsOfModem}
 use Rattle.off_boot_laws.specs.Stages.{IsFree, DiscoversAreOffered, RequestsAreAcknowledged}
+use Rattle.off_boot_laws.proofs.Own.{discover_own, request_own}
+use Rattle.off_cpe_rules.specs.Behind.{modem_behind}
 
 none_broken : (rules : List (DhcpWord × Bool)) → AllByRecursion (λ (rule : DhcpWord × Bool). rule.1 ≡ false) rules → refused_by rules ≡ None
 none_broken [] all = refl
@@ -370,11 +372,11 @@ offering_of t now m step (declining was) e = let said = was.said in cc
 offering_of t now m step (releasing was) e = let said = was.said in cc
 
 -- ---- a turn that takes a message and acts on it does what the message asks
-message_acts : (s after : State) (turn : Turn) (m : Received) → Step s turn.event turn.outcome (effect_of turn after) → TakesMessage m turn → turn.outcome ≡ Did → (m.kind == 10) ≡ false
+message_acts : (s after : State) (turn : Turn) (m : Received) → Step s turn.event turn.outcome (effect_of turn after) → TakesMessage m turn → turn.outcome ≡ Did → (m.kind == 10) ≡ false → modem_behind s.tables m ≡ None
     → effect_of turn after ≡ dhcp_effect (at_moment s turn.event.at.0) (lease_step s.tables (moment_of s turn) m)
 unfolding Step
-message_acts s after turn m step takes did other =
-    message_did (at_moment s turn.event.at.0) takes.bytes (effect_of turn after) m takes.read other
+message_acts s after turn m step takes did other own =
+    message_did (at_moment s turn.event.at.0) takes.bytes (effect_of turn after) m takes.read other own
     (subst (λ (o : Outcome). Does (at_moment s turn.event.at.0) (Datagram Dhcp takes.from takes.bytes) o (effect_of turn after)) did
     (subst (λ (what : What). Does (at_moment s turn.event.at.0) what turn.outcome (effect_of turn after)) takes.came step))
     ∙ ap (dhcp_effect (at_moment s turn.event.at.0)) (messages_do s.tables (moment_of s turn) takes.bytes m takes.read)
@@ -392,7 +394,7 @@ opened_of t now mac address (inr free) = inr (ended_of now (lease_in t address) 
 pub discovers_are_offered : DiscoversAreOffered
 unfolding known_of
 discovers_are_offered s after turn m good step well d =
-    let is = message_acts s after turn m step d.takes well.did (ap (λ k. k == 10) d.kind) in
+    let is = message_acts s after turn m step d.takes well.did (ap (λ k. k == 10) d.kind) (discover_own s turn m d) in
     let now = moment_of s turn in
     let said : (lease_step s.tables now m).word ≡ word.Offer = discover_word s.tables now m d.kind (known_of s.tables m good d.known (ap (λ k. (k == 1) || (k == 3)) d.kind) (λ none. absurd (d.told none))) d.address d.within (opened_of s.tables now (client m) d.address d.opens) in
     let one = offers_one s.tables now m (good_agree s.tables good) (lease_step s.tables now m) (offering_of s.tables now m (lease_step s.tables now m) (outcome s.tables now m) said) in
@@ -418,7 +420,7 @@ same_address a b o e f = let both : ◌≡◌ {A = Option Ip4} (Some a) (Some b)
 pub requests_are_acknowledged : RequestsAreAcknowledged
 unfolding known_of
 requests_are_acknowledged s after turn m address good step well r held =
-    let is = message_acts s after turn m step r.takes well.did (ap (λ k. k == 10) r.kind) in
+    let is = message_acts s after turn m step r.takes well.did (ap (λ k. k == 10) r.kind) (request_own s turn m address good r) in
     let now = moment_of s turn in
     let said : (lease_step s.tables now m).word ≡ word.Ack = request_word s.tables now m r.kind (known_of s.tables m good r.known (ap (λ k. (k == 1) || (k == 3)) r.kind) (λ none. ap (λ k. k == 1) r.kind)) address (right_server m r.known.site r.server) r.claim r.within held in
     let acked : IsBoundBy s.tables now m (lease_step s.tables now m) = acks_bind s.tables now m said in

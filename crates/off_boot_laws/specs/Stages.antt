@@ -11,16 +11,18 @@ use Rattle.off_defs.specs.declared.tables.Site.{Site}
 use Rattle.off_defs.specs.declared.tables.Pool.{Pool}
 use Rattle.off_defs.specs.declared.tables.Modem.{Modem}
 use Rattle.off_defs.specs.declared.tables.Lease.{Lease}
+use Rattle.off_defs.specs.declared.tables.DeviceLease.{DeviceLease}
 use Rattle.off_defs.specs.declared.tables.Hold.TheVariants.{Offered}
 use Rattle.off_defs.specs.Clock.{later_by}
 use Rattle.off_defs.specs.State.{Tables, State}
 use Rattle.off_dhcp.specs.Datagram.{Received, option_in}
-use Rattle.off_account_rules.specs.Rows.{site_of, modem_in, lease_in, held_in, has_address}
+use Rattle.off_account_rules.specs.Rows.{site_of, modem_in, lease_in, held_in, device_in, has_address}
 use Rattle.off_account_rules.specs.Good.{Good}
 use Rattle.off_table_laws.specs.Laws.{owner_in}
 use Rattle.off_file_rules.specs.Name.{name_of}
-use Rattle.off_asking.specs.Asking.{client, claimed, named_server}
+use Rattle.off_asking.specs.Asking.{ip, client, claimed, named_server, relayed}
 use Rattle.off_asking.specs.declared.forms.Named.TheVariants.{Absent, At}
+use Rattle.off_cpe_rules.specs.Behind.{modem_for}
 use Rattle.off_lease_rules.specs.Free.{pool_for, site_for}
 use Rattle.off_lease_rules.specs.Steps.{offer_to}
 use Rattle.off_lease_laws.specs.Effects.{lease_until, IsLiveBound}
@@ -76,7 +78,9 @@ DiscoversAreOffered =
     → Step s turn.event turn.outcome (effect_of turn after) → GoesWell turn → Discovers s m turn
     → IsOffered s m turn after
 
--- ---- it requests an address of its relay's pool, in any of the forms, and of this server or none
+-- ---- it requests an address of its relay's pool, in any of the forms, and of this server or none.
+-- Where no relay names it, and it has no address yet, it isn't taken for a device: that has no lease
+-- of 0.0.0.0.
 pub record Requests (s : State) (m : Received) (turn : Turn) (address : Ip4) : Type 0 where
   pub takes : TakesMessage m turn
   pub kind : m.kind ≡ 3
@@ -84,6 +88,8 @@ pub record Requests (s : State) (m : Received) (turn : Turn) (address : Ip4) : T
   pub server : (named_server m ≡ Absent) ⊎ (named_server m ≡ At known.site.server)
   pub claim : claimed m ≡ Some address
   pub within : IsTrue (has_address known.pool address)
+  pub unset : relayed m ≡ None → m.ciaddr ≡ 0 → (lease : DeviceLease)
+      → device_in s.tables (ip 0) ≡ Some lease → modem_for (client m) lease ≡ None
 
 -- and is told that the address is its own for as long as the leases of its hub last
 pub record IsAcknowledged (s : State) (m : Received) (turn : Turn) (address : Ip4) (after : State)

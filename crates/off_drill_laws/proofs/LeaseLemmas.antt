@@ -1,5 +1,5 @@
 -- What the office does with a modem's DISCOVER and with its REQUEST.
-use Rattle.std.proofs.Common.{◌≡◌, ℕ, suc, ◌+◌, ◌-◌, ◌<◌, ◌≤◌, Bool, true, false, cond, not, ◌&&◌, nat_le, leb, eqb, List, [], ◌∷◌, ◌++◌, Option, Some, None, Ok, MatchOption, refl, sym, ap, subst, ◌∙◌, inl, inr, arith}
+use Rattle.std.proofs.Common.{◌≡◌, ℕ, suc, ◌+◌, ◌-◌, ◌<◌, ◌≤◌, Bool, true, false, cond, not, ◌&&◌, nat_le, leb, eqb, List, [], ◌∷◌, ◌++◌, Option, Some, None, is_some, is_err, Ok, MatchOption, refl, sym, ap, subst, ◌∙◌, inl, inr, arith}
 use Rattle.std.proofs.lemmas.Bool.{cases_lt, le-leb, lt-leb, leb-true, and_parts, and_from, eq-eqb}
 use Rattle.std.proofs.lemmas.Slice.Eq.{bytes_eq-Decides}
 use Rattle.std.proofs.lemmas.Nat.{from_be_bytes-to_be_bytes_4}
@@ -14,15 +14,17 @@ use Rattle.off_defs.specs.declared.tables.Lease.{Lease}
 use Rattle.off_defs.specs.declared.tables.Pool.{Pool}
 use Rattle.off_defs.specs.declared.orders.Write.TheVariants.{Put}
 use Rattle.off_defs.specs.State.{Tables}
-use Rattle.off_dhcp.specs.Datagram.{Received, message_fault, message_of}
+use Rattle.off_base.specs.declared.macs.Mac.{Mac}
+use Rattle.off_dhcp.specs.Datagram.{Received, mac_of_client, message_fault, message_of}
 use Rattle.off_dhcp.specs.Reply.{zeros, four, option}
 use Rattle.off_docsis.specs.Cable.{begins_as_modem}
-use Rattle.off_account_rules.specs.Rows.{passes, has_address, lease_in, held_in}
+use Rattle.off_account_rules.specs.Rows.{passes, has_address, modem_in, lease_in, held_in}
 use Rattle.off_account_rules.specs.Good.{is_address}
 use Rattle.off_table_laws.proofs.Reading.{row_lease, row_held}
 use Rattle.off_defs.specs.Tables.{with_row}
 use Rattle.off_defs.proofs.TableLemmas.{row_with_here}
-use Rattle.off_asking.specs.Asking.{claimed}
+use Rattle.off_asking.specs.Asking.{claimed, relay_parts, relayed}
+use Rattle.off_cpe_rules.specs.Behind.{modem_by, modem_behind}
 use Rattle.off_lease_rules.specs.Free.{case_of, has_ended, is_free, least_free, chosen_in}
 use Rattle.off_asking.specs.Claims.{claims_wrongly, refused_by}
 use Rattle.off_lease_rules.specs.Rules.{rules_for}
@@ -63,6 +65,23 @@ read_discover i = refl
 pub read_request : (i : ℕ) → message_of (request i) ≡ Ok (requested i)
 unfolding request message_fault parts_in
 read_request i = refl
+
+-- and no device's: the relay names the modem itself
+own_relayed : (t : Tables) (m : Received) (remote : Mac) → relayed m ≡ Some remote → remote.0 ≡ mac_of_client m → modem_behind t m ≡ None
+unfolding modem_behind
+own_relayed t m remote named own =
+    elim (is_err (relay_parts m)) as (λ b. cond b None (modem_by t m (relayed m)) ≡ None) [
+      | true ↦ refl
+      | false ↦ ap (modem_by t m) named ∙ ap (λ b. cond (not b && is_some (modem_in t remote)) (Some remote) None) ((bytes_eq-Decides remote.0 (mac_of_client m)).1 own)
+    ]
+
+pub own_discover : (t : Tables) (i : ℕ) → modem_behind t (discovered i) ≡ None
+unfolding parts_in
+own_discover t i = own_relayed t (discovered i) (mac i) refl refl
+
+pub own_request : (t : Tables) (i : ℕ) → modem_behind t (requested i) ≡ None
+unfolding parts_in
+own_request t i = own_relayed t (requested i) (mac i) refl refl
 
 -- ---- rules, none of which is broken
 

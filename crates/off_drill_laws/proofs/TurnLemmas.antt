@@ -1,5 +1,5 @@
 -- Each event of a drill at its stage is one effect.
-use Rattle.std.proofs.Common.{◌≡◌, ℕ, suc, ◌+◌, ◌<◌, ◌≤◌, max, Bool, true, false, List, [], length, None, refl, ap, subst, ◌∙◌, arith}
+use Rattle.std.proofs.Common.{◌≡◌, ℕ, suc, ◌+◌, ◌<◌, ◌≤◌, max, Bool, true, false, ◌==◌, List, [], length, None, Ok, refl, ap, subst, ◌∙◌, arith}
 use Rattle.std.specs.FinMap as map
 use Rattle.off_base.specs.declared.addresses.Peer.{Peer}
 use Rattle.off_defs.specs.declared.events.What.TheVariants.{Datagram}
@@ -15,18 +15,19 @@ use Rattle.off_lease_rules.specs.declared.results.LeaseStep.{LeaseStep}
 use Rattle.off_transfer_rules.specs.Steps.{Given, gives, TftpStep}
 use Rattle.off_transfer_rules.specs.Transfers.{Transfers}
 use Rattle.off_transfer_rules.specs.declared.words.TftpWord.TheVariants as word
-use Rattle.off_query_rules.specs.Asked.{query_of}
-use Rattle.off_book.specs.Dhcp.{DatagramDid, dhcp_said, dhcp_effect}
+use Rattle.off_dhcp.specs.Datagram.{Received, message_of}
+use Rattle.off_cpe_rules.specs.Behind.{modem_behind}
+use Rattle.off_book.specs.Dhcp.{dhcp_said, dhcp_effect}
 use Rattle.off_book.specs.Step.{Step}
 use Rattle.off_book.specs.Tftp.{transfers_effect, tftp_said}
-use Rattle.off_query_laws.proofs.KindLemmas.{no_query}
+use Rattle.off_laws.proofs.Messages.{message_did}
 use Rattle.off_drill_rules.specs.Rows.{moment, mac, address, is_active, lease, drill_tables}
 use Rattle.off_drill_rules.specs.Messages.{by_relay, by_modem, discover, request, read_request, acknowledgement}
 use Rattle.off_drill_rules.specs.Events.{asks_for_offer, asks_for_lease, asks_for_file, acknowledges, blocks_of}
 use Rattle.off_drill_rules.specs.Law.{held_behind, drill_state}
 use Rattle.off_drill_laws.specs.Stages.{offered_lease, offered_tables, offered_state, moving, moving_state, file_size}
 use Rattle.off_drill_laws.proofs.RowLemmas.{one_more}
-use Rattle.off_drill_laws.proofs.LeaseLemmas.{discovered, requested, read_discover as reads_discover, read_request as reads_request, offer_step, offer_is, ack_step, ack_is}
+use Rattle.off_drill_laws.proofs.LeaseLemmas.{discovered, requested, read_discover as reads_discover, read_request as reads_request, own_discover, own_request, offer_step, offer_is, ack_step, ack_is}
 use Rattle.off_drill_laws.proofs.PacketLemmas.{transfers_with, last_of, read_is, next_is, last_ends}
 
 -- an office without connections
@@ -34,14 +35,15 @@ abbrev held_with : ℕ → Transfers → Held
 held_with now transfers = record { now = now; transfers = transfers; connections = map.empty }
 
 -- a message does what it does at its own moment, which is no earlier than the office's
-message_turn : (t : Tables) (now at : ℕ) (from : Peer) (bytes : List ℕ) (step : LeaseStep) (effect : Effect) → now ≤ at → query_of bytes ≡ None → dhcp_step t at bytes ≡ step
+message_turn : (t : Tables) (now at : ℕ) (from : Peer) (bytes : List ℕ) (m : Received) (step : LeaseStep) (effect : Effect) → now ≤ at → message_of bytes ≡ Ok m → (m.kind == 10) ≡ false
+    → modem_behind t m ≡ None → dhcp_step t at bytes ≡ step
     → Step (state_of t (held_with now map.empty)) (record { at = record { 0 = at }; what = Datagram Dhcp from bytes }) Did effect
     → effect ≡ dhcp_effect (state_of t (held_with at map.empty)) step
 unfolding Step
-message_turn t now at from bytes step effect later other is did =
+message_turn t now at from bytes m step effect later read other own is did =
     let same : max now at ≡ at = omega (arith, later) in
-    subst (DatagramDid (at_moment (state_of t (held_with now map.empty)) at) bytes effect) other did
-    ∙ ap (λ (m : ℕ). dhcp_effect (state_of t (held_with m map.empty)) (dhcp_step t m bytes)) same
+    message_did (at_moment (state_of t (held_with now map.empty)) at) bytes effect m read other own did
+    ∙ ap (λ (n : ℕ). dhcp_effect (state_of t (held_with n map.empty)) (dhcp_step t n bytes)) same
     ∙ ap (dhcp_effect (state_of t (held_with at map.empty))) is
 
 -- and so does a packet
@@ -69,7 +71,7 @@ module _ (n k : ℕ) (more : k < n) (few : n ≤ 4000) where
   pub discover_turn : (effect : Effect) → Step (drill_state n k) (asks_for_offer (suc k)) Did effect
       → (effect.said ≡ dhcp_said (offer_step (suc k))) × (effect.after ≡ offered_state n k)
   discover_turn effect did =
-      let e = message_turn (drill_tables n k) (moment k) (moment (suc k)) by_relay (discover (suc k)) (offer_step (suc k)) effect (omega arith) (no_query (discover (suc k)) (discovered (suc k)) (reads_discover (suc k)) refl) (offer_is n k more few) did in (
+      let e = message_turn (drill_tables n k) (moment k) (moment (suc k)) by_relay (discover (suc k)) (discovered (suc k)) (offer_step (suc k)) effect (omega arith) (reads_discover (suc k)) refl (own_discover (drill_tables n k) (suc k)) (offer_is n k more few) did in (
         ap (λ (f : Effect). f.said) e,
         ap (λ (f : Effect). f.after) e
             ∙ ap (λ (m : ℕ).
@@ -82,7 +84,7 @@ module _ (n k : ℕ) (more : k < n) (few : n ≤ 4000) where
   pub request_turn : (effect : Effect) → Step (offered_state n k) (asks_for_lease (suc k)) Did effect
       → (effect.said ≡ dhcp_said (ack_step (suc k))) × (effect.after ≡ drill_state n (suc k))
   request_turn effect did =
-      let e = message_turn (offered_tables n k) (moment (suc k)) (moment (suc k)) by_relay (request (suc k)) (ack_step (suc k)) effect (omega arith) (no_query (request (suc k)) (requested (suc k)) (reads_request (suc k)) refl) (ack_is n k more few) did in (
+      let e = message_turn (offered_tables n k) (moment (suc k)) (moment (suc k)) by_relay (request (suc k)) (requested (suc k)) (ack_step (suc k)) effect (omega arith) (reads_request (suc k)) refl (own_request (offered_tables n k) (suc k)) (ack_is n k more few) did in (
         ap (λ (f : Effect). f.said) e,
         ap (λ (f : Effect). f.after) e
             ∙ ap (λ (m : ℕ).

@@ -1,5 +1,5 @@
--- What writes no batch: messages of clients, and each command of a clerk but an import.
-use Rattle.std.proofs.Common.{◌≡◌, ℕ, Bool, true, false, cond, ◌&&◌, eqb, Option, None, Some, List, [], ◌∷◌, ◌++◌, Result, Ok, Err, refl, ap, ◌∙◌, arith}
+-- What writes no batch: messages of modems and of devices, and each command of a clerk but an import.
+use Rattle.std.proofs.Common.{◌≡◌, ℕ, Bool, true, false, cond, ◌&&◌, eqb, Option, None, Some, List, [], ◌∷◌, ◌++◌, map, Result, Ok, Err, refl, ap, ◌∙◌, arith}
 use Rattle.std.proofs.lemmas.Bool.{and_parts}
 use Rattle.std.specs.List.{list_all, flat_map}
 use Rattle.off_base.specs.declared.addresses.Ip4.{Ip4}
@@ -8,8 +8,9 @@ use Rattle.off_defs.specs.declared.keys.Key.{Key}
 use Rattle.off_defs.specs.declared.keys.Key.TheVariants as key
 use Rattle.off_defs.specs.declared.tables.Row.TheVariants as row
 use Rattle.off_defs.specs.declared.tables.Lease.{Lease}
+use Rattle.off_defs.specs.declared.tables.DeviceLease.{DeviceLease}
 use Rattle.off_defs.specs.declared.orders.Command.{Command}
-use Rattle.off_defs.specs.declared.orders.Command.TheVariants.{PutHub, PutSubscriber, PutAddOn, PutModem, PutClass, PutPool, Remove, Show, Import}
+use Rattle.off_defs.specs.declared.orders.Command.TheVariants.{PutHub, PutSubscriber, PutAddOn, PutModem, PutClass, PutPool, PutDevicePool, Remove, Show, Import}
 use Rattle.off_defs.specs.declared.orders.ImportRow.{ImportRow}
 use Rattle.off_defs.specs.declared.orders.ImportRow.TheVariants as imported
 use Rattle.off_defs.specs.declared.orders.Write.{Write}
@@ -19,10 +20,16 @@ use Rattle.off_dhcp.specs.declared.faults.DhcpFault.{DhcpFault}
 use Rattle.off_dhcp.specs.Datagram.{Received, message_of}
 use Rattle.off_rows.specs.Sound.{is_sound, is_removable}
 use Rattle.off_account_rules.specs.Good.{owner_of}
-use Rattle.off_account_rules.specs.Clerk.{held_drop, lease_drops, lost_leases, pool_hub_write, removal_writes, writes_of, row_writes}
+use Rattle.off_account_rules.specs.Clerk.{held_drop, lease_drops, device_drop, lost_leases, lost_devices, pool_hub_write, removal_writes, writes_of, row_writes}
 use Rattle.off_table_laws.proofs.Rows.{Rows, row_written, rows_after}
 use Rattle.off_lease_rules.specs.Steps.{step_of, dhcp_step}
 use Rattle.off_lease_laws.proofs.KindLemmas.{is_lease_write, kinds}
+use Rattle.off_account_rules.specs.Rows.{devices}
+use Rattle.off_asking.specs.Asking.{client}
+use Rattle.off_cpe_rules.specs.Behind.{own_among}
+use Rattle.off_cpe_rules.specs.Steps.{own_elsewhere, step_behind}
+use Rattle.off_cpe_rules.specs.Steps.{device_drop as own_drop}
+use Rattle.off_cpe_laws.proofs.WriteLemmas.{nothing, gives, rests, frees, wrote}
 use Rattle.off_import_runs.specs.Puts.{puts_of, puts_in}
 
 pub is_aside : Write → Bool
@@ -107,6 +114,22 @@ pub message_aside : (t : Tables) (now : ℕ) (bytes : List ℕ) → AreAside (dh
 unfolding dhcp_step
 message_aside t now bytes = read_aside t now (message_of bytes)
 
+-- so are those of a device's message
+given_aside : (o : Option Ip4) (address : Ip4) (lease : DeviceLease) → AreAside (own_drop o ++ Put (key.Device address) (row.Device lease) ∷ [])
+unfolding is_aside
+given_aside None address lease = refl
+given_aside (Some other) address lease = refl
+
+pub device_aside : (t : Tables) (now : ℕ) (m : Received) (modem : Mac) → AreAside (step_behind t now m modem).writes
+unfolding is_aside
+device_aside t now m modem =
+    elim (wrote t now m modem) as (λ w. AreAside (step_behind t now m modem).writes) [
+      | nothing e ↦ ap (list_all is_aside) e
+      | gives a lease is within e ↦ ap (list_all is_aside) e ∙ given_aside (own_elsewhere a (own_among modem (client m) (devices t))) a lease
+      | rests a lease is own e ↦ ap (list_all is_aside) e
+      | frees a e ↦ ap (list_all is_aside) e
+    ]
+
 -- so do the drops of lost leases
 drop_aside : (address : Ip4) (owner : Option Mac) → AreAside (Drop (key.Lease address) ∷ held_drop owner)
 unfolding is_aside
@@ -116,6 +139,11 @@ drop_aside address (Some mac) = refl
 drops_aside : (es : List (Ip4 × Lease)) → AreAside (flat_map lease_drops es)
 drops_aside [] = refl
 drops_aside (e ∷ es) = aside_both (lease_drops e) (flat_map lease_drops es) (drop_aside e.0 (owner_of e.1.hold)) (drops_aside es)
+
+devices_aside : (es : List (Ip4 × DeviceLease)) → AreAside (map device_drop es)
+unfolding is_aside
+devices_aside [] = refl
+devices_aside (e ∷ es) = devices_aside es
 
 -- so does a pool with its hub, put or dropped
 pool_aside : (n hub : ℕ) (writes : List Write) → AreAside writes → AreAside (pool_hub_write n hub ∷ writes)
@@ -134,6 +162,7 @@ removal_aside t (key.Modem mac) sound = refl
 removal_aside t (key.Class n) sound = refl
 removal_aside t (key.Pool n) sound = drops_aside (lost_leases t n None)
 removal_aside t (key.Hub n) sound = refl
+removal_aside t (key.DevicePool n) sound = devices_aside (lost_devices t n None)
 removal_aside t removed sound = cc
 
 pub command_aside : (t : Tables) (command : Command) → is_sound command ≡ true → AreAside (writes_of t command)
@@ -144,6 +173,7 @@ command_aside t (PutAddOn n number settings) sound = refl
 command_aside t (PutModem mac modem) sound = refl
 command_aside t (PutClass n class) sound = refl
 command_aside t (PutPool n pool hub) sound = pool_aside n hub (flat_map lease_drops (lost_leases t n (Some pool))) (drops_aside (lost_leases t n (Some pool)))
+command_aside t (PutDevicePool n pool) sound = devices_aside (lost_devices t n (Some pool))
 command_aside t (Remove removed) sound = removal_aside t removed sound
 command_aside t (Show shown) sound = refl
 command_aside t (Import kind batch digest rows) sound = refl

@@ -9,7 +9,7 @@ use Rattle.off_defs.specs.declared.tables.Row.TheVariants as row
 use Rattle.off_defs.specs.declared.tables.Batch.{Batch}
 use Rattle.off_defs.specs.declared.tables.ImportKind.{ImportKind}
 use Rattle.off_defs.specs.declared.orders.Command.{Command}
-use Rattle.off_defs.specs.declared.orders.Command.TheVariants.{PutHub, PutSubscriber, PutAddOn, PutModem, PutClass, PutPool, Remove, Show, Import}
+use Rattle.off_defs.specs.declared.orders.Command.TheVariants.{PutHub, PutSubscriber, PutAddOn, PutModem, PutClass, PutPool, PutDevicePool, Remove, Show, Import}
 use Rattle.off_defs.specs.declared.orders.ImportRow.{ImportRow}
 use Rattle.off_defs.specs.declared.orders.Kind.TheVariants.{Batches}
 use Rattle.off_defs.specs.declared.orders.Reply.{Reply}
@@ -167,4 +167,5 @@ module _ (n : ℕ) where
   command_fate t now (PutModem mac modem) sound = ruled_aside t now (PutModem mac modem) sound
   command_fate t now (PutClass m class) sound = ruled_aside t now (PutClass m class) sound
   command_fate t now (PutPool m pool hub) sound = ruled_aside t now (PutPool m pool hub) sound
+  command_fate t now (PutDevicePool m pool) sound = ruled_aside t now (PutDevicePool m pool) sound
   command_fate t now (Remove removed) sound = ruled_aside t now (Remove removed) sound

@@ -12,14 +12,15 @@ use Rattle.off_http.specs.Request.{Meaning, Waits, Refused, Asked, RequestIs}
 use Rattle.off_clerk_rules.specs.declared.faults.ClerkErr.{ClerkErr}
 use Rattle.off_clerk_rules.specs.Commands.{command_read}
 use Rattle.off_lease_rules.specs.Steps.{dhcp_step}
+use Rattle.off_cpe_rules.specs.Steps.{step_behind}
 use Rattle.off_book.specs.Http.{heard_of, answer_request, answered, by_meaning, is_full, TakesPiece}
 use Rattle.off_book.specs.Run.{Turn, effect_of}
 use Rattle.off_laws.proofs.Answers.{request_writes}
-use Rattle.off_laws.proofs.Ways.{Way, stays, serves, forgets, hears, answers, messages, way}
+use Rattle.off_laws.proofs.Ways.{Way, stays, serves, forgets, hears, answers, messages, devices, way}
 use Rattle.off_import_runs.specs.Puts.{puts_in}
 use Rattle.off_import_runs.specs.Once.{IsPutBy}
 use Rattle.off_import_runs.specs.Laws.{OnlyImportsPut}
-use Rattle.off_import_runs.proofs.Asides.{unput, message_aside}
+use Rattle.off_import_runs.proofs.Asides.{unput, message_aside, device_aside}
 use Rattle.off_import_runs.proofs.Turns.{IsReadAs, request_fate, moment, IsStep, DoesAs, step_does, none_or_done}
 
 -- a request that is read as an import of the batch
@@ -98,6 +99,9 @@ module _ (s after : State) (turn : Turn) (n : ℕ) where
   by_way step (messages from bytes came acted is) =
       inl (ap (λ (e : Effect). puts_in n e.commit) is
       ∙ unput n (dhcp_step s.tables (moment s after turn).held.now bytes).writes (message_aside s.tables (moment s after turn).held.now bytes))
+  by_way step (devices from bytes m modem came acted read behind is) =
+      inl (ap (λ (e : Effect). puts_in n e.commit) is
+      ∙ unput n (step_behind s.tables (moment s after turn).held.now m modem).writes (device_aside s.tables (moment s after turn).held.now m modem))
 
 pub only_imports_put : OnlyImportsPut
 only_imports_put s after turn n step =

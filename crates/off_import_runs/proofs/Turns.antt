@@ -24,17 +24,18 @@ use Rattle.off_clerk_rules.specs.Commands.{command_read}
 use Rattle.off_table_laws.proofs.Rows as rows
 use Rattle.off_table_laws.proofs.Rows.{all_written}
 use Rattle.off_lease_rules.specs.Steps.{dhcp_step}
+use Rattle.off_cpe_rules.specs.Steps.{step_behind}
 use Rattle.off_book.specs.Http.{Answered, heard_of, answer_done, answer_fault, answer_step, answer_command, answer_request, answered, by_meaning, is_full, TakesPiece}
 use Rattle.off_book.specs.Step.{Step, Does}
 use Rattle.off_book.specs.Run.{Turn, effect_of}
 use Rattle.off_laws.proofs.Answers.{WritesNothingOrDone, request_writes}
 use Rattle.off_laws.proofs.Requests.{MayBe, request_may}
 use Rattle.off_laws.proofs.StepLaws.{tables_by_commit}
-use Rattle.off_laws.proofs.Ways.{Way, stays, serves, forgets, hears, answers, messages, way}
+use Rattle.off_laws.proofs.Ways.{Way, stays, serves, forgets, hears, answers, messages, devices, way}
 use Rattle.off_import_runs.specs.Puts.{puts_in, put_of, PutOnce}
 use Rattle.off_import_runs.specs.Asked.{AsksImport}
 use Rattle.off_import_runs.specs.Once.{IsRepeated}
-use Rattle.off_import_runs.proofs.Asides.{message_aside}
+use Rattle.off_import_runs.proofs.Asides.{message_aside, device_aside}
 use Rattle.off_import_runs.proofs.Decisions.{batch_read, none_put, Acts, aside_acts, IsImportOf, DecisionFate, command_fate}
 use Rattle.off_import_runs.proofs.Answers.{is_same, same_is, is_same_of, repeated_answer, DoneAs, done_answer, whole_answer}
 
@@ -81,6 +82,9 @@ module _ (n : ℕ) where
   way_acts s what outcome effect (messages from bytes came acted is) =
       subst (λ (e : Effect). Acts n (row_at s.tables) e.commit) (sym is)
       (aside_acts n (row_at s.tables) (dhcp_step s.tables s.held.now bytes).writes (message_aside s.tables s.held.now bytes))
+  way_acts s what outcome effect (devices from bytes m modem came acted read behind is) =
+      subst (λ (e : Effect). Acts n (row_at s.tables) e.commit) (sym is)
+      (aside_acts n (row_at s.tables) (step_behind s.tables s.held.now m modem).writes (device_aside s.tables s.held.now m modem))
 
   pub turn_acts : (s after : State) (turn : Turn) → Step s turn.event turn.outcome (effect_of turn after)
       → PutOnce (batch_in s.tables n) (batch_in after.tables n) (puts_in n turn.commit)

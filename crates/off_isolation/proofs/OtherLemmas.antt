@@ -43,7 +43,11 @@ use Rattle.off_transfer_laws.proofs.StepLaws.{answers_go_back}
 use Rattle.off_book.specs.Http.{heard_of, by_meaning, is_full, TakesPiece}
 use Rattle.off_query_rules.specs.Asked.{query_of}
 use Rattle.off_query_rules.specs.Answers.{query_step}
-use Rattle.off_book.specs.Dhcp.{DatagramDid, replies_of}
+use Rattle.off_cpe_rules.specs.Steps.{step_behind}
+use Rattle.off_cpe_rules.specs.declared.results.DeviceStep.{DeviceStep}
+use Rattle.off_book.specs.Dhcp.{MessageDid, DatagramDid, device_of, device_effect, replies_of}
+use Rattle.off_laws.proofs.Devices.{device_told}
+use Rattle.off_laws.proofs.Replies.{device_goes}
 use Rattle.off_book.specs.Tftp.{TftpDid}
 use Rattle.off_book.specs.Step.{Step, Does}
 use Rattle.off_book.specs.Run.{effect_of}
@@ -90,7 +94,7 @@ unfolding lease_step
 message_quiet ip t now (Ok m) = settled_quiet ip m (case_of t m) now _ _
 message_quiet ip t now (Err f) = refl
 
--- nor does an answer to a query go from it
+-- nor does an answer to a query go from it, or to a device's message
 reply_quiet : (ip : Ip4) (reply : Option Sent) → IsOfDhcp reply → Quiet ip (replies_of reply)
 reply_quiet ip None goes = refl
 reply_quiet ip (Some (sent.Datagram Dhcp to bytes)) goes = refl
@@ -237,11 +241,19 @@ piece_else ip s conn piece effect true takes = quietly ip s (Piece conn piece) e
 piece_else ip s conn piece effect false takes =
     quietly ip s (Piece conn piece) effect _ takes.does (meaning_quiet ip s conn (heard_of s.held conn ++ piece) takes.meaning)
 
+message_else : (ip : Ip4) (s : State) (from : Peer) (bytes : List ℕ) (effect : Effect) (step : Option DeviceStep) → device_of s.tables s.held.now bytes ≡ step → MessageDid s bytes effect step
+    → Else ip s (Datagram Dhcp from bytes) effect
+message_else ip s from bytes effect (Some step) is did =
+    let d = device_told s.tables s.held.now bytes step is in
+    quietly ip s (Datagram Dhcp from bytes) effect _ (did ∙ ap (device_effect s) d.does)
+    (reply_quiet ip (step_behind s.tables s.held.now d.message d.modem).reply (device_goes s.tables s.held.now d.message d.modem))
+message_else ip s from bytes effect None is did = quietly ip s (Datagram Dhcp from bytes) effect _ did (dhcp_quiet ip s.tables s.held.now bytes)
+
 datagram_else : (ip : Ip4) (s : State) (from : Peer) (bytes : List ℕ) (effect : Effect) (query : Option (List ℕ)) → DatagramDid s bytes effect query
     → Else ip s (Datagram Dhcp from bytes) effect
 datagram_else ip s from bytes effect (Some q) did =
     quietly ip s (Datagram Dhcp from bytes) effect _ did (reply_quiet ip (query_step s.tables s.held.now q).reply (reply_goes s.tables s.held.now q))
-datagram_else ip s from bytes effect None did = quietly ip s (Datagram Dhcp from bytes) effect _ did (dhcp_quiet ip s.tables s.held.now bytes)
+datagram_else ip s from bytes effect None did = message_else ip s from bytes effect (device_of s.tables s.held.now bytes) refl did
 
 does_else : (ip : Ip4) (s : State) (what : What) (outcome : Outcome) (effect : Effect) → Does s what outcome effect
     → happening_by ip what outcome effect.said.line ≡ None → Else ip s what effect

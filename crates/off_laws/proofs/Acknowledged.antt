@@ -1,5 +1,5 @@
 -- What a turn acknowledges is the client's from then on.
-use Rattle.std.proofs.Common.{◌≡◌, ℕ, List, [], ◌∷◌, Option, Some, None, Ok, codes, refl, sym, ap, subst, ◌∙◌}
+use Rattle.std.proofs.Common.{◌≡◌, ◌≢◌, ◌⊎◌, inl, inr, ℕ, List, [], ◌∷◌, Option, Some, None, Ok, codes, refl, sym, ap, subst, ◌∙◌}
 use Rattle.std.specs.Prelude.{bytes_eq}
 use Rattle.std.specs.List.{find}
 use Rattle.off_base.specs.declared.addresses.Peer.{Peer}
@@ -22,10 +22,13 @@ use Rattle.off_query_rules.specs.Asked.{query_of}
 use Rattle.off_query_rules.specs.Answers.{query_step}
 use Rattle.off_query_rules.specs.declared.words.QueryWord.{QueryWord}
 use Rattle.off_query_rules.specs.declared.words.QueryWord.TheVariants as query
-use Rattle.off_book.specs.Dhcp.{DatagramDid, replies_of, dhcp_line, dhcp_effect, query_line}
+use Rattle.off_cpe_rules.specs.declared.results.DeviceStep.{DeviceStep}
+use Rattle.off_cpe_rules.specs.declared.words.DeviceWord.{DeviceWord}
+use Rattle.off_cpe_rules.specs.declared.words.DeviceWord.TheVariants as device
+use Rattle.off_book.specs.Dhcp.{MessageDid, DatagramDid, device_of, device_line, replies_of, dhcp_line, dhcp_effect, query_line}
 use Rattle.off_book.specs.Step.{Step, Does}
 use Rattle.off_book.specs.Run.{Turn, effect_of}
-use Rattle.off_laws.specs.Leases.{LinesTellWords, QueriesSayNone, AcknowledgedIsGiven, moment_of}
+use Rattle.off_laws.specs.Leases.{LinesTellWords, QueriesSayNone, DevicesSayNone, AcknowledgedIsGiven, moment_of}
 use Rattle.off_laws.proofs.Lines.{other_byte, line_is}
 use Rattle.off_laws.proofs.StepLaws.{step_good}
 use Rattle.off_laws.proofs.Outlasting.{bindings_outlast}
@@ -110,16 +113,54 @@ queries_say_none said other same =
     let both : ◌≡◌ {A = Option DhcpWord} None (Some other) = sym (no_words said) ∙ ap word_with same ∙ found other in
     cc
 
--- a datagram whose line has a message's word was taken as a message
-pub message_acted : (s : State) (bytes : List ℕ) (effect : Effect) (said : DhcpWord) (asked : Option (List ℕ)) → DatagramDid s bytes effect asked → effect.said.line ≡ dhcp_line said
+-- a line of a device's is a modem's only where the message is of a kind that isn't served
+abbrev FindsNone : DeviceWord → Type 0
+FindsNone said = (word_with (device_line said) ≡ None) ⊎ (word_with (device_line said) ≡ Some word.NotServed)
+
+few_words : (said : DeviceWord) → FindsNone said
+unfolding word_with words
+few_words device.Offer = inl refl
+few_words device.Ack = inl refl
+few_words device.Declined = inl refl
+few_words device.Released = inl refl
+few_words device.NotServed = inr refl
+few_words device.Form = inl refl
+few_words device.NoPool = inl refl
+few_words device.Suspended = inl refl
+few_words device.Offline = inl refl
+few_words device.OtherServer = inl refl
+few_words device.Limit = inl refl
+few_words device.PoolFull = inl refl
+few_words device.NoRecord = inl refl
+few_words device.NotYours = inl refl
+
+few_lines : (said : DeviceWord) (other : DhcpWord) → other ≢ word.NotServed → device_line said ≡ dhcp_line other → FindsNone said → ⊥
+few_lines said other apart same (inl none) =
+    let both : ◌≡◌ {A = Option DhcpWord} None (Some other) = sym none ∙ ap word_with same ∙ found other in
+    cc
+few_lines said other apart same (inr one) =
+    let both : ◌≡◌ {A = Option DhcpWord} (Some word.NotServed) (Some other) = sym one ∙ ap word_with same ∙ found other in
+    let is : other ≡ word.NotServed = cc in
+    apart is
+
+pub devices_say_none : DevicesSayNone
+devices_say_none said other apart same = few_lines said other apart same (few_words said)
+
+-- a datagram whose line has a word of modems alone was taken as a modem's message
+message_acted : (s : State) (bytes : List ℕ) (effect : Effect) (said : DhcpWord) (step : Option DeviceStep) → said ≢ word.NotServed → MessageDid s bytes effect step → effect.said.line ≡ dhcp_line said
     → effect ≡ dhcp_effect s (dhcp_step s.tables s.held.now bytes)
-message_acted s bytes effect said (Some q) does line = absurd (queries_say_none (query_step s.tables s.held.now q).word said (sym (line_is effect _ does) ∙ line))
-message_acted s bytes effect said None does line = does
+message_acted s bytes effect said (Some step) apart does line = absurd (devices_say_none step.word said apart (sym (line_is effect _ does) ∙ line))
+message_acted s bytes effect said None apart does line = does
+
+pub datagram_acted : (s : State) (bytes : List ℕ) (effect : Effect) (said : DhcpWord) (asked : Option (List ℕ)) → said ≢ word.NotServed → DatagramDid s bytes effect asked
+    → effect.said.line ≡ dhcp_line said → effect ≡ dhcp_effect s (dhcp_step s.tables s.held.now bytes)
+datagram_acted s bytes effect said (Some q) apart does line = absurd (queries_say_none (query_step s.tables s.held.now q).word said (sym (line_is effect _ does) ∙ line))
+datagram_acted s bytes effect said None apart does line = message_acted s bytes effect said (device_of s.tables s.held.now bytes) apart does line
 
 -- a turn that acknowledges was acted on
 acted_on : (s : State) (from : Peer) (bytes : List ℕ) (outcome : Outcome) (effect : Effect) → Does s (Datagram Dhcp from bytes) outcome effect
     → effect.said.line ≡ codes "dhcp ack" → effect ≡ dhcp_effect s (dhcp_step s.tables s.held.now bytes)
-acted_on s from bytes Did effect does line = message_acted s bytes effect word.Ack (query_of bytes) does line
+acted_on s from bytes Did effect does line = datagram_acted s bytes effect word.Ack (query_of bytes) (λ same. cc) does line
 acted_on s from bytes Memory effect does line = absurd (other_byte (codes "dhcp memory") (codes "dhcp ack") refl (sym (line_is effect _ does) ∙ line))
 acted_on s from bytes Keeper effect does line = absurd (other_byte (codes "dhcp keeper") (codes "dhcp ack") refl (sym (line_is effect _ does) ∙ line))
 

@@ -16,7 +16,7 @@ use Rattle.off_http.specs.Request.{Meaning, Waits, Refused, Asked}
 use Rattle.off_book.specs.Http.{most_connections, by_meaning, is_full, TakesPiece}
 use Rattle.off_book.specs.Step.{Step, Does}
 use Rattle.off_laws.specs.Laws.{is_answer, ends_connection, AnsweredOnce}
-use Rattle.off_laws.proofs.Ways.{Way, stays, serves, forgets, hears, answers, messages, way}
+use Rattle.off_laws.proofs.Ways.{Way, stays, serves, forgets, hears, answers, messages, devices, way}
 
 -- few connections stay few
 abbrev Connections : Type 0
@@ -45,6 +45,7 @@ way_few s what outcome effect (serves transfers is none) few = subst (λ (u : St
 way_few s what outcome effect (forgets conn is none) few = subst (λ (u : State). AreFew u) (sym is) (removed_few s.held.connections conn few)
 way_few s what outcome effect (hears conn bytes room is none) few = subst (λ (u : State). AreFew u) (sym is) (inserted_few s.held.connections conn bytes room few)
 way_few s what outcome effect (messages from bytes came acted is) few = subst (λ (e : Effect). AreFew e.after) (sym is) few
+way_few s what outcome effect (devices from bytes m modem came acted read behind is) few = subst (λ (u : State). AreFew u) (ap (λ (e : Effect). e.after) (sym is)) few
 way_few s what outcome effect (answers conn piece method target body came acted is) few =
     subst (λ (e : Effect). AreFew e.after) (sym is) (removed_few s.held.connections conn few)
 

@@ -6,7 +6,8 @@ use Rattle.off_defs.specs.declared.events.What.TheVariants.{Datagram, Piece, Clo
 use Rattle.off_defs.specs.declared.results.Outcome.TheVariants.{Did}
 use Rattle.off_defs.specs.State.{State, Effect, at_moment}
 use Rattle.off_http.specs.Request.{Meaning, RequestIs}
-use Rattle.off_book.specs.Dhcp.{DatagramDid, query_effect, dhcp_effect}
+use Rattle.off_cpe_rules.specs.declared.results.DeviceStep.{DeviceStep}
+use Rattle.off_book.specs.Dhcp.{MessageDid, DatagramDid, device_of, device_effect, query_effect, dhcp_effect}
 use Rattle.off_lease_rules.specs.Steps.{dhcp_step}
 use Rattle.off_query_rules.specs.Asked.{query_of}
 use Rattle.off_query_rules.specs.Answers.{query_step}
@@ -27,9 +28,13 @@ piece_some false s conn piece heard same says = (
   record { meaning = says.0; says = subst (λ (x : List ℕ). RequestIs x says.0) same says.1; does = refl },
 )
 
+message_some : (s : State) (bytes : List ℕ) (step : Option DeviceStep) → (effect : Effect) × MessageDid s bytes effect step
+message_some s bytes (Some step) = (device_effect s step, refl)
+message_some s bytes None = (dhcp_effect s (dhcp_step s.tables s.held.now bytes), refl)
+
 pub datagram_some : (s : State) (bytes : List ℕ) (query : Option (List ℕ)) → (effect : Effect) × DatagramDid s bytes effect query
 datagram_some s bytes (Some q) = (query_effect s (query_step s.tables s.held.now q), refl)
-datagram_some s bytes None = (dhcp_effect s (dhcp_step s.tables s.held.now bytes), refl)
+datagram_some s bytes None = message_some s bytes (device_of s.tables s.held.now bytes)
 
 does_some : (s : State) (what : What) (heard : List ℕ) → Brings s what heard → Says heard → (effect : Effect) × Does s what Did effect
 does_some s (Datagram Dhcp from bytes) heard brings says = datagram_some s bytes (query_of bytes)

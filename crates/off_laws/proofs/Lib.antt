@@ -3,8 +3,10 @@ pub mod Bodies
 pub mod Imports
 pub mod Requests
 pub mod Answers
+pub mod Devices
 pub mod Messages
 pub mod Queries
+pub mod Replies
 pub mod Ways
 pub mod StepLaws
 pub mod Lines

@@ -21,7 +21,10 @@ use Rattle.off_transfer_rules.specs.declared.words.TftpWord.TheVariants as packe
 use Rattle.off_transfer_rules.specs.declared.ticks.Ticked.{Ticked}
 use Rattle.off_transfer_rules.specs.Words.{tftp_line}
 use Rattle.off_lease_rules.specs.Steps.{dhcp_step}
-use Rattle.off_book.specs.Dhcp.{DatagramDid, query_line}
+use Rattle.off_cpe_rules.specs.declared.results.DeviceStep.{DeviceStep}
+use Rattle.off_cpe_rules.specs.declared.words.DeviceWord.{DeviceWord}
+use Rattle.off_cpe_rules.specs.declared.words.DeviceWord.TheVariants as device
+use Rattle.off_book.specs.Dhcp.{MessageDid, DatagramDid, device_of, device_line, query_line}
 use Rattle.off_query_rules.specs.Asked.{query_of}
 use Rattle.off_query_rules.specs.Answers.{query_step}
 use Rattle.off_query_rules.specs.declared.words.QueryWord.{QueryWord}
@@ -108,6 +111,23 @@ word_says word.PoolFull = (refl, refl)
 word_says word.NoRecord = (refl, refl)
 word_says word.NotYourAddress = (refl, refl)
 
+-- nor does one of a device's message
+device_says : (w : DeviceWord) → (nat_eq (slice_index (device_line w) 5) 109 ≡ false) × (nat_eq (slice_index (device_line w) 5) 107 ≡ false)
+device_says device.Offer = (refl, refl)
+device_says device.Ack = (refl, refl)
+device_says device.Declined = (refl, refl)
+device_says device.Released = (refl, refl)
+device_says device.NotServed = (refl, refl)
+device_says device.Form = (refl, refl)
+device_says device.NoPool = (refl, refl)
+device_says device.Suspended = (refl, refl)
+device_says device.Offline = (refl, refl)
+device_says device.OtherServer = (refl, refl)
+device_says device.Limit = (refl, refl)
+device_says device.PoolFull = (refl, refl)
+device_says device.NoRecord = (refl, refl)
+device_says device.NotYours = (refl, refl)
+
 -- nor does one of a query
 query_says : (w : QueryWord) → (nat_eq (slice_index (query_line w) 5) 109 ≡ false) × (nat_eq (slice_index (query_line w) 5) 107 ≡ false)
 query_says query.Relay = (refl, refl)
@@ -136,6 +156,9 @@ tftp_apart packet.PeerError = (apart_at 5 (codes "tftp peer-error") (codes "tftp
 pub message_tells : (from : Peer) (bytes : List ℕ) (w : DhcpWord) (line : List ℕ) → line ≡ codes "dhcp " ++ word_text w → TellsOutcome (Datagram Dhcp from bytes) Did line
 message_tells from bytes w line is = says_line (Datagram Dhcp from bytes) line (codes "dhcp " ++ word_text w) (word_says w).0 (word_says w).1 is
 
+pub device_tells : (from : Peer) (bytes : List ℕ) (w : DeviceWord) (line : List ℕ) → line ≡ device_line w → TellsOutcome (Datagram Dhcp from bytes) Did line
+device_tells from bytes w line is = says_line (Datagram Dhcp from bytes) line (device_line w) (device_says w).0 (device_says w).1 is
+
 pub query_tells : (from : Peer) (bytes : List ℕ) (w : QueryWord) (line : List ℕ) → line ≡ query_line w → TellsOutcome (Datagram Dhcp from bytes) Did line
 query_tells from bytes w line is = says_line (Datagram Dhcp from bytes) line (query_line w) (query_says w).0 (query_says w).1 is
 
@@ -149,10 +172,14 @@ tick_says : (effect : Effect) (ticked : Ticked) (silent : Bool) → effect.said.
 tick_says effect ticked true is = says Tick effect [] refl refl is
 tick_says effect ticked false is = says Tick effect (tick_text false ticked) refl refl is
 
+message_line : (s : State) (from : Peer) (bytes : List ℕ) (effect : Effect) (step : Option DeviceStep) → MessageDid s bytes effect step → NoFailure effect.said.line (Datagram Dhcp from bytes)
+message_line s from bytes effect (Some step) p = device_tells from bytes step.word effect.said.line (line_is effect _ p)
+message_line s from bytes effect None p = message_tells from bytes (dhcp_step s.tables s.held.now bytes).word effect.said.line (line_is effect _ p)
+
 datagram_line : (s : State) (from : Peer) (bytes : List ℕ) (effect : Effect) (asked : Option (List ℕ)) → DatagramDid s bytes effect asked
     → NoFailure effect.said.line (Datagram Dhcp from bytes)
 datagram_line s from bytes effect (Some q) p = query_tells from bytes (query_step s.tables s.held.now q).word effect.said.line (line_is effect _ p)
-datagram_line s from bytes effect None p = message_tells from bytes (dhcp_step s.tables s.held.now bytes).word effect.said.line (line_is effect _ p)
+datagram_line s from bytes effect None p = message_line s from bytes effect (device_of s.tables s.held.now bytes) p
 
 pub does_line : (s : State) (what : What) (effect : Effect) → Does s what Did effect → NoFailure effect.said.line what
 does_line s (Datagram Dhcp from bytes) effect p = datagram_line s from bytes effect (query_of bytes) p

@@ -9,12 +9,13 @@ use Rattle.off_base.specs.declared.addresses.Ip4.{Ip4}
 use Rattle.off_defs.specs.declared.keys.Key.{Key}
 use Rattle.off_defs.specs.declared.keys.Key.TheVariants as key
 use Rattle.off_defs.specs.declared.tables.Row.{Row}
+use Rattle.off_defs.specs.declared.tables.Row.TheVariants as row
 use Rattle.off_defs.specs.declared.tables.Batch.{Batch}
 use Rattle.off_defs.specs.declared.tables.ImportKind.{ImportKind}
 use Rattle.off_defs.specs.declared.tables.Lease.{Lease}
 use Rattle.off_defs.specs.declared.tables.Pool.{Pool}
 use Rattle.off_defs.specs.declared.orders.Command.{Command}
-use Rattle.off_defs.specs.declared.orders.Command.TheVariants.{PutHub, PutSubscriber, PutAddOn, PutModem, PutClass, PutPool, Remove, Show, Import}
+use Rattle.off_defs.specs.declared.orders.Command.TheVariants.{PutHub, PutSubscriber, PutAddOn, PutModem, PutClass, PutPool, PutDevicePool, Remove, Show, Import}
 use Rattle.off_defs.specs.declared.orders.ImportRow.{ImportRow}
 use Rattle.off_defs.specs.declared.orders.ImportRow.TheVariants as imported
 use Rattle.off_defs.specs.declared.orders.Reply.{Reply}
@@ -27,14 +28,15 @@ use Rattle.off_defs.specs.State.{Tables}
 use Rattle.off_defs.specs.Tables.{row_at, write_all}
 use Rattle.off_rows.specs.Sound.{is_sound, is_removable}
 use Rattle.off_account_rules.specs.Rows.{possible, seen_at, as_lease, lease_in, pool_in, batch_in, leases}
-use Rattle.off_account_rules.specs.Clerk.{Refusal, Decision, Accepted, accepted, by_rule, shown_as, shown, limit, rules_of, removal_rules, writes_of, removal_writes, gives_up, lost_leases, is_live, lease_drops, pool_has_leases, row_writes, row_breaks, then_writes, unless_broken, rows_written, batch_row, imported_as, import_decided, decided, stepped_by, clerk_step}
+use Rattle.off_account_rules.specs.Clerk.{Refusal, Decision, Accepted, accepted, by_rule, shown_as, shown, limit, rules_of, removal_rules, writes_of, removal_writes, gives_up, lost_leases, lost_devices, is_live, lease_drops, pool_has_leases, row_writes, row_breaks, then_writes, unless_broken, rows_written, batch_row, imported_as, import_decided, decided, stepped_by, clerk_step}
 use Rattle.off_table_laws.proofs.ListLemmas.{none_found, in_kept}
 use Rattle.off_table_laws.proofs.Rows as rows
-use Rattle.off_table_laws.proofs.Rows.{rows_after, all_written}
+use Rattle.off_table_laws.proofs.Rows.{put_row, drop_row, rows_after, all_written}
 use Rattle.off_table_laws.proofs.GoodRows.{GoodRows}
 use Rattle.off_table_laws.proofs.Judging.{good_rows}
 use Rattle.off_table_laws.proofs.PoolLemmas.{set_pool, set_both}
 use Rattle.off_table_laws.proofs.LostLeases.{rows_append, lease_in_all, lost_left}
+use Rattle.off_table_laws.proofs.DevicePools.{drops_aside, is_no_device}
 use Rattle.off_table_laws.proofs.Reading.{lease_row}
 use Rattle.off_table_laws.proofs.ClerkSteps.{hub_written}
 use Rattle.off_lease_rules.specs.Free.{has_ended}
@@ -156,12 +158,14 @@ module _ (address : Ip4) where
 
     removal_fate : (removed : Key) → is_removable removed ≡ true → first_there (removal_rules t now removed) ≡ None
         → Fate (rows_after (row_at t) (removal_writes t removed) (key.Lease address))
+    unfolding is_no_device
     removal_fate (key.Subscriber n) sound whole = inl refl
     removal_fate (key.AddOn n k) sound whole = inl refl
     removal_fate (key.Modem mac) sound whole = inl refl
     removal_fate (key.Class n) sound whole = inl refl
     removal_fate (key.Pool n) sound whole = pool_fate n None 0 (none_broken (removal_rules t now (key.Pool n)) whole).1.0
     removal_fate (key.Hub n) sound whole = inl refl
+    removal_fate (key.DevicePool n) sound whole = inl (drops_aside (drop_row (row_at t) (key.DevicePool n)) (lost_devices t n None) (key.Lease address) refl)
     removal_fate removed sound whole = cc
 
     shown_leaves : (o : Option Reply) → IfOk (shown o) (λ (done : Accepted). Leaves (row_at t) done.writes)
@@ -169,6 +173,7 @@ module _ (address : Ip4) where
     shown_leaves (Some reply) = refl
 
     command_fate : (command : Command) → is_sound command ≡ true → DecisionFate (decided t now command)
+    unfolding is_no_device
     command_fate (Show q) sound = let o : Option Reply = option_and_then (shown_as t q) (seen_at t q) in stays_so (shown o) (shown_leaves o)
     command_fate (Import kind batch digest read) sound =
         stays_so (import_decided t now kind batch digest read (batch_in t batch)) (import_leaves t now kind batch digest read (batch_in t batch))
@@ -184,7 +189,10 @@ module _ (address : Ip4) where
         (λ whole.
         subst (λ (all : rows.Rows). Fate (rows_after all (flat_map lease_drops (lost_leases t n (Some pool))) (key.Lease address)))
         (sym (hub_written (set_pool (row_at t) n (Some pool)) n hub))
-        (pool_fate n (Some pool) hub (none_broken (rules_of t now (PutPool n pool hub)) whole).1.1.1.1.0))
+        (pool_fate n (Some pool) hub (none_broken (rules_of t now (PutPool n pool hub)) whole).1.1.1.1.1.0))
+    command_fate (PutDevicePool n pool) sound =
+        ruled_fate (writes_of t (PutDevicePool n pool)) Done (first_there (rules_of t now (PutDevicePool n pool)))
+        (λ _. inl (drops_aside (put_row (row_at t) (key.DevicePool n) (row.Pool pool)) (lost_devices t n (Some pool)) (key.Lease address) refl))
     command_fate (Remove removed) sound =
         ruled_fate (writes_of t (Remove removed)) Done (first_there (rules_of t now (Remove removed))) (removal_fate removed sound)
 

@@ -38,7 +38,8 @@ use Rattle.off_laws.specs.Leases.{DoesNotServe, LeasesOutlast, BindingsOutlast}
 use Rattle.off_laws.proofs.Requests.{MayBe, request_may}
 use Rattle.off_laws.proofs.Answers.{step_tables}
 use Rattle.off_laws.proofs.LiveLeases.{commands_keep_live}
-use Rattle.off_laws.proofs.Ways.{Way, stays, serves, forgets, hears, answers, messages, way}
+use Rattle.off_laws.proofs.Devices.{lease_aside}
+use Rattle.off_laws.proofs.Ways.{Way, stays, serves, forgets, hears, answers, messages, devices, way}
 use Rattle.off_laws.proofs.StepLaws.{moment_is_greatest, step_good}
 use Rattle.off_laws.proofs.RunLaws.{moment_never_falls}
 
@@ -97,6 +98,8 @@ module _ (address : Ip4) (lease : Lease) where
     way_keeps s what outcome effect (hears conn bytes room is none) good there live passes = ap (λ (u : State). lease_in u.tables address) is ∙ there
     way_keeps s what outcome effect (answers conn piece method target body came acted is) good there live passes =
         ap (λ (e : Effect). lease_in e.after.tables address) is ∙ request_keeps s.tables s.held.now good there live method target body
+    way_keeps s what outcome effect (devices from bytes m modem came acted read behind is) good there live passes =
+        ap (λ (e : Effect). lease_in e.after.tables address) is ∙ lease_aside s.tables s.held.now m modem address ∙ there
     way_keeps s what outcome effect (messages from bytes came acted is) good there live passes =
         ap (λ (e : Effect). lease_in e.after.tables address) is
         ∙ datagram_keeps s.tables s.held.now bytes (message_of bytes) refl (good_agree s.tables good) there live

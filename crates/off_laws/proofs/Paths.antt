@@ -6,7 +6,7 @@ use Rattle.off_defs.specs.declared.keys.Key.TheVariants as key
 use Rattle.off_defs.specs.declared.tables.ImportKind.TheVariants.{Subscribers, Modems}
 use Rattle.off_clerk_rules.specs.declared.places.Place.{Place}
 use Rattle.off_clerk_rules.specs.declared.places.Place.TheVariants as at
-use Rattle.off_clerk_rules.specs.Paths.{length_before, last_number, mac_with, ip_with, add_on_named, site_at, hub_at, subscriber_at, add_on_at, modem_at, class_at, pool_at, lease_at, subscribers_at, modems_at, place_at, only_shown, kept, removable, IsNamed}
+use Rattle.off_clerk_rules.specs.Paths.{length_before, last_number, mac_with, ip_with, add_on_named, site_at, hub_at, subscriber_at, add_on_at, modem_at, class_at, pool_at, device_pool_at, lease_at, subscribers_at, modems_at, place_at, only_shown, kept, removable, IsNamed}
 use Rattle.off_clerk_rules.proofs.PathLemmas.{NamesOne, either_named}
 
 within_if : (text : Bool) (n most : ℕ) (b : Bool) → nat_le n most ≡ b → IfSome (cond (text && b) (Some n) None) (λ (m : ℕ). nat_le m most ≡ true)
@@ -50,6 +50,7 @@ path_named path =
     either_named _ (modems_at path) _ refl
     (either_named _ (subscribers_at path) _ refl
     (either_named _ (lease_at path) _ refl
+    (either_named _ (device_pool_at path) _ refl
     (either_named _ (pool_at path) _ refl
     (either_named _ (class_at path) _ refl
     (either_named _ (modem_at path) _ refl
@@ -61,6 +62,7 @@ path_named path =
     (if_begins _ _ (of_read (mac_of _) (λ bytes. removable (key.Modem (mac_with bytes))) (λ bytes. (refl, λ _. refl)))))
     (if_begins _ _ (of_read (number_read last_number _) (λ n. removable (key.Class n)) (λ n. (refl, λ _. refl)))))
     (if_begins _ _ (of_read (number_read last_number _) (λ n. removable (key.Pool n)) (λ n. (refl, λ _. refl)))))
+    (if_begins _ _ (of_read (number_read last_number _) (λ n. removable (key.DevicePool n)) (λ n. (refl, λ _. refl)))))
     (if_begins _ _ (of_read (ip_of _) (λ number. only_shown (key.Lease (ip_with number))) (λ number. (refl, λ h. h)))))
     (if_begins _ _ (of_read (number_read greatest_u64 _) (λ batch. at.Import Subscribers batch) (λ batch. tt))))
     (if_begins _ _ (of_read (number_read greatest_u64 _) (λ batch. at.Import Modems batch) (λ batch. tt)))

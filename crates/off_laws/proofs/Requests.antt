@@ -7,7 +7,7 @@ use Rattle.off_defs.specs.declared.keys.Key.TheVariants as key
 use Rattle.off_defs.specs.declared.tables.Pool.{Pool}
 use Rattle.off_defs.specs.declared.tables.ImportKind.{ImportKind}
 use Rattle.off_defs.specs.declared.orders.Command.{Command}
-use Rattle.off_defs.specs.declared.orders.Command.TheVariants.{PutHub, PutSubscriber, PutAddOn, PutModem, PutClass, PutPool, Remove, Show}
+use Rattle.off_defs.specs.declared.orders.Command.TheVariants.{PutHub, PutSubscriber, PutAddOn, PutModem, PutClass, PutPool, PutDevicePool, Remove, Show}
 use Rattle.off_rows.specs.Sound.{is_sound, is_sound_pool, is_shown, is_removable}
 use Rattle.off_import_rules.specs.Reading.{import_in}
 use Rattle.off_import_rules.specs.declared.faults.ImportFault.{ImportFault}
@@ -60,12 +60,12 @@ put_may (key.AddOn n number) body shown =
 put_may (key.Modem mac) body shown = put_made (object_in body) modem_in (λ _. Unit {0}) (PutModem mac) (λ d. anything (modem_in d)) (λ modem _. (refl, refl))
 put_may (key.Class n) body shown = put_made (object_in body) class_in (λ _. Unit {0}) (PutClass n) (λ d. anything (class_in d)) (λ class _. (refl, refl))
 put_may (key.Pool n) body shown = pool_may n (object_in body)
+put_may (key.DevicePool n) body shown = put_made (object_in body) pool_in _ (PutDevicePool n) pool_sound (λ pool sound. (sound, refl))
 put_may key.Site body shown = tt
 put_may (key.Lease address) body shown = tt
 put_may (key.Held mac) body shown = tt
 put_may (key.Batch n) body shown = tt
 put_may (key.PoolHub n) body shown = tt
-put_may (key.DevicePool n) body shown = tt
 put_may (key.Device address) body shown = tt
 
 delete_may : (row : Key) (deletes named : Bool) → (deletes ≡ true → is_removable row ≡ true)

@@ -17,10 +17,10 @@ use Rattle.off_http.proofs.Meanings.{one_meaning}
 use Rattle.off_http.specs.Request.{Meaning, Waits, Refused, Asked}
 use Rattle.off_book.specs.Http.{Answered, heard_of, close_connection, answer_request, by_meaning, is_full, TakesPiece}
 use Rattle.off_book.specs.Step.{Step, Does}
-use Rattle.off_laws.specs.Parts.{Changes, untouched, a_connection, by_request, by_message, by_packet, by_tick, part_of}
+use Rattle.off_laws.specs.Parts.{Messaged, acts_for, Changes, untouched, a_connection, by_request, by_message, by_packet, by_tick, part_of}
 use Rattle.off_lease_rules.specs.Words.{acts}
 use Rattle.off_lease_rules.specs.Steps.{dhcp_step}
-use Rattle.off_laws.proofs.Messages.{datagram_refused, datagram_good}
+use Rattle.off_laws.proofs.Messages.{datagram_refused, device_refused, datagram_good}
 use Rattle.off_base.specs.declared.addresses.Peer.{Peer}
 use Rattle.off_defs.specs.declared.results.Sent.{Sent}
 use Rattle.off_transfer_rules.specs.Transfers.{Transfers}
@@ -29,12 +29,15 @@ use Rattle.off_transfer_rules.specs.declared.ticks.Ticked.{Ticked}
 use Rattle.off_transfer_laws.proofs.StepLaws.{step_is_one, others_stay}
 use Rattle.off_transfer_laws.proofs.TickLaws.{tick_is_one}
 use Rattle.off_book.specs.Tftp.{TftpDid, TickDid, transfers_effect, tftp_said, tick_said}
-use Rattle.off_book.specs.Dhcp.{DatagramDid}
+use Rattle.off_book.specs.Dhcp.{MessageDid, DatagramDid, device_of}
+use Rattle.off_cpe_rules.specs.Words as device
+use Rattle.off_cpe_rules.specs.declared.results.DeviceStep.{DeviceStep}
+use Rattle.off_cpe_laws.proofs.GoodLemmas.{step_keeps_good}
 use Rattle.off_query_rules.specs.Asked.{query_of}
 use Rattle.off_defs.specs.declared.orders.Write.{Write}
 use Rattle.off_laws.specs.Laws.{OneResult, MomentIsGreatest, TablesByCommit, ChangesItsPart, QueriesChangeNothing}
 use Rattle.off_laws.proofs.Answers.{WritesNothingOrDone, request_writes, request_good}
-use Rattle.off_laws.proofs.Ways.{Way, stays, serves, forgets, hears, answers, messages, way}
+use Rattle.off_laws.proofs.Ways.{Way, stays, serves, forgets, hears, answers, messages, devices, way}
 
 -- an event with an outcome gives one thing
 takes_one : (full : Bool) (s : State) (conn : ℕ) (piece : List ℕ) (one other : Effect) → TakesPiece full s conn piece one → TakesPiece full s conn piece other → one ≡ other
@@ -56,9 +59,13 @@ tick_one s one other p q =
     ∙ (ap (λ (x : List Sent). transfers_effect s q.transfers (tick_said x p.ticked)) same.items_sent
     ∙ (ap (λ (x : Ticked). transfers_effect s q.transfers (tick_said q.items x)) same.counts ∙ sym q.does)))
 
+message_one : (s : State) (bytes : List ℕ) (one other : Effect) (step : Option DeviceStep) → MessageDid s bytes one step → MessageDid s bytes other step → one ≡ other
+message_one s bytes one other (Some step) p r = p ∙ sym r
+message_one s bytes one other None p r = p ∙ sym r
+
 datagram_one : (s : State) (bytes : List ℕ) (one other : Effect) (query : Option (List ℕ)) → DatagramDid s bytes one query → DatagramDid s bytes other query → one ≡ other
 datagram_one s bytes one other (Some q) p r = p ∙ sym r
-datagram_one s bytes one other None p r = p ∙ sym r
+datagram_one s bytes one other None p r = message_one s bytes one other (device_of s.tables s.held.now bytes) p r
 
 does_one : (s : State) (what : What) (outcome : Outcome) (one other : Effect) → Does s what outcome one → Does s what outcome other → one ≡ other
 does_one s (Datagram Dhcp from bytes) Did one other p q = datagram_one s bytes one other (query_of bytes) p q
@@ -94,6 +101,7 @@ way_now s what outcome effect (serves transfers is none) = ap (λ (u : State). u
 way_now s what outcome effect (forgets conn is none) = ap (λ (u : State). u.held.now) is
 way_now s what outcome effect (hears conn bytes room is none) = ap (λ (u : State). u.held.now) is
 way_now s what outcome effect (messages from bytes came acted is) = ap (λ (e : Effect). e.after.held.now) is
+way_now s what outcome effect (devices from bytes m modem came acted read behind is) = ap (λ (e : Effect). e.after.held.now) is
 way_now s what outcome effect (answers conn piece method target body came acted is) = ap (λ (e : Effect). e.after.held.now) is
 
 pub moment_is_greatest : MomentIsGreatest
@@ -107,6 +115,8 @@ way_by_commit s what outcome effect (serves transfers is none) = ap (λ (u : Sta
 way_by_commit s what outcome effect (forgets conn is none) = ap (λ (u : State). u.tables) is ∙ sym (ap (λ ws. write_all s.tables ws) none)
 way_by_commit s what outcome effect (hears conn bytes room is none) = ap (λ (u : State). u.tables) is ∙ sym (ap (λ ws. write_all s.tables ws) none)
 way_by_commit s what outcome effect (messages from bytes came acted is) =
+    ap (λ (e : Effect). e.after.tables) is ∙ sym (ap (λ (e : Effect). write_all s.tables e.commit) is)
+way_by_commit s what outcome effect (devices from bytes m modem came acted read behind is) =
     ap (λ (e : Effect). e.after.tables) is ∙ sym (ap (λ (e : Effect). write_all s.tables e.commit) is)
 way_by_commit s what outcome effect (answers conn piece method target body came acted is) =
     ap (λ (e : Effect). e.after.tables) is ∙ sym (ap (λ (e : Effect). write_all s.tables e.commit) is)
@@ -170,14 +180,26 @@ acting_writes : (acting : Bool) (w : List Write) → (acting ≡ false → w ≡
 acting_writes true w none = inr refl
 acting_writes false w none = inl (none refl)
 
-message_part : (s : State) (bytes : List ℕ) (effect : Effect) (query : Option (List ℕ)) → DatagramDid s bytes effect query → Changes (by_message bytes) s effect
-message_part s bytes effect (Some q) did =
+message_part : (s : State) (bytes : List ℕ) (effect : Effect) (step : Option DeviceStep) → device_of s.tables s.held.now bytes ≡ step → MessageDid s bytes effect step → Messaged bytes s effect
+message_part s bytes effect (Some step) is did = record {
+  commit = subst (λ (o : Option DeviceStep). (effect.commit ≡ []) ⊎ (acts_for o (dhcp_step s.tables s.held.now bytes) ≡ true)) (sym is)
+      (subst (λ (e : Effect). (e.commit ≡ []) ⊎ (device.acts step.word ≡ true)) (sym did)
+      (acting_writes (device.acts step.word) step.writes (device_refused s.tables s.held.now bytes step is)));
+  connections = ap (λ (e : Effect). e.after.held.connections) did;
+  transfers = ap (λ (e : Effect). e.after.held.transfers) did;
+}
+message_part s bytes effect None is did = record {
+  commit = subst (λ (o : Option DeviceStep). (effect.commit ≡ []) ⊎ (acts_for o (dhcp_step s.tables s.held.now bytes) ≡ true)) (sym is)
+      (subst (λ (e : Effect). (e.commit ≡ []) ⊎ (acts (dhcp_step s.tables s.held.now bytes).word ≡ true)) (sym did)
+      (acting_writes (acts (dhcp_step s.tables s.held.now bytes).word) (dhcp_step s.tables s.held.now bytes).writes (datagram_refused s.tables s.held.now bytes)));
+  connections = ap (λ (e : Effect). e.after.held.connections) did;
+  transfers = ap (λ (e : Effect). e.after.held.transfers) did;
+}
+
+datagram_part : (s : State) (bytes : List ℕ) (effect : Effect) (query : Option (List ℕ)) → DatagramDid s bytes effect query → Changes (by_message bytes) s effect
+datagram_part s bytes effect (Some q) did =
     subst (λ (e : Effect). Changes (by_message bytes) s e) (sym did) (record { commit = inl refl; connections = refl; transfers = refl })
-message_part s bytes effect None did = subst (λ (e : Effect). Changes (by_message bytes) s e) (sym did) (record {
-  commit = acting_writes (acts (dhcp_step s.tables s.held.now bytes).word) (dhcp_step s.tables s.held.now bytes).writes (datagram_refused s.tables s.held.now bytes);
-  connections = refl;
-  transfers = refl;
-})
+datagram_part s bytes effect None did = message_part s bytes effect (device_of s.tables s.held.now bytes) refl did
 
 after_of : (one other : Effect) → one ≡ other → one.after ≡ other.after
 after_of one other is = ap (λ (e : Effect). e.after) is
@@ -202,7 +224,7 @@ tick_part s effect did = record {
 }
 
 does_part : (s : State) (what : What) (outcome : Outcome) (effect : Effect) → Does s what outcome effect → Changes (part_of what outcome) s effect
-does_part s (Datagram Dhcp from bytes) Did effect p = message_part s bytes effect (query_of bytes) p
+does_part s (Datagram Dhcp from bytes) Did effect p = datagram_part s bytes effect (query_of bytes) p
 does_part s (Datagram Dhcp from bytes) Memory effect p = quiet_part s effect (after_of effect _ p) (commit_of effect _ p)
 does_part s (Datagram Dhcp from bytes) Keeper effect p = quiet_part s effect (after_of effect _ p) (commit_of effect _ p)
 does_part s (Datagram Time from bytes) Did effect p = quiet_part s effect (after_of effect _ p) (commit_of effect _ p)
@@ -250,6 +272,8 @@ way_good s what outcome effect (forgets conn is none) good = subst (λ (u : Stat
 way_good s what outcome effect (hears conn bytes room is none) good = subst (λ (u : State). Good u.tables) (sym is) good
 way_good s what outcome effect (messages from bytes came acted is) good =
     subst (λ (e : Effect). Good e.after.tables) (sym is) (datagram_good s.tables s.held.now bytes good)
+way_good s what outcome effect (devices from bytes m modem came acted read behind is) good =
+    subst (λ (e : Effect). Good e.after.tables) (sym is) (step_keeps_good s.tables s.held.now m modem good)
 way_good s what outcome effect (answers conn piece method target body came acted is) good =
     subst (λ (e : Effect). Good e.after.tables) (sym is) (request_good s.tables s.held.now method target body good)
 

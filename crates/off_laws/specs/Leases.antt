@@ -28,11 +28,13 @@ use Rattle.off_lease_rules.specs.Free.{has_ended, pool_for, site_for}
 use Rattle.off_lease_rules.specs.Steps.{offer_to}
 use Rattle.off_lease_rules.specs.Words.{acts}
 use Rattle.off_lease_rules.specs.declared.words.DhcpWord.{DhcpWord}
+use Rattle.off_lease_rules.specs.declared.words.DhcpWord.TheVariants.{NotServed}
 use Rattle.off_lease_laws.specs.Moves.{HoldersAgree}
 use Rattle.off_lease_laws.specs.Effects.{lease_until, bound_until}
 use Rattle.off_lease_laws.specs.Laws.{Standing, free, offered_to, bound_to, resting, standing}
 use Rattle.off_query_rules.specs.declared.words.QueryWord.{QueryWord}
-use Rattle.off_book.specs.Dhcp.{dhcp_line, query_line}
+use Rattle.off_cpe_rules.specs.declared.words.DeviceWord.{DeviceWord}
+use Rattle.off_book.specs.Dhcp.{dhcp_line, device_line, query_line}
 use Rattle.off_book.specs.Run.{Turn, Run}
 
 -- ---- in every state
@@ -122,6 +124,13 @@ LinesTellWords = (one other : DhcpWord) → dhcp_line one ≡ dhcp_line other �
 -- and no word of a query has a line of a message
 abbrev pub QueriesSayNone : Type 0
 QueriesSayNone = (word : QueryWord) (other : DhcpWord) → query_line word ≢ dhcp_line other
+
+-- nor has a word of a device's message a line of a modem's, but for messages of kinds that aren't
+-- served
+abbrev pub DevicesSayNone : Type 0
+DevicesSayNone =
+    (word : DeviceWord) (other : DhcpWord) → other ≢ NotServed
+    → device_line word ≢ dhcp_line other
 
 -- ---- what is offered or bound stays so
 

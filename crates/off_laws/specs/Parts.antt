@@ -1,6 +1,6 @@
 -- Which part of the state an event with an outcome may change, besides the moment. A service that
 -- is built changes its line of `part_of`.
-use Rattle.std.specs.Prelude.{◌≡◌, ◌≢◌, ◌⊎◌, ℕ, true, List, [], codes, option_and_then}
+use Rattle.std.specs.Prelude.{◌≡◌, ◌≢◌, ◌⊎◌, ℕ, Bool, true, List, [], Option, Some, None, codes, option_and_then}
 use Rattle.std.specs.FinMap as map
 use Rattle.off_base.specs.declared.addresses.Peer.{Peer}
 use Rattle.off_defs.specs.declared.events.Service.TheVariants.{Dhcp, Time, Tftp}
@@ -11,6 +11,10 @@ use Rattle.off_defs.specs.declared.results.Outcome.TheVariants.{Did, Memory, Kee
 use Rattle.off_defs.specs.State.{State, Effect}
 use Rattle.off_lease_rules.specs.Words.{acts}
 use Rattle.off_lease_rules.specs.Steps.{dhcp_step}
+use Rattle.off_lease_rules.specs.declared.results.LeaseStep.{LeaseStep}
+use Rattle.off_cpe_rules.specs.Words as device
+use Rattle.off_cpe_rules.specs.declared.results.DeviceStep.{DeviceStep}
+use Rattle.off_book.specs.Dhcp.{device_of}
 use Rattle.off_transfer_rules.specs.Ticks.{tick_of}
 
 -- nothing; the bytes of one connection; that and the tables, as a clerk's request asks; the tables,
@@ -64,9 +68,16 @@ pub record Requested (conn : ℕ) (s : State) (effect : Effect) : Type 0 where
   pub others : KeepsOthers conn s effect
   pub transfers : effect.after.held.transfers ≡ s.held.transfers
 
+-- the word of a device's message, or else of a modem's, is one of those that act
+abbrev pub acts_for : Option DeviceStep → LeaseStep → Bool
+acts_for (Some step) lease = device.acts step.word
+acts_for None lease = acts lease.word
+
 -- nothing is written, or the message's word is one of those that act; what the office holds stays
 pub record Messaged (bytes : List ℕ) (s : State) (effect : Effect) : Type 0 where
-  pub commit : (effect.commit ≡ []) ⊎ (acts (dhcp_step s.tables s.held.now bytes).word ≡ true)
+  pub commit : (effect.commit ≡ [])
+      ⊎ (acts_for (device_of s.tables s.held.now bytes) (dhcp_step s.tables s.held.now bytes)
+      ≡ true)
   pub connections : effect.after.held.connections ≡ s.held.connections
   pub transfers : effect.after.held.transfers ≡ s.held.transfers
 

@@ -1,6 +1,6 @@
 ghost use Rattle.off_laws.specs.Leases.{RunsHavePlaces, LeasesStayRight};
 ghost use Rattle.off_laws.specs.Leases.{CommandsDropEnded, CommandsKeepLive, ImportsKeepLeases};
-ghost use Rattle.off_laws.specs.Leases.{LinesTellWords, QueriesSayNone};
+ghost use Rattle.off_laws.specs.Leases.{LinesTellWords, QueriesSayNone, DevicesSayNone};
 ghost use Rattle.off_laws.specs.Leases.{LeasesOutlast, BindingsOutlast, AcknowledgedIsGiven};
 
 /// A run has a state at each of its places: up to there it is a run, and from there.
@@ -39,6 +39,11 @@ pub fn a_line_tells_its_word()
 /// A line of a relay's query is none of a client's message.
 pub fn a_querys_line_is_no_messages()
     ensures { QueriesSayNone }
+{}
+
+/// A line of a device's message is none of a modem's, but for messages of kinds that aren't served.
+pub fn a_devices_line_is_no_modems()
+    ensures { DevicesSayNone }
 {}
 
 /// What is offered or bound to a client stays so: until it ends, its lease is the same in every later

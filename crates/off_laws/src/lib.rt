@@ -11,8 +11,8 @@ ghost use Rattle.off_laws.specs.Laws.{OneCommit, ChangesItsPart, QueriesChangeNo
 ghost use Rattle.off_laws.specs.Laws.{AnsweredOnce, FewAreLive};
 
 pub use leases::{
-    a_command_drops_only_ended_leases, a_command_keeps_live_leases, a_line_tells_its_word,
-    a_querys_line_is_no_messages, a_run_has_a_state_at_each_place,
+    a_command_drops_only_ended_leases, a_command_keeps_live_leases, a_devices_line_is_no_modems,
+    a_line_tells_its_word, a_querys_line_is_no_messages, a_run_has_a_state_at_each_place,
     an_acknowledged_address_is_the_clients, an_import_keeps_all_leases, leases_stay_right,
     what_is_bound_stays_bound, what_is_offered_or_bound_stays_so,
 };
@@ -74,8 +74,8 @@ pub fn a_turn_makes_one_commit_at_most()
 {}
 
 /// An event changes no more than its part of the state: of the connections only its own. Nothing is
-/// written but by a piece of a clerk's connection whose line says `http 200`, and by a client's
-/// message whose word is one of those that act.
+/// written but by a piece of a clerk's connection whose line says `http 200`, and by a
+/// modem's or a device's message whose word is one of those that act.
 pub fn an_event_changes_its_part()
     ensures { ChangesItsPart }
 {}

@@ -11,7 +11,7 @@ use Rattle.off_base.specs.Number.{greatest_u64}
 use Rattle.off_defs.specs.declared.keys.Key.{Key}
 use Rattle.off_defs.specs.declared.tables.Row.{Row}
 use Rattle.off_defs.specs.declared.orders.Kind.{Kind}
-use Rattle.off_defs.specs.declared.orders.Kind.TheVariants.{Subscribers, AddOns, Modems, Classes, Pools, Batches, Hubs}
+use Rattle.off_defs.specs.declared.orders.Kind.TheVariants.{Subscribers, AddOns, Modems, Classes, Pools, Batches, Hubs, DevicePools}
 use Rattle.off_defs.specs.Keys.{key_cmp}
 use Rattle.off_defs.specs.State.{Tables}
 use Rattle.off_defs.specs.Tables.{with_row, without}
@@ -73,6 +73,7 @@ same_counts t u same = λ i. record {
   pools = same Pools i;
   batches = min greatest_u64 (same Batches i);
   hubs = same Hubs i;
+  device_pools = same DevicePools i;
 }
 
 pub counts_with_other : (key : Key) (held : Row) (t : Tables) → ((kind : Kind) → is_of_kind kind key ≡ false) → counts_of (with_row t key held) ≡ counts_of t

@@ -14,7 +14,7 @@ use Rattle.off_defs.specs.Tables.{row_at, write_all}
 use Rattle.off_dhcp.specs.Datagram.{Received}
 use Rattle.off_account_rules.specs.Rows.{as_site, hub_in, pool_hub_in, lease_in, held_in, has_address}
 use Rattle.off_account_rules.specs.Good.{owner_of, Good}
-use Rattle.off_table_laws.proofs.GoodRows.{Has, hub_there, HubThere, hub_in_row, hub_at, OnePool, OwnedBy, GoodRows}
+use Rattle.off_table_laws.proofs.GoodRows.{Has, hub_there, HubThere, hub_in_row, hub_at, OnePool, OwnedBy, DevicesStand, GoodRows}
 use Rattle.off_table_laws.proofs.Judging.{good_rows, good_tables}
 use Rattle.off_table_laws.proofs.Reading.{seen_row, lease_row, held_row, pool_row, row_lease, row_held, row_pool, has_read}
 use Rattle.off_table_laws.proofs.TableLaws.{owners_hold, pools_are_apart}
@@ -133,6 +133,28 @@ module _ (t : Tables) (now : ℕ) (m : Received) (good : Good t) (moved : Moved 
       let o = owned (lease_in u address) mac ((agree mac address).1 (row_held u mac address e)) in
       record { lease = o.0; there = lease_row u address o.0 o.1; owner = o.2 }
 
+  devices_after : DevicesStand (row_at u)
+  devices_after = record {
+    disjoint = λ n pool k another e f.
+        g.devices.disjoint n pool k another (sym (other (key.Pool n) (λ e. omega (arith, e)) (λ e. omega (arith, e))) ∙ e)
+        (sym (other (key.DevicePool k) (λ e. omega (arith, e)) (λ e. omega (arith, e))) ∙ f);
+    apart = λ n pool k another e f.
+        g.devices.apart n pool k another (sym (other (key.DevicePool n) (λ e. omega (arith, e)) (λ e. omega (arith, e))) ∙ e)
+        (sym (other (key.DevicePool k) (λ e. omega (arith, e)) (λ e. omega (arith, e))) ∙ f);
+    one_pool = λ address lease e.
+        let one = g.devices.one_pool address lease (sym (other (key.Device address) (λ e. omega (arith, e)) (λ e. omega (arith, e))) ∙ e) in
+        record {
+          number = one.number;
+          pool = one.pool;
+          there = other (key.DevicePool one.number) (λ e. omega (arith, e)) (λ e. omega (arith, e)) ∙ one.there;
+          within = one.within;
+          only = λ n pool e w. one.only n pool (sym (other (key.DevicePool n) (λ e. omega (arith, e)) (λ e. omega (arith, e))) ∙ e) w;
+        };
+    one_address = λ one another lease left owner e f own also.
+        g.devices.one_address one another lease left owner (sym (other (key.Device one) (λ e. omega (arith, e)) (λ e. omega (arith, e))) ∙ e)
+        (sym (other (key.Device another) (λ e. omega (arith, e)) (λ e. omega (arith, e))) ∙ f) own also;
+  }
+
   moved_rows : GoodRows (row_at u)
   moved_rows = record {
     possible = stays_possible t now m g.possible;
@@ -160,6 +182,7 @@ module _ (t : Tables) (now : ℕ) (m : Received) (good : Good t) (moved : Moved 
     one_pool = λ address lease e. pool_after address (pool_before address lease (row_lease u address lease e));
     holder = holder_after;
     owner = owner_after;
+    devices = devices_after;
   }
 
   pub moved_good : Good u

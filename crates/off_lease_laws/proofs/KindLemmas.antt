@@ -11,7 +11,7 @@ use Rattle.off_defs.specs.declared.keys.Key.TheVariants as key
 use Rattle.off_defs.specs.declared.tables.Row.TheVariants as row
 use Rattle.off_defs.specs.declared.tables.Lease.{Lease}
 use Rattle.off_defs.specs.declared.orders.Kind.{Kind}
-use Rattle.off_defs.specs.declared.orders.Kind.TheVariants.{Subscribers, AddOns, Modems, Classes, Pools, Batches, Hubs}
+use Rattle.off_defs.specs.declared.orders.Kind.TheVariants.{Subscribers, AddOns, Modems, Classes, Pools, Batches, Hubs, DevicePools}
 use Rattle.off_defs.specs.declared.orders.Write.{Write}
 use Rattle.off_defs.specs.declared.orders.Write.TheVariants.{Put, Drop}
 use Rattle.off_defs.specs.Keys.{key_cmp}
@@ -71,6 +71,7 @@ no_kind_lease address Classes = refl
 no_kind_lease address Pools = refl
 no_kind_lease address Batches = refl
 no_kind_lease address Hubs = refl
+no_kind_lease address DevicePools = refl
 
 no_kind_held : (mac : Mac) (kind : Kind) → is_of_kind kind (key.Held mac) ≡ false
 no_kind_held mac Subscribers = refl
@@ -80,6 +81,7 @@ no_kind_held mac Classes = refl
 no_kind_held mac Pools = refl
 no_kind_held mac Batches = refl
 no_kind_held mac Hubs = refl
+no_kind_held mac DevicePools = refl
 
 one_count : (t : Tables) (write : Write) → is_lease_write write ≡ true → counts_of (written t write) ≡ counts_of t
 unfolding is_lease_write

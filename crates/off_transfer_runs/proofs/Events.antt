@@ -18,14 +18,16 @@ use Rattle.off_packets.specs.declared.faults.PacketFault.{PacketFault}
 use Rattle.off_transfer_rules.proofs.PeerLemmas.{same_peer, own_peer}
 use Rattle.off_transfer_laws.proofs.StepLaws.{others_stay, answers_go_back}
 use Rattle.off_query_rules.specs.Asked.{query_of}
-use Rattle.off_book.specs.Dhcp.{DatagramDid}
+use Rattle.off_cpe_rules.specs.declared.results.DeviceStep.{DeviceStep}
+use Rattle.off_book.specs.Dhcp.{MessageDid, DatagramDid, device_of, device_effect}
+use Rattle.off_laws.proofs.Devices.{device_told}
 use Rattle.off_book.specs.Http.{is_full, TakesPiece, by_meaning}
 use Rattle.off_book.specs.Step.{Step, Does}
 use Rattle.off_book.specs.Tftp.{TftpDid}
 use Rattle.off_book.specs.Run.{Turn, Run, effect_of}
 use Rattle.off_transfer_runs.specs.Turns.{Fate, Remains, Moves, Ends, Breaks, is_peer, fate_of, fate_by, fate, packets_to}
 use Rattle.off_transfer_runs.specs.Served.{GoBy, BlocksGo}
-use Rattle.off_transfer_runs.proofs.Packets.{no_reply, no_answer, not_to_others}
+use Rattle.off_transfer_runs.proofs.Packets.{no_reply, no_device_reply, no_answer, not_to_others}
 use Rattle.off_transfer_runs.proofs.Turned.{Stands, After, after_as, nothing_new, packet_turned}
 use Rattle.off_transfer_runs.proofs.Ticked.{tick_turned}
 
@@ -97,10 +99,17 @@ module _ (peer : Peer) (file : List ℕ) (size k : ℕ) where
       (nothing_new file size k (map.get s.held.transfers peer) st)
 
   -- a datagram to the other port
+  message_quiet : (s : State) (from : Peer) (bytes : List ℕ) (effect : Effect) (step : Option DeviceStep) → device_of s.tables s.held.now bytes ≡ step → MessageDid s bytes effect step
+      → Stands file size k (map.get s.held.transfers peer) → Turns s (Datagram Dhcp from bytes) effect
+  message_quiet s from bytes effect (Some step) is did st =
+      let d = device_told s.tables s.held.now bytes step is in
+      quiet s (Datagram Dhcp from bytes) effect _ (did ∙ ap (device_effect s) d.does) refl (no_device_reply peer s.tables s.held.now d.message d.modem) refl st
+  message_quiet s from bytes effect None is did st = quiet s (Datagram Dhcp from bytes) effect _ did refl (no_reply peer s.tables s.held.now bytes) refl st
+
   datagram_quiet : (s : State) (from : Peer) (bytes : List ℕ) (effect : Effect) (query : Option (List ℕ)) → DatagramDid s bytes effect query
       → Stands file size k (map.get s.held.transfers peer) → Turns s (Datagram Dhcp from bytes) effect
   datagram_quiet s from bytes effect (Some q) did st = quiet s (Datagram Dhcp from bytes) effect _ did refl (no_answer peer s.tables s.held.now q) refl st
-  datagram_quiet s from bytes effect None did st = quiet s (Datagram Dhcp from bytes) effect _ did refl (no_reply peer s.tables s.held.now bytes) refl st
+  datagram_quiet s from bytes effect None did st = message_quiet s from bytes effect (device_of s.tables s.held.now bytes) refl did st
 
   does_turned : (s : State) (what : What) (outcome : Outcome) (effect : Effect) → Does s what outcome effect → Stands file size k (map.get s.held.transfers peer)
       → Turns s what effect

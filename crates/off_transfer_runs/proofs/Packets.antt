@@ -27,7 +27,10 @@ use Rattle.off_transfer_rules.proofs.PeerLemmas.{own_peer, other_peer}
 use Rattle.off_transfer_laws.specs.Laws.{IsAnswerTo}
 use Rattle.off_query_rules.specs.Answers.{query_step}
 use Rattle.off_book.specs.Dhcp.{replies_of}
+use Rattle.off_base.specs.declared.macs.Mac.{Mac}
+use Rattle.off_cpe_rules.specs.Steps.{step_behind}
 use Rattle.off_laws.proofs.Queries.{IsOfDhcp, reply_goes}
+use Rattle.off_laws.proofs.Replies.{device_goes}
 use Rattle.off_transfer_runs.specs.Turns.{packets_to}
 
 -- ---- one packet
@@ -83,7 +86,7 @@ module _ (peer : Peer) where
   read_none t now (Ok m) = lease_none t now m
   read_none t now (Err fault) = refl
 
-  -- an answer to a query neither
+  -- an answer to a query neither, nor to a device's message
   reply_none : (reply : Option Sent) → IsOfDhcp reply → packets_to peer (replies_of reply) ≡ []
   reply_none None goes = refl
   reply_none (Some (sent.Datagram Dhcp to bytes)) goes = refl
@@ -94,6 +97,9 @@ module _ (peer : Peer) where
 
   pub no_answer : (t : Tables) (now : ℕ) (q : List ℕ) → packets_to peer (replies_of (query_step t now q).reply) ≡ []
   no_answer t now q = reply_none (query_step t now q).reply (reply_goes t now q)
+
+  pub no_device_reply : (t : Tables) (now : ℕ) (m : Received) (modem : Mac) → packets_to peer (replies_of (step_behind t now m modem).reply) ≡ []
+  no_device_reply t now m modem = reply_none (step_behind t now m modem).reply (device_goes t now m modem)
 
   pub no_reply : (t : Tables) (now : ℕ) (bytes : List ℕ) → packets_to peer (replies_of (dhcp_step t now bytes).reply) ≡ []
   unfolding dhcp_step

@@ -1,0 +1,4 @@
+pub mod Granted
+pub mod Limits
+pub mod Leaving
+pub mod Runs
