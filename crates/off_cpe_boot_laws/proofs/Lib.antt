@@ -1,0 +1,17 @@
+pub mod Behind
+pub mod Pooling
+pub mod Others
+pub mod Owning
+pub mod Choosing
+pub mod Messages
+pub mod Answering
+pub mod Aims
+pub mod Fates
+pub mod Clerks
+pub mod Turns
+pub mod Waiting
+pub mod Counting
+pub mod Limits
+pub mod Binding
+pub mod ExampleRows
+pub mod Example
