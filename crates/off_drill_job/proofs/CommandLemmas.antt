@@ -3,7 +3,8 @@ use Rattle.std.proofs.Common.{◌≡◌, ℕ, zero, suc, ◌+◌, ◌*◌, ◌<�
 use Rattle.std.proofs.lemmas.Bool.{lt-leb, and_right}
 use Rattle.std.proofs.lemmas.List.Sums.{count_by-le-length}
 use Rattle.std.specs.FinMap as map
-use Rattle.std.specs.List.{filter, find, flat_map, AllByRecursion}
+use Rattle.std.proofs.lemmas.List.{nil_from_length}
+use Rattle.std.specs.List.{filter, filter_map, find, flat_map, AllByRecursion}
 use Rattle.std.specs.Ordering.{eq_by_cmp}
 use Rattle.off_base.specs.Choices.{when, first_there}
 use Rattle.off_base.specs.declared.addresses.Ip4.{Ip4}
@@ -31,10 +32,11 @@ use Rattle.off_defs.specs.State.{Tables}
 use Rattle.off_defs.specs.Tables.{row_at, with_row, without, write_all}
 use Rattle.off_defs.proofs.KeyLemmas.{key_total}
 use Rattle.off_defs.proofs.TableLemmas.{row_with, row_with_here, row_without, same_tables, same_key}
-use Rattle.off_account_rules.specs.Rows.{seen_at, count_of, is_counted, class_is_good, pools, leases, pool_in, possible, as_site, as_subscriber, as_class, hub_in, subscriber_in, class_in}
+use Rattle.off_account_rules.specs.Rows.{seen_at, count_of, is_counted, class_is_good, overlaps, pools, device_pool_of, device_pools, leases, pool_in, possible, as_site, as_subscriber, as_class, hub_in, subscriber_in, class_in}
 use Rattle.off_account_rules.specs.Clerk.{limit_of, limit, is_other_overlapping, is_other_with_relay, is_live, gives_up, lost_leases, lease_drops, rules_of, writes_of, by_rule, accepted, stepped_by, clerk_step}
 use Rattle.off_table_laws.proofs.ListLemmas.{In}
 use Rattle.off_table_laws.proofs.LostLeases.{all_in_lease}
+use Rattle.off_table_laws.proofs.MadeLemmas.{made_with}
 use Rattle.off_table_laws.proofs.Reading.{pool_row}
 use Rattle.off_lease_laws.proofs.ChoiceLemmas.{pool_read}
 use Rattle.off_drill_rules.specs.Rows.{begins_at, site, class, pool, subscriber, modem, mac, with_site, with_class, founded, peopled}
@@ -126,6 +128,15 @@ no_pools =
     let none = other_row (key.Pool entry.0) refl refl in
     let f : Some (row.Pool entry.1) ≡ None = sym there ∙ none in cc)
 
+pub no_entries : map.entries (map.empty {K = Key} {X = Row} {R = key_cmp}) ≡ []
+no_entries = nil_from_length (map.entries map.empty) (sym (map.len-entries map.empty) ∙ map.len-empty key_cmp Row)
+
+no_device_pools : device_pools with_class ≡ []
+no_device_pools =
+    made_with device_pool_of (key.Class 1) (λ r. refl) with_site (row.Class class)
+    ∙ made_with device_pool_of (key.Hub 0) (λ r. refl) map.empty (row.Site site)
+    ∙ ap (filter_map device_pool_of) no_entries
+
 no_leases : leases with_class ≡ []
 no_leases =
     empty_list (leases with_class)
@@ -162,12 +173,15 @@ pool_step =
       (
         ap (λ (ps : List (ℕ × Pool)). option_map (λ (other : ℕ × Pool). rule.PoolOverlap other.0) (find (is_other_overlapping 1 pool) ps)) no_pools,
         (
-          ap (λ (ps : List (ℕ × Pool)). option_map (λ (other : ℕ × Pool). rule.RelayTaken other.0) (find (is_other_with_relay 1 pool) ps)) no_pools,
+          ap (λ (ps : List (ℕ × Pool)). option_map (λ (other : ℕ × Pool). rule.DeviceOverlap other.0) (find (λ (other : ℕ × Pool). overlaps pool other.1) ps)) no_device_pools,
           (
-            ap (λ (o : Option Site). when (is_none o) rule.NoHub) hub_is,
+            ap (λ (ps : List (ℕ × Pool)). option_map (λ (other : ℕ × Pool). rule.RelayTaken other.0) (find (is_other_with_relay 1 pool) ps)) no_pools,
             (
-              ap (λ (es : List (Ip4 × Lease)). option_map (λ (entry : Ip4 × Lease). rule.PoolHasLeases entry.0) (find (is_live begins_at) es)) none_lost,
-              (within with_class (key.Pool 1) Pools (let f = class_few in omega (arith, f)), tt),
+              ap (λ (o : Option Site). when (is_none o) rule.NoHub) hub_is,
+              (
+                ap (λ (es : List (Ip4 × Lease)). option_map (λ (entry : Ip4 × Lease). rule.PoolHasLeases entry.0) (find (is_live begins_at) es)) none_lost,
+                (within with_class (key.Pool 1) Pools (let f = class_few in omega (arith, f)), tt),
+              ),
             ),
           ),
         ),

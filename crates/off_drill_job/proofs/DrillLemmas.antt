@@ -1,6 +1,5 @@
 -- From what was founded and exercised to what `drill` promises.
 use Rattle.std.proofs.Common.{◌≡◌, ◌≢◌, ℕ, ◌<◌, ◌≤◌, ◌⊎◌, true, false, Option, Some, None, is_some, List, [], ◌∷◌, ◌++◌, length, append-nil, refl, sym, ap, subst, ◌∙◌, inl, inr, arith}
-use Rattle.std.proofs.lemmas.List.{nil_from_length}
 use Rattle.std.proofs.lemmas.List.Elements.{All-nil}
 use Rattle.std.specs.FinMap as map
 use Rattle.std.specs.List.{find}
@@ -47,6 +46,7 @@ use Rattle.off_drill_job.specs.Telling.{ended_text, ended_status}
 use Rattle.off_drill_job.specs.Drilling.{FindsRows, LeavesDrill, GaveAll, CameSoFar, Ends, DoneBy, BrokenBy, GoesOn, NoneFailed, Drills}
 use Rattle.off_drill_job.specs.declared.drilling.Ended.{Ended}
 use Rattle.off_drill_job.specs.declared.drilling.Ended.TheVariants.{Closed, NotEmpty, Broken, Done}
+use Rattle.off_drill_job.proofs.CommandLemmas.{no_entries}
 use Rattle.off_drill_job.proofs.CrashLemmas.{keeper_turns, keeper_opened}
 use Rattle.off_drill_job.proofs.FoundingLemmas.{gave_none}
 use Rattle.off_drill_job.proofs.TurnLemmas.{tried_none, link_unasked, sent_nothing}
@@ -59,9 +59,6 @@ none_of (entry ∷ es) e = cc
 
 no_rows : (t : Tables) → next_entry None t ≡ None → t ≡ map.empty
 no_rows t e = map.empty_of_len t (map.len-entries t ∙ ap length (none_of (map.entries t) e))
-
-no_entries : map.entries (map.empty {K = Key} {X = Row} {R = key_cmp}) ≡ []
-no_entries = nil_from_length (map.entries map.empty) (sym (map.len-entries map.empty) ∙ map.len-empty key_cmp Row)
 
 some_rows : (t : Tables) (entry : Key × Row) → next_entry None t ≡ Some entry → t ≢ map.empty
 some_rows t entry e is =

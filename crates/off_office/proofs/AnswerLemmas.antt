@@ -23,7 +23,7 @@ use Rattle.off_accounts.specs.declared.results.Planned.{Planned}
 use Rattle.off_accounts.specs.declared.results.AccountErr.{AccountErr}
 use Rattle.off_accounts.specs.declared.results.AccountErr.TheVariants.{Refused, Failed, Memory}
 use Rattle.off_office.specs.Desk.{Desk}
-use Rattle.off_office.specs.Conditions.{Mirrors}
+use Rattle.off_office.specs.Conditions.{Mirrors, any_tables}
 use Rattle.off_office.proofs.MirrorLemmas.{follows_mirrors}
 use Rattle.off_office.proofs.StepLemmas.{kept_unwritten}
 use Rattle.off_office.specs.Answering.{said_to, fault_said, IsPlanned, NotPlanned, AnsweredBy, NotAnswered, AnswerBegins, IsAnswered, CarriedOut, NotCarriedOut, Refuses, answer_to}
@@ -47,7 +47,7 @@ carried_done command planned conn said before after a b c rests reads did = reco
               ap (λ (s : Stepped). (answer_step s).writes) (sym is.0),
               g.fits,
             );
-            stays = λ fits. follows_mirrors before after planned.counts planned.writes t g.value did.follows (read.1.holds fits.mirrors).1 g.fits fits;
+            stays = λ fits. follows_mirrors any_tables before after planned.counts planned.writes t g.value tt did.follows (read.1.holds fits.mirrors).1 g.fits fits;
           };
         };
   };

@@ -2,7 +2,7 @@
 use Rattle.std.proofs.Common.{◌≡◌, ℕ, ◌+◌, ◌≤◌, List, [], ◌∷◌, Option, Some, None, option_map, arith, Result, Ok, Err, MatchResult, length, refl, sym, ap, ◌∙◌, subst}
 use Rattle.std.specs.Prelude.{IsTrue}
 use Rattle.off_defs.specs.declared.orders.Command.{Command}
-use Rattle.off_defs.specs.declared.orders.Command.TheVariants.{PutHub, PutSubscriber, PutAddOn, PutModem, PutClass, PutPool, Remove, Show, Import}
+use Rattle.off_defs.specs.declared.orders.Command.TheVariants.{PutHub, PutSubscriber, PutAddOn, PutModem, PutClass, PutPool, PutDevicePool, Remove, Show, Import}
 use Rattle.off_defs.specs.declared.orders.Write.{Write}
 use Rattle.off_defs.specs.State.{Tables, Held}
 use Rattle.off_defs.specs.Tables.{write_all}
@@ -31,7 +31,7 @@ use Rattle.off_users.specs.Kept.{NamedMap, Knows, map_of}
 use Rattle.off_users.proofs.KeptLemmas.{known_stands}
 use Rattle.off_office.specs.Desk.{Desk}
 use Rattle.off_office.specs.Acting.{desk_at}
-use Rattle.off_office.specs.Conditions.{Mirrors, StaysFit, Follows}
+use Rattle.off_office.specs.Conditions.{Mirrors, StaysFit, Follows, any_tables}
 use Rattle.off_office.proofs.MirrorLemmas.{came_mirrors, came_fits, follows_mirrors}
 use Rattle.off_office.specs.Asking.{SpentWithin, commit_calls, most_commits}
 use Rattle.off_office.specs.Answering.{IsPlanned, NotPlanned, CommandBegins, Commanded, NotCommanded, CountsRows}
@@ -72,7 +72,7 @@ settled_by (Err err) writes a b some not = not
 
 -- what was planned was done
 commanded : (command : Command) (planned : Planned) (at now : ℕ) (before mid after : Desk) (a b c : KeeperSeen) → mid ≡ desk_at before at → mid.held.now ≡ now → Rests a
-    → Reads (IsPlanned mid command planned) a b → Settled planned.writes b c → Follows mid after planned.counts planned.writes
+    → Reads (IsPlanned mid command planned) a b → Settled planned.writes b c → Follows any_tables mid after planned.counts planned.writes
     → Commanded command planned.reply now before after a c
 commanded command planned at now before mid after a b c came is_now rests reads done is = subst (λ m. Commanded command planned.reply m before after a c) is_now (record {
   writes = planned.writes;
@@ -87,7 +87,7 @@ commanded command planned at now before mid after a b c came is_now rests reads 
             holds = λ mirrors. ((read.1.holds (came_mirrors before mid at t came mirrors)).0, g.fits);
             stays = λ fits.
                 let here = came_fits before mid at t came fits in
-                follows_mirrors mid after planned.counts planned.writes t g.value is (read.1.holds here.mirrors).1 g.fits here;
+                follows_mirrors any_tables mid after planned.counts planned.writes t g.value tt is (read.1.holds here.mirrors).1 g.fits here;
           };
         };
   };
@@ -96,7 +96,7 @@ commanded command planned at now before mid after a b c came is_now rests reads 
 })
 
 pub command_done : (command : Command) (planned : Planned) (at : ℕ) (before mid after : Desk) (a b c : KeeperSeen) → mid ≡ desk_at before at → Rests a
-    → Reads (IsPlanned mid command planned) a b → Settled planned.writes b c → Follows mid after planned.counts planned.writes
+    → Reads (IsPlanned mid command planned) a b → Settled planned.writes b c → Follows any_tables mid after planned.counts planned.writes
     → Commanded command planned.reply after.held.now before after a c
 command_done command planned at before mid after a b c came rests reads done is =
     commanded command planned at after.held.now before mid after a b c came (sym (ap (λ (h : Held). h.now) is.held)) rests reads done is
@@ -157,6 +157,7 @@ commits_within (PutAddOn owner number settings) planned is = at_most_one planned
 commits_within (PutModem mac modem) planned is = at_most_one planned.writes
 commits_within (PutClass number class) planned is = at_most_one planned.writes
 commits_within (PutPool number pool hub) planned is = at_most_one planned.writes
+commits_within (PutDevicePool number pool) planned is = at_most_one planned.writes
 commits_within (Remove removed) planned is = at_most_one planned.writes
 commits_within (Show shown) planned is = subst (λ (writes : List Write). commit_calls writes ≤ 0) (sym is.1) (omega arith)
 commits_within (Import kind batch digest rows) planned is = at_most_one planned.writes
@@ -170,6 +171,7 @@ counts_rows (PutAddOn owner number settings) planned is = tt
 counts_rows (PutModem mac modem) planned is = tt
 counts_rows (PutClass number class) planned is = tt
 counts_rows (PutPool number pool hub) planned is = tt
+counts_rows (PutDevicePool number pool) planned is = tt
 counts_rows (Remove removed) planned is = tt
 counts_rows (Show shown) planned is = tt
 counts_rows (Import kind batch digest rows) planned is = is

@@ -11,3 +11,4 @@ pub mod UpLemmas
 pub mod SendLemmas
 pub mod MirrorLemmas
 pub mod OpeningLemmas
+pub mod SettleLemmas

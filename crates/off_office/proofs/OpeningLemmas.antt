@@ -32,11 +32,11 @@ use Rattle.off_opening.specs.declared.opening.Opening.TheVariants as opening
 use Rattle.off_outside.specs.declared.keeper.KeepErr.{KeepErr}
 use Rattle.off_outside.specs.declared.keeper.KeepErr.TheVariants as keep
 use Rattle.off_outside.specs.KeeperSeen.{KeeperSeen, Rests}
-use Rattle.off_outside.specs.KeeperCalls.{Reads, NotDone, NotCommitted, Settled, IsWritten, Spent, WasCounted}
+use Rattle.off_outside.specs.KeeperCalls.{Reads, NotDone, NotCommitted, Settled, IsWritten, Spent, WasCounted, WalksOnce}
 use Rattle.off_outside.proofs.KeeperLemmas.{reads_then, settled_then, not_begun, not_begun_then, not_committed_as, spent_one, spent_then, spent_within}
 use Rattle.off_office.specs.Desk.{Desk}
 use Rattle.off_office.specs.Opening.{IsMigrated, OpensTo, LeavesOpening, doubt_opened, counts_behind, WalksAndMigrates}
-use Rattle.off_office.specs.Conditions.{Mirrors, Fits, Opened, Founded, Begun, Follows}
+use Rattle.off_office.specs.Conditions.{Mirrors, Fits, Opened, Founded, Begun, Follows, any_tables}
 use Rattle.off_office.specs.Acting.{NotStarted, start_err}
 use Rattle.off_office.specs.Asking.{commit_calls}
 use Rattle.off_office.proofs.CommandLemmas.{at_most_one}
@@ -114,19 +114,21 @@ counts_migrated t writes are opens =
 -- ---- an office that is founded, and one that opens
 
 fits_migrated : (t : Tables) (counts : Counts) (users : UsersHeld) (writes : List Write) (first after : Desk) → writes ≡ migration t → Begun first counts users t
-    → Follows first after (counts_behind counts writes) writes → OpensAs t (opening.Open counts users) → Fits after (migrated t)
+    → Follows any_tables first after (counts_behind counts writes) writes → OpensAs t (opening.Open counts users) → Fits after (migrated t)
 fits_migrated t counts users writes first after are begun follows opens = record {
   good = migrated_are_good t opens.0;
   mirrors = subst (Mirrors after) (migrated_by t writes are (write_all t writes) refl) (record {
     counts = follows.counts_are ∙ (ap (λ (c : Counts). counts_behind c writes) opens.1 ∙ sym (counts_migrated t writes are opens.0));
     kept = subst (AllRight (write_all t writes)) (sym follows.kept) (kept_stays_right t writes first.kept begun.kept);
     pools = follows.pools t opens.0 begun.pools;
+    device_pools = follows.device_pools t opens.0 begun.device_pools;
     users = follows.users t (begun.users opens.2);
+    devices = follows.devices t tt begun.devices;
   });
 }
 
 pub founded : (counts : Counts) (users : UsersHeld) (writes : List Write) (first after : Desk) {a b c d : KeeperSeen} → Rests a → Reads (λ t. writes ≡ migration t) a b
-    → Reads (Begun first counts users) b c → Settled writes c d → Follows first after (counts_behind counts writes) writes → Founded after counts users a d
+    → Reads (Begun first counts users) b c → Settled writes c d → Follows any_tables first after (counts_behind counts writes) writes → Founded after counts users a d
 founded counts users writes first after rests reads begun settled follows = record {
   writes = writes;
   are = λ t told. (reads.tables t told).1;
@@ -177,10 +179,22 @@ opened (Err why) counts users c rests reads not = not_started_then why c rests r
 few_calls : (k m : ℕ) → m ≤ 1 → (1 + k) + m ≤ k + 2
 few_calls k m one = omega (arith, one)
 
-pub founding_calls : {P : Tables → Type 0} (writes : List Write) {a b c d : KeeperSeen} → WasCounted a b → Reads P a b → Walks 3 b c → Spent (commit_calls writes) c d
-    → WalksAndMigrates 3 a d
+pub walks_five : {P : Tables → Type 0} {a b c : KeeperSeen} → Walks 3 a b → Reads P a b → Walks 2 b c → Walks 5 a c
+walks_five first reads second t told = spent_within (spent_then (first t told) (second t (reads.tables t told).0)) (omega arith)
+
+pub walks_more : {P : Tables → Type 0} {a b c : KeeperSeen} → Walks 5 a b → Reads P a b → WalksOnce b c → Walks 6 a c
+walks_more first reads second t told = spent_within (spent_then (first t told) (second t (reads.tables t told).0)) (omega arith)
+
+pub five_are_few : {a b : KeeperSeen} → Walks 5 a b → Walks 6 a b
+five_are_few first t told = spent_within (first t told) (omega arith)
+
+pub three_are_few : {a b : KeeperSeen} → Walks 3 a b → Walks 6 a b
+three_are_few first t told = spent_within (first t told) (omega arith)
+
+pub founding_calls : {P : Tables → Type 0} (writes : List Write) {a b c d : KeeperSeen} → WasCounted a b → Reads P a b → Walks 6 b c → Spent (commit_calls writes) c d
+    → WalksAndMigrates 6 a d
 founding_calls writes counted reads walks spent t told =
-    spent_within (spent_then (spent_then (spent_one counted) (walks t (reads.tables t told).0)) spent) (few_calls (3 * (map.len t + 1)) (commit_calls writes) (at_most_one writes))
+    spent_within (spent_then (spent_then (spent_one counted) (walks t (reads.tables t told).0)) spent) (few_calls (6 * (map.len t + 1)) (commit_calls writes) (at_most_one writes))
 
 -- ---- what it leaves
 

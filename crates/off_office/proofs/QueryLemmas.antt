@@ -21,7 +21,7 @@ use Rattle.off_outside.proofs.KeeperLemmas.{reads_as, reads_told, reads_forgotte
 use Rattle.off_office.specs.Desk.{Desk}
 use Rattle.off_office.specs.Conditions.{Mirrors}
 use Rattle.off_office.specs.Acting.{Handled, DoesOn, effect_of}
-use Rattle.off_office.specs.Asking.{dhcp_asks}
+use Rattle.off_office.specs.Asking.{DhcpAsks}
 use Rattle.off_office.specs.Leasing.{ServesDatagram, FailsMessage}
 use Rattle.off_office.specs.Querying.{DidQuery, AnswersQuery}
 use Rattle.off_office.proofs.LeaseLemmas.{said_nothing_more, message_handled, message_failed, undone_told}
@@ -63,7 +63,7 @@ query_handled from bytes query said desk a b rests asks did spent = record {
   up = λ up. inl (did.reads.quiet.up up);
   faults = did.reads.quiet.faults;
   commits = did.reads.quiet.commits;
-  asks = subst (λ (asked : Option (List ℕ)). Spent (dhcp_asks asked (message_of bytes)) a b) (sym asks) spent;
+  asks = subst (λ (asked : Option (List ℕ)). DhcpAsks asked (message_of bytes) a b) (sym asks) spent;
   crash = still_crash rests did.reads.quiet.still;
   doubts = λ t told u doubt. did.reads.quiet.still.doubts u doubt;
   tells = query_tells from bytes did.word said.line did.says;
@@ -76,17 +76,17 @@ query_handled from bytes query said desk a b rests asks did spent = record {
 -- ---- a datagram, query or message
 
 pub datagram_handled : (from : Peer) (bytes : List ℕ) (asked : Option (List ℕ)) (u : Unit {0}) (said : Said) (before after : Desk) (a b : KeeperSeen) → Rests a → query_of bytes ≡ asked
-    → ServesDatagram asked (Ok u) (message_of bytes) before after said a b → Spent (dhcp_asks asked (message_of bytes)) a b
+    → ServesDatagram asked (Ok u) (message_of bytes) before after said a b → DhcpAsks asked (message_of bytes) a b
     → Handled (Datagram Dhcp from bytes) Did said before after a b
 datagram_handled from bytes (Some query) u said before after a b rests asks serves spent =
     subst (λ (d : Desk). Handled (Datagram Dhcp from bytes) Did said before d a b) (sym serves.0) (query_handled from bytes query said before a b rests asks serves.1 spent)
 datagram_handled from bytes None u said before after a b rests asks serves spent = message_handled from bytes said before after a b asks serves spent
 
 pub datagram_failed : (from : Peer) (bytes : List ℕ) (asked : Option (List ℕ)) (err : KeepErr) (outcome : Outcome) (said other : Said) (before after : Desk) (a b : KeeperSeen) → Rests a → query_of bytes ≡ asked
-    → ServesDatagram asked (Err err) (message_of bytes) before after other a b → Spent (dhcp_asks asked (message_of bytes)) a b → FailsMessage err outcome said
+    → ServesDatagram asked (Err err) (message_of bytes) before after other a b → DhcpAsks asked (message_of bytes) a b → FailsMessage err outcome said
     → Handled (Datagram Dhcp from bytes) outcome said before before a b
 datagram_failed from bytes (Some query) err outcome said other before after a b rests asks serves spent is =
     undone_told from bytes err outcome said before a b (not_begun rests serves.1)
-    (subst (λ (asked : Option (List ℕ)). Spent (dhcp_asks asked (message_of bytes)) a b) (sym asks) spent) is
+    (subst (λ (asked : Option (List ℕ)). DhcpAsks asked (message_of bytes) a b) (sym asks) spent) is
 datagram_failed from bytes None err outcome said other before after a b rests asks serves spent is =
     message_failed from bytes err outcome said before a b asks serves spent is

@@ -75,7 +75,7 @@ failed_on conn piece line outcome said before after t is gone =
 
 mirrors_still : (conn : ℕ) (before after : Desk) (t : Tables) → after ≡ forgets before conn → Mirrors before t → Mirrors after t
 mirrors_still conn before after t gone =
-    mirrors_as before after t (stays_by before (forgets before conn) after gone (record { counts = refl; kept = refl; pools = refl; users = refl }))
+    mirrors_as before after t (stays_by before (forgets before conn) after gone (record { counts = refl; kept = refl; pools = refl; device_pools = refl; users = refl; devices = refl }))
 
 -- nothing was written
 pub stay_written : (a b : KeeperSeen) → ((t : Tables) → a.tables t → b.tables t) → Told a.tables b.tables (IsWritten [])
@@ -449,7 +449,7 @@ pub closed_handled : (conn : ℕ) (outcome : Outcome) (said : Said) (before afte
     → after ≡ forgets before conn → outcome ≡ Did → said ≡ failed_said (codes "http closed") → Handled (Closed conn) outcome said before after k k
 closed_handled conn outcome said before after k left did is =
     said_handled (Closed conn) outcome said (failed_said (codes "http closed")) before after k (ap (λ (x : Desk). x.held.now) left)
-    (stays_by before (forgets before conn) after left (record { counts = refl; kept = refl; pools = refl; users = refl })) refl did is
+    (stays_by before (forgets before conn) after left (record { counts = refl; kept = refl; pools = refl; device_pools = refl; users = refl; devices = refl })) refl did is
     (λ t. ap (λ (x : Desk). effect_of (Closed conn) Did (failed_said (codes "http closed")) [] (state_of t x.held)) left)
     (spent_none k)
 

@@ -34,11 +34,13 @@ use Rattle.off_kept.proofs.RightLemmas.{none_right}
 use Rattle.off_runs.specs.Runs.{in_pool}
 use Rattle.off_runs.specs.Held.{Ground, PoolHeld, KeepsPools}
 use Rattle.off_runs.specs.Leases.{ground}
+use Rattle.off_device_runs.specs.Ground.{device_ground}
 use Rattle.off_users.specs.Users.{UsersHeld}
 use Rattle.off_users.specs.Kept.{NamedMap, Knows, map_of}
 use Rattle.off_users.proofs.KeptLemmas.{stands_known}
+use Rattle.off_behind.specs.Buckets.{Leases}
 use Rattle.off_office.specs.Desk.{Desk}
-use Rattle.off_office.specs.Conditions.{Mirrors, Begun}
+use Rattle.off_office.specs.Conditions.{Mirrors, Begun, KnowsDevices}
 use Rattle.off_office.specs.Acting.{Handled, DoesOn, NotStarted, effect_of}
 use Rattle.off_office.specs.Answering.{failed_said}
 use Rattle.off_office.specs.Transferring.{moved, moved_with, MovesTransfers, DidPacket, SaysPacket, FailsPacket, DidTick, MissedTick, TakesTick}
@@ -49,24 +51,26 @@ use Rattle.off_office.proofs.MirrorLemmas.{stays_self, stays_by}
 
 -- ---- an office that begins
 
-pub started : (q : Result Desk StartErr) (counts : Counts) (users : UsersHeld) (pools : List PoolHeld) (a b : KeeperSeen)
-    → IfOk q (λ (office : Desk). office ≡ record { held = held_at_start; counts = counts; kept = []; pools = pools; users = map_of users.modems })
-    → IfErr q (λ (err : StartErr). err ≡ start.Memory) → Rests a → Reads (λ t. KeepsPools pools (ground t)) a b
+pub started : (q : Result Desk StartErr) (counts : Counts) (users : UsersHeld) (pools device_pools : List PoolHeld) (held : List Leases) (a b : KeeperSeen)
+    → IfOk q (λ (office : Desk). office ≡ record { held = held_at_start; counts = counts; kept = []; pools = pools; device_pools = device_pools; users = map_of users.modems; devices = held })
+    → IfErr q (λ (err : StartErr). err ≡ start.Memory) → Rests a → Reads (λ t. KeepsPools pools (ground t) × (KeepsPools device_pools (device_ground t) × KnowsDevices held t)) a b
     → MatchResult q (λ (office : Desk). Reads (Begun office counts users) a b) (λ (err : StartErr). NotStarted err a b)
-started (Ok office) counts users pools a b is none rests reads =
+started (Ok office) counts users pools device_pools held a b is none rests reads =
     reads_as reads (λ t keeps. record {
       counts_are = ap (λ (d : Desk). d.counts) is;
       kept = subst (λ (d : Desk). AllRight t d.kept) (sym is) (none_right t);
-      pools = subst (λ (d : Desk). KeepsPools d.pools (ground t)) (sym is) keeps;
+      pools = subst (λ (d : Desk). KeepsPools d.pools (ground t)) (sym is) keeps.0;
+      device_pools = subst (λ (d : Desk). KeepsPools d.device_pools (device_ground t)) (sym is) keeps.1.0;
       users = λ stands. subst (λ (d : Desk). Knows d.users t) (sym is) (stands_known users t stands);
+      devices = subst (λ (d : Desk). KnowsDevices d.devices t) (sym is) keeps.1.1;
     })
-started (Err err) counts users pools a b none is rests reads = subst (λ (e : StartErr). NotStarted e a b) (sym is) (not_begun rests (reads_forgotten reads))
+started (Err err) counts users pools device_pools held a b none is rests reads = subst (λ (e : StartErr). NotStarted e a b) (sym is) (not_begun rests (reads_forgotten reads))
 
-pub started_empty : (q : Result Desk StartErr) (counts : Counts) (users : NamedMap) (pools : List PoolHeld)
-    → IfOk q (λ (office : Desk). office ≡ record { held = held_at_start; counts = counts; kept = []; pools = pools; users = users })
+pub started_empty : (q : Result Desk StartErr) (counts : Counts) (users : NamedMap) (pools device_pools : List PoolHeld) (held : List Leases)
+    → IfOk q (λ (office : Desk). office ≡ record { held = held_at_start; counts = counts; kept = []; pools = pools; device_pools = device_pools; users = users; devices = held })
     → IfOk q (λ (office : Desk). office.held ≡ held_at_start)
-started_empty (Ok office) counts users pools is = ap (λ (d : Desk). d.held) is
-started_empty (Err err) counts users pools is = tt
+started_empty (Ok office) counts users pools device_pools held is = ap (λ (d : Desk). d.held) is
+started_empty (Err err) counts users pools device_pools held is = tt
 
 -- ---- a datagram
 
@@ -146,7 +150,9 @@ packet_handled from bytes said before after a b rests reads moves says spent few
       counts = ap (λ (d : Desk). d.counts) moves ∙ fits.mirrors.counts;
       kept = (did fits.mirrors).right;
       pools = subst (λ (pools : List PoolHeld). KeepsPools pools (ground t)) (sym (ap (λ (d : Desk). d.pools) moves)) fits.mirrors.pools;
+      device_pools = subst (λ (pools : List PoolHeld). KeepsPools pools (device_ground t)) (sym (ap (λ (d : Desk). d.device_pools) moves)) fits.mirrors.device_pools;
       users = subst (λ (users : NamedMap). Knows users t) (sym (ap (λ (d : Desk). d.users) moves)) fits.mirrors.users;
+      devices = subst (λ (held : List Leases). KnowsDevices held t) (sym (ap (λ (d : Desk). d.devices) moves)) fits.mirrors.devices;
     };
   });
   written = reads_told reads (λ t did. refl);
@@ -240,7 +246,7 @@ pub tick_handled : (outcome : Outcome) (said : Said) (before after : Desk) (k : 
     → Handled Tick outcome said before after k k
 tick_handled Did said before after k did =
     handled_quietly Tick Did said before after k (ap (λ (d : Desk). d.held.now) did.moves)
-    (stays_by before (moved before did.transfers) after did.moves (record { counts = refl; kept = refl; pools = refl; users = refl })) refl
+    (stays_by before (moved before did.transfers) after did.moves (record { counts = refl; kept = refl; pools = refl; device_pools = refl; users = refl; devices = refl })) refl
     (tick_does before after said did) (did_says Tick before after said (tick_does before after said did)) tt (spent_none k)
 tick_handled Memory said before after k missed =
     handled_quietly Tick Memory said before after k (ap (λ (d : Desk). d.held.now) missed.stays) (stays_by before before after missed.stays (stays_self before)) refl

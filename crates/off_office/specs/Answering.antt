@@ -4,7 +4,7 @@ use Rattle.off_http.specs.Reply.{reply}
 use Rattle.off_http.specs.Request.{Meaning}
 use Rattle.off_http.specs.Heard.{asked_method, asked_target, asked_body}
 use Rattle.off_defs.specs.declared.orders.Command.{Command}
-use Rattle.off_defs.specs.declared.orders.Command.TheVariants.{PutHub, PutSubscriber, PutAddOn, PutModem, PutClass, PutPool, Remove, Show, Import}
+use Rattle.off_defs.specs.declared.orders.Command.TheVariants.{PutHub, PutSubscriber, PutAddOn, PutModem, PutClass, PutPool, PutDevicePool, Remove, Show, Import}
 use Rattle.off_defs.specs.declared.orders.Write.{Write}
 use Rattle.off_defs.specs.declared.orders.Reply.{Reply}
 use Rattle.off_defs.specs.declared.orders.Reply.TheVariants.{Rows}
@@ -31,7 +31,7 @@ use Rattle.off_accounts.specs.declared.results.AccountErr.{AccountErr}
 use Rattle.off_accounts.specs.declared.results.AccountErr.TheVariants.{Refused, Failed, Memory}
 use Rattle.off_kept.specs.Entries.{without_written}
 use Rattle.off_office.specs.Desk.{Desk}
-use Rattle.off_office.specs.Conditions.{Mirrors, Under, Follows}
+use Rattle.off_office.specs.Conditions.{Mirrors, Under, Follows, any_tables}
 use Rattle.off_office.specs.Acting.{forgets, DoingBegins}
 use Rattle.off_book.specs.Step.{TellsOutcome}
 
@@ -64,6 +64,7 @@ CountsRows (PutAddOn n number settings) answer = Unit {0}
 CountsRows (PutModem mac modem) answer = Unit {0}
 CountsRows (PutClass n class) answer = Unit {0}
 CountsRows (PutPool n pool hub) answer = Unit {0}
+CountsRows (PutDevicePool n pool) answer = Unit {0}
 CountsRows (Remove key) answer = Unit {0}
 CountsRows (Show key) answer = Unit {0}
 
@@ -151,7 +152,7 @@ IsAnswered result answer conn said before after old new =
 pub record CarriedOut (planned : Planned) (conn : ℕ) (said : Said) (before after : Desk)
     (old new : KeeperSeen) : Type 0 where
   pub answer : said ≡ reply_said conn planned.reply
-  pub follows : Follows before after planned.counts planned.writes
+  pub follows : Follows any_tables before after planned.counts planned.writes
   pub done : Settled planned.writes old new
 
 -- it wasn't

@@ -1,9 +1,9 @@
 -- How many calls of the keeper an event asks at most.
-use Rattle.std.specs.Prelude.{ℕ, ◌+◌, Bool, true, false, List, [], ◌∷◌, ◌++◌, Option, Some, None, option_map, IfSome, Result, Ok, Err}
+use Rattle.std.specs.Prelude.{◌≡◌, ℕ, ◌+◌, Bool, true, false, List, [], ◌∷◌, ◌++◌, Option, Some, None, option_map, IfSome, Result, Ok, Err}
 use Rattle.off_base.specs.declared.addresses.Peer.{Peer}
 use Rattle.off_http.specs.Request.{Meaning, Waits, Refused, Asked, RequestIs}
 use Rattle.off_defs.specs.declared.orders.Command.{Command}
-use Rattle.off_defs.specs.declared.orders.Command.TheVariants.{PutHub, PutSubscriber, PutAddOn, PutModem, PutClass, PutPool, Remove, Show, Import}
+use Rattle.off_defs.specs.declared.orders.Command.TheVariants.{PutHub, PutSubscriber, PutAddOn, PutModem, PutClass, PutPool, PutDevicePool, Remove, Show, Import}
 use Rattle.off_defs.specs.declared.orders.Write.{Write}
 use Rattle.off_defs.specs.declared.events.Service.TheVariants.{Dhcp, Time, Tftp}
 use Rattle.off_defs.specs.declared.events.What.{What}
@@ -12,6 +12,8 @@ use Rattle.off_defs.specs.State.{Held, Tables}
 use Rattle.off_dhcp.specs.Datagram.{Received, message_of}
 use Rattle.off_dhcp.specs.declared.faults.DhcpFault.{DhcpFault}
 use Rattle.off_query_rules.specs.Asked.{query_of}
+use Rattle.off_cpe_rules.specs.Behind.{modem_behind}
+use Rattle.off_cpe.specs.Calls.{is_own, device_calls}
 use Rattle.off_lease.specs.Calls.{message_calls}
 use Rattle.off_query.specs.Calls.{query_calls}
 use Rattle.off_tftp.specs.Calls.{datagram_calls}
@@ -42,6 +44,7 @@ most_commits (PutAddOn owner number settings) = 1
 most_commits (PutModem mac modem) = 1
 most_commits (PutClass number class) = 1
 most_commits (PutPool number pool hub) = 1
+most_commits (PutDevicePool number pool) = 1
 most_commits (Remove removed) = 1
 most_commits (Show shown) = 0
 most_commits (Import kind batch digest rows) = 1
@@ -75,20 +78,28 @@ PieceAsks true bytes old new = Spent 0 old new
 PieceAsks false bytes old new =
     (meaning : Meaning) → RequestIs bytes meaning → SpentWithin (meaning_calls meaning) old new
 
--- a message asks what deciding it does, and one call for the commit; what is no message asks
--- nothing
-abbrev pub message_asks : Result Received DhcpFault → ℕ
-message_asks (Ok m) = message_calls m + 1
-message_asks (Err fault) = 0
+-- A message that says by itself that it's no device's asks what deciding it does, and one call for
+-- the commit. Each other one that by the tables is no device's asks one call more, which tells that.
+-- None asks more than a device's may, which is ten, whatever the tables.
+pub record MessageAsks (m : Received) (old new : KeeperSeen) : Type 0 where
+  pub own : is_own m ≡ true → Spent (message_calls m + 1) old new
+  pub others : (t : Tables) → old.tables t → modem_behind t m ≡ None →
+      Spent (message_calls m + 2) old new
+  pub any : Spent device_calls old new
+
+-- what is no message asks nothing
+abbrev pub ReadAsks : Result Received DhcpFault → KeeperSeen → KeeperSeen → Type 0
+ReadAsks (Ok m) old new = MessageAsks m old new
+ReadAsks (Err fault) old new = Spent 0 old new
 
 -- a query asks what answering it does
-abbrev pub dhcp_asks : Option (List ℕ) → Result Received DhcpFault → ℕ
-dhcp_asks (Some query) read = query_calls query
-dhcp_asks None read = message_asks read
+abbrev pub DhcpAsks : Option (List ℕ) → Result Received DhcpFault → KeeperSeen → KeeperSeen → Type 0
+DhcpAsks (Some query) read old new = Spent (query_calls query) old new
+DhcpAsks None read old new = ReadAsks read old new
 
 abbrev pub Asks : What → Held → KeeperSeen → KeeperSeen → Type 0
 Asks (Datagram Dhcp from bytes) held old new =
-    Spent (dhcp_asks (query_of bytes) (message_of bytes)) old new
+    DhcpAsks (query_of bytes) (message_of bytes) old new
 Asks (Datagram Time from bytes) held old new = Spent 0 old new
 Asks (Datagram Tftp from bytes) held old new =
     Spent (datagram_calls held.transfers from bytes) old new

@@ -8,7 +8,7 @@ ghost use Rattle.off_accounts.specs.Walking.{WalksWithin};
 ghost use Rattle.off_outside.specs.KeeperCalls.{Reads, Settled, NotCommitted, IsWritten, Spent};
 ghost use Rattle.off_office.specs.Asking.{SpentWithin, command_calls, most_commits};
 ghost use Rattle.off_office.specs.Asking.{commit_calls, CommandWalks};
-ghost use Rattle.off_office.specs.Conditions.{StaysFit, Follows};
+ghost use Rattle.off_office.specs.Conditions.{StaysFit, Follows, any_tables};
 ghost use Rattle.off_office.specs.Answering.{IsPlanned, NotPlanned, Commanded, NotCommanded};
 ghost use Rattle.off_office.specs.Answering.{CountsRows};
 
@@ -43,7 +43,9 @@ impl Office {
         ensures counts { OnErr result (self.new.counts ≡ self.old.counts) }
         ensures kept { OnErr result (self.new.kept ≡ self.old.kept) }
         ensures pools { OnErr result (self.new.pools ≡ self.old.pools) }
+        ensures device_pools { OnErr result (self.new.device_pools ≡ self.old.device_pools) }
         ensures users { OnErr result (self.new.users ≡ self.old.users) }
+        ensures devices { OnErr result (self.new.devices ≡ self.old.devices) }
         ensures rows { IfOk result (λ done. CountsRows c.now done) }
         ensures good { OnOk result (IsTrue (secret_fits c.now)
             → Told (K.seen keeper.old).tables (K.seen keeper.new).tables
@@ -92,23 +94,31 @@ impl Office {
             (λ _. Settled writes.now (K.seen keeper.old) (K.seen keeper.new))
             (λ err. NotCommitted (IsWritten writes.now) err
             (K.seen keeper.old) (K.seen keeper.new)) }
-        ensures ok { OnOk result (Follows self.old self.new counts.now writes.now) }
+        ensures ok { OnOk result (Follows any_tables self.old self.new counts.now writes.now) }
         ensures err { OnErr result (self.new ≡ self.old) }
         ensures spent { Spent (commit_calls writes.now) (K.seen keeper.old) (K.seen keeper.new) }
     {
         self.runs.ready(writes)?;
+        let of_devices = self.device_runs.ready(self.alloc, writes)?;
         self.users.ready(writes)?;
+        self.devices.ready(writes)?;
         commit_all(self.alloc, keeper, writes)?;
         self.counts = *counts;
         self.kept.forget(writes);
         self.runs.apply(writes);
+        self.device_runs.apply(&of_devices);
         self.users.apply(writes);
+        self.devices.follow(writes);
         Ok(())
     }
 }
 
-// Does writes in one commit, if there are any.
-fn commit_all<K: Keeper>(alloc: Global, keeper: &mut K, writes: &Writes) -> Result<(), KeepErr>
+/// Does writes in one commit, if there are any.
+pub(crate) fn commit_all<K: Keeper>(
+    alloc: Global,
+    keeper: &mut K,
+    writes: &Writes,
+) -> Result<(), KeepErr>
     ensures told { MatchResult result
         (λ _. Settled writes.now (K.seen keeper.old) (K.seen keeper.new))
         (λ err. NotCommitted (IsWritten writes.now) err (K.seen keeper.old) (K.seen keeper.new)) }

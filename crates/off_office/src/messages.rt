@@ -1,18 +1,24 @@
-ghost use Rattle.std.specs.Prelude.{◌≡◌, ◌≤◌, ◌++◌, codes, length, OnOk, OnErr, Ok};
+ghost use Rattle.std.specs.Prelude.{◌≡◌, ◌≤◌, ◌+◌, ◌++◌, codes, length, OnOk, OnErr, Ok};
 ghost use Rattle.std.specs.Prelude.{MatchResult};
 ghost use Rattle.off_defs.specs.State.{says_nothing};
 ghost use Rattle.off_dhcp.specs.Datagram.{message_of};
 ghost use Rattle.off_lease_rules.specs.Words.{unread};
 ghost use Rattle.off_query_rules.specs.Asked.{query_of};
-ghost use Rattle.off_book.specs.Dhcp.{dhcp_line, replies_of};
-ghost use Rattle.off_outside.specs.KeeperCalls.{IsWritten, NotCommitted, Spent};
+ghost use Rattle.off_book.specs.Dhcp.{dhcp_line, device_line, replies_of};
+ghost use Rattle.off_outside.specs.KeeperCalls.{IsWritten, NotCommitted, Settled, Spent};
+ghost use Rattle.off_office.specs.Conditions.{Follows};
+ghost use Rattle.off_lease.specs.Calls.{message_calls};
 ghost use Rattle.off_office.specs.Acting.{Handled};
-ghost use Rattle.off_office.specs.Asking.{dhcp_asks, message_asks, commit_calls};
-ghost use Rattle.off_office.specs.Leasing.{ServesDatagram, ServesMessage, DidStep, FailsMessage};
+ghost use Rattle.off_office.specs.Asking.{DhcpAsks, ReadAsks, MessageAsks, commit_calls};
+ghost use Rattle.off_office.specs.Leasing.{ServesDatagram, ServesMessage, ServesModem, DidStep, DidDevice, FailsMessage};
 
+use crate::commanding::commit_all;
 use crate::office::Office;
 use arrayvec::ArrayVec;
 use off_base::{NoMemory, Peer};
+use off_behind::read_olds;
+use off_cpe::{DeviceStep, DeviceWord, answer_by};
+use off_defs::Writes;
 use off_dhcp::{DhcpFault, Message};
 use off_lease::{DhcpWord, LeaseStep, answer};
 use off_outside::{KeepErr, Keeper, Outcome, Replies, Sent, Service, What};
@@ -48,7 +54,7 @@ impl Office {
         ensures told { ServesDatagram (query_of bytes.now) result (message_of bytes.now)
             self.old self.new out.new (K.seen keeper.old) (K.seen keeper.new) }
         ensures same { OnErr result (self.new ≡ self.old) }
-        ensures spent { Spent (dhcp_asks (query_of bytes.now) (message_of bytes.now))
+        ensures spent { DhcpAsks (query_of bytes.now) (message_of bytes.now)
             (K.seen keeper.old) (K.seen keeper.new) }
     {
         match Query::read(bytes) {
@@ -68,7 +74,7 @@ impl Office {
         ensures told { ServesMessage result (message_of bytes.now) self.old self.new out.new
             (K.seen keeper.old) (K.seen keeper.new) }
         ensures same { OnErr result (self.new ≡ self.old) }
-        ensures spent { Spent (message_asks (message_of bytes.now))
+        ensures spent { ReadAsks (message_of bytes.now)
             (K.seen keeper.old) (K.seen keeper.new) }
     {
         match Message::read(bytes) {
@@ -91,13 +97,64 @@ impl Office {
         ensures told { ServesMessage result (Ok m.now) self.old self.new out.new
             (K.seen keeper.old) (K.seen keeper.new) }
         ensures same { OnErr result (self.new ≡ self.old) }
-        ensures spent { Spent (message_asks (Ok m.now))
+        ensures spent { MessageAsks m.now (K.seen keeper.old) (K.seen keeper.new) }
+    {
+        match answer_by(
+            self.alloc,
+            keeper,
+            &self.devices,
+            &self.device_runs,
+            &self.runs,
+            self.now,
+            m,
+        ) {
+            Ok(Some(step)) => self.carry_device(keeper, step, out),
+            Ok(None) => self.serve_modem(keeper, m, out),
+            Err(err) => Err(err),
+        }
+    }
+
+    // Does what a modem's message asks.
+    fn serve_modem<K: Keeper>(
+        &mut self,
+        keeper: &mut K,
+        m: &Message<'_>,
+        out: &mut Replies,
+    ) -> Result<(), KeepErr>
+        requires { out.old ≡ says_nothing }
+        ensures told { ServesModem result m.now self.old self.new out.new
             (K.seen keeper.old) (K.seen keeper.new) }
+        ensures same { OnErr result (self.new ≡ self.old) }
+        ensures spent { Spent (message_calls m.now + 1) (K.seen keeper.old) (K.seen keeper.new) }
     {
         match answer(self.alloc, keeper, &self.runs, self.now, m) {
             Ok(step) => self.carry_step(keeper, step, out),
             Err(err) => Err(err),
         }
+    }
+
+    // Puts in hand what a step of a device says, and then commits what it writes.
+    fn carry_device<K: Keeper>(
+        &mut self,
+        keeper: &mut K,
+        step: DeviceStep,
+        out: &mut Replies,
+    ) -> Result<(), KeepErr>
+        requires { out.old ≡ says_nothing }
+        ensures told { MatchResult result
+            (λ _. DidDevice step self.old self.new out.new (K.seen keeper.old) (K.seen keeper.new))
+            (λ err. NotCommitted (IsWritten step.writes) err
+            (K.seen keeper.old) (K.seen keeper.new)) }
+        ensures same { OnErr result (self.new ≡ self.old) }
+        ensures spent { Spent (length step.writes + 1) (K.seen keeper.old) (K.seen keeper.new) }
+    {
+        let DeviceStep {
+            writes,
+            reply,
+            word,
+        } = step;
+        say_device(reply, word, out)?;
+        self.settle_device(keeper, &writes)
     }
 
     // Puts in hand what a step says, and then commits what it writes.
@@ -125,6 +182,36 @@ impl Office {
         let counts = self.counts;
         self.settle(keeper, &writes, &counts)
     }
+
+    // Does what a device's message writes, as `settle` does. The leases that its addresses have are
+    // read first, so that what is kept of them is found without a search.
+    pub(crate) fn settle_device<K: Keeper>(
+        &mut self,
+        keeper: &mut K,
+        writes: &Writes,
+    ) -> Result<(), KeepErr>
+        ensures told { MatchResult result
+            (λ _. Settled writes.now (K.seen keeper.old) (K.seen keeper.new))
+            (λ err. NotCommitted (IsWritten writes.now) err
+            (K.seen keeper.old) (K.seen keeper.new)) }
+        ensures ok { OnOk result (Follows (K.seen keeper.old).tables self.old self.new
+            self.old.counts writes.now) }
+        ensures err { OnErr result (self.new ≡ self.old) }
+        ensures spent { Spent (length writes.now + 1) (K.seen keeper.old) (K.seen keeper.new) }
+    {
+        let olds = read_olds(self.alloc, keeper, writes)?;
+        self.runs.ready(writes)?;
+        let of_devices = self.device_runs.ready(self.alloc, writes)?;
+        self.users.ready(writes)?;
+        self.devices.ready(writes)?;
+        commit_all(self.alloc, keeper, writes)?;
+        self.kept.forget(writes);
+        self.runs.apply(writes);
+        self.device_runs.apply(&of_devices);
+        self.users.apply(writes);
+        self.devices.apply(writes, &olds);
+        Ok(())
+    }
 }
 
 // Says what a step says.
@@ -134,6 +221,15 @@ fn say_step(reply: Option<Sent>, word: DhcpWord, out: &mut Replies) -> Result<()
         ≡ record { items = replies_of reply; line = dhcp_line word }) }
 {
     say_reply(reply, line_of(word).as_slice(), out)
+}
+
+// Says what a step of a device says.
+fn say_device(reply: Option<Sent>, word: DeviceWord, out: &mut Replies) -> Result<(), NoMemory>
+    requires { out.old ≡ says_nothing }
+    ensures { OnOk result (out.new
+        ≡ record { items = replies_of reply; line = device_line word }) }
+{
+    say_reply(reply, line_with(word.text()).as_slice(), out)
 }
 
 // Says a reply, where there is one, and the line.

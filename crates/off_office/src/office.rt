@@ -9,13 +9,16 @@ ghost use Rattle.off_office.specs.Conditions.{Opened, Founded, Begun};
 ghost use Rattle.off_office.specs.Opening.{WalksAndMigrates, counts_behind};
 ghost use Rattle.off_runs.specs.Reading.{Walks};
 ghost use Rattle.off_users.specs.Kept.{map_of};
+ghost use Rattle.off_behind.specs.Buckets.{leases_in};
 ghost use Rattle.off_office.specs.Saying.{SaysTime};
 ghost use Rattle.off_office.specs.declared.office.StartErr.TheVariants as start;
 
 use crate::connections::Connections;
 use off_account_rules::Counts;
 use off_base::{Bytes, Moment, NoMemory, Peer};
+use off_behind::Devices;
 use off_defs::{Key, Writes, time_of_day};
+use off_device_runs::DeviceRuns;
 use off_kept::Kept;
 use off_opening::{Opening, open_tables, read_migration};
 use off_outside::{Event, KeepErr, Keeper, Outcome, Replies, Sent, Service, What};
@@ -52,7 +55,8 @@ impl From<KeepErr> for StartErr {
 
 /// The office between two events: the moment of its latest event, how many rows the tables have,
 /// the bodies of files that were built of them, the free addresses of their pools, who uses which
-/// subscriber and class, the files on their way to modems, and the clerks' connections.
+/// subscriber and class, the leases of devices by their modems, the files on their way to modems,
+/// and the clerks' connections.
 #[derive(Drop)]
 pub struct Office {
     pub(crate) alloc: Global,
@@ -60,7 +64,9 @@ pub struct Office {
     pub(crate) counts: Counts,
     pub(crate) kept: Kept,
     pub(crate) runs: FreeRuns,
+    pub(crate) device_runs: DeviceRuns,
     pub(crate) users: Users,
+    pub(crate) devices: Devices,
     pub(crate) transfers: Transfers,
     pub(crate) connections: Connections,
 }
@@ -68,6 +74,7 @@ pub struct Office {
 impl Model for Office {
     ghost use Rattle.std.specs.Prelude.{◌≡◌};
     ghost use Rattle.off_users.specs.Kept.{map_of};
+    ghost use Rattle.off_behind.specs.Buckets.{leases_in};
     ghost use Rattle.off_office.specs.Desk.{Desk, desk_code};
 
     ghost Value = { Desk };
@@ -79,11 +86,13 @@ impl Model for Office {
       counts = o.counts;
       kept = o.kept;
       pools = o.runs.pools;
+      device_pools = o.device_runs.pools;
       users = map_of o.users.modems;
+      devices = leases_in o.devices;
     } };
 
     // the free addresses are those at its moment
-    ghost invariant = { λ o. o.runs.at ≡ o.now.0 };
+    ghost invariant = { λ o. (o.runs.at ≡ o.now.0) × (o.device_runs.at ≡ o.now.0) };
 }
 
 impl Office {
@@ -92,15 +101,15 @@ impl Office {
     /// there is one, becomes the hub 0 in the last of its calls, one commit.
     ///
     /// `Bad` comes exactly where the tables don't open, with the least bad key. After an error they
-    /// are as they were. They are walked once, and their pools, the pools' hubs and the leases once
-    /// more.
+    /// are as they were. They are walked once, and their pools, the pools' hubs, the leases and the
+    /// pools for devices once more, and the leases of devices twice.
     pub fn start<K: Keeper>(alloc: Global, keeper: &mut K) -> Result<Office, StartErr>
         ensures told { MatchResult result
             (λ office. Opened office (K.seen keeper.old) (K.seen keeper.new))
             (λ err. NotStarted err (K.seen keeper.old) (K.seen keeper.new)) }
         ensures held { IfOk result (λ office. office.held ≡ held_at_start) }
         ensures kept { IfOk result (λ office. office.kept ≡ []) }
-        ensures walks { WalksAndMigrates 4 (K.seen keeper.old) (K.seen keeper.new) }
+        ensures walks { WalksAndMigrates 7 (K.seen keeper.old) (K.seen keeper.new) }
     {
         match open_tables(alloc, keeper)? {
             Opening::Open(counts, users) => Office::found(alloc, keeper, counts, users),
@@ -121,7 +130,7 @@ impl Office {
             (λ err. NotStarted err (K.seen keeper.old) (K.seen keeper.new)) }
         ensures held { IfOk result (λ office. office.held ≡ held_at_start) }
         ensures kept { IfOk result (λ office. office.kept ≡ []) }
-        ensures walks { WalksAndMigrates 3 (K.seen keeper.old) (K.seen keeper.new) }
+        ensures walks { WalksAndMigrates 6 (K.seen keeper.old) (K.seen keeper.new) }
     {
         let writes = read_migration(alloc, keeper)?;
         let mut office = Office::begin(alloc, keeper, counts, users)?;
@@ -142,10 +151,12 @@ impl Office {
             (λ err. NotStarted err (K.seen keeper.old) (K.seen keeper.new)) }
         ensures held { IfOk result (λ office. office.held ≡ held_at_start) }
         ensures kept { IfOk result (λ office. office.kept ≡ []) }
-        ensures walks { Walks 3 (K.seen keeper.old) (K.seen keeper.new) }
+        ensures walks { Walks 6 (K.seen keeper.old) (K.seen keeper.new) }
     {
         let runs = FreeRuns::of(alloc, keeper)?;
-        Office::empty(alloc, counts, runs, users)
+        let device_runs = DeviceRuns::of(alloc, keeper)?;
+        let devices = Devices::of(alloc, keeper)?;
+        Office::empty(alloc, counts, runs, device_runs, users, devices)
     }
 
     // An office that keeps this of the tables, in which nothing has begun.
@@ -153,15 +164,20 @@ impl Office {
         alloc: Global,
         counts: Counts,
         runs: FreeRuns,
+        device_runs: DeviceRuns,
         users: Users,
+        devices: Devices,
     ) -> Result<Office, StartErr>
-        requires { runs.at ≡ 0 }
+        requires runs { runs.at ≡ 0 }
+        requires device_runs { device_runs.at ≡ 0 }
         ensures ok { IfOk result (λ office. office ≡ record {
           held = held_at_start;
           counts = counts;
           kept = [];
           pools = runs.pools;
+          device_pools = device_runs.pools;
           users = map_of users.modems;
+          devices = leases_in devices;
         }) }
         ensures err { IfErr result (λ err. err ≡ start.Memory) }
     {
@@ -175,7 +191,9 @@ impl Office {
                 counts,
                 kept,
                 runs,
+                device_runs,
                 users,
+                devices,
                 transfers,
                 connections: Connections::new(alloc),
             }),
@@ -217,6 +235,7 @@ impl Office {
     {
         self.now = later(self.now, at);
         self.runs.pass(self.now);
+        self.device_runs.pass(self.now);
     }
 
     // Forgets a connection, if it's live.

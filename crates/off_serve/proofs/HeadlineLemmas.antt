@@ -18,11 +18,14 @@ use Rattle.off_defs.specs.Counts.{Grew, one_more, most_count}
 use Rattle.off_outside.specs.KeeperCalls.{Settled}
 use Rattle.off_outside.specs.LinkCalls.{LinkUnasked}
 use Rattle.off_laws.proofs.Stretches.{leases_hold_through}
+use Rattle.off_cpe_runs.proofs.Runs.{devices_hold_over_runs}
 use Rattle.off_transfer_runs.proofs.Runs.{files_of_runs}
 use Rattle.off_boot_laws.specs.Went.{Anyhow}
 use Rattle.off_boot_laws.specs.Served.{ModemsAreServed}
 use Rattle.off_boot_laws.proofs.Went.{all_go_well}
 use Rattle.off_boot_laws.proofs.Keeping.{modems_are_served, all_are_served}
+use Rattle.off_cpe_boot_laws.specs.Served.{DevicesAreServed}
+use Rattle.off_cpe_boot_laws.proofs.Binding.{devices_are_served, all_devices_are_served}
 use Rattle.off_isolation.proofs.RunLemmas as isolation
 use Rattle.off_import_runs.proofs.Runs.{imports_act_once_through}
 use Rattle.off_office.specs.Opening.{doubt_opened}
@@ -94,6 +97,11 @@ each_served : (turns : List Turn) (old new : World) (status : ℕ) (t : Tables) 
     → (NoFault old new → All (λ turn. ¬ (SaysMemory turn)) turns → status ≢ 6 → Completed turns status)
     → NoFault old new → All (λ turn. ¬ (SaysMemory turn)) turns → status ≢ 6 → ModemsAreServed Anyhow (start t) turns
 each_served turns old new status t good complete none silent other = all_are_served (start t) turns good (complete none silent other).well
+
+each_device_served : (turns : List Turn) (old new : World) (status : ℕ) (t : Tables) → Good t
+    → (NoFault old new → All (λ turn. ¬ (SaysMemory turn)) turns → status ≢ 6 → Completed turns status)
+    → NoFault old new → All (λ turn. ¬ (SaysMemory turn)) turns → status ≢ 6 → DevicesAreServed Anyhow (start t) turns
+each_device_served turns old new status t good complete none silent other = all_devices_are_served (start t) turns good (complete none silent other).well
 
 -- what the turns did to the keeper, behind the opening
 keeper_opened : (turns : List Turn) (first : List Write) (a b c : KeeperSeen) → Settled first a b → KeeperRan [] turns b c → KeeperRan first turns a c
@@ -229,8 +237,10 @@ serves budget link link' k l m a b c reason first last status rests opened fresh
       office = office;
       good = good_again opened served.office;
       leases = λ t told. leases_hold_through (start (migrated t)) served.turns (opened_good opened t told);
+      devices = λ t told. devices_hold_over_runs (start (migrated t)) served.turns (opened_good opened t told);
       files = λ t told. files_of_runs (start (migrated t)) _ served.turns (office.run.each t told).fits;
       modems = λ t told. modems_are_served (start (migrated t)) served.turns (opened_good opened t told);
+      served_devices = λ t told. devices_are_served (start (migrated t)) served.turns (opened_good opened t told);
       isolated = λ t told. isolation.isolated (start (migrated t)) _ served.turns (office.run.each t told).fits refl;
       imports = λ t told. imports_act_once_through (start (migrated t)) _ served.turns (office.run.each t told).fits;
       ends = ends;
@@ -238,6 +248,7 @@ serves budget link link' k l m a b c reason first last status rests opened fresh
       up = all_kept reason budget served.turns last.held (world_of link k a) (world_of link' m c) status served.ran office ends;
       complete = complete;
       all_modems = λ t told. each_served served.turns (world_of link k a) (world_of link' m c) status (migrated t) (opened_good opened t told) complete;
+      all_devices = λ t told. each_device_served served.turns (world_of link k a) (world_of link' m c) status (migrated t) (opened_good opened t told) complete;
     })
 
 closed_complete : (why : StartErr) (old new : World) (status : ℕ) → NotStarted why old.keeper new.keeper

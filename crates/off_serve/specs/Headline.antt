@@ -10,9 +10,11 @@ use Rattle.off_defs.specs.declared.results.Outcome.TheVariants as outcome
 use Rattle.off_book.specs.Run.{Turn, Run, SaysMemory, TellsItsOutcome, failures_by, troubles_by, commits_by, writes_by, sent_by, lost_by, lines_from, line_of, events_of, first_events, is_end, IsNoEnd, EndsLast}
 use Rattle.off_book.specs.Crashes.{Lasts}
 use Rattle.off_laws.specs.Leases.{LeasesHoldThrough}
+use Rattle.off_cpe_runs.specs.Holding.{DevicesHoldThrough}
 use Rattle.off_transfer_runs.specs.Served.{FilesAreServedThrough}
 use Rattle.off_boot_laws.specs.Went.{GoesWell, Anyhow}
 use Rattle.off_boot_laws.specs.Served.{ModemsAreServed}
+use Rattle.off_cpe_boot_laws.specs.Served.{DevicesAreServed}
 use Rattle.off_isolation.specs.Alone.{IsolatedThrough}
 use Rattle.off_import_runs.specs.Once.{ImportsActOnceThrough}
 use Rattle.off_account_rules.specs.Good.{Opens, Good}
@@ -282,6 +284,11 @@ pub record RunsAsOffice (budget : ℕ) (old new : World) (status : ℕ) : Type 0
   -- over the run, from its start over the opened tables: no address is live for two clients, no
   -- client has two leases, and what is acknowledged is the client's until its end
   pub leases : (t : Tables) → old.keeper.tables t → LeasesHoldThrough (start (migrated t)) turns
+  -- and of devices behind modems: no address is live for two, or of a modem too, what is granted is
+  -- within the limit of the modem's subscriber, and a device's message leaves all rows but leases of
+  -- devices
+  pub devices : (t : Tables) → old.keeper.tables t
+      → DevicesHoldThrough (start (migrated t)) turns
   -- what a modem has acknowledged joins to a prefix of its own one file, the one that it had when
   -- its read request was accepted
   pub files : (t : Tables) → old.keeper.tables t → FilesAreServedThrough (start (migrated t)) turns
@@ -289,6 +296,10 @@ pub record RunsAsOffice (budget : ℕ) (old new : World) (status : ℕ) : Type 0
   -- whatever others ask in between
   pub modems : (t : Tables) → old.keeper.tables t
       → ModemsAreServed GoesWell (start (migrated t)) turns
+  -- a device that asks is bound to an address where its modem may have one device more, and one that
+  -- asks again keeps it
+  pub served_devices : (t : Tables) → old.keeper.tables t
+      → DevicesAreServed GoesWell (start (migrated t)) turns
   -- what an address gets by its TFTP datagrams and by Ticks is what it gets alone, over its own
   -- transfers
   pub isolated : (t : Tables) → old.keeper.tables t → IsolatedThrough (start (migrated t)) turns
@@ -303,10 +314,13 @@ pub record RunsAsOffice (budget : ℕ) (old new : World) (status : ℕ) : Type 0
   -- where no count rose and no line says `memory`, nothing departs from the run
   pub complete : NoFault old new → All (λ turn. ¬ (SaysMemory turn)) turns → status ≢ 6
       → Completed turns status
-  -- and each modem is served, of whose turns nothing is asked
+  -- and each modem and each device is served, of whose turns nothing is asked
   pub all_modems : (t : Tables) → old.keeper.tables t → NoFault old new
       → All (λ turn. ¬ (SaysMemory turn)) turns → status ≢ 6
       → ModemsAreServed Anyhow (start (migrated t)) turns
+  pub all_devices : (t : Tables) → old.keeper.tables t → NoFault old new
+      → All (λ turn. ¬ (SaysMemory turn)) turns → status ≢ 6
+      → DevicesAreServed Anyhow (start (migrated t)) turns
 
 abbrev pub ServesAsOffice : ℕ → World → World → ℕ → Type 0
 ServesAsOffice budget old new status =

@@ -2,7 +2,7 @@ use Rattle.std.proofs.Common.{subst}
 use Rattle.std.proofs.lemmas.Result.{err_from_is_err_and}
 use Rattle.off_account_rules.specs.declared.counts.Counts.{Counts}
 use Rattle.off_outside.proofs.KeeperLemmas.{reads_then}
-use Rattle.off_office.specs.Conditions.{Follows}
+use Rattle.off_office.specs.Conditions.{Follows, any_tables}
 use Rattle.off_office.proofs.OpeningLemmas.{founded, not_done, not_started_then, not_migrated, founding_calls}
 use Rattle.off_office.proofs.office.Office.found.Goals as goal
 
@@ -27,7 +27,7 @@ pub returns-clause-told : goal.returns-clause-told
 returns-clause-told g c =
     founded c.args.counts c.args.users c.in_ok-writes.writes c.in_ok-office.office c.settle.new.self (g.met.K.Keeper.rests c.args.keeper.now) c.in_ok-writes.ensures.told
     c.in_ok-office.ensures.told c.in_ok-settle.ensures.told
-    (subst (λ (counts : Counts). Follows c.in_ok-office.office c.settle.new.self counts c.in_ok-writes.writes) c.counts_behind.ensures c.in_ok-settle.ensures.ok)
+    (subst (λ (counts : Counts). Follows any_tables c.in_ok-office.office c.settle.new.self counts c.in_ok-writes.writes) c.counts_behind.ensures c.in_ok-settle.ensures.ok)
 
 pub returns-clause-walks : goal.returns-clause-walks
 returns-clause-walks g c = founding_calls c.in_ok-writes.writes c.in_ok-writes.ensures.counted c.in_ok-writes.ensures.told c.in_ok-office.ensures.walks c.in_ok-settle.ensures.spent

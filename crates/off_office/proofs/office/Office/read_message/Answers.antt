@@ -4,8 +4,7 @@ use Rattle.off_dhcp.specs.declared.faults.DhcpFault.{DhcpFault}
 use Rattle.off_defs.specs.State.{Said}
 use Rattle.off_lease_rules.specs.Words.{unread}
 use Rattle.off_book.specs.Dhcp.{dhcp_line}
-use Rattle.off_outside.specs.KeeperCalls.{Spent}
-use Rattle.off_office.specs.Asking.{message_asks}
+use Rattle.off_office.specs.Asking.{ReadAsks}
 use Rattle.off_office.specs.Leasing.{ServesMessage}
 use Rattle.off_office.proofs.LeaseLemmas.{fault_serves, fault_spent}
 use Rattle.off_office.proofs.office.Office.read_message.Goals as goal
@@ -20,7 +19,7 @@ returns-in-Ok-clause-told g c =
 pub returns-in-Ok-clause-spent : goal.returns-in-Ok-clause-spent
 returns-in-Ok-clause-spent g c =
     subst
-    (λ (read : Result Received DhcpFault). Spent (message_asks read) (g.K.Keeper.seen c.args.keeper.now) (g.K.Keeper.seen c.serve_message.new.keeper))
+    (λ (read : Result Received DhcpFault). ReadAsks read (g.K.Keeper.seen c.args.keeper.now) (g.K.Keeper.seen c.serve_message.new.keeper))
     (sym c.in-Ok.is ∙ c.read.ensures.message) c.serve_message.ensures.spent
 
 pub returns-in-Err-clause-told : goal.returns-in-Err-clause-told

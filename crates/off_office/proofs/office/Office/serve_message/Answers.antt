@@ -1,26 +1,47 @@
-use Rattle.std.proofs.Common.{subst}
+use Rattle.std.proofs.Common.{◌≡◌, ◌≤◌, length, Option, Some, None, IfSome, Result, Ok, IfOk, subst}
+use Rattle.off_account_rules.specs.Rows.{devices}
+use Rattle.off_behind.proofs.FollowLemmas.{keeps_stands}
+use Rattle.off_cpe_rules.specs.declared.results.DeviceStep.{DeviceStep}
 use Rattle.off_office.specs.Desk.{Desk}
+use Rattle.off_outside.specs.declared.keeper.KeepErr.{KeepErr}
 use Rattle.off_outside.specs.KeeperCalls.{Reads}
 use Rattle.off_outside.proofs.KeeperLemmas.{reads_as}
-use Rattle.off_office.proofs.LeaseLemmas.{Decides, step_serves, not_serves, step_spent, not_spent}
+use Rattle.off_office.proofs.LeaseLemmas.{DecidesDevice, device_serves, modem_serves, device_spent, modem_spent, untold_spent}
 use Rattle.off_office.proofs.office.Office.serve_message.Goals as goal
 
-pub returns-in-Ok-clause-told : goal.returns-in-Ok-clause-told
-returns-in-Ok-clause-told g c =
-    step_serves c.carry_step.result _ _ _ c.in-Ok.step _ _ _ _ (g.met.K.Keeper.rests c.args.keeper.now)
-    (subst (λ (d : Desk). Reads (Decides c.in-Ok.step d c.args.m.now) (g.K.Keeper.seen c.args.keeper.now) (g.K.Keeper.seen c.answer.new.keeper)) c.self.view_is
-    (reads_as c.in-Ok.ensures.told (λ t says mirrors. says (record { moment = c.self.invariant; keeps = mirrors.pools }))))
-    c.carry_step.ensures.told
+pub returns-in-Ok-Some-clause-told : goal.returns-in-Ok-Some-clause-told
+returns-in-Ok-Some-clause-told g c =
+    device_serves c.carry_device.result _ _ _ c.in-Ok-Some.step _ _ _ _ (g.met.K.Keeper.rests c.args.keeper.now)
+    (subst (λ (d : Desk). Reads (DecidesDevice (Some c.in-Ok-Some.step) d c.args.m.now) (g.K.Keeper.seen c.args.keeper.now) (g.K.Keeper.seen c.answer_by.new.keeper)) c.self.view_is
+    (reads_as c.in-Ok-Some.ensures.told (λ t says mirrors.
+    let decided = says (keeps_stands c.self.inside.devices (devices t) mirrors.devices) (record { moment = c.self.invariant.1; keeps = mirrors.device_pools })
+    (record { moment = c.self.invariant.0; keeps = mirrors.pools }) in
+    let is = c.in-Ok-Some.field-0-is in
+    cc)))
+    c.carry_device.ensures.told
 
-pub returns-in-Ok-clause-spent : goal.returns-in-Ok-clause-spent
-returns-in-Ok-clause-spent g c =
-    step_spent c.args.m.now c.in-Ok.step.writes (g.K.Keeper.seen c.args.keeper.now) (g.K.Keeper.seen c.answer.new.keeper) (g.K.Keeper.seen c.carry_step.new.keeper)
-    c.answer.ensures.spent c.carry_step.ensures.spent
+pub returns-in-Ok-Some-clause-spent : goal.returns-in-Ok-Some-clause-spent
+returns-in-Ok-Some-clause-spent g c =
+    let is : c.answer_by.result ≡ Ok (Some c.in-Ok-Some.step) = let outer = c.in-Ok-Some.is in let inner = c.in-Ok-Some.field-0-is in cc in
+    device_spent c.answer_by.result c.args.m.now c.in-Ok-Some.step _ _ _ is c.answer_by.ensures.own c.answer_by.ensures.none c.answer_by.ensures.few
+    (subst (λ (r : Result (Option DeviceStep) KeepErr). IfOk r (λ step. IfSome step (λ s. length s.writes ≤ 2))) is c.answer_by.ensures.writes) c.carry_device.ensures.spent
 
-pub returns-in-Err-clause-told : goal.returns-in-Err-clause-told
-returns-in-Err-clause-told g c =
-    not_serves c.in-Err.err c.args.m.now c.args.self.now c.args.self.now c.args.out.now (g.K.Keeper.seen c.args.keeper.now) (g.K.Keeper.seen c.answer.new.keeper)
-    (g.met.K.Keeper.rests c.args.keeper.now) c.in-Err.ensures.told
+pub returns-in-Ok-None-clause-spent : goal.returns-in-Ok-None-clause-spent
+returns-in-Ok-None-clause-spent g c =
+    let is : c.answer_by.result ≡ Ok None = let outer = c.in-Ok-None.is in let inner = c.in-Ok-None.field-0-is in cc in
+    modem_spent c.answer_by.result c.args.m.now _ _ _ is c.answer_by.ensures.spent c.answer_by.ensures.idle c.serve_modem.ensures.spent
 
 pub returns-in-Err-clause-spent : goal.returns-in-Err-clause-spent
-returns-in-Err-clause-spent g c = not_spent c.args.m.now (g.K.Keeper.seen c.args.keeper.now) (g.K.Keeper.seen c.answer.new.keeper) c.answer.ensures.spent
+returns-in-Err-clause-spent g c =
+    untold_spent c.answer_by.result c.in-Err.err c.args.m.now _ _ c.in-Err.is c.answer_by.ensures.own c.answer_by.ensures.once c.answer_by.ensures.few
+
+pub returns-in-Ok-None-clause-told : goal.returns-in-Ok-None-clause-told
+returns-in-Ok-None-clause-told g c =
+    modem_serves c.serve_modem.result _ _ _ _ _ _ _ (g.met.K.Keeper.rests c.args.keeper.now)
+    (subst (λ (d : Desk). Reads (DecidesDevice None d c.args.m.now) (g.K.Keeper.seen c.args.keeper.now) (g.K.Keeper.seen c.answer_by.new.keeper)) c.self.view_is
+    (reads_as c.in-Ok-None.ensures.told (λ t says mirrors.
+    let decided = says (keeps_stands c.self.inside.devices (devices t) mirrors.devices) (record { moment = c.self.invariant.1; keeps = mirrors.device_pools })
+    (record { moment = c.self.invariant.0; keeps = mirrors.pools }) in
+    let is = c.in-Ok-None.field-0-is in
+    cc)))
+    c.serve_modem.ensures.told
