@@ -19,6 +19,7 @@ ask = script.pair
 MODEM = "02aabbccddee"
 GOLD = "24{ 1=0001 6=07 } 25{ 1=0002 6=07 }"
 BOOST = "24{ 1=0005 6=07 } 22{ 1=03 3=0005 }"
+DEVICES = "device-pool 1 10.128.0.10 10.128.0.20 24 10.128.0.1 10.128.0.1"
 POOL = "pool 1 10.64.0.10 10.64.0.99 24 10.64.0.1 10.64.0.1"
 OFFICE = f'hub 0 10.0.0.2 736563726574 3600 86400 0.0.0.0; class 1 "gold" {GOLD}; subscriber 7 active 2 "Ann"; modem {MODEM} 7 1 "SN01"; {POOL}'
 
@@ -93,13 +94,15 @@ def settings_in(depth, value):
     return None if None in found else found
 
 
+OF_A_POOL = (("first", address()), ("last", address()), ("prefix", number(30, 8)), ("router", address()), ("relay", address(1)))
 FIELDS = {
     "hub": (("server", address()), ("secret", hexadecimal(64)), ("offset", number(2**31 - 1, -2**31)), ("lease", number(2**32 - 1)), ("log", address())),
     "subscriber": (("active", lambda value: value if isinstance(value, bool) else None), ("cpes", number(254, 1)), ("name", short)),
     "add-on": (("settings", lambda value: settings_in(3, value)),),
     "modem": (("subscriber", number(2**32 - 1)), ("class", number(2**32 - 1)), ("serial", short)),
     "class": (("name", short), ("settings", lambda value: settings_in(3, value))),
-    "pool": (("first", address()), ("last", address()), ("prefix", number(30, 8)), ("router", address()), ("relay", address(1)), ("hub", number(2**32 - 1))),
+    "pool": (*OF_A_POOL, ("hub", number(2**32 - 1))),
+    "device-pool": OF_A_POOL,
 }
 # Fields that may be missing, with what they are then.
 USUAL = {"hub": 0}
@@ -113,7 +116,7 @@ def key_of(path):
         return ["hub", "0"]
     for form, kind, most in ((f"/hubs/{decimal}", "hub", (2**32 - 1,)), (f"/subscribers/{decimal}", "subscriber", (2**32 - 1,)),
                              (f"/subscribers/{decimal}/addons/{decimal}", "add-on", (2**32 - 1, 7)), (f"/classes/{decimal}", "class", (2**32 - 1,)),
-                             (f"/pools/{decimal}", "pool", (2**32 - 1,))):
+                             (f"/pools/{decimal}", "pool", (2**32 - 1,)), (f"/device-pools/{decimal}", "device-pool", (2**32 - 1,))):
         found = re.fullmatch(form, path)
         if found and all(int(each) <= limit for each, limit in zip(found.groups(), most)):
             return [kind, *(str(int(each)) for each in found.groups())]
@@ -152,8 +155,9 @@ def row_text(kind, row):
         return f' {row["subscriber"]} {row["class"]} "{escaped(row["serial"].encode())}"'
     if kind == "class":
         return f' "{escaped(row["name"].encode())}"' + tree_text(row["settings"])
-    if kind == "pool":
-        return f" {row['first']} {row['last']} {row['prefix']} {row['router']} {row['relay']} {row['hub']}"
+    if kind in ("pool", "device-pool"):
+        hub = f" {row['hub']}" if kind == "pool" else ""
+        return f" {row['first']} {row['last']} {row['prefix']} {row['router']} {row['relay']}{hub}"
     return tree_text(row["settings"])
 
 
@@ -212,18 +216,20 @@ def bytes_asked(path, given, body):
 def paths():
     section("a path has a key", "docs/CLERK_API.md, paths. The bodies of GET and DELETE aren't read.")
     for path in ("/site", "/site?x=1", "/hubs/0", "/hubs/007", "/hubs/4294967295?x", "/subscribers/7", "/subscribers/007?", "/subscribers/4294967295", "/subscribers/7/addons/0", "/subscribers/0/addons/07",
-                 f"/modems/{MODEM}", "/modems/02:AA:bb:cc:dd:ee", "/classes/1", "/pools/64", "/leases/10.64.0.10"):
+                 f"/modems/{MODEM}", "/modems/02:AA:bb:cc:dd:ee", "/classes/1", "/pools/64", "/device-pools/64", "/device-pools/007", "/device-pools/4294967295?x", "/leases/10.64.0.10"):
         asked("GET", path, "{")
     section("another path has none", "The path comes before the method.")
     for path in ("", "/", "site", "/site/", "/Site", "/site/0", "/hubs", "/hubs/", "/hub/1", "/hubs/1/", "/hubs/4294967296", "/hubs/-1", "/hubs/x", "http://office/site", "/subscribers/", "/subscribers/4294967296", "/subscribers/000000000000000000007",
                  "/subscribers/-1", "/subscribers/7/", "/subscribers/7/addons/8", "/subscribers/7/addons/", "/subscribers//addons/1", "/subscribers/7/addons/1/",
-                 "/modems/02aabbccdde", "/leases/10.64.0.010", "/held/02aabbccddee", "/pools/%31", "/imports/", "/imports/9", "/imports/subscribers/",
+                 "/modems/02aabbccdde", "/leases/10.64.0.010", "/held/02aabbccddee", "/pools/%31", "/device-pools",
+                 "/device-pools/", "/device-pool/1", "/device-pools/1/", "/device-pools/4294967296", "/device-pools/-1", "/Device-Pools/1", "/devices/10.128.0.10",
+                 "/leases/10.64.0.10/", "/imports/", "/imports/9", "/imports/subscribers/",
                  "/imports/modems", "/imports/pools/9", "/imports/modems/9/", "/imports/modems/-9", "/imports/Modems/9", "/import/modems/9",
                  "/imports/modems/18446744073709551616", "/imports/modems/000000000000000000009", "/batches/9"):
         asked("POST", path)
     section("a path has its methods", "The method comes before the body. Case counts (RFC 9110, section 9.1).")
-    every = ("/site", "/hubs/0", "/hubs/1", "/subscribers/7", "/subscribers/7/addons/1", f"/modems/{MODEM}", "/classes/1", "/pools/1", "/leases/10.64.0.10",
-             "/imports/subscribers/9", "/imports/modems/9")
+    every = ("/site", "/hubs/0", "/hubs/1", "/subscribers/7", "/subscribers/7/addons/1", f"/modems/{MODEM}", "/classes/1", "/pools/1", "/device-pools/1",
+             "/leases/10.64.0.10", "/imports/subscribers/9", "/imports/modems/9")
     for path in every:
         for method in ("GET", "PUT", "DELETE", "", "get", "Get", "HEAD", "POST", "PATCH", "OPTIONS", "GETS"):
             asked(method, path, "{")
@@ -283,6 +289,13 @@ def bodies():
         asked("PUT", "/pools/2", pool + '24,"router":"10.64.0.1","relay":"10.64.0.1","hub":' + rest)
     asked("PUT", "/pools/2", '{"hub":1}')
     asked("PUT", "/pools/2", pool + '24,"router":"10.64.0.1","hub":-1}')
+    section("a pool for devices has the fields of a pool but the hub", "A field of that name is passed over, whatever it is.")
+    for body in ("{}", '{"first":"10.64.0.10"}', '{"first":"10.64.0.10","last":"10.64.0.99"}', '{"hub":1}'):
+        asked("PUT", "/device-pools/1", body)
+    for rest in ("7}", "31}", "24.0}", '"24"}', "24}", '24,"router":1}', '24,"router":"10.64.0.1"}', '24,"router":"10.64.0.1","relay":"0.0.0.0"}',
+                 '24,"router":"10.64.0.1","relay":null}', '24,"last":5}', '24,"router":"10.64.0.1","relay":"10.64.0.1"}', '8,"router":"0.0.0.0","relay":"0.0.0.1"}',
+                 '24,"router":"10.64.0.1","relay":"10.64.0.1","hub":1}', '24,"router":"10.64.0.1","relay":"10.64.0.1","hub":-1}', '24,"router":"10.64.0.1","hub":1}'):
+        asked("PUT", "/device-pools/4294967295", pool + rest)
 
 
 def trees():
@@ -358,7 +371,8 @@ def answers():
                              ("hub-in-use", 409, 2), ("device-overlap", 409, 64),
                              ("site", 422, 1), ("site", 422, 2), ("site", 422, 3), ("site", 422, 4)):
         ask(f"rule 0 {word} {at}", told(status, word, at))
-    for kind, most in (("subscribers", 200_000), ("add-ons", 100_000), ("modems", 200_000), ("classes", 1_000), ("pools", 64), ("batches", 100_000), ("hubs", 64)):
+    for kind, most in (("subscribers", 200_000), ("add-ons", 100_000), ("modems", 200_000), ("classes", 1_000), ("pools", 64), ("batches", 100_000), ("hubs", 64),
+                       ("device-pools", 64)):
         ask(f"rule 0 limit {kind} {most}", told(422, "limit", most))
     for place, word in enumerate(("unknown-code", "length", "range", "missing", "twice", "flow-reference", "classifier-reference", "too-long")):
         ask(f"rule 0 tree {word}", told(422, "tree", place + 1))
@@ -412,8 +426,9 @@ def sessions():
 
 
 def counted(counts):
-    names = ("subscribers", "add-ons", "modems", "classes", "pools", "batches", "hubs")
-    return " ".join(f"{name} {count}" for name, count in zip(names, counts))
+    """How many rows of each kind there are; of the last kinds there are none where no number stands."""
+    names = ("subscribers", "add-ons", "modems", "classes", "pools", "batches", "hubs", "device-pools")
+    return " ".join(f"{name} {count}" for name, count in zip(names, (*counts, *(0,) * (len(names) - len(counts)))))
 
 
 def tables():
@@ -427,9 +442,12 @@ def tables():
                          ("lease 10.64.0.10 declined t; held 02aabbccdd01 10.64.0.10", (1, 0, 1, 1, 1, 0, 1)),
                          ("hub 1 10.0.0.3 00 0 60 0.0.0.0; hub 4294967295 10.0.0.3 00 0 604800 0.0.0.0", (1, 0, 1, 1, 1, 0, 3)),
                          ("hub 1 10.0.0.3 - 0 60 0.0.0.0; hub 2 10.0.0.3 00 0 59 0.0.0.0; stray hub 3; drop hub 0", (1, 0, 1, 1, 1, 0, 0)),
+                         (f"{DEVICES}; device-pool 4294967295 0.0.0.1 0.0.0.1 8 0.0.0.9 0.0.0.2", (1, 0, 1, 1, 1, 0, 1, 2)),
+                         ("device-pool 1 0.0.0.2 0.0.0.1 24 0.0.0.9 0.0.0.2; device-pool 2 0.0.0.1 0.0.0.1 7 0.0.0.9 0.0.0.2; stray device-pool 3", (1, 0, 1, 1, 1, 0, 1)),
+                         (f"device 10.128.0.10 bound {MODEM} 0200000000a1 t; device 10.128.0.11 declined t", (1, 0, 1, 1, 1, 0, 1)),
                          ("pool-hub 1 1; pool-hub 2 0", (1, 0, 1, 1, 1, 0, 1)), ("site 10.0.0.2 00 0 60 0.0.0.0; drop hub 0", (1, 0, 1, 1, 1, 0, 0))):
         ask(f"count {OFFICE}" + (f"; {more}" if more else ""), counted(counts))
-    ask("count", counted((0,) * 7))
+    ask("count", counted(()))
     section("of two writes to a key the later one stands, and a walk rises", "The calls are one commit and one for each entry, with the one that finds no more.")
     held = f"held {MODEM}"
     for first, second, left in ((f"{held} 0.0.0.7", f"drop {held}", []), (f"drop {held}", f"{held} 0.0.0.7", [f"{held} 0.0.0.7"]),
@@ -515,6 +533,87 @@ def decisions():
     refused("show lease 10.64.0.11", told(404, "no-row"), "lease 10.64.0.10 declined t+1")
 
 
+def device_pool(number, first, last, relay="10.128.0.1"):
+    return f"device-pool {number} {first} {last} 24 10.128.0.1 {relay}"
+
+
+def device_pools():
+    one = (1, 0, 1, 1, 1, 0, 1, 1)
+    section("a pool for devices is put", "docs/CLERK_API.md, the table of faults. It has no hub, and a number beside a pool's.")
+    done(f"put {DEVICES}", [f"put {DEVICES}"], one)
+    done(f"put {DEVICES}", [f"put {DEVICES}"], one, DEVICES)
+    done("put " + device_pool(1, "10.128.0.30", "10.128.0.40"), ["put " + device_pool(1, "10.128.0.30", "10.128.0.40")], one, DEVICES)
+    done("put " + device_pool(2, "10.128.0.21", "10.128.0.30", "10.128.0.2"), ["put " + device_pool(2, "10.128.0.21", "10.128.0.30", "10.128.0.2")],
+         (1, 0, 1, 1, 1, 0, 1, 2), DEVICES)
+    done("put " + device_pool(9, "10.64.0.0", "10.64.0.9", "10.64.0.1"), ["put " + device_pool(9, "10.64.0.0", "10.64.0.9", "10.64.0.1")], one)
+    done("put " + device_pool(1, "10.128.0.0", "10.128.15.255"), ["put " + device_pool(1, "10.128.0.0", "10.128.15.255")], one)
+    section("a pool for devices isn't put", "The first rule in order: its size; a pool with one of its addresses; another pool for devices with one; one with its relay; leases; the limit.")
+    other = device_pool(7, "10.128.0.21", "10.128.0.30", "10.128.0.7")
+    third = device_pool(3, "10.128.0.31", "10.128.0.40", "10.128.0.3")
+    full = "; ".join(device_pool(n, f"10.128.{n}.1", f"10.128.{n}.2", f"10.128.{n}.1") for n in range(2, 65))
+    live = f"device 10.128.0.10 bound {MODEM} 0200000000a1 t+1"
+    for asked_for, fault, rows in (
+            (device_pool(2, "10.128.0.20", "10.128.0.19"), told(422, "pool-size"), ""),
+            (device_pool(2, "10.128.0.0", "10.128.16.0"), told(422, "pool-size"), ""),
+            (device_pool(2, "10.64.0.99", "10.64.0.98"), told(422, "pool-size"), DEVICES),
+            (device_pool(2, "10.64.0.99", "10.64.0.99"), told(409, "pool-overlap", 1), DEVICES),
+            (device_pool(2, "10.64.0.0", "10.64.0.10"), told(409, "pool-overlap", 1), "pool 2 10.64.0.9 10.64.0.9 8 0.0.0.0 7.7.7.7"),
+            (device_pool(2, "10.64.0.0", "10.64.0.10"), told(409, "pool-overlap", 0), "pool 0 10.64.0.9 10.64.0.9 8 0.0.0.0 7.7.7.7"),
+            (device_pool(2, "10.128.0.20", "10.128.0.30"), told(409, "device-overlap", 1), f"{DEVICES}; {other}"),
+            (device_pool(1, "10.128.0.20", "10.128.0.30"), told(409, "device-overlap", 7), f"{DEVICES}; {other}"),
+            (device_pool(2, "10.128.0.30", "10.128.0.31"), told(409, "device-overlap", 3), f"{DEVICES}; {third}; {other}"),
+            (device_pool(2, "10.128.0.50", "10.128.0.50"), told(409, "relay-taken", 1), DEVICES),
+            (device_pool(1, "10.128.0.50", "10.128.0.50", "10.128.0.7"), told(409, "relay-taken", 7), f"{DEVICES}; {other}; {live}"),
+            (device_pool(1, "10.128.0.11", "10.128.0.20"), told(409, "pool-has-leases", "10.128.0.10"), f"{DEVICES}; {live}"),
+            (device_pool(65, "10.128.1.1", "10.128.1.1", "10.128.1.2"), told(422, "limit", 64), f"{DEVICES}; {full}"),
+            (device_pool(65, "10.128.64.2", "10.128.64.3", "10.128.1.2"), told(409, "device-overlap", 64), f"{DEVICES}; {full}"),
+            (device_pool(65, "10.128.1.1", "10.128.1.1", "10.128.64.1"), told(409, "relay-taken", 64), f"{DEVICES}; {full}")):
+        refused(f"put {asked_for}", fault, rows)
+    last = device_pool(64, "10.128.64.2", "10.128.64.3", "10.128.64.1")
+    done(f"put {last}", [f"put {last}"], (1, 0, 1, 1, 1, 0, 1, 64), f"{DEVICES}; {full}")
+    section("a pool and a pool for devices may have the same relay and the same number, but no address in common", "")
+    shared = device_pool(1, "10.128.0.10", "10.128.0.20", "10.64.0.1")
+    done(f"put {shared}", [f"put {shared}"], one)
+    done(f"put {POOL} 0", [f"put {POOL}", "drop pool-hub 1"], one, shared)
+    pool = "pool 2 {} {} 24 10.64.1.1 10.64.1.1"
+    at_20, at_25 = pool.format("10.128.0.20", "10.128.0.30"), pool.format("10.128.0.25", "10.128.0.31")
+    refused(f"put {at_20} 0", told(409, "device-overlap", 1), f"{DEVICES}; {other}")
+    refused(f"put {at_25} 0", told(409, "device-overlap", 3), f"{DEVICES}; {third}; {other}")
+    section("a pool's rule on pools for devices stands between those on pools' addresses and relays", "")
+    refused(f"put {pool.format('10.128.0.20', '10.128.0.19')} 9", told(422, "pool-size"), DEVICES)
+    refused(f"put {at_20} 9", told(409, "pool-overlap", 3), f"{DEVICES}; pool 3 10.128.0.30 10.128.0.30 24 10.64.3.1 10.64.3.1")
+    refused(f"put {at_20.rsplit(' ', 1)[0]} 10.64.0.1 9", told(409, "device-overlap", 1), DEVICES)
+    refused(f"put {at_20} 9", told(409, "device-overlap", 1), DEVICES)
+    pools = "; ".join(f"pool {n} 10.0.{n}.1 10.0.{n}.2 24 10.0.{n}.1 10.0.{n}.1" for n in range(3, 66))
+    refused(f"put {at_20} 0", told(409, "device-overlap", 1), f"{DEVICES}; {pools}")
+    held = "lease 10.64.0.10 declined t+1"
+    refused("put pool 1 10.128.0.20 10.128.0.21 24 10.64.0.1 10.64.0.1 0", told(409, "device-overlap", 1), f"{DEVICES}; {held}")
+    section("devices' leases that a pool gives up go with it", "A lease whose end is later than the moment holds the pool. Leases of modems stay.")
+    smaller = device_pool(1, "10.128.0.11", "10.128.0.19")
+    ended = f"device 10.128.0.10 bound {MODEM} 0200000000a1 t; device 10.128.0.15 offered {MODEM} 0200000000a2 t; device 10.128.0.20 declined t"
+    of_modems = f"lease 10.64.0.10 bound {MODEM} t; held {MODEM} 10.64.0.10"
+    drops = ["drop device 10.128.0.10", "drop device 10.128.0.20"]
+    done(f"put {smaller}", [f"put {smaller}", *drops], one, f"{DEVICES}; {ended}; {of_modems}")
+    done(f"put {DEVICES}", [f"put {DEVICES}"], one, f"{DEVICES}; {ended}")
+    done("remove device-pool 1", ["drop device-pool 1", drops[0], "drop device 10.128.0.15", drops[1]], (1, 0, 1, 1, 1, 0, 1), f"{DEVICES}; {ended}; {of_modems}")
+    done(f"put {smaller}", [f"put {smaller}"], one, f"{DEVICES}; device 10.128.0.11 declined t+1; device 10.128.0.19 bound {MODEM} 0200000000a1 t+1")
+    done("remove device-pool 7", ["drop device-pool 7"], one, f"{DEVICES}; {other}; {live}")
+    done("remove pool 1", ["drop pool 1", "drop pool-hub 1"], (1, 0, 1, 1, 0, 0, 1, 1), f"{DEVICES}; {live}")
+    for asked_for in (f"put {smaller}", "remove device-pool 1"):
+        for first, second, at in (("t", "t+1", 20), ("t+1", "t+1", 10), ("t+1", "t", 10)):
+            refused(asked_for, told(409, "pool-has-leases", f"10.128.0.{at}"), f"{DEVICES}; device 10.128.0.10 declined {first}; device 10.128.0.20 declined {second}")
+    section("a pool for devices is removed and shown", "It has no row of a hub.")
+    done("remove device-pool 1", ["drop device-pool 1"], (1, 0, 1, 1, 1, 0, 1), DEVICES)
+    refused("remove device-pool 1", told(404, "no-row"))
+    refused("remove device-pool 2", told(404, "no-row"), DEVICES)
+    refused("remove pool 2", told(404, "no-row"), DEVICES.replace("pool 1", "pool 2"))
+    done("show device-pool 1", [], one, DEVICES, f"shown {DEVICES}")
+    refused("show device-pool 1", told(404, "no-row"))
+    refused("show device-pool 2", told(404, "no-row"), "pool 2 0.0.0.1 0.0.0.1 24 0.0.0.9 0.0.0.2")
+    done("remove hub 0", ["drop hub 0"], (1, 0, 1, 1, 0, 0, 0, 1), f"drop pool 1; {DEVICES}")
+    done(f"remove modem {MODEM}", [f"drop modem {MODEM}"], (1, 0, 0, 1, 1, 0, 1, 1), f"{DEVICES}; {live}")
+
+
 def main():
     sessions()
     paths()
@@ -524,6 +623,7 @@ def main():
     answers()
     tables()
     decisions()
+    device_pools()
     return script.write("clerk_script")
 
 

@@ -86,6 +86,16 @@ def sections(script, office):
     run("a hub beside it", ["office", site, "show tables", "words drill 1"], outcome(2, ["tables refused site"], tables=[site, *office]))
     run("each call of the keeper fails", ["office", "drop hub 0", site, "show tables", "words drill 1", "fails each keeper"],
         outcome(9, ["refused not-empty"], tables=office), outcome(3, ["keeper refused"], tables=[site, *others]), outcome(3, ["keeper refused"], tables=office))
+    section("a drill over tables of earlier days whose report can't be written has moved their site", "By hand: what is told is told behind the opening's commit, and a line that can't be "
+            "written ends with status 4, whatever it would say. Where the opening refuses the tables, or couldn't move the site, they stay.")
+    earlier = ["office", "drop hub 0", site]
+    run("tables with rows", [*earlier, "show tables", "words drill 1", "fails sink 1"], outcome(4, tables=office))
+    run("a site alone", [site, "show tables", "words drill 1", "fails sink 1"], outcome(4, tables=[hub]))
+    run("the line is cut", [*earlier, "show tables", "words drill 1", "room sink 10"], outcome(4, cut="refused no", tables=office))
+    run("the tables that it left, once more", ["show tables", "words drill 1"], outcome(9, ["refused not-empty"], tables=office), again=True)
+    run("a hub beside the site", ["office", site, "show tables", "words drill 1", "fails sink 1"], outcome(4, tables=[site, *office]))
+    run("a bad row besides", [*earlier, bad[-1], "show tables", "words drill 1", "fails sink 1"], outcome(4, tables=[site, *others, bad[-1]]))
+    run("the first read fails too", [*earlier, "show tables", "words drill 1", "fails keeper 2", "fails sink 1"], outcome(4, tables=[site, *others]))
     section("the words of a drill", "By hand, from the forms of words.")
     for words in ("drill", "drill 0", "drill 4001", "drill x", "drill 1 2", "drill _"):
         run(words, [f"words {words}"], outcome(1, ["words refused"]))

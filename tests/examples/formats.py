@@ -282,6 +282,7 @@ def tables():
         ask(f"sound show add-on 7 {number}", "yes" if number < 8 else "no")
     for prefix, relay in ((7, 1), (8, 1), (30, 1), (31, 1), (24, 0)):
         ask(f"sound put pool 1 0.0.0.1 0.0.0.2 {prefix} 0.0.0.0 {ip(relay)} 0", "yes" if 8 <= prefix <= 30 and relay else "no")
+        ask(f"sound put device-pool 1 0.0.0.1 0.0.0.2 {prefix} 0.0.0.0 {ip(relay)}", "yes" if 8 <= prefix <= 30 and relay else "no")
     ask("sound put pool 1 0.0.0.1 0.0.0.2 24 0.0.0.0 0.0.0.1 4294967295", "yes")
     ask('sound put modem 02aabbccddee 7 1 ""', "yes")
     ask('sound put class 1 "gold"', "yes")
@@ -289,8 +290,8 @@ def tables():
         ask(f"sound put hub {number} 10.0.0.2 73 0 60 0.0.0.0", "yes")
     for text, _ in KEYS:
         kind = text.split()[0]
-        ask(f"sound remove {text}", "yes" if kind in ("subscriber", "add-on", "modem", "class", "pool", "hub") else "no")
-        ask(f"sound show {text}", "no" if kind in ("site", "held", "batch", "pool-hub", "device-pool", "device") else "yes")
+        ask(f"sound remove {text}", "yes" if kind in ("subscriber", "add-on", "modem", "class", "pool", "hub", "device-pool") else "no")
+        ask(f"sound show {text}", "no" if kind in ("site", "held", "batch", "pool-hub", "device") else "yes")
     ask('sound import modems 0', "yes")
     ask('sound import subscribers 2000 subscriber 7 active 2 "Ann"', "yes")
     ask('sound import subscribers 2001 subscriber 7 active 2 "Ann"', "no")

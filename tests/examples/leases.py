@@ -512,16 +512,18 @@ def leased(hold, held, last, expiry):
 
 def calls_of_opening(rows):
     """How many calls of the keeper an office makes before its first event: one puts the rows, each is read, and that there is none behind the last; the site of
-    earlier days is asked for; and the pools are read again, the leases, and the hubs of pools, each with what comes behind them."""
-    again = sum(row.split()[0] in ("pool", "lease", "pool-hub") for row in rows)
-    return 1 + len(rows) + 1 + 1 + again + 3
+    earlier days is asked for; and the pools are read again, the leases, the hubs of pools, the pools for devices, and the leases of devices twice, each with
+    what comes behind them."""
+    again = sum({"pool": 1, "lease": 1, "pool-hub": 1, "device-pool": 1, "device": 2}.get(row.split()[0], 0) for row in rows)
+    return 1 + len(rows) + 1 + 1 + again + 6
 
 
 MODEL = "By the model of leases in tests/examples/leases.py, from RFC 2131, section 4.3, and the office's rules."
 
 
 class Player:
-    """Writes sections whose runs are computed."""
+    """Writes sections whose runs are computed, by the model that `plays` them."""
+    plays = Played
 
     def __init__(self, script, rows):
         self.script, self.rows = script, rows
@@ -532,8 +534,8 @@ class Player:
     def count(self, remark, events, rows, model_rows, calls):
         """A run of events over many rows, which the script writes as few: what comes of it, and how many calls of the keeper there are."""
         whole = [*self.rows, *model_rows]
-        played = Played(whole)
-        opening = calls_of_opening(Office(whole).rows())
+        played = self.plays(whole)
+        opening = calls_of_opening(self.plays(whole).office.rows())
         for event in events:
             played.take(*event)
         given = [line_of(turn, moment, what) for turn, (moment, _, what) in enumerate(events, 1)]
@@ -541,7 +543,7 @@ class Player:
 
     def play(self, remark, events, rows=(), lines=(), behind=None, sender=SENDER):
         """A run of events over the office's rows and others: what comes of it, and the tables."""
-        played = Played([*self.rows, *rows])
+        played = self.plays([*self.rows, *rows])
         given = [line_of(turn, moment, what, sender) for turn, (moment, _, what) in enumerate(events, 1)]
         for event in events:
             played.take(*event)
@@ -558,7 +560,7 @@ class Player:
 
     def loses(self, remark, events, place, rows=(), lines=()):
         """A run in which one event's reply is lost; each of its events but a RELEASE has one."""
-        played = Played([*self.rows, *rows])
+        played = self.plays([*self.rows, *rows])
         for event in events:
             played.take(*event)
         played.wrote[place] = f"{place + 1} dhcp link"
@@ -569,7 +571,7 @@ class Player:
         """An event and the same again, where each call of the keeper fails: of the opening, of the first time, of the second."""
         moment, first, what = event
         events = [event, (moment, *(behind or (first, what)))]
-        whole, late, early = (Played([*self.rows, *rows]) for _ in range(3))
+        whole, late, early = (self.plays([*self.rows, *rows]) for _ in range(3))
         for each in events:
             whole.take(*each)
         # The first time all is as if it hadn't come, but for the number of its line.
@@ -579,7 +581,7 @@ class Player:
         late.take(*event)
         late.turn = 2
         late.wrote.append("2 dhcp keeper")
-        refused = outcome(3, ["keeper refused"], tables=Office([*self.rows, *rows]).rows())
+        refused = outcome(3, ["keeper refused"], tables=self.plays([*self.rows, *rows]).office.rows())
         self.script.run(remark, ["office", *rows, "show tables", "fails each keeper", *(line_of(0, moment, each[2]) for each in events)],
                         whole.outcome(), refused, early.outcome(), late.outcome())
 
@@ -639,7 +641,8 @@ ONE = ["drop pool 1", f"pool 1 {A} {A} 24 {RELAY} {RELAY}"]
 def crowded(player):
     player.section("a message asks as little in a pool of 4,096 addresses that is full but for the last",
                    "A message by which an address is offered or acknowledged makes five calls of the keeper at most, whatever the tables: its hub, what the modem holds, its own "
-                   "row, the lease of what is offered, the commit.")
+                   "row, the lease of what is offered, the commit. A renewal of which no relay says whose it is has no address to be offered, and asks for a device's lease of its own; a RELEASE does too.",
+                   "Where the relay names another than the sender, that one's row is asked for.")
     wide = ["drop pool 1", f"pool 1 10.64.16.0 10.64.31.255 16 {RELAY} {RELAY}"]
     pools = [f"pool {number} 10.65.{number}.0 10.65.{number}.255 24 10.65.{number}.1 10.65.{number}.1" for number in range(2, 40)]
     ends = {part: 254 if part == 31 else 255 for part in range(16, 32)}
@@ -647,8 +650,8 @@ def crowded(player):
     single = [f"lease 10.64.{part}.{number} declined t+100" for part, last in ends.items() for number in range(last + 1)]
     last = "10.64.31.255"
     # An OFFER, the same again, the REQUEST, a renewal, and one of the other modem's, for which there is no address.
-    whole = [("t", "offer", discover(), 5), ("t+1", "offer", discover(), 5), ("t+2", "ack", selects(last), 4), ("t+3", "ack", renews(last), 4), ("t+4", "pool-full", discover(1), 3),
-             ("t+4", "relay-mismatch", discover(remote=mac(1)), 0), ("t+5", "released", releases(last), 3), ("t+6", "offer", discover(1), 5),
+    whole = [("t", "offer", discover(), 5), ("t+1", "offer", discover(), 5), ("t+2", "ack", selects(last), 4), ("t+3", "ack", renews(last), 5), ("t+4", "pool-full", discover(1), 3),
+             ("t+4", "relay-mismatch", discover(remote=mac(3)), 1), ("t+5", "released", releases(last), 4), ("t+6", "offer", discover(1), 5),
              ("t+100", "offer", discover(), 5)]
     for count in (1, 2, 3, 4, 5, 7, 8, 9):
         player.count(f"{count}", [event[:3] for event in whole[:count]], [SECOND, *wide, *pools, *folded], [SECOND, *wide, *pools, *single], sum(event[3] for event in whole[:count]))

@@ -3,13 +3,15 @@
 
 The office of the worked examples is hub 0, class 1, subscriber 7, a modem and a pool. What is expected is said here by hand, from the rules
 in docs/, or computed by Python's hashlib, hmac and json and the readers of examples.py, which are written from the standards. The sections on
-DHCP are those of leases.py, those on TFTP of transfers.py, those on whole boots
+DHCP are those of leases.py, those on devices behind modems of devices.py and devices_by_chance.py, those on TFTP of transfers.py, those on whole boots
 of boots.py, those on imports of import_job.py, those on drills of drills.py, those on calls that fail of failures.py, and those on input from strangers
 of hostile.py. With the word `check` it compares the two files with what it would write.
 """
 import sys
 
 import boots
+import devices
+import devices_by_chance
 import drills
 import failures
 import hostile
@@ -35,6 +37,11 @@ section = script.section
 
 def mac(last):
     return f"02aabbccdd{last:02x}"
+
+
+def device(last):
+    """The hardware address of a device behind a modem."""
+    return f"0200000000{last:02x}"
 
 
 def with_rows(*rows, without=()):
@@ -76,6 +83,10 @@ def lost(address):
 
 def limit(number):
     return 422, "limit", str(number)
+
+
+def device_overlaps(number):
+    return 409, "device-overlap", str(number)
 
 
 def in_use(number):
@@ -149,6 +160,11 @@ def put_pool(number, first, last, relay, hub=None):
     """A pool; its body may leave the hub out."""
     named = {} if hub is None else {"hub": hub}
     return "PUT", f"/pools/{number}", compact({"first": ip(first), "last": ip(last), "prefix": 24, "router": ip(RELAY), "relay": ip(relay), **named})
+
+
+def put_device_pool(number, first, last, relay):
+    """A pool for devices, whose body names no hub."""
+    return "PUT", f"/device-pools/{number}", put_pool(number, first, last, relay)[2]
 
 
 def remove(path):
@@ -490,9 +506,12 @@ def change(text):
         return f'{key_of(words)} {rest[1]} {rest[2]} "SN01"'
     if kind == "class":
         return f'{key_of(words)} "gold" {TREES[rest[1]]}'
-    if kind == "pool":
+    if kind in ("pool", "device-pool"):
         relay = {"1": "10.64.0.1"}.get(rest[4], ip(int(rest[4])))
         return f"{key_of(words)} {ip(FIRST + int(rest[1]))} {ip(FIRST + int(rest[2]))} {rest[3]} 0.0.0.9 {relay}"
+    if kind == "device":
+        hold = rest[1] + (f" {mac(int(rest[2]))} {device(int(rest[3]))}" if len(rest) > 2 else "")
+        return f"{key_of(words)} {hold} t+120"
     if kind == "lease":
         hold = rest[1] + (f" {mac(int(rest[2]))}" if len(rest) > 2 else "")
         return f"{key_of(words)} {hold} t+120"
@@ -507,7 +526,7 @@ def key_of(words):
         return kind
     if kind in ("modem", "held"):
         return f"{kind} {mac(int(rest[0]))}"
-    if kind == "lease":
+    if kind in ("lease", "device"):
         return f"{kind} {ip(FIRST + int(rest[0]))}"
     return " ".join(words[:3 if kind == "add-on" else 2])
 
@@ -563,19 +582,40 @@ JUDGED = {
     "who holds an address has its lease": [
         ("held 5 0", "held 02aabbccdd05"), ("held 5 0; lease 0 declined", "held 02aabbccdd05"), ("held 5 0; held 6 0; lease 0 bound 6", "held 02aabbccdd05"),
         ("held 5 0; held 6 1; lease 0 bound 5", "held 02aabbccdd06"), ("held 5 0; stray lease 0", "lease 10.64.0.10")],
+    "the values of a pool for devices have the ranges of a pool's": [
+        ("device-pool 1 100 100 8 2", ""), ("device-pool 1 100 4195 30 2", ""), ("device-pool 1 101 100 24 2", "device-pool 1"), ("device-pool 1 100 4196 24 2", "device-pool 1"),
+        ("device-pool 1 100 199 7 2", "device-pool 1"), ("device-pool 1 100 199 31 2", "device-pool 1"), ("device-pool 1 100 199 24 0", "device-pool 1")],
+    "a pool and a pool for devices have no address in common": [
+        ("device-pool 1 90 99 24 2", ""), ("device-pool 1 90 99 24 1", ""), ("device-pool 1 89 99 24 2", "pool 1"), ("device-pool 7 0 0 24 2", "pool 1"),
+        ("pool 2 100 109 24 2; device-pool 2 110 119 24 2", ""), ("pool 2 100 109 24 2; device-pool 2 109 119 24 3", "pool 2"),
+        ("device-pool 1 80 99 7 2", "pool 1"), ("pool 2 100 109 7 2; device-pool 2 109 119 24 3", "pool 2")],
+    "no two pools for devices have an address or a relay in common": [
+        ("device-pool 1 100 109 24 2; device-pool 2 110 119 24 3", ""), ("device-pool 1 100 110 24 2; device-pool 2 110 119 24 3", "device-pool 1"),
+        ("device-pool 1 100 109 24 2; device-pool 2 110 119 24 2", "device-pool 1"), ("device-pool 1 100 109 24 4; device-pool 2 110 119 24 3; device-pool 3 119 129 24 5", "device-pool 2"),
+        ("device-pool 1 100 109 24 4; device-pool 2 110 119 24 3; device-pool 3 120 129 24 3", "device-pool 2"), ("device-pool 1 100 109 24 2; device-pool 2 105 115 7 3", "device-pool 1")],
+    "a device's lease lies in one pool for devices": [
+        ("device-pool 1 100 109 24 2; device 100 declined", ""), ("device-pool 1 100 109 24 2; device 109 bound 238 161", ""),
+        ("device-pool 1 100 109 24 2; device 110 declined", "device 10.64.0.120"), ("device-pool 1 100 109 24 2; device 99 offered 238 161", "device 10.64.0.109"),
+        ("device 100 declined", "device 10.64.0.110"), ("device 0 declined", "device 10.64.0.10"), ("pool 2 100 109 24 2; device 100 declined", "device 10.64.0.110"),
+        ("device-pool 1 100 109 24 2; lease 100 declined", "lease 10.64.0.110")],
+    "a device behind a modem has one lease": [
+        ("device-pool 1 100 109 24 2; device 100 bound 238 161; device 101 bound 238 161", "device 10.64.0.110"),
+        ("device-pool 1 100 109 24 2; device 100 offered 238 161; device 101 bound 238 161", "device 10.64.0.110"),
+        ("device-pool 1 100 104 24 2; device-pool 2 105 109 24 3; device 103 declined; device 104 bound 238 161; device 105 offered 238 161", "device 10.64.0.114"),
+        ("device-pool 1 100 109 24 2; device 100 bound 238 161; device 101 bound 238 162; device 102 bound 237 161; device 103 declined; device 104 declined", ""),
+        ("device-pool 1 100 109 24 2; device 100 bound 161 238; device 101 bound 238 161", ""), ("device-pool 1 100 109 24 2; lease 0 bound 238; held 238 0; device 100 bound 238 238", "")],
     "a row is of the kind of its key": [
+        ("stray device-pool 1", "device-pool 1"), ("stray device 100", "device 10.64.0.110"), ("device-pool 1 100 109 24 2; stray device 100", "device 10.64.0.110"),
         ("stray site", "site"), ("no hub 0; stray site", "site"), ("stray hub 1", "hub 1"), ("stray pool-hub 1", "pool-hub 1"), ("stray subscriber 8", "subscriber 8"), ("stray add-on 7 0", "add-on 7 0"), ("stray modem 1", "modem 02aabbccdd01"),
         ("stray class 2", "class 2"), ("stray pool 2", "pool 2"), ("stray lease 3", "lease 10.64.0.13"), ("stray held 1", "held 02aabbccdd01"),
         ("stray batch 9", "batch 9"), ("batch 9", "")],
     "of two bad keys the lesser is named": [
         ("subscriber 9 0; subscriber 8 0", "subscriber 8"), ("held 1 0; subscriber 9 0", "subscriber 9"), ("stray batch 1; stray pool 4", "pool 4"),
         ("lease 200 declined; lease 100 declined", "lease 10.64.0.110"), ("modem 2 8 1; modem 1 8 1", "modem 02aabbccdd01"),
+        ("device 100 declined; stray device-pool 1", "device-pool 1"), ("device 101 declined; device 100 declined", "device 10.64.0.110"),
+        ("device-pool 2 0 0 24 2; pool-hub 9 1", "pool 1"), ("device-pool 2 101 100 24 2; pool-hub 9 1", "pool-hub 9"),
         ("pool-hub 9 1; pool-hub 8 1", "pool-hub 8"), ("pool-hub 1 9; stray hub 9", "hub 9"), ("pool-hub 1 9; stray batch 9", "batch 9")],
 }
-
-
-# A row of each kind that no good tables have yet.
-UNUSED = ("device-pool 1 10.128.0.10 10.128.0.20 24 10.128.0.1 10.128.0.1", "device 10.128.0.10 bound 02aabbccddee 0200000000a1 t+120")
 
 
 def judging():
@@ -584,11 +624,6 @@ def judging():
         for changes, bad in rows:
             lines = ["office", *(change(text.strip()) for text in changes.split(";") if text)]
             run("", lines, outcome(2, [f"tables refused {bad}"]) if bad else outcome())
-    section("no good tables have a kind of row that isn't in use yet", "Pools for devices, and devices' leases.")
-    for row in UNUSED:
-        run("", ["office", row], outcome(2, [f"tables refused {' '.join(row.split(' ')[:2])}"]))
-    run("", ["office", *UNUSED], outcome(2, ["tables refused device-pool 1"]))
-    run("", ["office", *reversed(UNUSED)], outcome(2, ["tables refused device-pool 1"]))
 
 
 def customers():
@@ -739,6 +774,68 @@ def pools():
                        (put_pool(3, most - 4_095, most, 3), DONE), (put_pool(3, 0, most, 3), SIZE)])
 
 
+# A pool for devices as a row and as it is shown; another behind it.
+DEVICES, DEVICES_LAST, DEVICES_RELAY = 0x0A80000A, 0x0A800014, 0x0A800001
+FOR_DEVICES = ["device-pool 1 10.128.0.10 10.128.0.20 24 10.64.0.1 10.128.0.1"]
+SHOWN_DEVICES = {"first": "10.128.0.10", "last": "10.128.0.20", "prefix": 24, "relay": "10.128.0.1", "router": "10.64.0.1"}
+OTHER_DEVICES = ["device-pool 3 10.128.0.31 10.128.0.40 24 10.64.0.1 0.0.0.3"]
+
+
+def device_pools():
+    first = put_device_pool(1, DEVICES, DEVICES_LAST, DEVICES_RELAY)
+    section("a pool for devices is put, shown and removed by its number", "It has no hub, and a number beside a pool's.")
+    is_done([], first, with_rows(*FOR_DEVICES))
+    is_done(FOR_DEVICES, first, with_rows(*FOR_DEVICES))
+    is_done(FOR_DEVICES, put_device_pool(1, DEVICES + 1, DEVICES_LAST, 7), with_rows("device-pool 1 10.128.0.11 10.128.0.20 24 10.64.0.1 0.0.0.7"))
+    is_done(FOR_DEVICES, remove("/device-pools/1"), OFFICE)
+    is_done(FOR_DEVICES, remove("/pools/1"), with_rows(*FOR_DEVICES, without=["pool 1"]))
+    is_done([*FOR_DEVICES, *OTHER_DEVICES], remove("/device-pools/1"), with_rows(*OTHER_DEVICES))
+    are_decided(FOR_DEVICES, [(show("/device-pools/1"), (200, "", compact(SHOWN_DEVICES))), (show("/device-pools/01?x"), (200, "", compact(SHOWN_DEVICES))),
+                              (show("/device-pools/2"), NO_ROW), (remove("/device-pools/2"), NO_ROW), (show("/pools/1"), (200, "", compact(SHOWN_POOL))),
+                              (("PUT", "/device-pools/1", '{"first":"10.128.0.10"}'), (400, "field", "last")),
+                              (("PUT", "/device-pools/1", first[2].replace("10.128.0.1\"", "0.0.0.0\"")), (400, "value", "relay")),
+                              (("PUT", "/device-pools/1", first[2][:-1] + ',"hub":9}'), DONE), (("POST", "/device-pools/1", first[2]), (405, "no-method", None)),
+                              (show("/devices/10.128.0.10"), (404, "no-path", None))])
+    are_decided([], [(show("/device-pools/1"), NO_ROW), (remove("/device-pools/1"), NO_ROW)])
+    section("a pool for devices has 1 to 4,096 addresses", "")
+    are_decided([], [(put_device_pool(2, 5, 5, 2), DONE), (put_device_pool(2, 5, 4_100, 2), DONE), (put_device_pool(2, 5, 4_101, 2), SIZE), (put_device_pool(2, 6, 5, 2), SIZE)])
+    section("the rules of a pool for devices in their order: its size, pools' addresses, those of other pools for devices, their relays, leases, and how many there are",
+            "Each alone, and with the next; the least other pool is named.")
+    are_decided([*FOR_DEVICES, *OTHER_DEVICES], [
+        (put_device_pool(2, LAST, FIRST, 2), SIZE), (put_device_pool(2, LAST, LAST, 2), overlaps(1)), (put_device_pool(2, FIRST - 5, FIRST, DEVICES_RELAY), overlaps(1)),
+        (put_device_pool(2, LAST + 1, LAST + 9, RELAY), DONE), (put_device_pool(4, DEVICES_LAST, DEVICES_LAST + 11, 4), device_overlaps(1)),
+        (put_device_pool(4, DEVICES_LAST + 1, DEVICES_LAST + 11, DEVICES_RELAY), device_overlaps(3)), (put_device_pool(1, DEVICES, DEVICES_LAST + 11, DEVICES_RELAY), device_overlaps(3)),
+        (put_device_pool(4, DEVICES_LAST + 1, DEVICES_LAST + 10, DEVICES_RELAY), taken(1)), (put_device_pool(4, DEVICES_LAST + 1, DEVICES_LAST + 10, 3), taken(3)),
+        (put_device_pool(4, DEVICES_LAST + 1, DEVICES_LAST + 10, 4), DONE), (put_device_pool(3, DEVICES_LAST + 1, DEVICES_LAST + 20, 3), DONE)])
+    live = [*FOR_DEVICES, *OTHER_DEVICES, "device 10.128.0.10 declined t+1"]
+    are_decided(live, [(put_device_pool(1, DEVICES + 1, DEVICES_LAST, 3), taken(3)), (put_device_pool(1, DEVICES + 1, DEVICES_LAST, DEVICES_RELAY), lost(DEVICES)),
+                       (put_device_pool(1, DEVICES, DEVICES, DEVICES_RELAY), DONE)])
+    many = [f"device-pool {number} {ip(number)} {ip(number)} 24 10.64.0.1 {ip(number)}" for number in range(1, 65)]
+    are_decided(many, [(put_device_pool(65, 5_000, 5_000, 5_000), limit(64)), (put_device_pool(65, 5_000, 5_000, 64), taken(64)), (put_device_pool(64, 64, 64, 64), DONE)])
+    is_full(many[1:], [(put_device_pool(9_999, 9_999, 9_999, 9_999), DONE), (put_device_pool(9_998, 9_998, 9_998, 9_998), limit(64)), (put_pool(2, 9_998, 9_998, 2), DONE),
+                       (remove("/device-pools/2"), DONE), (put_device_pool(9_997, 9_997, 9_997, 9_997), DONE)])
+    section("a pool has no address of a pool for devices, and the least such one is named", "The rule stands behind that on other pools, and before that on relays.")
+    second = lambda begins, ends, relay=2, hub=None: put_pool(2, begins, ends, relay, hub)
+    are_decided([*FOR_DEVICES, *OTHER_DEVICES], [
+        (second(DEVICES_LAST, DEVICES), SIZE), (second(DEVICES, DEVICES), device_overlaps(1)), (second(DEVICES_LAST, DEVICES_LAST + 11), device_overlaps(1)),
+        (second(DEVICES_LAST + 1, DEVICES_LAST + 11), device_overlaps(3)), (second(DEVICES, DEVICES, RELAY), device_overlaps(1)),
+        (second(DEVICES, DEVICES, 2, 9), device_overlaps(1)), (put_pool(1, DEVICES, DEVICES, RELAY), device_overlaps(1)),
+        (second(DEVICES_LAST + 1, DEVICES_LAST + 10, DEVICES_RELAY), DONE)])
+    are_decided([*FOR_DEVICES, f"pool 2 {ip(DEVICES_LAST + 1)} {ip(DEVICES_LAST + 1)} 24 10.64.0.1 0.0.0.2"], [(put_pool(3, DEVICES_LAST, DEVICES_LAST + 1, 3), overlaps(2))])
+    section("devices' leases that have ended go with their addresses, and others hold these", "")
+    rows = [*FOR_DEVICES, f"device 10.128.0.10 bound {mac(0xEE)} {device(0xA1)} t", f"device 10.128.0.15 offered {mac(0xEE)} {device(0xA2)} t-1", "device 10.128.0.20 declined 0"]
+    is_done([*rows, *bound(0, "t+1")], remove("/device-pools/1"), with_rows(*bound(0, "t+1")))
+    is_done(rows, put_device_pool(1, DEVICES + 1, DEVICES_LAST - 1, DEVICES_RELAY), with_rows("device-pool 1 10.128.0.11 10.128.0.19 24 10.64.0.1 10.128.0.1", rows[2]))
+    is_done(rows, first, with_rows(*rows))
+    rows = [*FOR_DEVICES, *(f"device 10.128.0.{10 + place} bound {mac(0xEE)} {device(place)} {moment}" for place, moment in ((0, "t"), (3, "t+1"), (5, "t+1")))]
+    are_decided(rows, [(remove("/device-pools/1"), lost(DEVICES + 3)), (put_device_pool(1, DEVICES + 4, DEVICES_LAST, DEVICES_RELAY), lost(DEVICES + 3)),
+                       (put_device_pool(1, DEVICES, DEVICES + 4, DEVICES_RELAY), lost(DEVICES + 5)), (put_device_pool(1, DEVICES + 3, DEVICES + 5, DEVICES_RELAY), DONE)])
+    section("devices' leases stay where their modem, its subscriber or its hub goes", "Which device may have an address is asked anew by each message.")
+    held = [*FOR_DEVICES, f"device 10.128.0.10 bound {mac(0xEE)} {device(0xA1)} t+9"]
+    is_done(held, remove(f"/modems/{mac(0xEE)}"), with_rows(*held, without=["modem"]))
+    is_done([*held, "drop pool 1"], remove("/hubs/0"), with_rows(*held, without=["pool 1", "hub 0"]))
+
+
 def bound(place, moment):
     """A lease at a place of pool 1, of the modem whose address ends in the place, and that modem's row."""
     return [f"lease {ip(FIRST + place)} bound {mac(place)} {moment}", f"held {mac(place)} {ip(FIRST + place)}"]
@@ -844,11 +941,14 @@ def main():
     hubs()
     earlier_days()
     pools()
+    device_pools()
     clerks_leases()
     removals()
     moments()
     limits()
     leases.sections(script, OFFICE)
+    devices.sections(script, OFFICE)
+    devices_by_chance.sections(script)
     transfers.sections(script, OFFICE)
     boots.sections(script, OFFICE)
     import_job.sections(script, OFFICE)

@@ -44,6 +44,13 @@ BAD = [
     ("a lease is offered, bound or declined", "070a40000a", "04" "02aabbccddee" "000000006553f100"),
     ("a bound lease has its owner", "070a40000a", "02" "000000006553f100"),
     ("a declined lease has no owner", "070a40000a", "03" "02aabbccddee" "000000006553f100"),
+    ("a pool for devices has 17 bytes", "0c00000001", "0a80000a0a800014180a8000010a8000"),
+    ("a pool for devices has no eighteenth byte", "0c00000001", "0a80000a0a800014180a8000010a80000100"),
+    ("the key of a pool for devices has four bytes of its number", "0c000001", "0a80000a0a800014180a8000010a800001"),
+    ("a device's lease is offered, bound or declined", "0d0a80000a", "04" "02aabbccddee" "0200000000a1" "000000006553f100"),
+    ("a bound lease of a device has its modem and its device", "0d0a80000a", "02" "02aabbccddee" "000000006553f100"),
+    ("a declined lease of a device has no owner", "0d0a80000a", "03" "02aabbccddee" "0200000000a1" "000000006553f100"),
+    ("the key of a device's lease has an address", "0d0a8000", "03" "000000006553f100"),
     ("a batch is of subscribers or of modems", "090000000000000001", "03" + "00" * 16 + "00000002"),
     ("a batch has its digest", "090000000000000001", "01" + "00" * 15 + "00000002"),
 ]
@@ -89,6 +96,10 @@ def main():
     told_of_cells += "run a cell of it beside a hub is refused\nstatus 2\n| tables refused site\n"
     cells += f"office\ncell 0a00000001 {SITE}\ncell 0b00000001 00000001\ncell 0200000009 010203416e6e\nshow tables\nrun cells of a hub and of a pool's hub\n"
     told_of_cells += f"run cells of a hub and of a pool's hub\nstatus 0\n{ROWS}row hub 1 10.0.0.2 736563726574 3600 86400 0.0.0.0\nrow pool-hub 1 1\n"
+    cells += f"office\ncell 0c00000001 0a80000a0a800014180a8000010a800001\ncell 0d0a80000a 0202aabbccddee0200000000a1000000006553f100\n"
+    cells += "cell 0200000009 010203416e6e\nshow tables\nrun cells of a pool for devices and of a device's lease\n"
+    told_of_cells += f"run cells of a pool for devices and of a device's lease\nstatus 0\n{ROWS}row device-pool 1 10.128.0.10 10.128.0.20 24 10.128.0.1 10.128.0.1\n"
+    told_of_cells += "row device 10.128.0.10 bound 02aabbccddee 0200000000a1 1700000000\n"
     files = {"stdin": both + "\n" + IN_CELLS + cells + "\n" + ALONE + alone, "stdout": told_of_both + told_of_cells + told_of_alone}
     where = CRATES / "store_script"
     if sys.argv[1:] == ["check"]:

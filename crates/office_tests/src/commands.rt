@@ -6,12 +6,13 @@ use off_office::Office;
 use off_rows::sound;
 use std::test::Fail;
 
-// Class 1 has bad settings and pool 2 no relay: whoever reads them takes them as none. No opening
-// lets them in.
+// Class 1 has bad settings, pool 2 no relay, and pool 2 for devices too short a prefix: whoever reads
+// them takes them as none. No opening lets them in.
 #[test]
 fn an_impossible_row_is_none(rt: HostRuntime) -> Result<(), Fail> {
     let alloc = rt.alloc();
-    let bad = "class 1 \"gold\" 99=01\npool 2 0.0.0.0 0.0.0.9 24 0.0.0.1 0.0.0.0";
+    let bad = "class 1 \"gold\" 99=01\npool 2 0.0.0.0 0.0.0.9 24 0.0.0.1 0.0.0.0\n\
+               device-pool 2 10.65.0.0 10.65.0.9 7 0.0.0.1 0.0.0.2";
     let mut keeper = keeper_of(alloc, bad)?;
     let counts = count_rows(alloc, &mut keeper)?;
     for (row, wanted) in [
@@ -24,6 +25,14 @@ fn an_impossible_row_is_none(rt: HostRuntime) -> Result<(), Fail> {
             Answer::Done(1),
         ),
         ("pool 3 0.0.0.0 0.0.0.9 24 0.0.0.1 0.0.0.3", Answer::Done(2)),
+        (
+            "pool 3 10.65.0.0 10.65.0.9 24 0.0.0.1 0.0.0.3",
+            Answer::Done(2),
+        ),
+        (
+            "device-pool 3 10.65.0.0 10.65.0.9 24 0.0.0.1 0.0.0.2",
+            Answer::Done(1),
+        ),
     ] {
         assert_eq!(rt; answers(alloc, &mut keeper, &counts, row)?, wanted, "{row}");
     }

@@ -61,6 +61,7 @@ fn command_of(key: Key, row: Row) -> Option<Command>
         (Key::Modem(mac), Row::Modem(row)) => Some(Command::PutModem(mac, row)),
         (Key::Class(number), Row::Class(row)) => Some(Command::PutClass(number, row)),
         (Key::Pool(number), Row::Pool(row)) => Some(Command::PutPool(number, row, 0)),
+        (Key::DevicePool(number), Row::Pool(row)) => Some(Command::PutDevicePool(number, row)),
         _ => None,
     }
 }

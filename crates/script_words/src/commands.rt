@@ -30,6 +30,7 @@ fn put_row(key: Key, row: Row, line: &mut Line<'_>) -> Result<Command, Unread> {
         (Key::Modem(mac), Row::Modem(row)) => Ok(Command::PutModem(mac, row)),
         (Key::Class(number), Row::Class(row)) => Ok(Command::PutClass(number, row)),
         (Key::Pool(number), Row::Pool(row)) => Ok(Command::PutPool(number, row, hub(line)?)),
+        (Key::DevicePool(number), Row::Pool(row)) => Ok(Command::PutDevicePool(number, row)),
         _ => Err(Unread::Words),
     }
 }
