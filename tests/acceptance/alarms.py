@@ -16,7 +16,8 @@ from harness import ROOT, check, failures, text_of
 from every_word import FAULTS, sections
 
 RULES = os.path.join(ROOT, "packaging", "prometheus-rules.yml")
-SECTIONS = {"dhcp": "DHCP", "tftp": "TFTP", "time": "Time", "http": "Clerks in the log"}
+SECTIONS = {"dhcp": ("DHCP", "Devices"), "tftp": ("TFTP",), "time": ("Time",),
+            "http": ("Clerks in the log",)}
 # Counters by minute, and the alarms that they give at their end, of those that are asked for.
 TRIAL = """
 rule_files: [%s]
@@ -49,7 +50,8 @@ def words_exist(rules):
     general = found["Each service"]
     for labels in re.findall(r"officed_lines_total\{([^}]*)\}", rules):
         about = dict(re.findall(r'(\w+)=~?"([^"]*)"', labels))
-        known = [*found[SECTIONS[about["service"]]], "pool-full"] if "service" in about else general
+        own = [word for name in SECTIONS.get(about.get("service"), ()) for word in found[name]]
+        known = own if "service" in about else general
         for word in about["word"].split("|"):
             if about.get("service") == "http":
                 check(any(re.fullmatch(word, f"409 {fault}") for fault in FAULTS), f"http {word}")

@@ -104,10 +104,6 @@ def check_paths(text, api):
         check(named == set(re.findall(r"\{(\w+)\}", path)), f"the parameters of {path}")
 
 
-# Rules of rows that no request puts yet.
-NOT_YET = {"device-overlap"}
-
-
 def check_faults(text, api):
     told = {bare(row[0]): row[1] for row in table(text, "Fault", "Status")}
     check(list(told) == api["components"]["schemas"]["Fault"]["properties"]["fault"]["enum"], "the faults of the JSON")
@@ -119,7 +115,7 @@ def check_faults(text, api):
                 check(told.get(word) == status, f"{word} of {key} has the status {status}")
             if status in ("500", "503"):
                 check("content" not in resolved(api, response), f"{status} of {key} has no body")
-    check(set(told) - used == {"no-method", *NOT_YET}, "each fault is one of an operation")
+    check(set(told) - used == {"no-method"}, "each fault is one of an operation")
     definition = text_of("crates", "off_clerk_rules", "specs", "Faults.antt")
     words = dict(re.findall(r'^\w+_word \(?([\w.]+).*= codes "([^"]*)"$', definition, re.M))
     statuses = dict(re.findall(r"^\w+_status \(?([\w.]+).*= (\d+)$", definition, re.M))
@@ -175,6 +171,8 @@ def check_fields(text, api):
     told = [[bare(row[0]) for row in rows[1:]] for rows in tables(text) if rows[0][0] == "Field"]
     known = [list(schemas[name]["properties"]) for name in ("Hub", "Class", "Pool", "Subscriber", "AddOn", "Modem", "Lease")]
     check(told == known, f"the fields: {told}")
+    pool, devices = (list(schemas[name]["properties"].items()) for name in ("Pool", "DevicePool"))
+    check([name for name, _ in pool[len(devices):]] == ["hub"] and pool[:len(devices)] == devices, "a pool for devices has a pool's fields but the hub")
     for name, schema in schemas.items():
         for field in schema.get("required", []):
             check(field in schema["properties"], f"{name} has {field}")

@@ -29,7 +29,7 @@ from harness import (PROGRAM, ROOT, check, failures, free_ports, loaded, start, 
                      wait_for)
 from harness.told import SECRET
 from clerk_examples import people
-from store_reader import made
+from store_reader import DEVICE_POOL, DEVICES, ROWS, made
 
 DESK = os.path.join(ROOT, "bin", "office-desk")
 CHROMIUM = next(filter(None, map(shutil.which, ("chromium", "chromium-browser",
@@ -38,6 +38,8 @@ SITE = {"server": "10.0.0.2", "secret": SECRET.hex(), "offset": "3600", "lease":
         "log": "0.0.0.0"}
 POOL = {"first": "10.64.0.10", "last": "10.64.0.99", "prefix": "24", "router": "10.64.0.1",
         "relay": "10.64.0.1", "hub": "0"}
+FOR_DEVICES = {"first": "10.128.0.10", "last": "10.128.0.20", "prefix": "24",
+               "router": "10.128.0.1", "relay": "10.128.0.1"}
 ANN = {"active": "on", "cpes": "2", "name": "Ann <O'Neil> & \"Sons\""}
 MODEM = {"subscriber": "7", "class": "1", "serial": "SN01"}
 
@@ -103,12 +105,15 @@ def row(port, path):
 def rows(browser, port):
     """Each kind of row is put by its form, is shown, and is what the office has."""
     for path, fields in (("/hub/0", SITE), ("/hub/1", {**SITE, "server": "10.0.0.3"}),
-                         ("/pool/1", POOL), ("/subscriber/7", ANN)):
+                         ("/pool/1", POOL), ("/device-pool/1", FOR_DEVICES),
+                         ("/subscriber/7", ANN)):
         check(browser.post(path, fields)[0] == "Done.", f"{path} is put")
     shown = {"lease": 86400, "log": "0.0.0.0", "offset": 3600, "server": "10.0.0.2"}
     check(row(port, "/site") == row(port, "/hubs/0") == shown, "the hub 0")
     check(row(port, "/hubs/1") == {**shown, "server": "10.0.0.3"}, "another hub")
     check(row(port, "/pools/1") == {**POOL, "prefix": 24, "hub": 0}, "the pool")
+    check(row(port, "/device-pools/1") == {**FOR_DEVICES, "prefix": 24}, "the pool for devices")
+    check("hub" not in browser.fields(browser.get("/device-pool/1")), "whose form has no hub")
     check(browser.post("/pool/1", {**POOL, "hub": "1"})[0] == "Done.", "the pool's hub is another")
     check(row(port, "/pools/1")["hub"] == 1, "its hub")
     check(browser.fields(browser.get("/pool/1"))["hub"] == "1", "which its form shows")
@@ -166,6 +171,12 @@ def refused(browser):
             ("/pool/2", {**POOL, "relay": "10.64.0.2"}, "save", "pool-overlap", "pool 1"),
             ("/pool/2", {**POOL, "first": "10.65.0.1", "last": "10.65.0.2"}, "save", "relay-taken",
              "pool 1 has"),
+            ("/pool/2", {**FOR_DEVICES, "hub": "0"}, "save", "device-overlap",
+             "pool 1 for devices"),
+            ("/device-pool/2", {**FOR_DEVICES, "relay": "10.128.0.2"}, "save", "device-overlap",
+             "pool 1 for devices"),
+            ("/device-pool/2", POOL, "save", "pool-overlap", "pool 1"),
+            ("/device-pool/9", {}, "delete", "no-row", "no such row"),
             ("/subscriber/7", {"cpes": "0", "name": ""}, "save", "value", "`cpes`"),
             ("/subscriber/9", {}, "delete", "no-row", "no such row"),
             ("/subscriber/x", ANN, "save", "no-path", "no such path"),
@@ -189,6 +200,8 @@ def others(browser):
     check(browser.ask("GET", "/none")[0] == 404, "no such page")
     found = browser.ask("GET", "/find?hub=3")
     check(found[::2] == (303, "/hub/3"), f"a new hub is at {found[2]}")
+    found = browser.ask("GET", "/find?device-pool=3")
+    check(found[::2] == (303, "/device-pool/3"), f"a new pool for devices is at {found[2]}")
     for what, where in (("7", "/subscriber/7"), ("02:AA:bb:cc:dd:ee", "/modem/02aabbccddee"),
                         ("10.64.0.10", "/lease/10.64.0.10"), ("?", "/")):
         found = browser.ask("GET", "/find?" + urllib.parse.urlencode({"what": what}))
@@ -198,12 +211,14 @@ def others(browser):
 def lists(browser):
     """What the copy and the lines say."""
     for path, parts in (
-            ("/pools", ["10.64.0.10 to 10.64.0.14", "As of the copy of "]),
+            ("/pools", ["10.64.0.10 to 10.64.0.14", "/device-pool/1", "10.128.0.10 to 10.128.0.15",
+                        "As of the copy of "]),
             ("/hubs", ["/hub/0", "10.0.0.2", "As of the copy of "]), ("/hub/1", ["Hub 1"]),
             ("/subscribers", ["/subscriber/8"]), ("/classes", ["/class/1", "gold"]),
             ("/subscriber/7", ["02aabbccddf0", "10.64.0.10"]),
-            ("/modem/02aabbccddee", ["Its lease: 10.64.0.10, "]),
+            ("/modem/02aabbccddee", ["Its lease: 10.64.0.10, ", "0200000000a1", "10.128.0.10"]),
             ("/lease/10.64.0.10", ["It has no lease."]),
+            ("/lease/10.128.0.14", ["0200000000a1", "/modem/02aabbccdd77"]),
             ("/", ["http 200", "in the last hour", "</span> 0%"]),
             ("/lines", ["a clerk&#x27;s command was done, and answered"])):
         text = browser.get(path)
@@ -283,6 +298,48 @@ def copies_and_counts():
     check([word for word, _ in lines.series()] == ["dhcp ack"],
           "a line that was there when the desk began isn't of the last hour")
     check([text for _, text, _, _ in lines.last] == ["17 dhcp offer", "18 dhcp ack"], "and is shown")
+
+
+class Told:
+    """An office that answers what it's told to, and keeps what it was asked."""
+
+    def __init__(self, rows):
+        self.rows, self.asked = rows, []
+
+    def ask(self, method, path, row=None):
+        self.asked.append((method, path, row))
+        return self.rows.get(path) if method == "GET" else {"ok": True}
+
+
+def devices():
+    """Pools for devices beside pools, a modem's devices of a copy, and what their form asks."""
+    module = loaded("office-desk")
+    with tempfile.TemporaryDirectory() as folder:
+        copy = os.path.join(folder, "office.db")
+        made(copy, [*ROWS, DEVICE_POOL, *DEVICES]).close()
+        desk = module.Desk(argparse.Namespace(office="", ca=None, store=None, copy=copy, unit=None,
+                                              lines=None, page=None), folder)
+        modem = {"subscriber": 7, "class": 1, "serial": "SN01"}
+        shown = {**FOR_DEVICES, "prefix": 24}
+        desk.office = Told({"modems/02aabbccddee": modem, "modems/02aabbccddef": modem,
+                            "device-pools/1": shown})
+        for path, parts in (
+                ("/pools", ["/pool/1", "/device-pool/1", "10.128.0.10 to 10.128.0.15"]),
+                ("/", ["<h2>Pools for devices</h2>", "/device-pool/1"]),
+                ("/modem/02aabbccddee", ["0200000000a1", "10.128.0.10", "0200000000a3"]),
+                ("/modem/02aabbccddef", ["No device has a lease behind it."]),
+                ("/lease/10.128.0.14", ["0200000000a1", "/modem/02aabbccdd77"]),
+                ("/lease/10.128.0.13", ["nobody"]), ("/lease/10.128.0.15", ["It has no lease."]),
+                ("/device-pool/1", ['name="first" value="10.128.0.10"', "hub of its modem"])):
+            title, text = desk.shown_at(path, {})
+            check(all(part in text for part in parts), f"{path}: {title} has {parts}")
+        check("0200000000a1" not in desk.shown_at("/modem/02aabbccddef", {})[1], "another's device")
+        told = desk.change("/device-pool/1", {**FOR_DEVICES, "action": "save"})[1]
+        check(desk.office.asked[-2] == ("PUT", "device-pools/1", shown), f"{desk.office.asked[-2]}")
+        check("Done." in told, "it's put")
+        desk.change("/device-pool/1", {"action": "delete"})
+        check(desk.office.asked[-2] == ("DELETE", "device-pools/1", None), "and removed")
+    check(module.found_at({"device-pool": " 3"}) == "/device-pool/3", "a new one")
 
 
 # Chromium reads descriptor 3 and writes 4; others first, lest one takes another's place.
@@ -407,13 +464,14 @@ def filled(page, port, folder):
 def main():
     settings()
     copies_and_counts()
+    devices()
     if not os.path.exists(PROGRAM):
         print("officed isn't built: run bin/officed once")
         return 1
     ports, desk = free_ports(), free_ports()[3]
     with tempfile.TemporaryDirectory() as folder:
         copy, log = os.path.join(folder, "office.db"), os.path.join(folder, "log")
-        made(copy).close()
+        made(copy, [*ROWS, DEVICE_POOL, *DEVICES]).close()
         words = [DESK, "--office", f"http://127.0.0.1:{ports[3]}", "--copy", copy, "--lines", log,
                  "--port", str(desk)]
         with open(log, "wb") as lines:

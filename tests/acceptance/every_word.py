@@ -14,6 +14,9 @@ DHCP = """offer ack declined released dhcp-short dhcp-long dhcp-not-request dhcp
 dhcp-cookie dhcp-option-cut dhcp-no-type dhcp-overload no-site not-served request-form part-cut
 relay-mismatch not-a-modem no-relay-pool unknown-modem serial-mismatch other-server pool-full
 no-record not-your-address""".split()
+DEVICES = """cpe-offer cpe-ack cpe-declined cpe-released not-served cpe-form cpe-no-pool
+cpe-suspended cpe-offline cpe-other-server cpe-limit cpe-pool-full cpe-no-record
+cpe-not-yours""".split()
 QUERIES = "query-relay query-form query-active query-unassigned query-unknown".split()
 TFTP = """form write mode again no-lease agreement name full oack block unknown stale-ack done
 peer-error""".split()
@@ -31,7 +34,8 @@ ANSWERS = ['{"ok":true}', '{"rows":}', '{"fault":}', '{"at":,"fault":}', '"state
            '"state":"bound"', '"state":"declined"']
 # Each section of the page, its words, and the column that has them.
 SECTIONS = {
-    "DHCP": DHCP, "Queries": QUERIES, "Time": ["sent"], "TFTP": TFTP, "Ticks": ["again closed"],
+    "DHCP": DHCP, "Devices": DEVICES, "Queries": QUERIES, "Time": ["sent"], "TFTP": TFTP,
+    "Ticks": ["again closed"],
     "Clerks in the log": ["wait", "200", "busy", "closed", ""],
     "Each service": ["memory", "keeper", "link"], "The last line": ENDS, "Statuses": STATUSES,
     "What jobs write": ["cm good", "cm bad", "cmts good", "cmts bad", "rows",
@@ -42,6 +46,7 @@ SECTIONS = {
 # Where the program's definitions say them: a section's words are all that the pattern finds.
 DEFINED = {
     "DHCP": [("off_lease_rules", "Words", r'^word_text .*codes "([^"]*)"')],
+    "Devices": [("off_cpe_rules", "Words", r'^device_text .*codes "([^"]*)"')],
     "Queries": [("off_query_rules", "Words", r'^query_text .*codes "([^"]*)"')],
     "Time": [("off_book", "Time", r'codes "time ([^"]*)"')],
     "TFTP": [("off_transfer_rules", "Words", r'^tftp_text .*codes "([^"]*)"')],

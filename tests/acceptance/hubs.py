@@ -1,12 +1,12 @@
 #!/usr/bin/env python3
 """officed with two hubs as their modems see it, and over stores of earlier days, whose one site becomes the hub 0.
 
-Two relays, at 127.0.0.1 and 127.0.0.2, each with a pool of its own hub: a modem boots at the one and then at the other, by that hub's server and secret, and reads
-its file, which is checked here; a pool is moved to the other hub in the midst of a transfer. Each reply and each word of the log is compared with the models of
-tests/examples. That needs port 67, and is skipped by name where no network of its own can be had. Then stores of earlier days, made by Python's sqlite3: their site
-is moved at the first start, by an office and by an import, whatever becomes of the import; 50 starts, or as many as OFFICE_KILLS says, are killed, and leave the
-store as it was or moved. Where there is `cc`, starts are refused growths of memory, each of the last before the program ends among them, and do likewise. It ends
-what it started, and takes about a minute.
+Two relays, at 127.0.0.1 and 127.0.0.2, each with a pool of its own hub: a modem boots at the one and then at the other, by that hub's server and secret, and
+reads its file, which is checked here; a pool is moved to the other hub in the midst of a transfer. Each reply and each word of the log is compared with the
+models of tests/examples. That needs port 67, and is skipped by name where no network of its own can be had. Then stores of earlier days, made by Python's
+sqlite3: their site is moved at the first start, by an office and by an import, whatever becomes of the import; 50 starts, or as many as OFFICE_KILLS says, are
+killed, and leave the store as it was or moved. Where there is `cc`, starts and imports are refused growths of memory, each of the last before the program ends
+among them, and do likewise. It ends what it started, and takes about a minute.
 """
 import contextlib
 import os
@@ -269,26 +269,38 @@ def kills(kind):
     print(f"{KILLS} kills of a first start over {'a journal' if kind else 'a database'}: {moved} after its commit")
 
 
-def without_memory(kind, refuser):
-    """A start whose next growth of memory is refused ends with a status that says so, and leaves the store as it was or moved; the next one moves it."""
-    words = ["--ports", ",".join(map(str, free_ports())), "--turns", "0"]
+PEOPLE, PERSON = table("subscribers", [["8", "no", "1", ""]]), {b"\x02" + big(8, 4): b"\x00\x01" + text(b"")}
+# Jobs over a store of earlier days: the words behind its name, the input, the rows that are there when all is done, and the statuses with which want of memory may end it.
+JOBS = {"start": (lambda: ("serve", "--ports", ",".join(map(str, free_ports())), "--turns", "0"), b"", MOVED, (6, 10, 11)),
+        "import": (lambda: ("import", "subscribers", "9"), PEOPLE, {**MOVED, **PERSON}, (6, 11))}
+
+
+def without_batches(rows):
+    return {key: row for key, row in rows.items() if key[0] != 9}
+
+
+def without_memory(kind, refuser, job):
+    """A start, or an import, whose next growth of memory is refused ends with a status that says so, and leaves the store as it was or moved; the next one does all."""
+    words_of, data, whole, statuses = JOBS[job]
     environment = {**os.environ, "LD_PRELOAD": refuser.library, "REFUSED": refuser.path}
 
-    def start_of(store, growth):
+    def ends(store, growth):
+        first, *words = words_of()
         refuser.refuses(growth)
-        done = subprocess.run([PROGRAM, "serve", "--store", store, *words], stdout=subprocess.PIPE, stderr=subprocess.DEVNULL, env=environment, timeout=60)
+        done = subprocess.run([PROGRAM, first, "--store", store, *words], input=data, stdout=subprocess.PIPE, stderr=subprocess.DEVNULL, env=environment, timeout=60)
         refused = refuser.is_done()
         refuser.refuses(0)
         return done.returncode, refused
 
     def tried(growth):
+        what = f"{kind} {job}, growth {growth}"
         with store_of(kind, EARLIER) as (_, store, rows):
-            status, refused = start_of(store, growth)
-            found = rows()
-            check(status in (0, 6, 10, 11) and found in (EARLIER, MOVED), f"{kind} growth {growth}: status {status}, {len(found)} rows")
-            check(status != 0 or found == MOVED, f"{kind} growth {growth}: a start that ends well has moved the site")
-            check(start_of(store, 0)[0] == 0 and rows() == MOVED, f"{kind} growth {growth}: the next start moves the site")
-            return refused, status, found == MOVED
+            status, refused = ends(store, growth)
+            found = without_batches(rows())
+            check(status in (0, *statuses) and found in (EARLIER, MOVED, whole), f"{what}: status {status}, {len(found)} rows")
+            check(status != 0 or found == whole, f"{what}: one that ends well has done all")
+            check(ends(store, 0)[0] == 0 and without_batches(rows()) == whole, f"{what}: the next one does all")
+            return refused, status, found
 
     least, most = 1, 1
     while tried(most)[0]:
@@ -298,43 +310,42 @@ def without_memory(kind, refuser):
         least, most = (middle, most) if tried(middle)[0] else (least, middle)
     growths = sorted({*range(max(1, most - LAST_GROWTHS), most), *random.sample(range(1, most), min(most - 1, LAST_GROWTHS))})
     came = [tried(growth) for growth in growths]
-    print(f"a first start over {'a journal' if kind else 'a database'} has {most - 1} growths; {len(growths)} of them refused: "
-          f"{sum(status == 6 for _, status, _ in came)} with status 6, {sum(moved for _, _, moved in came)} of them after its commit")
+    print(f"a first {job} over {'a journal' if kind else 'a database'} has {most - 1} growths; {len(growths)} of them refused: "
+          f"{sum(status == 6 for _, status, _ in came)} with status 6, {sum(found != EARLIER for _, _, found in came)} of them after its first commit")
 
 
 def imports(kind):
     """An import's opening moves the site, whatever becomes of the import; where nothing is opened it stays."""
-    people, wrong = table("subscribers", [["8", "no", "1", ""]]), table("modems", [["02:00:00:00:00:01", "7", "9", ""]])
-    person = {b"\x02" + big(8, 4): b"\x00\x01" + text(b"")}
+    wrong = table("modems", [["02:00:00:00:00:01", "7", "9", ""]])
     for what, data, words, expected, then in (
-            ("is done", people, ("subscribers", "9"), (0, "rows 1\n"), {**MOVED, **person}),
-            ("has other words", people, ("subscribers",), (1, "words refused\n"), EARLIER),
+            ("is done", PEOPLE, ("subscribers", "9"), (0, "rows 1\n"), {**MOVED, **PERSON}),
+            ("has other words", PEOPLE, ("subscribers",), (1, "words refused\n"), EARLIER),
             ("has another header", b"x\n", ("modems", "9"), (9, "refused header\n"), MOVED),
             ("breaks a rule", wrong, ("modems", "9"), (9, "refused no-class row 1\n"), MOVED)):
         with store_of(kind, EARLIER) as (_, store, rows):
             check(ended(store, "import", *words, data=data) == expected, f"{kind} an import that {what}")
-            check({key: row for key, row in rows().items() if key[0] != 9} == then, f"{kind} an import that {what}: the rows")
+            check(without_batches(rows()) == then, f"{kind} an import that {what}: the rows")
     # A record of a journal that isn't changes of rows is no record.
     unread = (11, "") if kind else (3, "keeper refused\n")
     for more, expected in (({HUB_KEY: VALUES}, (2, "tables refused site\n")), ({b"\x08" + bytes(6): b"\x0a"}, unread)):
         with store_of(kind, {**EARLIER, **more}) as (_, store, rows):
-            check((ended(store, "import", "subscribers", "9", data=people), rows()) == (expected, {**EARLIER, **more}), f"{kind} an import: {expected}")
-    for what, given, taken, status, then in (("standard input fails", "/", subprocess.DEVNULL, 7, MOVED), ("standard output is full", None, "/dev/full", 4, {**MOVED, **person})):
+            check((ended(store, "import", "subscribers", "9", data=PEOPLE), rows()) == (expected, {**EARLIER, **more}), f"{kind} an import: {expected}")
+    for what, given, taken, status, then in (("standard input fails", "/", subprocess.DEVNULL, 7, MOVED), ("standard output is full", None, "/dev/full", 4, {**MOVED, **PERSON})):
         with store_of(kind, EARLIER) as (_, store, rows), contextlib.ExitStack() as files:
             source = os.open(given, os.O_RDONLY) if given else files.enter_context(tempfile.TemporaryFile())
             if given is None:
-                source.write(people)
+                source.write(PEOPLE)
                 source.seek(0)
             sink = files.enter_context(open(taken, "wb")) if isinstance(taken, str) else taken
             found = subprocess.run([PROGRAM, "import", "--store", store, "subscribers", "9"], stdin=source, stdout=sink, timeout=60).returncode
             check(found == status, f"{kind} {what}: status {found}")
-            check({key: row for key, row in rows().items() if key[0] != 9} == then, f"{kind} {what}: the rows")
+            check(without_batches(rows()) == then, f"{kind} {what}: the rows")
             if given:
                 os.close(source)
     with store_of("", EARLIER) as (path, store, rows):
         locked = sqlite3.connect(path, isolation_level=None)
         locked.execute("BEGIN EXCLUSIVE")
-        check(ended(store, "import", "subscribers", "9", data=people) == (11, ""), "an import into a store that is locked")
+        check(ended(store, "import", "subscribers", "9", data=PEOPLE) == (11, ""), "an import into a store that is locked")
         locked.close()
         check(rows() == EARLIER, "and it stays")
 
@@ -357,9 +368,10 @@ def main():
         with tempfile.TemporaryDirectory() as name:
             refuser = Refuser(name)
             for kind in KINDS:
-                without_memory(kind, refuser)
+                for job in JOBS:
+                    without_memory(kind, refuser, job)
     else:
-        print("starts without memory: skipped, since there is no cc here")
+        print("starts and imports without memory: skipped, since there is no cc here")
     print(f"acceptance: {len(failures)} failed")
     return 1 if failures else 0
 

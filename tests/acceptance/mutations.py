@@ -1,7 +1,7 @@
 #!/usr/bin/env python3
 """officed under ten thousand inputs that are near to good ones, on all its ports, in a network of its own; `mutations.py 1000000` tries as many as that.
 
-Datagrams for DHCP, the time and TFTP and requests of clerks are changed by chance, from a seed that is printed (OFFICE_SEED names another). Each has the line
+Datagrams of modems and of a device for DHCP, for the time and for TFTP, and requests of clerks, are changed by chance, from a seed that is printed (OFFICE_SEED names another). Each has the line
 that a model of words allows (harness/mutating.py), and no line says `memory` or `keeper`. A clerk is answered as the line says; what a changed request put is
 removed. The program goes on, and of a million inputs its resident memory grows by less than 1 MB after the first 100,000. Last a modem boots and reads its file
 as if nothing had been. The site's secret is in no line, answer, or word on standard error, as text or in hexadecimal; `seal`, `check` and `import` over
@@ -24,6 +24,7 @@ from harness.mutating import fits_request, mutated, mutated_request, words_of_me
 from harness.told import SECRET
 
 sys.dont_write_bytecode = True
+import devices  # noqa: E402
 import leases  # noqa: E402
 import tftp  # noqa: E402
 from examples import compact, ip, sealed  # noqa: E402
@@ -33,8 +34,9 @@ COUNT = int(os.environ.get("OFFICE_MUTATIONS", "10000"))
 SEED = int(os.environ.get("OFFICE_SEED", "45"))
 AT_ONCE = 50
 MOST_GROWTH = 1 << 20
-# Of the first modem messages are changed; the second one reads files from its address.
+# Of the first modem messages are changed; the second one reads files from its address, and a device behind it has an address too.
 MODEM, READER, AT = 3, 5, ip(office.FIRST + 9)
+DEVICE, DEVICES = "10.64.32.9", {"first": "10.64.32.0", "last": "10.64.32.99", "prefix": 24, "router": office.RELAY, "relay": office.RELAY}
 
 
 def hidden():
@@ -74,7 +76,14 @@ def message_seeds():
     held = ip(office.FIRST)
     return [RELAYED_DISCOVER, leases.discover(**own), leases.selects(held, server=office.SERVER, **own), leases.reboots(held, **own), leases.renews(held, **own),
             leases.declines(held, **own), leases.releases(held, **own), leases.discover(**own, way=option(2, leases.mac(MODEM)) + option(1, bytes(251)) + option(9, bytes(41))),
-            leases.discover(**own, more=option(55, bytes(range(1, 60)))), leases.says(leases.INFORM, **own)]
+            leases.discover(**own, more=option(55, bytes(range(1, 60)))), leases.says(leases.INFORM, **own), *device_seeds()]
+
+
+def device_seeds():
+    """Messages of a device behind the reader."""
+    relayed = {"relay": office.RELAY, "behind": leases.mac(READER), "more": option(60, b"udhcp 1.36.1")}
+    return [devices.discover(**relayed), devices.discover(asked=DEVICE, **relayed), devices.selects(DEVICE, server=office.SERVER, **relayed), devices.reboots(DEVICE, **relayed),
+            devices.renews(DEVICE), devices.renews(DEVICE, **relayed), devices.declines(DEVICE, **relayed), devices.gives_back(DEVICE), devices.gives_back(DEVICE, **relayed)]
 
 
 def packet_seeds(name):
@@ -89,11 +98,11 @@ def request_seeds():
     bodies = [("PUT", "/subscribers/7", {"active": True, "cpes": 2, "name": "Ann"}), ("PUT", modem, {"subscriber": 7, "class": 1, "serial": office.serial(MODEM)}),
               ("PUT", "/classes/1", {"name": "gold", "settings": office.GOLD}), ("PUT", "/subscribers/7/addons/3", settings), ("PUT", "/pools/1", office.POOL),
               ("PUT", "/site", {**office.SITE, "secret": SECRET.hex()}), ("PUT", "/hubs/1", {**office.SITE, "secret": SECRET.hex()}),
-              ("PUT", "/pools/1", {**office.POOL, "hub": 1})]
+              ("PUT", "/pools/1", {**office.POOL, "hub": 1}), ("PUT", "/device-pools/1", DEVICES)]
     rows = "subscriber,active,cpes,name\n7,yes,2,Ann\n7,no,254,\"A, \"\"B\"\"\"\n"
     seeds = [request(method, path, compact(body).encode()) for method, path, body in bodies]
     seeds += [request("PUT", "/imports/subscribers/9", rows.encode())]
-    return seeds + [request("GET", path) for path in ("/site", "/hubs/0", "/hubs/1", "/subscribers/7", modem, "/classes/1", "/pools/1", f"/leases/{ip(office.FIRST)}", "/nowhere")]
+    return seeds + [request("GET", path) for path in ("/site", "/hubs/0", "/hubs/1", "/subscribers/7", modem, "/classes/1", "/pools/1", "/device-pools/1", f"/leases/{ip(office.FIRST)}", "/nowhere")]
 
 
 class Fuzzing:
@@ -110,10 +119,11 @@ class Fuzzing:
         furnish()
         self.ends_of(len(rows()))
         own = office.modem(READER)
-        for message in (leases.discover(**own, asked=AT), leases.selects(AT, server=office.SERVER, **own)):
+        _, asks, selects, *_ = device_seeds()
+        for message in (leases.discover(**own, asked=AT), leases.selects(AT, server=office.SERVER, **own), asks, selects):
             self.relay.sendto(message, (office.SERVER, office.PORTS[0]))
-            check(office.took(self.relay) is not None, "the reader boots")
-        check(self.told("dhcp", 2) == ["offer", "ack"], "the reader has its address")
+            check(office.took(self.relay) is not None, "the reader and its device boot")
+        check(self.told("dhcp", 4) == ["offer", "ack", "cpe-offer", "cpe-ack"], "the reader and its device have their addresses")
         for each in (self.relay, self.asker, self.clients):
             each.setblocking(False)
 
@@ -212,7 +222,7 @@ class Fuzzing:
             kind = self.chance.choices(("dhcp", "tftp", "time", "http"), (40, 35, 5, 20))[0]
             batch = min(count, AT_ONCE)
             if kind == "dhcp":
-                self.datagrams("dhcp", office.PORTS[0], self.messages, batch, words_of_message, self.relay, 240)
+                self.datagrams("dhcp", office.PORTS[0], self.messages, batch, allowed_of, self.relay, 240)
             elif kind == "tftp":
                 self.datagrams("tftp", files.PORT, self.packets, batch, words_of_packet, self.asker, 2)
             elif kind == "time":
@@ -225,6 +235,10 @@ class Fuzzing:
                 return
 
 
+def allowed_of(data):
+    return words_of_message(data, [leases.mac(number) for number in (MODEM, READER)])
+
+
 def is_time_answer(data):
     """Four bytes that tell about this moment are taken for another office's answer, and dropped."""
     own = (int(time.time()) + SECONDS_BEFORE_1970) % 2**32
@@ -234,7 +248,7 @@ def is_time_answer(data):
 def rows():
     """The rows that the seeds speak of."""
     return [("/site", {**office.SITE, "secret": SECRET.hex()}), ("/classes/1", {"name": "gold", "settings": office.GOLD}),
-            ("/subscribers/7", {"active": True, "cpes": 2, "name": "Ann"}), ("/pools/1", office.POOL),
+            ("/subscribers/7", {"active": True, "cpes": 2, "name": "Ann"}), ("/pools/1", office.POOL), ("/device-pools/1", DEVICES),
             *((f"/modems/{leases.mac(number).hex()}", {"subscriber": 7, "class": 1, "serial": office.serial(number)}) for number in (MODEM, READER))]
 
 

@@ -201,7 +201,7 @@ def several_hubs(folder):
                                    ["7", "10.0.0.3", "-1", "60", "10.0.0.9", "1"]], "the hubs")
     status, came, said = asked(path, "--csv", "end-leases")
     lines = [line.split(",") for line in came.splitlines()[1:]]
-    check(status == 0 and [(line[0], line[4]) for line in lines]
+    check(status == 0 and [(line[0], line[5]) for line in lines]
           == [("10.65.0.10", moment(NOW + 60))], f"a lease of a hub of short ones: {came} {said}")
     site = (b"\x01", ROWS[0][1])
     made(earlier, [site, *ROWS[1:], *leased("10.65.0.11", BOUND, 0x78, NOW + 86401)]).close()
@@ -210,7 +210,7 @@ def several_hubs(folder):
     check(asked(earlier, "--csv", "end-leases")[1].count("\n") == 2, "which says how long they last")
 
 
-TOLD = ["address", "modem", "lease", "before (UTC)", "now (UTC)"]
+TOLD = ["address", "modem", "device", "lease", "before (UTC)", "now (UTC)"]
 # Each with the leases that it changes: their addresses, and their ends before and after it.
 ENDED = [
     ((), [("10.65.0.11", "02aabbccdd78", "bound", NOW + 86401, NOW + 86400)]), ((), []),
@@ -244,7 +244,7 @@ def ends_leases(folder):
         before = rows_in(path)
         status, came, said = asked(path, "--csv", "end-leases", *words)
         found = list(csv.reader(io.StringIO(came)))
-        lines = [[*line[:3], moment(line[3]), moment(line[4])] for line in changed]
+        lines = [[*line[:2], "", line[2], moment(line[3]), moment(line[4])] for line in changed]
         check((status, found) == (0, [TOLD, *lines]), f"{words}: {status} {found} {said}")
         for held, _, _, was, is_ in changed:
             val = before[b"\x07" + ip(held)]
@@ -266,6 +266,80 @@ def ends_leases(folder):
     locked.close()
     bare = os.path.join(folder, "bare.db")
     made(bare, ROWS[1:]).close()
+    check(asked(bare, "end-leases")[0] == 1, "without a hub a moment is to be given")
+
+
+def device(held, hold, behind, last, expiry):
+    """A lease of a device behind a modem."""
+    named = mac(behind) + bytes.fromhex("0200000000") + bytes([last]) if hold != DECLINED else b""
+    return b"\x0d" + ip(held), bytes([hold]) + named + big(expiry, 8)
+
+
+DEVICE_POOL = (b"\x0c" + big(1, 4),
+               ip("10.128.0.10") + ip("10.128.0.15") + b"\x18" + ip("10.128.0.1") * 2)
+# Behind a modem that is online, behind one whose hub is 1, and behind one without an address.
+DEVICES = [device("10.128.0.10", BOUND, 0xEE, 0xA1, NOW + 86401),
+           device("10.128.0.11", OFFERED, 0xEE, 0xA2, NOW + 120),
+           device("10.128.0.12", BOUND, 0xEE, 0xA3, NOW),
+           device("10.128.0.13", DECLINED, 0, 0, NOW + 600),
+           device("10.128.0.14", BOUND, 0x77, 0xA1, NOW + 100),
+           device("10.129.0.10", BOUND, 0xF1, 0xA1, NOW + 86401)]
+FULL_DAY, TEN, DAY = "2023-11-15 22:13:21", "2023-11-14 22:23:20", "2023-11-15 22:13:20"
+BEHIND = [
+    (("devices", "02:aa:bb:cc:dd:ee"),
+     [["device", "address", "lease", "until (UTC)", "seconds left"],
+      ["0200000000a1", "10.128.0.10", "bound", FULL_DAY, "86401"],
+      ["0200000000a2", "10.128.0.11", "offered", "2023-11-14 22:15:20", "120"],
+      ["0200000000a3", "10.128.0.12", "ended", MOMENT, "0"]]),
+    (("devices", "02aabbccddef"), [["device", "address", "lease", "until (UTC)", "seconds left"]]),
+    (("device-free", "1"), [["address", "last modem", "last device", "ended (UTC)"],
+                            ["10.128.0.12", "02aabbccddee", "0200000000a3", MOMENT],
+                            ["10.128.0.15", "", "", ""]]),
+    (("device-pools",), [["pool", "relay", "first", "last", "addresses", "taken", "free", "full"],
+                         ["1", "10.128.0.1", "10.128.0.10", "10.128.0.15", "6", "4", "2", "66%"]]),
+    (("device-leases",), [["address", "modem", "device", "lease", "until (UTC)"],
+                          ["10.128.0.10", "02aabbccddee", "0200000000a1", "bound", FULL_DAY],
+                          ["10.128.0.11", "02aabbccddee", "0200000000a2", "offered",
+                           "2023-11-14 22:15:20"],
+                          ["10.128.0.12", "02aabbccddee", "0200000000a3", "ended", MOMENT],
+                          ["10.128.0.13", "", "", "declined", TEN],
+                          ["10.128.0.14", "02aabbccdd77", "0200000000a1", "bound", LATER],
+                          ["10.129.0.10", "02aabbccddf1", "0200000000a1", "bound", FULL_DAY]]),
+]
+
+
+def behind_modems(folder):
+    """Devices and their pools; a lease of a device ends by those of its modem's hub."""
+    path, bare = os.path.join(folder, "devices.db"), os.path.join(folder, "no-hub.db")
+    pool = ip("10.65.0.10") + ip("10.65.0.19") + b"\x18" + ip("10.65.0.1") * 2
+    made(path, [*ROWS, hub(1, "10.0.0.3", 0, 60), (b"\x06" + big(2, 4), pool),
+                (b"\x0b" + big(2, 4), big(1, 4)), DEVICE_POOL, *DEVICES]).close()
+    for words, expected in [*ANSWERS[:8], *BEHIND]:
+        status, came, said = asked(path, "--csv", *words)
+        found = list(csv.reader(io.StringIO(came)))
+        check((status, found) == (0, expected), f"devices: {words}: {status} {found} {said}")
+    for words, status in ((("devices", "02aabbccddff"), 1), (("devices", "x"), 2),
+                          (("devices",), 2), (("device-free", "2"), 1), (("device-pools", "1"), 2)):
+        check(asked(path, *words)[0] == status, f"{words}: {status}")
+    before = rows_in(path)
+    status, came, said = asked(path, "--csv", "end-leases")
+    lines = [line.split(",") for line in came.splitlines()[1:]]
+    soon = moment(NOW + 60)
+    check(status == 0 and [(*line[:3], line[5]) for line in lines] == [
+        ("10.65.0.10", "02aabbccdd77", "", soon),
+        ("10.128.0.10", "02aabbccddee", "0200000000a1", DAY),
+        ("10.128.0.14", "02aabbccdd77", "0200000000a1", soon),
+        ("10.129.0.10", "02aabbccddf1", "0200000000a1", DAY)], f"all leases: {came} {said}")
+    for held, end in (("10.128.0.10", 86400), ("10.128.0.14", 60), ("10.129.0.10", 86400)):
+        val = before[b"\x0d" + ip(held)]
+        before[b"\x0d" + ip(held)] = val[:-8] + big(NOW + end, 8)
+    val = before[b"\x07" + ip("10.65.0.10")]
+    before[b"\x07" + ip("10.65.0.10")] = val[:-8] + big(NOW + 60, 8)
+    check(rows_in(path) == before, "the other rows stay")
+    one = asked(path, "--csv", "end-leases", "10.128.0.11")[1].splitlines()[1:]
+    check(one == [f"10.128.0.11,02aabbccddee,0200000000a2,offered,2023-11-14 22:15:20,{MOMENT}"],
+          f"the lease of one address: {one}")
+    made(bare, DEVICES).close()
     check(asked(bare, "end-leases")[0] == 1, "without a hub a moment is to be given")
 
 
@@ -326,6 +400,7 @@ def main():
         refusals(folder)
         ends_leases(folder)
         several_hubs(folder)
+        behind_modems(folder)
         by_the_program(folder)
         status, came, _ = asked(os.path.join(folder, "office.db"), "free", "1")
         lines = ["address     last modem    ended (UTC)", f"10.64.0.11  02aabbccddf0  {MOMENT}",

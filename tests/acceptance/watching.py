@@ -5,9 +5,10 @@ In a network of its own two hundred modems boot, renew, decline and release, wit
 between, and bin/modem boots one to the end of its file. What was sent is captured by this script,
 and by tcpdump where it's there. The modem of each line is the one that had sent the datagram, while
 the lines come and from the captures after it; the meaning is the page's. Then frames of each kind
-of link, a modem's address in a store, and what can't be read. It ends what it started, and takes
-some seconds.
+of link, lines of devices behind modems, a modem's address in a store, and what can't be read. It
+ends what it started, and takes some seconds.
 """
+import argparse
 import os
 import re
 import shutil
@@ -21,7 +22,7 @@ import time
 
 from harness import PROGRAM, ROOT, alone, check, failures, loaded, may_be_alone, start, stop
 from harness import modems
-from store_reader import made
+from store_reader import DEVICE_POOL, DEVICES, device, made
 
 WATCH, MODEM = (os.path.join(ROOT, "bin", name) for name in ("office-watch", "modem"))
 PORTS = ",".join(map(str, modems.PORTS[:3]))
@@ -192,6 +193,84 @@ def frames():
     check(form.groups("") == ("", "link refused", "", "link refused"), "the last line")
 
 
+OFFICE, RELAY, NOBODY = "10.0.0.2", "10.128.0.1", "0.0.0.0"
+DISCOVER, OFFER, REQUEST, DECLINE, ACK, NAK, RELEASE = range(1, 8)
+
+
+def option(code, value):
+    return bytes([code, len(value)]) + value
+
+
+def packet(source, target, data, ports=(67, 67)):
+    """An IPv4 packet with a datagram."""
+    head = b"\x45\0" + (28 + len(data)).to_bytes(2, "big") + bytes(4) + b"\x40\x11\0\0"
+    head += socket.inet_aton(source) + socket.inet_aton(target)
+    return head + struct.pack(">HHHH", *ports, 8 + len(data), 0) + data
+
+
+def message(kind, sender, number, remote="", relay=RELAY, **addresses):
+    """A message to the office or an answer of its: who sent it, and whom the relay names."""
+    at = {name: socket.inet_aton(each) for name, each in addresses.items()}
+    head = bytes([2 if kind in (OFFER, ACK, NAK) else 1, 1, 6, 0]) + number.to_bytes(4, "big")
+    head += bytes(4) + at.get("ciaddr", bytes(4)) + at.get("yiaddr", bytes(4)) + bytes(4)
+    head += socket.inet_aton(relay) + bytes.fromhex(sender) + bytes(202) + b"\x63\x82\x53\x63"
+    agent = option(1, b"up") + option(2, bytes.fromhex(remote)) if remote else b""
+    return head + option(53, bytes([kind])) + (option(82, agent) if agent else b"") + b"\xff"
+
+
+def behind(known):
+    """Lines of devices have the modem that the relay names, and the device. Where a device renews
+    without a relay, its modem is the one behind which it was acknowledged, or that of a store."""
+    modem, stranger, other = "02aabbccddee", "02aabbccdd01", "02aabbccdd02"
+    one, two, three = (f"0200000000a{last}" for last in (1, 2, 3))
+    watch = loaded("office-watch")
+    watching = watch.Watch((67, 37, 69), {}, known)
+    said = [
+        ("cpe-offer", (DISCOVER, one, modem, {}), (OFFER, {"yiaddr": "10.128.0.10"})),
+        ("offer", (DISCOVER, other, other, {}), (OFFER, {"yiaddr": "10.64.0.20"})),
+        ("cpe-limit", (DISCOVER, two, modem, {}), None),
+        ("relay-mismatch", (DISCOVER, three, stranger, {}), None),
+        ("unknown-modem", (DISCOVER, stranger, stranger, {}), None),
+        ("cpe-ack", (REQUEST, one, modem, {}), (ACK, {"yiaddr": "10.128.0.10"})),
+        ("not-served", (8, one, modem, {}), None),
+        ("cpe-ack", (REQUEST, one, "", {"ciaddr": "10.128.0.10", "relay": NOBODY}),
+         (ACK, {"yiaddr": "10.128.0.10", "relay": NOBODY})),
+        ("cpe-offline", (REQUEST, three, "", {"ciaddr": "10.128.0.12", "relay": NOBODY}), None),
+        ("cpe-not-yours", (REQUEST, two, modem, {}), (NAK, {})),
+        ("cpe-released", (RELEASE, one, "", {"ciaddr": "10.128.0.10", "relay": NOBODY}), None),
+    ]
+    for number, (_, (kind, sender, remote, more), answer) in enumerate(said):
+        watching.take(number, packet(RELAY, OFFICE, message(kind, sender, number, remote, **more)))
+        if answer:
+            data = message(answer[0], sender, number, remote, **answer[1])
+            watching.take(number, packet(OFFICE, RELAY, data))
+    watching.take(20, packet("10.128.0.10", OFFICE, b"", (5000, 37)))
+    found = []
+    for words in [f"dhcp {word}" for word, *_ in said] + ["time sent"]:
+        service, word = words.split(" ", 1)
+        of = watching.message_of(service, word, None)
+        found.append((word, *(watching.who(of, word) if of else ())))
+    expected = [
+        ("cpe-offer", modem, RELAY, "10.128.0.10", one), ("offer", other, RELAY, "10.64.0.20", ""),
+        ("cpe-limit", modem, RELAY, "", two), ("relay-mismatch", three, RELAY, "", ""),
+        ("unknown-modem", stranger, RELAY, "", ""),
+        ("cpe-ack", modem, RELAY, "10.128.0.10", one), ("not-served", modem, RELAY, "", one),
+        ("cpe-ack", modem, "", "10.128.0.10", one),
+        ("cpe-offline", known.get(three, ""), "", "10.128.0.12", three),
+        ("cpe-not-yours", modem, RELAY, "", two), ("cpe-released", modem, "", "10.128.0.10", one),
+        ("sent", modem, "", "10.128.0.10", "")]
+    for line, wanted in zip(found, expected):
+        check(line == wanted, f"a line of {wanted[0]}: {line} and not {wanted}")
+    check(len(found) == len(expected), "each line has its datagram")
+    given = argparse.Namespace(live=False, wrong=False, modem=None)
+    again = watch.Watch((67, 37, 69), {}, {})
+    again.take(0, packet(RELAY, OFFICE, message(DISCOVER, two, 0, modem)))
+    text = watch.told(again, watch.read_page(None), "7 dhcp cpe-limit", given)
+    line = f"7 dhcp cpe-limit of device {two}: a DISCOVER or a REQUEST, and other devices behind"
+    check(text.startswith(f"00:00:00  {modem}  {RELAY}       -                {line}"), text)
+    check("What to do: nothing: an address is free when" in text, text)
+
+
 def finds():
     """A modem's address, and the modems of addresses, from a store."""
     with tempfile.TemporaryDirectory() as folder:
@@ -204,6 +283,15 @@ def finds():
             check(done.returncode == status and part in said, f"{mac}: {done.returncode} {said}")
         known = loaded("office-watch").modems_of(store)
         check(known["10.64.0.12"] == ("02aabbccddef", ""), f"the modems of addresses: {known}")
+        store = os.path.join(folder, "devices.db")
+        made(store, [DEVICE_POOL, *DEVICES]).close()
+        known = loaded("office-watch").modems_of(store)
+        check(known["10.128.0.14"] == ("02aabbccdd77", ""), f"the modems of devices: {known}")
+        later = device("10.128.0.14", 2, 0x77, 0xA1, 2**40)
+        store = os.path.join(folder, "later.db")
+        made(store, [DEVICE_POOL, *DEVICES[:4], later]).close()
+        known = loaded("office-watch").devices_of(store)
+        check(known["0200000000a1"] == "02aabbccdd77", f"of the lease that lasts: {known}")
 
 
 def refused():
@@ -222,6 +310,8 @@ def main():
     if sys.argv[1:] == ["watched"]:
         return watched()
     frames()
+    behind({})
+    behind({"0200000000a3": "02aabbccdd77"})
     finds()
     refused()
     if not os.path.exists(PROGRAM):

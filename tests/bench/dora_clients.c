@@ -6,6 +6,12 @@
  *     dora_clients echoed FIRST COUNT RELAYS OUTSTANDING MS      the same datagrams to the echo, as often
  *     dora_clients query FIRST COUNT RELAYS OUTSTANDING MS       relays ask which address a modem has (RFC 4388), as long
  *     dora_clients query-echoed FIRST COUNT RELAYS OUTSTANDING MS        the same datagrams to the echo
+ *     dora_clients device-boot FIRST COUNT RELAYS OUTSTANDING            each device once, which is offered any address
+ *     dora_clients device-release FIRST COUNT RELAYS OUTSTANDING         each device once: DISCOVER, OFFER, RELEASE
+ *     dora_clients device-asks FIRST COUNT RELAYS OUTSTANDING            each device once, which asks for an address of its own
+ *     dora_clients device-renew FIRST COUNT RELAYS OUTSTANDING MS        boots of devices that go on, in a mixed order
+ *     dora_clients device-discover FIRST COUNT RELAYS OUTSTANDING MS     their DISCOVERs alone
+ *     dora_clients device-request FIRST COUNT RELAYS OUTSTANDING MS      their REQUESTs alone, each for the device's own address
  *         prints: exchanges, seconds, datagrams sent again, wrong answers, bytes of an answer
  *     dora_clients flood FIRST COUNT RELAYS RATE MS              DISCOVERs and REQUESTs of modems with leases, so many a second
  *     dora_clients padded FIRST COUNT RELAYS RATE MS             the same with 1,100 pads before the options
@@ -15,7 +21,8 @@
  *         prints: answers, lost, and the median, the 99th percentile and the greatest delay in milliseconds
  *     dora_clients echo LENGTH                                   a server that sends each datagram back, in so many bytes
  *
- * Modem N stands behind relay N mod RELAYS. The modems are shared out among three processes at most, so that the server is the slowest part. */
+ * Modem N stands behind relay N mod RELAYS. Device N asks by relay N mod RELAYS, is behind modem N / 2, and its own address is that of place N / RELAYS among the
+ * 4,096 that the relay's pool for devices has. Modems and devices are shared out among three processes at most, or four, so that the server is the slowest part. */
 #define _GNU_SOURCE
 #include <arpa/inet.h>
 #include <stdio.h>
@@ -28,8 +35,8 @@
 #include <unistd.h>
 
 enum { DISCOVER = 1, OFFER = 2, REQUEST = 3, ACK = 5, RELEASE = 7, QUERY = 10, ACTIVE = 13 };
-enum { DHCP_PORT = 67, TIME_PORT = 37, ECHO_PORT = 7, MOST_RELAYS = 64, MOST_SLOTS = 256, PADS = 1100 };
-static const unsigned SERVER = 0x0a000002, RELAYS_AT = 0x0a400001, RELAYS_APART = 8192;
+enum { DHCP_PORT = 67, TIME_PORT = 37, ECHO_PORT = 7, MOST_RELAYS = 64, MOST_SLOTS = 256, PADS = 1100, DEVICES_EACH = 2, MOST_IN_POOL = 4096 };
+static const unsigned SERVER = 0x0a000002, RELAYS_AT = 0x0a400001, RELAYS_APART = 8192, DEVICES_AT = 0x0a500000;
 static const double PATIENCE = 1;
 
 struct plan {
@@ -86,9 +93,18 @@ static unsigned char *option(unsigned char *end, int code, int length, const voi
     return end + length;
 }
 
+static int is_of_devices(const struct plan *plan) {
+    return strncmp(plan->mode, "device-", 7) == 0;
+}
+
+/* Whether each asks for an address of its own. */
+static int has_own(const struct plan *plan) {
+    return is_of_devices(plan) && !is(plan, "device-boot") && !is(plan, "device-release");
+}
+
 /* The kind of what is asked first, and of an answer to a kind. */
 static int first_of(const struct plan *plan) {
-    return is(plan, "query") || is(plan, "query-echoed") ? QUERY : DISCOVER;
+    return is(plan, "query") || is(plan, "query-echoed") ? QUERY : is(plan, "device-request") ? REQUEST : DISCOVER;
 }
 
 static int answer_to(int kind) {
@@ -107,23 +123,44 @@ static unsigned char *ways(unsigned char *end, int modem, const unsigned char *m
     return option(option(option(end, 60, 10, "docsis3.1:"), 43, 15, cable), 82, 14, way);
 }
 
-/* A modem's message (RFC 2131 with the options of RFC 2132), or its relay's query for its lease, and its length. A REQUEST asks for an address, and a RELEASE
- * gives it back. */
-static int message(unsigned char *text, int kind, int modem, int relays, unsigned number, const unsigned char *address) {
-    unsigned char mac[6] = {2, 0}, server[4], one = kind, *end = text + 240;
-    put4(mac + 2, modem);
-    put4(server, SERVER);
+/* The fixed part of a message (RFC 2131), and its kind. */
+static unsigned char *head(unsigned char *text, int kind, const unsigned char *mac, unsigned relay, unsigned number) {
+    unsigned char one = kind;
     memset(text, 0, 240);
     memcpy(text, "\1\1\6", 3);
     put4(text + 4, number);
-    if (kind == RELEASE) memcpy(text + 12, address, 4);
-    put4(text + 24, relay_of(modem, relays));
+    put4(text + 24, relay);
     memcpy(text + 28, mac, 6);
     memcpy(text + 236, "\x63\x82\x53\x63", 4);
-    end = option(end, 53, 1, &one);
+    return option(text + 240, 53, 1, &one);
+}
+
+/* A modem's message (RFC 2131 with the options of RFC 2132), or its relay's query for its lease, and its length. A REQUEST asks for an address, and a RELEASE
+ * gives it back. */
+static int message(unsigned char *text, int kind, int modem, int relays, unsigned number, const unsigned char *address) {
+    unsigned char mac[6] = {2, 0}, server[4], *end;
+    put4(mac + 2, modem);
+    put4(server, SERVER);
+    end = head(text, kind, mac, relay_of(modem, relays), number);
+    if (kind == RELEASE) memcpy(text + 12, address, 4);
     if (kind == REQUEST) end = option(end, 50, 4, address);
     if (kind != DISCOVER && kind != QUERY) end = option(end, 54, 4, server);
     if (kind != RELEASE && kind != QUERY) end = ways(end, modem, mac);
+    *end++ = 255;
+    return end - text;
+}
+
+/* A device's message and its length. Its relay names the modem that it is behind (RFC 3046); a DISCOVER without an address asks for none. */
+static int device_message(unsigned char *text, int kind, int device, int relays, unsigned number, const unsigned char *address) {
+    unsigned char mac[6] = {6, 0}, way[14] = {1, 4, 0x80, 0, 0, 1, 2, 6, 2, 0}, server[4], *end;
+    put4(mac + 2, device);
+    put4(way + 10, device / DEVICES_EACH);
+    put4(server, SERVER);
+    end = head(text, kind, mac, relay_of(device, relays), number);
+    if (kind == RELEASE) memcpy(text + 12, address, 4);
+    else if (address != NULL) end = option(end, 50, 4, address);
+    if (kind != DISCOVER) end = option(end, 54, 4, server);
+    end = option(option(end, 60, 12, "udhcp 1.36.1"), 82, 14, way);
     *end++ = 255;
     return end - text;
 }
@@ -167,7 +204,7 @@ static void ask(struct share *s, int place, int kind, const unsigned char *addre
     struct slot *slot = &s->slots[place];
     slot->kind = kind;
     slot->number = (unsigned)s->part << 30 | (s->number++ & 0x3fffff) << 8 | (unsigned)place;
-    slot->length = message(slot->text, kind, slot->modem, s->plan->relays, slot->number, address);
+    slot->length = (is_of_devices(s->plan) ? device_message : message)(slot->text, kind, slot->modem, s->plan->relays, slot->number, address);
     if (is(s->plan, "padded")) pad(slot);
     say(s, place);
 }
@@ -178,10 +215,12 @@ static void begin(struct share *s, int place) {
         s->slots[place].kind = 0;
         return;
     }
-    int turn = (int)(((long)s->begun * s->step + s->start) % s->modems);
+    int turn = (int)(((long)s->begun * s->step + s->start) % s->modems), who = s->plan->first + s->part + s->parts * turn, relays = s->plan->relays;
+    unsigned char own[4];
+    put4(own, DEVICES_AT + MOST_IN_POOL * (who % relays) + who / relays);
     s->begun++;
-    s->slots[place].modem = s->plan->first + s->part + s->parts * turn;
-    ask(s, place, first_of(s->plan), NULL);
+    s->slots[place].modem = who;
+    ask(s, place, first_of(s->plan), has_own(s->plan) ? own : NULL);
 }
 
 /* Whether an answer has a question's number. */
@@ -203,10 +242,10 @@ static void hear(struct share *s, const unsigned char *answer, long length) {
         return;
     }
     s->told.length = length;
-    if (slot->kind == REQUEST || slot->kind == QUERY) {
+    if (slot->kind == REQUEST || slot->kind == QUERY || is(s->plan, "device-discover")) {
         s->told.done++;
         begin(s, place);
-    } else if (is(s->plan, "release")) {
+    } else if (is(s->plan, "release") || is(s->plan, "device-release")) {
         ask(s, place, RELEASE, answer + 16);
         s->told.done++;
         begin(s, place);
@@ -299,7 +338,7 @@ static void run_part(const struct plan *plan, int part, int parts, int started, 
 
 /* Has the parts begin together, and adds up what they did. */
 static int exchange(const struct plan *plan) {
-    int started[2], told[2], parts = plan->outstanding < 3 || plan->count < 3 ? 1 : 3;
+    int started[2], told[2], most = plan->relays % 3 == 0 ? 3 : 4, parts = plan->outstanding < most || plan->count < most ? 1 : most;
     struct told sum = {0}, each;
     if (pipe(started) != 0 || pipe(told) != 0) return 2;
     for (int part = 0; part < parts; part++)
@@ -308,7 +347,7 @@ static int exchange(const struct plan *plan) {
     for (int part = 0; part < parts; part++)
         if (read(told[0], &each, sizeof each) != sizeof each) return 2;
     double start = seconds();
-    if (write(started[1], "...", parts) != parts) return 2;
+    if (write(started[1], "....", parts) != parts) return 2;
     while (read(told[0], &each, sizeof each) == sizeof each) {
         sum.done += each.done, sum.again += each.again, sum.wrong += each.wrong;
         if (each.end > sum.end) sum.end = each.end;
@@ -405,7 +444,7 @@ int main(int argc, char **argv) {
     if (argc == 3 && strcmp(argv[1], "times") == 0) return ask_times(atoi(argv[2]) / 1e3);
     if (argc != 6 && argc != 7) return 2;
     struct plan plan = {argv[1], atoi(argv[2]), atoi(argv[3]), atoi(argv[4]), atoi(argv[5]), DHCP_PORT, argc == 7 ? atoi(argv[6]) / 1e3 : 0};
-    if (plan.relays < 1 || plan.relays > MOST_RELAYS || plan.relays % 3 != 0 || plan.count < 1) return 2;
+    if (plan.relays < 1 || plan.relays > MOST_RELAYS || (plan.relays % 3 != 0 && plan.relays % 4 != 0) || plan.count < 1) return 2;
     if (is(&plan, "flood") || is(&plan, "padded") || is(&plan, "full")) return flood(&plan);
     if (is(&plan, "echoed") || is(&plan, "query-echoed")) plan.port = ECHO_PORT;
     if (plan.outstanding < 1 || plan.outstanding > MOST_SLOTS) return 2;

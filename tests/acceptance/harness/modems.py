@@ -77,14 +77,21 @@ class Conversation:
         """Sends a datagram by the relay, and gives what is to be answered."""
         word, reply = self.model.take(int(time.time()), data)
         self.words.append(word)
-        self.relay.sendto(data, (SERVER, PORTS[0]))
+        self.send(data)
         return reply
+
+    def send(self, data):
+        self.relay.sendto(data, (SERVER, PORTS[0]))
+
+    def heard_at(self, _target, port):
+        """The socket at which a reply is heard."""
+        return self.relay if port == "67" else self.clients
 
     def hears(self, reply, what):
         """The next reply is this one, to the byte, at the place that it's for."""
         to, expected = reply
         target, port = to.rsplit(":", 1)
-        came = took(self.relay if port == "67" else self.clients)
+        came = took(self.heard_at(target, port))
         check(came is not None and came[0] == expected, f"{what}: the reply of {len(expected)} bytes to {to}")
         check(came is None or came[1] == target, f"{what}: it goes to {target}, and not to {came and came[1]}")
         return reply_in(expected) if came is not None and came[0] == expected else None
@@ -92,9 +99,12 @@ class Conversation:
     def asks(self, data, what):
         return self.hears(self.say(data), what)
 
+    def sockets(self):
+        return self.relay, self.clients
+
     def is_silent(self):
         """Nothing else was sent."""
-        for each in (self.relay, self.clients):
+        for each in self.sockets():
             each.settimeout(0.05)
             check(took(each) is None, "nothing is sent that isn't to be")
             each.settimeout(5)

@@ -100,26 +100,51 @@ OF_TABLES = {
     messages.DECLINE: {"declined", "other-server", "no-record"},
     messages.RELEASE: {"released", "other-server", "no-record"},
 }
+# What the tables may decide for a message of a device behind a modem.
+OF_DEVICES = {
+    messages.DISCOVER: {"cpe-offer", "cpe-no-pool", "cpe-suspended", "cpe-offline", "cpe-limit", "cpe-pool-full"},
+    messages.REQUEST: {"cpe-ack", "cpe-no-pool", "cpe-suspended", "cpe-offline", "cpe-other-server", "cpe-limit", "cpe-no-record", "cpe-not-yours"},
+    messages.DECLINE: {"cpe-declined", "cpe-offline", "cpe-other-server", "cpe-no-record"},
+    messages.RELEASE: {"cpe-released", "cpe-offline", "cpe-other-server", "cpe-no-record"},
+}
 # These are answered, and the answer may find no way, since a message says itself where it is to go.
-ANSWERED = {"offer", "ack", "not-your-address"}
+ANSWERED = {"offer", "ack", "not-your-address", "cpe-offer", "cpe-ack", "cpe-not-yours"}
 # A change may make a relay's query of a message, which is answered to the relay that it names.
 QUERIED = {"query-relay", "query-form", "query-active", "query-unassigned", "query-unknown", "link"}
 
 
-def words_of_message(data):
-    """What may become of a DHCP datagram, where each pool has its hub."""
+def words_of_message(data, modems):
+    """What may become of a DHCP datagram, where each pool has its hub and these modems are on record."""
     if messages.is_query(data):
         return QUERIED
     fault = messages.fault_of(data)
     if fault:
         return {"dhcp-" + fault.split(" ")[0]}
     m = messages.Message(data)
+    agent = messages.parts_in(m.options.get(82, b""), False)
+    remote = None if agent is None else messages.first_of(agent, 2)
+    if remote is not None and len(remote) == 6:
+        return words_of_device(m) if remote != m.mac and remote in modems else words_of_modem(m, agent)
+    # Without a relay's word a device is known by the lease that it renews or gives back.
+    if agent is not None and m.kind in (messages.REQUEST, messages.RELEASE):
+        return words_of_device(m) | words_of_modem(m, agent)
+    return words_of_modem(m, agent)
+
+
+def words_of_device(m):
+    if m.kind not in OF_DEVICES:
+        return {"not-served"}
+    if m.kind == messages.REQUEST and m.asked() is None:
+        return {"cpe-form"}
+    return or_no_way(OF_DEVICES[m.kind])
+
+
+def words_of_modem(m, agent):
     if m.kind not in OF_TABLES:
         return {"not-served"}
     if m.kind == messages.REQUEST and m.asked() is None:
         return {"request-form"}
     asks = m.kind in (messages.DISCOVER, messages.REQUEST)
-    agent = messages.parts_in(m.options.get(82, b""), False)
     if agent is None or asks and messages.parts_in(m.options.get(43, b""), True) is None:
         return {"part-cut"}
     remote = messages.first_of(agent, 2)
@@ -128,7 +153,10 @@ def words_of_message(data):
     says_device = is_modem(m.options.get(60, b""))
     if m.kind == messages.DISCOVER and not says_device or m.kind == messages.REQUEST and 60 in m.options and not says_device:
         return {"not-a-modem"}
-    words = OF_TABLES[m.kind]
+    return or_no_way(OF_TABLES[m.kind])
+
+
+def or_no_way(words):
     return words | {"link"} if words & ANSWERED else words
 
 
@@ -151,7 +179,7 @@ def statuses():
 
 
 STATUSES = statuses()
-PATHS = re.compile(rb"/(site|hubs/\d{1,20}|subscribers/\d{1,20}(/addons/\d{1,20})?|modems/[0-9A-Fa-f:.-]{12,17}|classes/\d{1,20}|pools/\d{1,20}|leases/[0-9.]{7,15}"
+PATHS = re.compile(rb"/(site|hubs/\d{1,20}|subscribers/\d{1,20}(/addons/\d{1,20})?|modems/[0-9A-Fa-f:.-]{12,17}|classes/\d{1,20}|(device-)?pools/\d{1,20}|leases/[0-9.]{7,15}"
                    rb"|imports/(subscribers|modems)/\d{1,20})")
 
 
