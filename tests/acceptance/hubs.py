@@ -272,7 +272,7 @@ def kills(kind):
 PEOPLE, PERSON = table("subscribers", [["8", "no", "1", ""]]), {b"\x02" + big(8, 4): b"\x00\x01" + text(b"")}
 # Jobs over a store of earlier days: the words behind its name, the input, the rows that are there when all is done, and the statuses with which want of memory may end it.
 JOBS = {"start": (lambda: ("serve", "--ports", ",".join(map(str, free_ports())), "--turns", "0"), b"", MOVED, (6, 10, 11)),
-        "import": (lambda: ("import", "subscribers", "9"), PEOPLE, {**MOVED, **PERSON}, (6, 11))}
+        "import": (lambda: ("import", "subscribers", "9"), PEOPLE, {**MOVED, **PERSON}, (6,))}
 
 
 def without_batches(rows):
