@@ -1,4 +1,4 @@
-ghost use Rattle.std.specs.Prelude.{◌≡◌, ◌<◌, ◌≤◌, true, length, slice_index, IsOk};
+ghost use Rattle.std.specs.Prelude.{◌≡◌, ◌==◌, ◌<◌, ◌≤◌, true, length, slice_index, IsOk};
 ghost use Rattle.off_base.specs.Parts.{parts_in};
 ghost use Rattle.off_base.specs.Walk.{all_values, CursorStands, Holds, Finds};
 
@@ -53,6 +53,20 @@ impl<'a> JoinedBytes<'a> {
             len,
             cursor: FRONT,
         }
+    }
+
+    /// How many bytes there are.
+    pub fn len(&self) -> usize
+        ensures { result ≡ length self.now }
+    {
+        self.len
+    }
+
+    /// Whether there are no bytes.
+    pub fn is_empty(&self) -> bool
+        ensures { result ≡ (length self.now == 0) }
+    {
+        self.len == 0
     }
 
     /// The next part of the value from a place on.

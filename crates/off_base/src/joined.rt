@@ -45,6 +45,16 @@ pub fn first_cut(options: &[u8]) -> Option<usize>
     }
 }
 
+/// How many bytes the options of one code have together, and whether an option of another code is
+/// there, by one walk over options of which none passes the end.
+pub fn len_and_other(options: &[u8], counted: u8, other: u8) -> (usize, bool)
+    requires { IsOk (parts_in true options.now) }
+    ensures len { result.0 ≡ length (bytes_of (joined counted (parts_in true options.now))) }
+    ensures there { result.1 ≡ is_some (joined other (parts_in true options.now)) }
+{
+    counted_and_other(options, counted, other)
+}
+
 impl<'a> Joined<'a> {
     /// The options of one code among options of which none passes the end.
     pub fn over(options: &'a [u8], code: u8) -> Joined<'a>
@@ -126,6 +136,28 @@ fn joined_len(options: &[u8], wanted: u8) -> usize
             }
             Step::End => return total,
             Step::Cut(_) => return total,
+        }
+    }
+}
+
+#[tactic(auto, unfolding(crate::specs::Parts::parts_in))]
+fn counted_and_other(options: &[u8], counted: u8, other: u8) -> (usize, bool)
+    requires { IsOk (parts_in true options.now) }
+    ensures len { result.0 ≡ length (values counted (all_parts (parts_in true options.now))) }
+    ensures there { result.1 ≡ has other (all_parts (parts_in true options.now)) }
+{
+    let mut at = 0;
+    let mut total = 0;
+    let mut is_there = false;
+    'parts: loop {
+        match next_part(options, at, true) {
+            Step::Found(code, place, len) => {
+                total += len_if(code == counted, len);
+                is_there = is_there || code == other;
+                at = place + 2 + len;
+            }
+            Step::End => return (total, is_there),
+            Step::Cut(_) => return (total, is_there),
         }
     }
 }

@@ -22,7 +22,7 @@ pub use addresses::{Ip4, Peer};
 pub use cursors::{Cursor, JoinedBytes};
 pub use dotted::{IpText, NotIp, ip_text, read_ip};
 pub use items::Items;
-pub use joined::{Joined, first_cut};
+pub use joined::{Joined, first_cut, len_and_other};
 pub use macs::{Mac, NotMac, mac_text, read_mac};
 pub use moments::Moment;
 pub use numbers::read_number;

@@ -5,7 +5,7 @@ ghost use Rattle.off_base.specs.Choices.{first_there};
 ghost use Rattle.off_dhcp.specs.Datagram.{fixed_faults, option_faults};
 ghost use Rattle.off_dhcp.specs.Datagram.{magic_cookie, has_fixed_part};
 
-use off_base::{Joined, first_cut};
+use off_base::{first_cut, len_and_other};
 
 /// Why a datagram is no message that the office reads. The first fault in the order of `read` is
 /// told.
@@ -108,10 +108,11 @@ pub(crate) fn option_fault(options: &[u8]) -> Option<DhcpFault>
     if let Some(place) = first_cut(options) {
         return Some(DhcpFault::OptionCut(place + OPTIONS));
     }
-    if Joined::over(options, MESSAGE_TYPE).len() != 1 {
+    let (type_bytes, is_overloaded) = len_and_other(options, MESSAGE_TYPE, OPTION_OVERLOAD);
+    if type_bytes != 1 {
         return Some(DhcpFault::NoType);
     }
-    if Joined::over(options, OPTION_OVERLOAD).present() {
+    if is_overloaded {
         return Some(DhcpFault::Overload);
     }
     None

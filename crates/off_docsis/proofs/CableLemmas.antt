@@ -1,5 +1,6 @@
 -- The test of a modem's class against the form of its text.
-use Rattle.std.proofs.Common.{◌≡◌, ℕ, ◌≤◌, true, false, ◌&&◌, eqb, leb, List, ◌∷◌, length, ◌<◌, refl, ap, arith}
+use Rattle.std.proofs.Common.{◌≡◌, ℕ, ◌≤◌, true, false, ◌&&◌, eqb, leb, List, ◌∷◌, length, take, ◌<◌, refl, ap, arith}
+use Rattle.std.proofs.lemmas.List.{get_or-take}
 use Rattle.std.specs.Char.{IsAsciiDigit, is_ascii_digit}
 use Rattle.std.proofs.lemmas.Bool.{both_ways, and_parts, and_from, eqb-true, leb-true, le-leb, lt-leb}
 use Rattle.off_docsis.specs.Cable.{begins_as_modem, spells_docsis, has_version, BeginsAsModem}
@@ -51,3 +52,13 @@ not_modem_if_short v short = let test : leb 10 (length v) ≡ false = lt-leb 10 
 pub test_if_long : (v : List ℕ) → 10 ≤ length v → begins_as_modem v ≡ (spells_docsis v && has_version v)
 unfolding begins_as_modem
 test_if_long v long = let test : leb 10 (length v) ≡ true = le-leb 10 (length v) long in rw test refl
+
+-- the tests look at the first ten bytes alone
+pub docsis_in_front : (v : List ℕ) → spells_docsis (take 10 v) ≡ spells_docsis v
+docsis_in_front v =
+    rw (get_or-take 10 v 0 0 (omega arith), get_or-take 10 v 1 0 (omega arith), get_or-take 10 v 2 0 (omega arith), get_or-take 10 v 3 0 (omega arith), get_or-take 10 v 4 0 (omega arith), get_or-take 10 v 5 0 (omega arith))
+    refl
+
+pub version_in_front : (v : List ℕ) → has_version (take 10 v) ≡ has_version v
+version_in_front v =
+    rw (get_or-take 10 v 6 0 (omega arith), get_or-take 10 v 7 0 (omega arith), get_or-take 10 v 8 0 (omega arith), get_or-take 10 v 9 0 (omega arith)) refl

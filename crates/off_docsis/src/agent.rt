@@ -28,7 +28,8 @@ pub fn relay(option82: &Joined<'_>) -> Result<RelayParts, PartCut>
         let value = bytes_of option82.now in ShowsRelay value found (parts_in false value)) }
     ensures reading { ReadsParts false (bytes_of option82.now) }
 {
-    let circuit = first_part(option82, CIRCUIT_ID, false)?;
-    let remote = first_part(option82, REMOTE_ID, false)?;
+    let mut bytes = option82.bytes();
+    let circuit = first_part(&mut bytes, CIRCUIT_ID, false)?;
+    let remote = first_part(&mut bytes, REMOTE_ID, false)?;
     Ok(RelayParts { circuit, remote })
 }

@@ -1,8 +1,8 @@
 ghost use Rattle.std.specs.Prelude.{◌≡◌, ◌&&◌, not, if◌then◌else◌, true};
-ghost use Rattle.off_base.specs.Parts.{parts_in, bytes_of};
+ghost use Rattle.off_base.specs.Parts.{parts_in};
 ghost use Rattle.off_docsis.specs.Cable.{span_in};
 
-use off_base::{Joined, Step};
+use off_base::{JoinedBytes, Step};
 
 /// Where the value of a part stands in an option's joined value.
 #[derive(Clone, Copy, Debug, PartialEq, Eq)]
@@ -22,18 +22,24 @@ pub struct PartCut {
 /// Where the value of the first part with a code stands.
 ///
 /// Where the parts are `marked`, code 0 is a pad of one byte and code 255 the end.
-pub(crate) fn first_part(value: &Joined<'_>, wanted: u8, marked: bool) -> Result<Span, PartCut>
-    ensures { result ≡ span_in wanted (parts_in marked (bytes_of value.now)) }
+pub(crate) fn first_part(
+    value: &mut JoinedBytes<'_>,
+    wanted: u8,
+    marked: bool,
+) -> Result<Span, PartCut>
+    ensures found { result ≡ span_in wanted (parts_in marked value.old) }
+    ensures same { value.new ≡ value.old }
 {
     let mut span = Span {
         there: false,
         at: 0,
         len: 0,
     };
-    let mut bytes = value.bytes();
+    // A value is no longer than what lies in memory, so that a place in it is a `usize`.
+    let _len = value.len();
     let mut at = 0;
     'parts: loop {
-        match bytes.next_part(at, marked) {
+        match value.next_part(at, marked) {
             Step::Found(code, place, len) => {
                 span = kept(span, code == wanted, place + 2, len);
                 at = place + 2 + len;

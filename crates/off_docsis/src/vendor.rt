@@ -31,9 +31,10 @@ pub fn device(option43: &Joined<'_>) -> Result<DeviceParts, PartCut>
         let value = bytes_of option43.now in ShowsDevice value found (parts_in true value)) }
     ensures reading { ReadsParts true (bytes_of option43.now) }
 {
-    let kind = first_part(option43, DEVICE_TYPE, true)?;
-    let serial = first_part(option43, SERIAL_NUMBER, true)?;
-    let software = first_part(option43, SOFTWARE_VERSION, true)?;
+    let mut bytes = option43.bytes();
+    let kind = first_part(&mut bytes, DEVICE_TYPE, true)?;
+    let serial = first_part(&mut bytes, SERIAL_NUMBER, true)?;
+    let software = first_part(&mut bytes, SOFTWARE_VERSION, true)?;
     Ok(DeviceParts {
         kind,
         serial,

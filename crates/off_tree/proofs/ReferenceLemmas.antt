@@ -1,13 +1,16 @@
 -- Numbers of settings: one setting on, for any way to read a number of a setting.
-use Rattle.std.proofs.Common.{◌≡◌, ℕ, zero, suc, ◌+◌, ◌<◌, Bool, true, false, cond, eqb, List, [], ◌∷◌, ◌++◌, length, get_or, take, drop, refl, sym, ap, subst, ◌∙◌, append-nil, arith, Option, Some, None}
+use Rattle.std.proofs.Common.{◌≡◌, ◌≢◌, ◌≤◌, replicate, true≢false, inl, inr, ℕ, zero, suc, ◌+◌, ◌<◌, Bool, true, false, cond, eqb, List, [], ◌∷◌, ◌++◌, length, get_or, take, drop, refl, sym, ap, subst, ◌∙◌, append-nil, arith, Option, Some, None}
 use Rattle.std.specs.Prelude.{◌||◌}
-use Rattle.std.specs.List.{slice_get}
+use Rattle.std.specs.List.{slice_get, slice_set}
+use Rattle.std.proofs.lemmas.List.{get_or-set_other, get_or-replicate}
+use Rattle.std.proofs.lemmas.Grind.{get_or-set_at}
+use Rattle.std.proofs.lemmas.Bool.{ne_eqb, eq-eqb, cases_Bool, eqb-true}
 use Rattle.std.proofs.lemmas.List.Concat.{flat_map-append}
 use Rattle.std.proofs.lemmas.Option.{slice_get-get_or}
 use Rattle.off_base.specs.Tree.{Tree, leaf}
 use Rattle.std.specs.Option.{option_or}
 use Rattle.off_tree.specs.Fault.{contains, as_list, numbers, first_repeat}
-use Rattle.off_tree.specs.Reference.{repeat_here, is_same}
+use Rattle.off_tree.specs.Reference.{repeat_here, is_same, Marks}
 use Rattle.off_base.proofs.TreeLemmas.{taken, dropped}
 
 front_by : (b x y : Bool) → (b || x) ≡ true → (x ≡ true → y ≡ true) → (b || y) ≡ true
@@ -42,6 +45,29 @@ other_out : (n : ℕ) (o : Option ℕ) → is_same n o ≡ false → contains n 
 other_out n None h = refl
 other_out n (Some m) h = ap (λ (b : Bool). b || false) h
 
+-- ---- marks
+
+contains_apart : (n m : ℕ) (ns : List ℕ) → m ≢ n → contains n (ns ++ m ∷ []) ≡ contains n ns
+contains_apart n m [] apart = ap (λ (b : Bool). b || false) (ne_eqb m n apart)
+contains_apart n m (x ∷ ns) apart = ap (λ (b : Bool). eqb x n || b) (contains_apart n m ns apart)
+
+pub marks_nothing : Marks (replicate 256 false) []
+marks_nothing = λ n within. get_or-replicate 256 n false false within
+
+-- a number that is too great to be marked
+pub marks_far : (marks : List Bool) (ns : List ℕ) (m : ℕ) → 256 ≤ m → Marks marks ns → Marks marks (ns ++ m ∷ [])
+marks_far marks ns m far had = λ n within. had n within ∙ sym (contains_apart n m ns (λ e. absurd (omega (arith, e))))
+
+pub marks_one : (marks : List Bool) (ns : List ℕ) (m : ℕ) → length marks ≡ 256 → m < 256 → Marks marks ns → Marks (slice_set marks m true) (ns ++ m ∷ [])
+marks_one marks ns m all near had = λ n within. elim (cases_Bool (eqb m n)) [
+  | inl same ↦
+      let e : m ≡ n = eqb-true m n same in
+      get_or-set_at marks m n true false (sym e) (omega (arith, all)) ∙ sym (contains_back n ns (m ∷ []) (ap (λ (b : Bool). b || false) same))
+  | inr other ↦
+      let apart : m ≢ n = λ e. true≢false (sym (eq-eqb m n e) ∙ other) in
+      get_or-set_other marks m n true false (λ e. apart (sym e)) ∙ had n within ∙ sym (contains_apart n m ns apart)
+]
+
 repeat_by : (before rest : List ℕ) (n : ℕ) (b : Bool) → cond b (Some n) (first_repeat (before ++ n ∷ []) rest) ≡ option_or (cond b (Some n) None) (first_repeat (before ++ n ∷ []) rest)
 repeat_by before rest n true = refl
 repeat_by before rest n false = refl
@@ -50,6 +76,12 @@ module _ (f : Tree → Option ℕ) where
   pub numbers_push : (ts : List Tree) (i : ℕ) (t : Tree) → slice_get ts i ≡ Some t → numbers f (take (i + 1) ts) ≡ numbers f (take i ts) ++ as_list (f t)
   numbers_push ts i t e =
       ap (numbers f) (taken ts i t e) ∙ flat_map-append (λ (x : Tree). as_list (f x)) (take i ts) (t ∷ []) ∙ ap (λ (x : List ℕ). numbers f (take i ts) ++ x) (append-nil (as_list (f t)))
+
+  -- the number of one setting more is marked
+  pub marks_push : (ts : List Tree) (i : ℕ) (t : Tree) (o : Option ℕ) (old new : List Bool) → slice_get ts i ≡ Some t → o ≡ f t → Marks old (numbers f (take i ts))
+      → ((ns : List ℕ) → Marks old ns → Marks new (ns ++ as_list o)) → Marks new (numbers f (take (i + 1) ts))
+  marks_push ts i t o old new e is had step =
+      subst (λ (ns : List ℕ). Marks new ns) (ap (λ (x : Option ℕ). numbers f (take i ts) ++ as_list x) is ∙ sym (numbers_push ts i t e)) (step (numbers f (take i ts)) had)
 
   pub number_found : (ts : List Tree) (i end : ℕ) (t : Tree) (n : ℕ) → slice_get ts i ≡ Some t → i < end → is_same n (f t) ≡ true → contains n (numbers f (take end ts)) ≡ true
   number_found [] i end t n e lt is = cc

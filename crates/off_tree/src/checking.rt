@@ -15,8 +15,7 @@ use off_base::Settings;
 /// Whether a class's settings are good by the tables, or their first broken rule. It takes no
 /// memory.
 ///
-/// A number of settings that are compared with one another is squared in its time; there are at
-/// most 300 in a good class.
+/// Its time is in proportion to the number of settings.
 pub fn check_class(settings: &Settings) -> Result<(), TreeFault>
     ensures first { result ≡ checked (first_fault a_class settings.now) }
     ensures good { IsOk result ↔ GoodSettings a_class settings.now }

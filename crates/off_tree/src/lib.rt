@@ -3,6 +3,7 @@
 
 mod checking;
 mod lengths;
+mod marks;
 mod paths;
 mod references;
 mod shapes;

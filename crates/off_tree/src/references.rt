@@ -1,4 +1,4 @@
-ghost use Rattle.std.specs.Prelude.{◌≡◌, ◌<◌, ◌≤◌, [], Some, ℕ, length, take, option_map};
+ghost use Rattle.std.specs.Prelude.{◌≡◌, ◌<◌, ◌≤◌, [], ◌∷◌, Some, ℕ, length, take, option_map};
 ghost use Rattle.std.specs.Prelude.{slice_get};
 ghost use Rattle.off_base.specs.Tree.{Tree, code_of};
 ghost use Rattle.off_base.specs.Setting.{tree_of};
@@ -6,8 +6,9 @@ ghost use Rattle.off_tree.specs.Fault.{contains, leaf_value, value_in, part_valu
 ghost use Rattle.off_tree.specs.Fault.{flow_number, classifier_number, named_flow, is_classifier};
 ghost use Rattle.off_tree.specs.Fault.{both_directions, numbers, first_repeat};
 ghost use Rattle.off_tree.specs.Fault.{lost_flow, first_lost};
-ghost use Rattle.off_tree.specs.Reference.{directions_of, repeat_here, is_same};
+ghost use Rattle.off_tree.specs.Reference.{directions_of, repeat_here, is_same, Marks};
 
+use crate::marks::{MARKS, as_pair, mark};
 use crate::shapes::code_of;
 use off_base::{Setting, Settings};
 
@@ -48,16 +49,20 @@ impl Flows {
 pub(crate) fn repeated_flow(settings: &Settings) -> Option<u16>
     ensures { result ≡ first_repeat [] (numbers (flow_number both_directions) settings.now) }
 {
+    let mut met = [false; MARKS];
     for place in 0..settings.len() {
-        if let Some(number) = repeats_flow(settings, place) {
+        if let Some(number) = repeats_flow(settings, place, &met) {
             return Some(number);
         }
+        mark(&mut met, Flows::Both.number(settings.get(place)));
     }
     None
 }
 
-fn repeats_flow(settings: &Settings, place: usize) -> Option<u16>
-    requires { place < length settings.now }
+fn repeats_flow(settings: &Settings, place: usize, met: &[bool; 256]) -> Option<u16>
+    requires within { place < length settings.now }
+    requires marked { Marks met.now
+        (numbers (flow_number both_directions) (take place settings.now)) }
     ensures { (t : Tree) → slice_get settings.now place ≡ Some t
         → result ≡ repeat_here (numbers (flow_number both_directions) (take place settings.now))
         (flow_number both_directions t) }
@@ -65,10 +70,38 @@ fn repeats_flow(settings: &Settings, place: usize) -> Option<u16>
     let Some(number) = Flows::Both.number(settings.get(place)) else {
         return None;
     };
-    if has_flow(Flows::Both, settings, place, number) {
+    if is_met(Flows::Both, settings, place, number, met) {
         Some(number)
     } else {
         None
+    }
+}
+
+// Which references below 256 the flows have.
+fn flows_met(flows: Flows, settings: &Settings) -> [bool; 256]
+    ensures { Marks result (numbers (flow_number (directions_of flows)) settings.now) }
+{
+    let mut met = [false; MARKS];
+    for place in 0..settings.len() {
+        mark(&mut met, flows.number(settings.get(place)));
+    }
+    met
+}
+
+// Whether a flow before a place has the reference. The flows are looked at once more only for one
+// that is too great to be marked.
+fn is_met(flows: Flows, settings: &Settings, end: usize, number: u16, met: &[bool; 256]) -> bool
+    requires within { end ≤ length settings.now }
+    requires marked { Marks met.now
+        (numbers (flow_number (directions_of flows)) (take end settings.now)) }
+    ensures { result ≡ contains number
+        (numbers (flow_number (directions_of flows)) (take end settings.now)) }
+{
+    let mark = usize::from(number);
+    if mark < MARKS {
+        met[mark]
+    } else {
+        has_flow(flows, settings, end, number)
     }
 }
 
@@ -99,30 +132,44 @@ fn is_same(found: Option<u16>, number: u16) -> bool
 pub(crate) fn lost_flow(settings: &Settings) -> Option<u16>
     ensures { result ≡ first_lost settings.now settings.now }
 {
+    let upstream = flows_met(Flows::Of(UPSTREAM), settings);
+    let downstream = flows_met(Flows::Of(DOWNSTREAM), settings);
     for place in 0..settings.len() {
-        if let Some(number) = loses_flow(settings, settings.get(place)) {
+        let setting = settings.get(place);
+        if let Some(number) = loses_flow(settings, setting, &upstream, &downstream) {
             return Some(number);
         }
     }
     None
 }
 
-fn loses_flow(settings: &Settings, setting: &Setting) -> Option<u16>
+fn loses_flow(
+    settings: &Settings,
+    setting: &Setting,
+    upstream: &[bool; 256],
+    downstream: &[bool; 256],
+) -> Option<u16>
+    requires up { Marks upstream.now (numbers (flow_number (24 ∷ [])) settings.now) }
+    requires down { Marks downstream.now (numbers (flow_number (25 ∷ [])) settings.now) }
     ensures { result ≡ lost_flow settings.now (tree_of setting.now) }
 {
     let Some(number) = named_flow(setting) else {
         return None;
     };
-    let direction = if code_of(setting) == 22 {
-        UPSTREAM
+    let is_there = if code_of(setting) == 22 {
+        is_any(UPSTREAM, settings, number, upstream)
     } else {
-        DOWNSTREAM
+        is_any(DOWNSTREAM, settings, number, downstream)
     };
-    if has_flow(Flows::Of(direction), settings, settings.len(), number) {
-        None
-    } else {
-        Some(number)
-    }
+    if is_there { None } else { Some(number) }
+}
+
+// Whether any flow of the direction has the reference.
+fn is_any(direction: u8, settings: &Settings, number: u16, met: &[bool; 256]) -> bool
+    requires { Marks met.now (numbers (flow_number (direction ∷ [])) settings.now) }
+    ensures { result ≡ contains number (numbers (flow_number (direction ∷ [])) settings.now) }
+{
+    is_met(Flows::Of(direction), settings, settings.len(), number, met)
 }
 
 // The flow that a classifier names.
@@ -147,16 +194,19 @@ fn is_classifier(setting: &Setting) -> bool
 pub(crate) fn repeated_classifier(settings: &Settings) -> Option<u8>
     ensures { result ≡ first_repeat [] (numbers classifier_number settings.now) }
 {
+    let mut met = [false; MARKS];
     for place in 0..settings.len() {
-        if let Some(number) = repeats_classifier(settings, place) {
+        if let Some(number) = repeats_classifier(settings, place, &met) {
             return Some(number);
         }
+        mark(&mut met, as_pair(classifier_number(settings.get(place))));
     }
     None
 }
 
-fn repeats_classifier(settings: &Settings, place: usize) -> Option<u8>
-    requires { place < length settings.now }
+fn repeats_classifier(settings: &Settings, place: usize, met: &[bool; 256]) -> Option<u8>
+    requires within { place < length settings.now }
+    requires marked { Marks met.now (numbers classifier_number (take place settings.now)) }
     ensures { (t : Tree) → slice_get settings.now place ≡ Some t
         → result ≡ repeat_here (numbers classifier_number (take place settings.now))
         (classifier_number t) }
@@ -164,32 +214,10 @@ fn repeats_classifier(settings: &Settings, place: usize) -> Option<u8>
     let Some(number) = classifier_number(settings.get(place)) else {
         return None;
     };
-    if has_classifier(settings, place, number) {
+    if met[usize::from(number)] {
         Some(number)
     } else {
         None
-    }
-}
-
-// Whether a classifier before a place has the reference.
-fn has_classifier(settings: &Settings, end: usize, number: u8) -> bool
-    requires { end ≤ length settings.now }
-    ensures { result ≡ contains number (numbers classifier_number (take end settings.now)) }
-{
-    for place in 0..end {
-        if is_same_byte(classifier_number(settings.get(place)), number) {
-            return true;
-        }
-    }
-    false
-}
-
-fn is_same_byte(found: Option<u8>, number: u8) -> bool
-    ensures { result ≡ is_same number found }
-{
-    match found {
-        Some(other) => other == number,
-        None => false,
     }
 }
 

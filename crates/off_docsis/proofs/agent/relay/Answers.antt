@@ -1,5 +1,6 @@
-use Rattle.std.proofs.Common.{false}
-use Rattle.off_base.specs.Parts.{bytes_of}
+use Rattle.std.proofs.Common.{false, ap, ◌∙◌, List, ℕ}
+use Rattle.off_base.specs.Parts.{bytes_of, parts_in}
+use Rattle.off_docsis.specs.Cable.{span_in}
 use Rattle.off_base.proofs.PartLemmas.{is_reading}
 use Rattle.off_docsis.proofs.SpanLemmas.{relay_shows}
 use Rattle.off_docsis.proofs.agent.relay.Goals as goal
@@ -12,4 +13,6 @@ returns-clause-reading c = is_reading false (bytes_of c.args.option82.now)
 
 pub returns-clause-spans : goal.returns-clause-spans
 returns-clause-spans c =
-    relay_shows _ _ c.in_ok-circuit.circuit c.in_ok-remote.remote (is_reading false (bytes_of c.args.option82.now)) c.in_ok-circuit.ensures c.in_ok-remote.ensures
+    relay_shows _ _ c.in_ok-circuit.circuit c.in_ok-remote.remote (is_reading false (bytes_of c.args.option82.now))
+    (c.in_ok-circuit.ensures.found ∙ ap (λ (value : List ℕ). span_in 1 (parts_in false value)) c.bytes-bytes.ensures)
+    (c.in_ok-remote.ensures.found ∙ ap (λ (value : List ℕ). span_in 2 (parts_in false value)) (c.in_ok-circuit.ensures.same ∙ c.bytes-bytes.ensures))

@@ -7,8 +7,8 @@ use Rattle.off_tree.proofs.references.lost_flow.Goals as goal
 pub returns-in-Some : goal.returns-in-Some
 returns-in-Some c =
     let all = c.args.settings.now in
-    search_found (lost_flow c.args.settings.now) (first_lost c.args.settings.now) (λ t ts. refl) c.args.settings.now c.loop-place.place (tree_of c.get.result.now) c.in-Some.number c.get.ensures c.loop-place.invariant c.in-Some.ensures
+    search_found (lost_flow c.args.settings.now) (first_lost c.args.settings.now) (λ t ts. refl) c.args.settings.now c.loop-place.place (tree_of c.get-setting.result.now) c.in-Some.number c.get-setting.ensures c.loop-place.invariant c.in-Some.ensures
 
 pub loop-place-preserved : goal.loop-place-preserved
 loop-place-preserved c =
-    search_none (lost_flow c.args.settings.now) (first_lost c.args.settings.now) (λ t ts. refl) c.args.settings.now c.loop-place.place (tree_of c.get.result.now) c.get.ensures c.loop-place.invariant c.in_default.ensures
+    search_none (lost_flow c.args.settings.now) (first_lost c.args.settings.now) (λ t ts. refl) c.args.settings.now c.loop-place.place (tree_of c.get-setting.result.now) c.get-setting.ensures c.loop-place.invariant c.in_default.ensures
