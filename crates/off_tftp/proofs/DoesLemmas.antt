@@ -1,5 +1,5 @@
 -- What is decided of a datagram, by the stages in which it is judged; and what is said and done of it.
-use Rattle.std.proofs.Common.{◌≡◌, ℕ, ◌==◌, ◌&&◌, not, Bool, true, false, cond, is_some, List, [], Option, Some, None, option_and_then, Result, Ok, Err, is_ok, IfOk, IfErr, OnOk, OnErr, IfSome, MatchResult, refl, sym, ap, ◌∙◌, subst}
+use Rattle.std.proofs.Common.{◌≡◌, ℕ, ◌==◌, ◌&&◌, not, Bool, true, false, cond, is_some, List, [], Option, Some, None, option_and_then, Result, Ok, Err, is_ok, IfOk, OnOk, OnErr, IfSome, MatchResult, refl, sym, ap, ◌∙◌, subst}
 use Rattle.std.specs.FinMap as map
 use Rattle.off_base.specs.Tree.{Tree}
 use Rattle.off_base.specs.declared.octets.NoMemory.{NoMemory}
@@ -8,7 +8,7 @@ use Rattle.off_base.specs.declared.addresses.Peer.{Peer}
 use Rattle.off_base.specs.declared.macs.Mac.{Mac}
 use Rattle.off_defs.specs.declared.tables.Modem.{Modem}
 use Rattle.off_defs.specs.declared.tables.Lease.{Lease}
-use Rattle.off_defs.specs.State.{Tables, Said, Transfer}
+use Rattle.off_defs.specs.State.{Tables, Transfer}
 use Rattle.off_account_rules.specs.Rows.{passes, lease_in, hub_of}
 use Rattle.off_file_rules.specs.Profile.{profile_in}
 use Rattle.off_file_laws.specs.Laws.{SpellsProfile}
@@ -24,19 +24,19 @@ use Rattle.off_transfer_rules.specs.Transfers.{Transfers, has_no_room, is_at_las
 use Rattle.off_transfer_rules.specs.View.{View, view, owner_by, holder, is_own_name, agrees}
 use Rattle.off_transfer_rules.specs.Steps.{Way, Given, gives, GivesBy, Repeats, Finishes, GoesOn, BreaksOff, Ignores, Accepts, TftpStep, way, way_of, way_anew, way_for_modem, way_for_holder, file_not_found, too_many_transfers, way_of_request, way_of_last, way_of_acknowledgement, is_repeated, ended, Denial, Denies}
 use Rattle.off_packets.specs.declared.faults.PacketFault.{PacketFault}
-use Rattle.off_transfer_rules.specs.declared.words.TftpWord.{TftpWord}
 use Rattle.off_transfer_rules.specs.declared.words.TftpWord.TheVariants as word
 use Rattle.off_tftp.specs.declared.acknowledging.Stage.TheVariants as stage
+use Rattle.off_tftp.specs.declared.requests.Datagram.{Datagram}
+use Rattle.off_tftp.specs.declared.transfers.Place.{Place}
 use Rattle.off_tftp.specs.declared.deciding.Decision.{Decision}
 use Rattle.off_tftp.specs.declared.deciding.Change.TheVariants as change
 use Rattle.off_tftp.specs.Built.{CanBuild}
 use Rattle.off_kept.specs.Entries.{Entries}
 use Rattle.off_kept.specs.Right.{AllRight}
-use Rattle.off_tftp.specs.Saying.{says_more}
 use Rattle.off_tftp.specs.Calls.{asks_by_name, FewUnlessNamed, FewUnlessNamedAt}
-use Rattle.off_tftp.specs.Deciding.{Does, Serves, Decides, KeepsNothing, after_change, kept_behind, items_of, given_by, refusal_of}
+use Rattle.off_tftp.specs.Deciding.{Does, Serves, Decides, Answers, KeepsNothing, given_by, refusal_of}
 use Rattle.off_tftp.specs.declared.gathering.Seen.{Seen}
-use Rattle.off_tftp.specs.Keeping.{entry_for, kept_by, kept_after, is_kept, AnswersKeeping, BeginsFor, FewWhereBegun}
+use Rattle.off_tftp.specs.Keeping.{entry_for, kept_by, is_kept, BeginsFor, FewWhereBegun}
 use Rattle.off_tftp.specs.Seen.{held_by, view_at, view_of, view_with, without_profile, names_file, seen_for, CanServe, Shows}
 use Rattle.off_tftp.proofs.BodyLemmas.{repeat_keeps, acknowledgement_keeps, after_right, few_begun}
 use Rattle.off_tftp.specs.Stages.{repeats, lacks_room_by, stage_of}
@@ -253,8 +253,8 @@ module _ (now : ℕ) (old : Transfers) (from : Peer) (bytes : List ℕ) where
       (record { does = refl; keeps = λ entries. refl })))
   deny_decides v meant denial (Err err) is denied refuses = tt
 
-  pub leave_decides : (v : View) → packet_of bytes ≡ Ok GivesUp → Decides v now old from bytes (record { word = word.PeerError; sent = None; change = change.Ends })
-  leave_decides v is = decides_by v (Ok GivesUp) (record { word = word.PeerError; sent = None; change = change.Ends }) is (record { does = refl; keeps = λ entries. refl })
+  pub leave_decides : (v : View) (place : Place) → packet_of bytes ≡ Ok GivesUp → Decides v now old from bytes (record { word = word.PeerError; sent = None; change = change.Ends place })
+  leave_decides v place is = decides_by v (Ok GivesUp) (record { word = word.PeerError; sent = None; change = change.Ends place }) is (record { does = refl; keeps = λ entries. refl })
 
   pub acknowledgement_decides : (v : View) (number : ℕ) (meant : Result Meant PacketFault) (d : Decision) → packet_of bytes ≡ meant
       → way_of_acknowledgement v now from.ip number (map.get old from) ≡ way_of v now from.ip (has_no_room old) bytes (map.get old from) meant
@@ -268,42 +268,12 @@ module _ (now : ℕ) (old : Transfers) (from : Peer) (bytes : List ℕ) where
         keeps = λ entries. bare entries ∙ sym (acknowledgement_keeps v v entries now from.ip number (map.get old from));
       }))
 
-  -- ---- what is decided is said and done
-
-  answers_all : (t : Tables) (new : Transfers) (said after : Said) (kept keeps : Entries) (d : Decision) (word : TftpWord) → word ≡ d.word → new ≡ after_change d.change now old from
-      → keeps ≡ kept_behind d.change kept → after ≡ says_more said (items_of d.sent) → Decides (view t from.ip) now old from bytes d → AllRight t kept
-      → AnswersKeeping t now old new from bytes said after kept keeps word
-  unfolding TftpStep
-  answers_all t new said after kept keeps d word named changed keeps_is says decides right =
-      let given : given_by d now old from ≡ gives new (items_of d.sent) word =
-      ap (λ (m : Transfers). gives m (items_of d.sent) d.word) (sym changed) ∙ ap (gives new (items_of d.sent)) (sym named) in
-      let all_is : keeps ≡ kept_after t now old from bytes kept = keeps_is ∙ decides.keeps kept in
-      record {
-        answers = record {
-          items = items_of d.sent;
-          step = subst (λ (g : Given). GivesBy (view t from.ip) now old from bytes (way (view t from.ip) now old from bytes) g) given decides.does;
-          says = says;
-        };
-        keeps_is = all_is;
-        right = subst (AllRight t) (sym all_is) (after_right t now old from bytes kept right);
-      }
-
-  pub carry_answers : {a b : KeeperSeen} (hub : Option ℕ) (new : Transfers) (said after : Said) (kept keeps : Entries) (d : Decision) (result : Result TftpWord KeepErr) → IfErr result (λ err. err ≡ Memory)
-      → IfOk result (λ word. word ≡ d.word) → OnOk result (new ≡ after_change d.change now old from) → OnOk result (keeps ≡ kept_behind d.change kept)
-      → OnOk result (after ≡ says_more said (items_of d.sent)) → Reads (λ t. AllRight t kept → Decides (view_at t hub from.ip) now old from bytes d) a b
-      → Looks result a b (λ word t. hub ≡ hub_of t from.ip → AllRight t kept → AnswersKeeping t now old new from bytes said after kept keeps word)
-  carry_answers {a} {b} hub new said after kept keeps d (Ok word) err named changed keeps_is says reads =
-      reads_as reads
-      (λ t decides own right. answers_all t new said after kept keeps d word named changed keeps_is says
-      (subst (λ (v : View). Decides v now old from bytes d) (own_view t hub from.ip own) (decides right)) right)
-  carry_answers {a} {b} hub new said after kept keeps d (Err err) is named changed keeps_is says reads = subst (λ (e : KeepErr). NotDone e a b) (sym is) (reads_forgotten reads)
-
 -- ---- with what the calls took
 
-pub few_after : (a b : KeeperSeen) (old : Transfers) (from : Peer) (bytes : List ℕ) (new mid : Transfers) (kept : Entries) (result : Result TftpWord KeepErr) → OnOk result (new ≡ mid) → OnErr result (new ≡ old)
+pub few_after : (a b : KeeperSeen) (from : Peer) (bytes : List ℕ) (old new mid : Transfers) (kept : Entries) (result : Result (Unit {0}) KeepErr) → OnOk result (new ≡ mid) → OnErr result (new ≡ old)
     → FewWhereBegun from bytes old kept a b → FewWhereBegun from bytes mid kept a b → FewWhereBegun from bytes new kept a b
-few_after a b old from bytes new mid kept (Ok word) made same before begun = subst (λ (m : Transfers). FewWhereBegun from bytes m kept a b) (sym made) begun
-few_after a b old from bytes new mid kept (Err err) made same before begun = subst (λ (m : Transfers). FewWhereBegun from bytes m kept a b) (sym same) before
+few_after a b from bytes old new mid kept (Ok done) made same before begun = subst (λ (m : Transfers). FewWhereBegun from bytes m kept a b) (sym made) begun
+few_after a b from bytes old new mid kept (Err err) made same before begun = subst (λ (m : Transfers). FewWhereBegun from bytes m kept a b) (sym same) before
 
 pub few_settled : (a b : KeeperSeen) (bytes : List ℕ) (entries : Entries) (now : ℕ) (lease : Option Lease) (after : Decision → Option Transfer) (step : Result Decision NoMemory) (kept : Result Decision KeepErr)
     → MatchResult kept (λ w. step ≡ Ok w) (λ err. (err ≡ Memory) × (is_ok step ≡ false))
@@ -324,3 +294,22 @@ pub acknowledged_looks : (a b : KeeperSeen) (now : ℕ) (old : Transfers) (from 
 acknowledged_looks a b now old from bytes number kept v (Ok d) is bare looks =
     reads_as looks (λ t does right. acknowledgement_decides now old from bytes (v t) number (Ok (Acknowledges number)) d is refl bare does)
 acknowledged_looks a b now old from bytes number kept v (Err err) is bare looks = looks
+
+-- ---- by the tables themselves
+
+answers : (t : Tables) (datagram : Datagram) (old : Transfers) (kept : Entries) (d : Decision) → Decides (view t datagram.from.ip) datagram.at.0 old datagram.from datagram.bytes.now d
+    → AllRight t kept → Answers t datagram old kept d
+unfolding TftpStep
+answers t datagram old kept d decides right = record {
+  step = decides.does;
+  keeps = decides.keeps kept;
+  right = subst (AllRight t) (sym (decides.keeps kept)) (after_right t datagram.at.0 old datagram.from datagram.bytes.now kept right);
+}
+
+-- where the hub that was told is the address's own
+pub own_answers : (a b : KeeperSeen) (datagram : Datagram) (old : Transfers) (kept : Entries) (result : Result Decision KeepErr)
+    → Looks result a b (λ d t. AllRight t kept → Decides (view_at t datagram.hub datagram.from.ip) datagram.at.0 old datagram.from datagram.bytes.now d)
+    → Looks result a b (λ d t. datagram.hub ≡ hub_of t datagram.from.ip → AllRight t kept → Answers t datagram old kept d)
+own_answers a b datagram old kept result looks =
+    looks_as a b result _ _ looks (λ d t decides own right. answers t datagram old kept d
+    (subst (λ (v : View). Decides v datagram.at.0 old datagram.from datagram.bytes.now d) (own_view t datagram.hub datagram.from.ip own) (decides right)) right)

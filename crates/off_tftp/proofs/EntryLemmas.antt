@@ -1,6 +1,7 @@
 -- Transfers as a map of what is held, at a peer's place.
-use Rattle.std.proofs.Common.{◌≡◌, ℕ, zero, suc, ◌<◌, Bool, true, false, cond, not, T, [], ◌∷◌, ◌++◌, length, take, drop, Option, Some, None, is_some, nat_le, IsTrue, slice_index_or, slice_set, refl, sym, ap, ◌∙◌, subst, arith}
-use Rattle.std.specs.Ordering.{is_eq, eq_by_cmp}
+use Rattle.std.proofs.Common.{◌≡◌, ℕ, zero, suc, ◌<◌, ◌≤◌, Bool, true, false, cond, not, T, [], ◌∷◌, ◌++◌, length, take, drop, Option, Some, None, is_some, nat_le, IsTrue, slice_index_or, slice_set, refl, sym, ap, ◌∙◌, subst, arith}
+use Rattle.std.specs.Ordering.{is_eq, is_gt, eq_by_cmp}
+use Rattle.std.proofs.lemmas.List.Sums.{prefix_len-le-length}
 use Rattle.std.specs.Cmp.{alike_right, eq_by_cmp_equiv}
 use Rattle.std.proofs.lemmas.Bool.{leb-false}
 use Rattle.std.specs.FinMap as map
@@ -9,7 +10,7 @@ use Rattle.off_base.specs.declared.addresses.Peer.{Peer}
 use Rattle.off_defs.specs.State.{Transfer, peer_cmp}
 use Rattle.off_transfer_rules.specs.Transfers.{Transfers, has_no_room}
 use Rattle.off_transfer_rules.proofs.PeerLemmas.{peer_total, same_peer, same_transfers, removed}
-use Rattle.off_tftp.specs.Kept.{Entries, AreKept, place_of, is_in_front, HasPlaceFor, changed, changed_by}
+use Rattle.off_tftp.specs.Kept.{Entries, AreKept, place_of, is_in_front, HasRoomFor, changed, changed_by}
 use Rattle.off_tftp.proofs.KeptLemmas.{value_at, put_at, less_at, put_there, found_there, removed_there}
 
 pub true_T : (b : Bool) → IsTrue b → T b
@@ -39,6 +40,16 @@ pub room_kept : (xs : Transfers) (es : Entries) (n : ℕ) → AreKept es → kep
 room_kept xs es n sorted is count = ap (nat_le 256) (count ∙ sym (len_kept es sorted) ∙ ap map.len is)
 
 -- ---- a place
+
+-- it's the same among the entries as they are held
+pub own_place : (peer : Peer) (xs : Transfers) (es : Entries) (n : ℕ) → AreKept es → kept es ≡ xs → n ≡ place_of peer (map.entries xs) → n ≡ place_of peer es
+own_place peer xs es n sorted is place = place ∙ ap (place_of peer) (sym (ap map.entries is) ∙ entries_kept es sorted)
+
+pub place_within : (peer : Peer) (es : Entries) (n len : ℕ) → n ≡ place_of peer es → len ≡ length es → n ≤ len
+place_within peer es n len place count = omega (arith, place, count, prefix_len-le-length (λ (entry : Peer × Transfer). is_gt (peer_cmp peer entry.0)) es)
+
+pub held_place : (peer : Peer) (xs : Transfers) (es : Entries) (n : ℕ) → AreKept es → kept es ≡ xs → n ≡ place_of peer es → n ≡ place_of peer (map.entries xs)
+held_place peer xs es n sorted is place = place ∙ ap (place_of peer) (sym (sym (ap map.entries is) ∙ entries_kept es sorted))
 
 in_front_within : (peer : Peer) (es : Entries) (n : ℕ) → is_in_front peer (drop n es) ≡ true → n < length es
 in_front_within peer [] zero at = cc
@@ -199,7 +210,7 @@ room_if : (n : ℕ) (full : Bool) → nat_le 256 n ≡ full → (full ≡ true �
 room_if n true is apart = absurd (apart refl)
 room_if n false is apart = leb-false 256 n is
 
-pub room_by : (peer : Peer) (xs : Transfers) (es : Entries) (n : ℕ) → AreKept es → kept es ≡ xs → n ≡ length es → map.get xs peer ≡ None → HasPlaceFor xs peer → n < 256
+pub room_by : (peer : Peer) (xs : Transfers) (es : Entries) (n : ℕ) → AreKept es → kept es ≡ xs → n ≡ length es → map.get xs peer ≡ None → HasRoomFor xs peer → n < 256
 room_by peer xs es n sorted is count none has =
     let same = room_kept xs es n sorted is count in
     room_if n (nat_le 256 n) refl (λ full. none_is (map.get xs peer) none (has (sym same ∙ full)))

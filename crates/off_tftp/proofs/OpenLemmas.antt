@@ -14,21 +14,25 @@ use Rattle.off_kept.specs.declared.bodies.KeptBody.{KeptBody}
 use Rattle.off_kept.specs.Entries.{with_first}
 use Rattle.off_transfer_rules.specs.Transfers.{Transfers, begun, has_no_room}
 use Rattle.off_transfer_rules.specs.View.{View, IsBuiltBy, is_own_name}
-use Rattle.off_transfer_rules.specs.Steps.{Way, Accepts, Denies, way_for_modem, file_not_found, too_many_transfers}
+use Rattle.off_transfer_rules.specs.Steps.{Way, Denial, Accepts, Denies, way_anew, way_for_holder, way_for_modem, file_not_found, too_many_transfers}
 use Rattle.off_tftp.specs.declared.deciding.Decision.{Decision}
 use Rattle.off_tftp.specs.declared.gathering.Seen.{Seen}
 use Rattle.off_tftp.specs.Keeping.{entry_of, entry_for, kept_with, BeginsFor}
-use Rattle.off_tftp.specs.Kept.{HasPlaceFor}
+use Rattle.off_tftp.specs.Kept.{HasRoomFor}
+use Rattle.off_tftp.specs.Places.{IsPlaceOf}
 use Rattle.off_tftp.specs.Granted.{begun_by, IsFor}
-use Rattle.off_tftp.specs.Deciding.{Serves, CanBe, Starts, after_change, start_of}
+use Rattle.off_tftp.specs.Deciding.{Serves, CanBe, Starts, after_change, start_of, refusal_of, denial_of}
 use Rattle.off_tftp.specs.declared.requests.Request.{Request}
 use Rattle.off_tftp.specs.declared.requests.Grant.{Grant}
 use Rattle.off_tftp.specs.Stages.{repeats, lacks_room_by, lacks_room}
-use Rattle.off_tftp.proofs.BodyLemmas.{nothing_begins, put_begins}
+use Rattle.off_tftp.proofs.BodyLemmas.{nothing_begins, put_begins, begins_as}
+use Rattle.off_tftp.specs.declared.deciding.Refusal.{Refusal}
+use Rattle.off_tftp.specs.declared.deciding.Refusal.TheVariants as why
 use Rattle.off_file_rules.specs.File.{IsBuilt}
 use Rattle.off_tftp.specs.Built.{CanBuild}
-use Rattle.off_tftp.specs.Opened.{IsBegun}
-use Rattle.off_tftp.specs.Seen.{view_with, HasName, CanServe}
+use Rattle.off_tftp.specs.Opened.{IsBegun, Finds, Refuses, Begins}
+use Rattle.off_tftp.specs.declared.opening.Found.{Found}
+use Rattle.off_tftp.specs.Seen.{view_with, held_by, IsNamed, HasName, CanServe}
 
 -- where a name is that of a file, there is a site
 site_there : (o : Option Site) (f : Site → Bool) → passes f o ≡ true → is_some o ≡ true
@@ -71,14 +75,14 @@ place_by : (full : Bool) (live : Option Transfer) → lacks_room_by full live �
 place_by full None room is = absurd (let e : false ≡ true = sym room ∙ is in cc)
 place_by full (Some x) room is = refl
 
-pub place_for : (transfers : Transfers) (from : Peer) → lacks_room transfers from ≡ false → HasPlaceFor transfers from
-place_for transfers from room = place_by (has_no_room transfers) (map.get transfers from) room
+pub room_for : (transfers : Transfers) (from : Peer) → lacks_room transfers from ≡ false → HasRoomFor transfers from
+room_for transfers from room = place_by (has_no_room transfers) (map.get transfers from) room
 
-pub started_fits : (transfers : Transfers) (request : Request) (entry : KeptBody) (grant : Option Grant) (step : Result Decision NoMemory) → HasPlaceFor transfers request.from
+pub started_fits : (transfers : Transfers) (request : Request) (entry : KeptBody) (grant : Option Grant) (step : Result Decision NoMemory) → IsPlaceOf transfers request.from request.place → HasRoomFor transfers request.from
     → IfOk step (Starts request entry grant) → IfOk step (λ d. CanBe d.change transfers request.from)
-started_fits transfers request entry None (Ok d) room is = subst (λ (e : Decision). CanBe e.change transfers request.from) (sym is) tt
-started_fits transfers request entry (Some x) (Ok d) room is = subst (λ (e : Decision). CanBe e.change transfers request.from) (sym is) room
-started_fits transfers request entry grant (Err err) room is = tt
+started_fits transfers request entry None (Ok d) place room is = subst (λ (e : Decision). CanBe e.change transfers request.from) (sym is) tt
+started_fits transfers request entry (Some x) (Ok d) place room is = subst (λ (e : Decision). CanBe e.change transfers request.from) (sym is) (place, room)
+started_fits transfers request entry grant (Err err) place room is = tt
 
 pub started_begins : (old : Transfers) (request : Request) (mac : Mac) (subscriber : ℕ) (entry : KeptBody) (grant : Option Grant) (step : Result Decision NoMemory)
     → IfSome grant (IsFor mac subscriber) → repeats request.bytes.now (map.get old request.from) ≡ false → IfOk step (Starts request entry grant)
@@ -100,7 +104,7 @@ module _ (old : Transfers) (request : Request) where
     Done profile w d = Serves (view_with seen profile) request.at.0 old request.from request.bytes.now w d
 
     accepted : (p : List Tree) (file : List ℕ) → IsBuiltBy (view_with seen (Some p)) request.at.0 request.from.ip file → seen.modem ≡ Some modem → entry_of modem p ≡ found
-        → Done (Some p) (Accepts mac modem.subscriber request.name.now request.options) (start_of request.from found (made file) request.options)
+        → Done (Some p) (Accepts mac modem.subscriber request.name.now request.options) (start_of request found (made file))
     accepted p file built there entry = record {
       does = (file, (built, refl));
       keeps = λ entries.
@@ -128,7 +132,7 @@ module _ (old : Transfers) (request : Request) where
         → IfOk step (Done (Some p) (way_for_modem (view_with seen (Some p)) request.from.ip no_room request.name.now request.options mac (Some modem)))
     begun_serves p grant (Err err) no_room built whose own room starts there entry = tt
     begun_serves p grant (Ok d) no_room built whose own room starts there entry =
-        let whole : d ≡ start_of request.from found (made grant.file) request.options = starts ∙ ap (λ (x : Transfer). start_of request.from found x request.options) (begun_is grant whose) in
+        let whole : d ≡ start_of request found (made grant.file) = starts ∙ ap (λ (x : Transfer). start_of request found x) (begun_is grant whose) in
         subst (λ (y : Way). Done (Some p) y d) (way_is (passes (is_own_name request.name.now mac request.from.ip) seen.site) no_room own room)
         (subst (λ (e : Decision). Done (Some p) (Accepts mac modem.subscriber request.name.now request.options) e) (sym whole) (accepted p grant.file built there entry))
 
@@ -162,7 +166,135 @@ module _ (old : Transfers) (request : Request) where
       (own (ap is_some there)) room
       (subst (λ (e : KeptBody). IfOk step (Starts request e grant)) same starts) row
 
--- the name of a file that was found is the modem's own, where there is a body
-pub name_right : (request : Request) (mac : Mac) (seen : Seen) (found : KeptBody) → HasName request.from.ip request.name.now mac seen → seen.body ≡ Some found
-    → passes (is_own_name request.name.now mac request.from.ip) seen.site ≡ true
-name_right request mac seen found own there = own (ap is_some there)
+-- ---- what was found, and begins
+
+-- the name of a file that was found is that of its modem
+own_by : (h : Option Mac) (mac : Mac) (f : Mac → Bool) → h ≡ Some mac → passes f h ≡ true → f mac ≡ true
+own_by None mac f is named = cc
+own_by (Some other) mac f is named =
+    let same : other ≡ mac = cc in
+    ap f (sym same) ∙ named
+
+pub found_named : (request : Request) (seen : Seen) (no_room : Bool) (found : Found) → Finds request.at.0 seen no_room found → IsNamed request.at.0 request.from.ip request.name.now seen
+    → passes (is_own_name request.name.now found.modem request.from.ip) seen.site ≡ true
+found_named request seen no_room found finds named =
+    own_by (held_by request.at.0 seen.lease) found.modem (λ mac. passes (is_own_name request.name.now mac request.from.ip) seen.site) finds.modem_is (named (ap is_some finds.body_is))
+
+found_way : (request : Request) (seen : Seen) (no_room : Bool) (found : Found) (profile : Option (List Tree)) (finds : Finds request.at.0 seen no_room found)
+    → way_for_modem (view_with seen profile) request.from.ip no_room request.name.now request.options found.modem (Some finds.row)
+    ≡ way_anew (view_with seen profile) request.at.0 request.from.ip no_room request.name.now request.options
+found_way request seen no_room found profile finds =
+    ap (λ (m : Option Modem). way_for_modem (view_with seen profile) request.from.ip no_room request.name.now request.options found.modem m) (sym finds.row_is)
+    ∙ ap (λ (h : Option Mac). way_for_holder (view_with seen profile) request.from.ip no_room request.name.now request.options h) (sym finds.modem_is)
+
+found_one : (old : Transfers) (request : Request) (seen : Seen) (no_room : Bool) (found : Found) (profile : Option (List Tree)) (d : Decision)
+    → Finds request.at.0 seen no_room found → IsNamed request.at.0 request.from.ip request.name.now seen → seen.body ≡ entry_for seen.modem profile
+    → CanServe (view_with seen profile) request.at.0 request.from.ip → Begins request seen.site found d
+    → Serves (view_with seen profile) request.at.0 old request.from request.bytes.now (way_anew (view_with seen profile) request.at.0 request.from.ip no_room request.name.now request.options) d
+found_one old request seen no_room found profile d finds named entry serves begins =
+    subst (λ (w : Way). Serves (view_with seen profile) request.at.0 old request.from request.bytes.now w d) (found_way request seen no_room found profile finds)
+    (start_for old request seen finds.row found.body.now found.body.now found.body.now.body found.modem found.subscriber profile begins.grant (Ok d) no_room
+    (sym finds.subscriber_is) finds.body_is refl refl (entry ∙ ap (λ (m : Option Modem). entry_for m profile) finds.row_is)
+    (begins.built (view_with seen profile)) serves begins.whose (λ there. found_named request seen no_room found finds named) finds.room begins.starts finds.row_is)
+
+pub found_serves : (old : Transfers) (request : Request) (seen : Seen) (no_room : Bool) (found : Found) (profile : Option (List Tree)) (step : Result Decision NoMemory)
+    → Finds request.at.0 seen no_room found → no_room ≡ lacks_room old request.from → IsNamed request.at.0 request.from.ip request.name.now seen → seen.body ≡ entry_for seen.modem profile
+    → CanServe (view_with seen profile) request.at.0 request.from.ip → IfOk step (Begins request seen.site found)
+    → IfOk step (Serves (view_with seen profile) request.at.0 old request.from request.bytes.now (way_anew (view_with seen profile) request.at.0 request.from.ip (lacks_room old request.from) request.name.now request.options))
+found_serves old request seen no_room found profile (Ok d) finds full named entry serves begins =
+    subst (λ b. Serves (view_with seen profile) request.at.0 old request.from request.bytes.now (way_anew (view_with seen profile) request.at.0 request.from.ip b request.name.now request.options) d) full
+    (found_one old request seen no_room found profile d finds named entry serves begins)
+found_serves old request seen no_room found profile (Err err) finds full named entry serves begins = tt
+
+pub found_fits : (old : Transfers) (request : Request) (seen : Seen) (no_room : Bool) (found : Found) (step : Result Decision NoMemory) → Finds request.at.0 seen no_room found
+    → no_room ≡ lacks_room old request.from → IsPlaceOf old request.from request.place → IfOk step (Begins request seen.site found) → IfOk step (λ d. CanBe d.change old request.from)
+found_fits old request seen no_room found (Ok d) finds full place begins =
+    started_fits old request found.body.now begins.grant (Ok d) place (room_for old request.from (sym full ∙ finds.room)) begins.starts
+found_fits old request seen no_room found (Err err) finds full place begins = tt
+
+pub found_begins : (old : Transfers) (request : Request) (seen : Seen) (no_room : Bool) (found : Found) (step : Result Decision NoMemory) → Finds request.at.0 seen no_room found
+    → repeats request.bytes.now (map.get old request.from) ≡ false → IfOk step (Begins request seen.site found)
+    → IfOk step (λ d. BeginsFor (held_by request.at.0 seen.lease) request.bytes.now (map.get (after_change d.change request.at.0 old request.from) request.from))
+found_begins old request seen no_room found (Ok d) finds new begins =
+    begins_as (Some found.modem) (held_by request.at.0 seen.lease) request.bytes.now (map.get (after_change d.change request.at.0 old request.from) request.from) finds.modem_is
+    (started_begins old request found.modem found.subscriber found.body.now begins.grant (Ok d) begins.whose new begins.starts)
+found_begins old request seen no_room found (Err err) finds new begins = tt
+
+-- what begins, by what the calls answered
+pub begun_of : (request : Request) (site : Option Site) (found : Found) (entry : KeptBody) (shared : List ℕ) (grant : Option Grant) (step : Result Decision NoMemory)
+    → entry ≡ found.body.now → shared ≡ found.body.now.body → IfOk step (Starts request entry grant) → IfSome grant (IsFor found.modem found.subscriber)
+    → ((v : View) → v.site ≡ site → option_map spelling v.profile ≡ Some shared → CanServe v request.at.0 request.from.ip → IsBegun v request.at.0 request.from.ip (option_map (λ (g : Grant). g.file) grant))
+    → IfOk step (Begins request site found)
+begun_of request site found entry shared grant (Ok d) same alike starts whose built = record {
+  grant = grant;
+  starts = subst (λ (e : KeptBody). Starts request e grant d) same starts;
+  whose = whose;
+  built = λ v sited spells can. built v sited (spells ∙ ap Some (sym alike)) can;
+}
+begun_of request site found entry shared grant (Err err) same alike starts whose built = tt
+
+-- ---- a refusal
+
+pub refused_serves : (old : Transfers) (request : Request) (seen : Seen) (no_room : Bool) (why : Refusal) (profile : Option (List Tree)) (step : Result Decision NoMemory) → Refuses request seen no_room why
+    → no_room ≡ lacks_room old request.from → IsNamed request.at.0 request.from.ip request.name.now seen → seen.body ≡ entry_for seen.modem profile → IfOk step (λ d. d ≡ refusal_of request.from (denial_of why))
+    → IfOk step (Serves (view_with seen profile) request.at.0 old request.from request.bytes.now (way_anew (view_with seen profile) request.at.0 request.from.ip (lacks_room old request.from) request.name.now request.options))
+refused_serves old request seen no_room why profile (Ok d) refuses full named entry is =
+    subst (λ b. Serves (view_with seen profile) request.at.0 old request.from request.bytes.now (way_anew (view_with seen profile) request.at.0 request.from.ip b request.name.now request.options) d) full
+    (subst (λ (w : Way). Serves (view_with seen profile) request.at.0 old request.from request.bytes.now w d) (sym (refuses profile entry named))
+    (subst (λ (e : Decision). Serves (view_with seen profile) request.at.0 old request.from request.bytes.now (Denies (denial_of why)) e) (sym is) (record { does = refl; keeps = λ entries. refl })))
+refused_serves old request seen no_room why profile (Err err) refuses full named entry is = tt
+
+pub refused_fits : (old : Transfers) (from : Peer) (denial : Denial) (step : Result Decision NoMemory) → IfOk step (λ d. d ≡ refusal_of from denial) → IfOk step (λ d. CanBe d.change old from)
+refused_fits old from denial (Ok d) is = subst (λ (e : Decision). CanBe e.change old from) (sym is) tt
+refused_fits old from denial (Err err) is = tt
+
+pub refused_begins : (old : Transfers) (request : Request) (holder : Option Mac) (denial : Denial) (step : Result Decision NoMemory) → repeats request.bytes.now (map.get old request.from) ≡ false
+    → IfOk step (λ d. d ≡ refusal_of request.from denial)
+    → IfOk step (λ d. BeginsFor holder request.bytes.now (map.get (after_change d.change request.at.0 old request.from) request.from))
+refused_begins old request holder denial (Ok d) new is =
+    subst (λ (e : Decision). BeginsFor holder request.bytes.now (map.get (after_change e.change request.at.0 old request.from) request.from)) (sym is)
+    (nothing_begins holder request.bytes.now (map.get old request.from) new)
+refused_begins old request holder denial (Err err) new is = tt
+
+-- ---- the rules, one by one
+
+module _ (request : Request) (seen : Seen) (no_room : Bool) where
+  pub not_held : (h : Option Mac) → h ≡ held_by request.at.0 seen.lease → h ≡ None → Refuses request seen no_room why.NoLease
+  not_held h is none = λ profile entry named.
+      ap (λ (o : Option Mac). way_for_holder (view_with seen profile) request.from.ip no_room request.name.now request.options o) (sym is ∙ none)
+
+  by_row : (h : Option Mac) (mac : Mac) (profile : Option (List Tree)) (m : Option Modem) → h ≡ held_by request.at.0 seen.lease → h ≡ Some mac → seen.modem ≡ m
+      → way_anew (view_with seen profile) request.at.0 request.from.ip no_room request.name.now request.options
+      ≡ way_for_modem (view_with seen profile) request.from.ip no_room request.name.now request.options mac m
+  by_row h mac profile m is held there =
+      ap (λ (o : Option Mac). way_for_holder (view_with seen profile) request.from.ip no_room request.name.now request.options o) (sym is ∙ held)
+      ∙ ap (λ (o : Option Modem). way_for_modem (view_with seen profile) request.from.ip no_room request.name.now request.options mac o) there
+
+  pub not_agreed : (h : Option Mac) (mac : Mac) → h ≡ held_by request.at.0 seen.lease → h ≡ Some mac → seen.modem ≡ None → Refuses request seen no_room why.Agreement
+  not_agreed h mac is held none = λ profile entry named. by_row h mac profile None is held none
+
+  nameless : (mac : Mac) (row : Modem) (own : Bool) (profile : Option (List Tree)) → None ≡ option_map (entry_of row) profile
+      → cond (not (own && is_some profile)) (Denies file_not_found) (cond no_room (Denies too_many_transfers) (Accepts mac row.subscriber request.name.now request.options)) ≡ Denies file_not_found
+  nameless mac row true None entry = refl
+  nameless mac row false None entry = refl
+  nameless mac row own (Some p) entry = cc
+
+  pub not_named : (h : Option Mac) (mac : Mac) (row : Modem) → h ≡ held_by request.at.0 seen.lease → h ≡ Some mac → seen.modem ≡ Some row → seen.body ≡ None → Refuses request seen no_room why.Name
+  not_named h mac row is held there none = λ profile entry named.
+      by_row h mac profile (Some row) is held there
+      ∙ nameless mac row (passes (is_own_name request.name.now mac request.from.ip) seen.site) profile (sym none ∙ entry ∙ ap (λ (m : Option Modem). entry_for m profile) there)
+
+  crowded : (mac : Mac) (row : Modem) (own : Bool) (profile : Option (List Tree)) (body : KeptBody) → own ≡ true → no_room ≡ true → Some body ≡ option_map (entry_of row) profile
+      → cond (not (own && is_some profile)) (Denies file_not_found) (cond no_room (Denies too_many_transfers) (Accepts mac row.subscriber request.name.now request.options)) ≡ Denies too_many_transfers
+  crowded mac row own None body is full entry = cc
+  crowded mac row own (Some p) body is full entry =
+      ap (λ b. cond (not (b && true)) (Denies file_not_found) (cond no_room (Denies too_many_transfers) (Accepts mac row.subscriber request.name.now request.options))) is
+      ∙ ap (λ b. cond b (Denies too_many_transfers) (Accepts mac row.subscriber request.name.now request.options)) full
+
+  pub no_place : (h : Option Mac) (mac : Mac) (row : Modem) (body : KeptBody) → h ≡ held_by request.at.0 seen.lease → h ≡ Some mac → seen.modem ≡ Some row → seen.body ≡ Some body → no_room ≡ true
+      → Refuses request seen no_room why.Full
+  no_place h mac row body is held there some full = λ profile entry named.
+      by_row h mac profile (Some row) is held there
+      ∙ crowded mac row (passes (is_own_name request.name.now mac request.from.ip) seen.site) profile body
+      (own_by h mac (λ m. passes (is_own_name request.name.now m request.from.ip) seen.site) held (ap (λ (o : Option Mac). passes (λ m. passes (is_own_name request.name.now m request.from.ip) seen.site) o) is ∙ named (ap is_some some)))
+      full (sym some ∙ entry ∙ ap (λ (m : Option Modem). entry_for m profile) there)

@@ -1,12 +1,11 @@
 -- A Tick over transfers as they are held, from the last one on.
-use Rattle.std.proofs.Common.{◌≡◌, ℕ, zero, suc, ◌+◌, ◌-◌, ◌<◌, ◌≤◌, Bool, true, false, cond, not, ◌&&◌, List, [], ◌∷◌, ◌++◌, length, length-append, take, take_at, drop, Option, Some, None, count_by, slice_index_or, slice_set, refl, sym, ap, ◌∙◌, subst, ◌==◌, option_and_then, arith}
+use Rattle.std.proofs.Common.{◌≡◌, ℕ, zero, suc, ◌+◌, ◌-◌, ◌<◌, ◌≤◌, Bool, true, false, cond, not, ◌&&◌, List, [], ◌∷◌, ◌++◌, length, take, drop, Option, Some, None, count_by, slice_index_or, slice_set, refl, sym, ap, ◌∙◌, subst, ◌==◌, option_and_then, arith}
 use Rattle.std.specs.List.{flat_map}
 use Rattle.std.specs.FinMap as map
 use Rattle.std.proofs.lemmas.Bool.{eqb-true}
-use Rattle.std.proofs.lemmas.List.{append-nil}
 use Rattle.std.proofs.lemmas.List.Sums.{sum_by-cons}
 use Rattle.off_base.specs.declared.addresses.Peer.{Peer}
-use Rattle.off_defs.specs.State.{Transfer, Said, peer_cmp}
+use Rattle.off_defs.specs.State.{Transfer, Said, peer_cmp, says_nothing}
 use Rattle.off_defs.specs.declared.results.Sent.{Sent}
 use Rattle.off_transfer_rules.specs.Transfers.{Transfers, sent_again}
 use Rattle.off_transfer_rules.specs.Ticks.{is_due, has_resend, is_resent, is_closed, tick_of, tick_items}
@@ -14,23 +13,8 @@ use Rattle.off_transfer_rules.proofs.KeptLemmas.{left_of, sorted_kept, left_at a
 use Rattle.off_transfer_rules.proofs.TickLemmas.{tick_entry, items_counted, closed_counted, ticked_entries}
 use Rattle.off_tftp.specs.Kept.{Entries, AreKept, left_at, tick_left, ticked_list}
 use Rattle.off_transfer_rules.specs.Ticks.{TickStep}
-use Rattle.off_tftp.specs.Saying.{says_more, nothing_ticked, Ticks, IsSaidBehind}
+use Rattle.off_tftp.specs.Ticking.{says_items, nothing_done, Ticks}
 use Rattle.off_tftp.proofs.EntryLemmas.{true_T, T_true, entries_kept, opened, set_opened}
-
--- ---- what is said behind what was said before
-
-pub behind_more : (said after : Said) (items : List Sent) → after ≡ says_more said items → IsSaidBehind said after
-behind_more said after items is = record {
-  front = ap (λ (s : Said). take (length said.items) s.items) is ∙ take_at said.items items (length said.items) refl;
-  line = ap (λ (s : Said). s.line) is;
-}
-
-pub taken_back : (said after new : Said) (n : ℕ) → IsSaidBehind said after → n ≡ length said.items → new ≡ record after { items = take n after.items } → new ≡ said
-taken_back said after new n behind count is =
-    is
-    ∙ (ap (λ m. record after { items = take m after.items }) count
-    ∙ (ap (λ (l : List Sent). record after { items = l }) behind.front
-    ∙ ap (λ (l : List ℕ). record { items = said.items; line = l }) behind.line))
 
 -- ---- one entry
 
@@ -120,43 +104,34 @@ resent_few now [] = omega arith
 resent_few now (e ∷ es) =
     omega (arith, resent_few now es, one_at_most (is_resent now e.1), sum_by-cons (λ (l : Peer × Transfer). cond (is_resent now l.1) 1 0) e es)
 
-said_more : (now : ℕ) (es : Entries) (out new : Said) (a b : ℕ) → new ≡ says_more out (flat_map (tick_items now) es) → a ≡ length new.items → b ≡ length out.items
-    → a ≡ b + resent now es
-said_more now es out new a b pushed after before =
-    after ∙ ap (λ (s : Said). length s.items) pushed
-    ∙ length-append out.items (flat_map (tick_items now) es)
-    ∙ ap (λ n. length out.items + n) (items_counted now es) ∙ ap (λ n. n + resent now es) (sym before)
+again_is : (now : ℕ) (es : Entries) (packets : Said) (n : ℕ) → packets ≡ says_items (flat_map (tick_items now) es) → n ≡ length packets.items → n ≡ resent now es
+again_is now es packets n is count = count ∙ ap (λ (s : Said). length s.items) is ∙ items_counted now es
 
-pub again_few : (now : ℕ) (es : Entries) (out new : Said) (a b : ℕ) → new ≡ says_more out (flat_map (tick_items now) es) → a ≡ length new.items → b ≡ length out.items
-    → length es ≤ 256 → (b ≤ a) × (a - b ≤ 256)
-again_few now es out new a b pushed after before few =
-    let more = said_more now es out new a b pushed after before in
-    (omega (arith, more), omega (arith, more, few, resent_few now es))
-
-again_is : (a b n : ℕ) → a ≡ b + n → a - b ≡ n
-again_is a b n is = omega arith
+pub again_few : (now : ℕ) (es : Entries) (packets : Said) (n : ℕ) → packets ≡ says_items (flat_map (tick_items now) es) → n ≡ length packets.items → length es ≤ 256 → n ≤ 256
+again_few now es packets n is count few =
+    let all = again_is now es packets n is count in
+    omega (arith, all, few, resent_few now es)
 
 closed_is : (before after gone : ℕ) → after + gone ≡ before → before - after ≡ gone
 closed_is before after gone is = omega arith
 
-pub ticks_are : (now : ℕ) (xs : Transfers) (es fs : Entries) (out new : Said) (a b before after : ℕ) → AreKept es → map.from_sorted es ≡ xs → fs ≡ ticked_list now es
-    → new ≡ says_more out (flat_map (tick_items now) es) → a ≡ length new.items → b ≡ length out.items → before ≡ length es → after ≡ length fs
-    → Ticks now xs (map.from_sorted fs) out new (record { again = a - b; closed = before - after })
-ticks_are now xs es fs out new a b before after sorted is made pushed ea eb eold enew =
+pub ticks_are : (now : ℕ) (xs : Transfers) (es fs : Entries) (packets : Said) (again before after : ℕ) → AreKept es → map.from_sorted es ≡ xs → fs ≡ ticked_list now es
+    → packets ≡ says_items (flat_map (tick_items now) es) → again ≡ length packets.items → before ≡ length es → after ≡ length fs
+    → Ticks now xs (map.from_sorted fs) (record { packets = packets; ticked = record { again = again; closed = before - after } })
+ticks_are now xs es fs packets again before after sorted is made said count eold enew =
     let entries : map.entries xs ≡ es = ap map.entries (sym is) ∙ entries_kept es sorted in
     let theirs : fs ≡ flat_map (tick_entry now) es = made ∙ ticked_same now es in
     record {
-      items = flat_map (tick_items now) (map.entries xs);
       step = record {
         each = ticked_entries now xs (map.from_sorted fs)
             (entries_kept fs (sorted_ticked now es fs sorted made) ∙ theirs ∙ ap (λ (l : Entries). flat_map (tick_entry now) l) (sym entries));
-        sends = refl;
-        again = again_is a b (resent now es) (said_more now es out new a b pushed ea eb) ∙ ap (resent now) (sym entries);
+        sends = ap (λ (s : Said). s.items) said ∙ ap (λ (l : Entries). flat_map (tick_items now) l) (sym entries);
+        again = again_is now es packets again said count ∙ ap (resent now) (sym entries);
         closed = closed_is before after (count_by (λ (live : Peer × Transfer). is_closed now live.1) es)
             (ap (λ n. n + count_by (λ (live : Peer × Transfer). is_closed now live.1) es) (enew ∙ ap length theirs) ∙ closed_counted now es ∙ sym eold)
             ∙ ap (λ (l : Entries). count_by (λ (live : Peer × Transfer). is_closed now live.1) l) (sym entries);
       };
-      says = pushed ∙ ap (λ (l : Entries). says_more out (flat_map (tick_items now) l)) (sym entries);
+      says = said ∙ ap (λ (l : List Sent). says_items l) (sym (ap (λ (s : Said). s.items) said));
     }
 
 -- ---- where no transfer is live
@@ -168,7 +143,7 @@ no_entries (e ∷ es) none = absurd (omega (arith, none))
 none_live : map.entries (map.empty {X = Transfer} {R = peer_cmp}) ≡ []
 none_live = no_entries (map.entries map.empty) (sym (map.len-entries map.empty) ∙ map.len-empty peer_cmp Transfer)
 
-idle_step : (now : ℕ) → TickStep now map.empty map.empty [] nothing_ticked
+idle_step : (now : ℕ) → TickStep now map.empty map.empty [] nothing_done.ticked
 idle_step now = record {
   each = λ peer. map.get-empty peer_cmp peer ∙ sym (ap (option_and_then (tick_of now)) (map.get-empty peer_cmp peer));
   sends = sym (ap (flat_map (tick_items now)) none_live);
@@ -176,14 +151,12 @@ idle_step now = record {
   closed = sym (ap (count_by (λ (live : Peer × Transfer). is_closed now live.1)) none_live);
 }
 
-pub idle_ticks : (now : ℕ) (xs : Transfers) (said : Said) (idle : Bool) → idle ≡ (map.len xs == 0) → idle ≡ true → Ticks now xs xs said said nothing_ticked
-idle_ticks now xs said idle is holds =
+pub idle_ticks : (now : ℕ) (xs : Transfers) (packets : Said) (idle : Bool) → packets ≡ says_nothing → idle ≡ (map.len xs == 0) → idle ≡ true
+    → Ticks now xs xs (record nothing_done { packets = packets })
+idle_ticks now xs packets idle nothing is holds =
     let none : xs ≡ map.empty = map.empty_of_len xs (eqb-true (map.len xs) 0 (sym is ∙ holds)) in
-    record {
-      items = [];
-      step = subst (λ (x : Transfers). TickStep now x x [] nothing_ticked) (sym none) (idle_step now);
-      says = ap (λ (l : List Sent). record said { items = l }) (sym (append-nil said.items));
-    }
+    subst (λ (s : Said). Ticks now xs xs (record nothing_done { packets = s })) (sym nothing)
+    (record { step = subst (λ (x : Transfers). TickStep now x x [] nothing_done.ticked) (sym none) (idle_step now); says = refl })
 
 pub not_idle : (xs : Transfers) (idle : Bool) → idle ≡ (map.len xs == 0) → idle ≡ false → xs ≡ map.empty → ⊥
 not_idle xs idle is fails none =

@@ -3,18 +3,21 @@ use Rattle.std.specs.Prelude.{◌≡◌, ℕ, List, [], ◌∷◌, false, Option
 use Rattle.std.specs.FinMap as map
 use Rattle.off_base.specs.declared.addresses.Peer.{Peer}
 use Rattle.off_defs.specs.declared.results.Sent.{Sent}
-use Rattle.off_defs.specs.State.{Transfer}
+use Rattle.off_defs.specs.State.{Tables, Transfer}
 use Rattle.off_kept.specs.declared.bodies.KeptBody.{KeptBody}
 use Rattle.off_kept.specs.Entries.{Entries, with_first}
-use Rattle.off_packets.specs.declared.packets.Options.{Options}
+use Rattle.off_kept.specs.Right.{AllRight}
 use Rattle.off_packets.specs.Replies.{error_packet}
 use Rattle.off_transfer_rules.specs.Transfers.{Transfers, asked_again, gone_on, is_at_last, first_word, last_packet, packet_to}
 use Rattle.off_transfer_rules.specs.View.{View}
-use Rattle.off_transfer_rules.specs.Steps.{Denial, Way, Given, GivesBy, gives, way}
+use Rattle.off_transfer_rules.specs.Steps.{Denial, Way, Given, GivesBy, TftpStep, gives, way}
+use Rattle.off_transfer_rules.specs.declared.words.TftpWord.{TftpWord}
 use Rattle.off_transfer_rules.specs.Steps.{illegal_operation, access_violation, octet_only, no_lease, no_longer_agreed, file_not_found, too_many_transfers, unknown_transfer}
-use Rattle.off_tftp.specs.Kept.{HasPlaceFor, changed}
-use Rattle.off_tftp.specs.Keeping.{kept_by}
+use Rattle.off_tftp.specs.Kept.{HasRoomFor, changed}
+use Rattle.off_tftp.specs.Places.{IsPlaceOf}
+use Rattle.off_tftp.specs.Keeping.{kept_by, kept_after}
 use Rattle.off_tftp.specs.Granted.{begun_by}
+use Rattle.off_tftp.specs.declared.requests.Datagram.{Datagram}
 use Rattle.off_tftp.specs.declared.requests.Request.{Request}
 use Rattle.off_tftp.specs.declared.requests.Grant.{Grant}
 use Rattle.off_tftp.specs.declared.deciding.Change.{Change}
@@ -30,22 +33,27 @@ items_of (Some item) = item ∷ []
 -- the transfers that a change leaves
 abbrev pub after_change : Change → ℕ → Transfers → Peer → Transfers
 after_change change.Stays now transfers from = transfers
-after_change change.AsksAgain now transfers from = changed transfers from (asked_again now)
-after_change change.GoesOn now transfers from = changed transfers from (gone_on now)
-after_change change.Ends now transfers from = map.remove transfers from
-after_change (change.Begins live entry) now transfers from = map.insert transfers from live
+after_change (change.AsksAgain place) now transfers from = changed transfers from (asked_again now)
+after_change (change.GoesOn place) now transfers from = changed transfers from (gone_on now)
+after_change (change.Ends place) now transfers from = map.remove transfers from
+after_change (change.Begins place live entry) now transfers from = map.insert transfers from live
 
 -- what it leaves of what is kept
 abbrev pub kept_behind : Change → Entries → Entries
-kept_behind (change.Begins live entry) entries = with_first live.modem entry entries
+kept_behind (change.Begins place live entry) entries = with_first live.modem entry entries
 kept_behind other entries = entries
 
--- a change that can be made: a block follows where there is one, and a transfer is put where there
--- is room
+-- a change that can be made: it's where the peer's transfer stands, a block follows where there is
+-- one, and a transfer is put where there is room
 abbrev pub CanBe : Change → Transfers → Peer → Type 0
-CanBe change.GoesOn transfers from = IfSome (map.get transfers from) (λ x. is_at_last x ≡ false)
-CanBe (change.Begins live entry) transfers from = HasPlaceFor transfers from
-CanBe other transfers from = ⊤
+CanBe change.Stays transfers from = ⊤
+CanBe (change.AsksAgain place) transfers from = IsPlaceOf transfers from place
+CanBe (change.GoesOn place) transfers from =
+    IsPlaceOf transfers from place
+    × IfSome (map.get transfers from) (λ x. is_at_last x ≡ false)
+CanBe (change.Ends place) transfers from = IsPlaceOf transfers from place
+CanBe (change.Begins place live entry) transfers from =
+    IsPlaceOf transfers from place × HasRoomFor transfers from
 
 -- what is said for each reason of a refusal
 abbrev pub denial_of : Refusal → Denial
@@ -58,6 +66,9 @@ denial_of why.Name = file_not_found
 denial_of why.Full = too_many_transfers
 denial_of why.Unknown = unknown_transfer
 
+abbrev pub denial : ℕ → List ℕ → TftpWord → Denial
+denial code text word = record { code = code; text = text; word = word }
+
 -- a refusal is sent, and nothing changes
 abbrev pub refusal_of : Peer → Denial → Decision
 refusal_of from denial = record {
@@ -67,18 +78,18 @@ refusal_of from denial = record {
 }
 
 -- a transfer that begins, with its first packet
-abbrev pub start_of : Peer → KeptBody → Transfer → Options → Decision
-start_of from entry live asked = record {
-  word = first_word asked;
-  sent = Some (packet_to from (last_packet live));
-  change = change.Begins live entry;
+abbrev pub start_of : Request → KeptBody → Transfer → Decision
+start_of request entry live = record {
+  word = first_word request.options;
+  sent = Some (packet_to request.from (last_packet live));
+  change = change.Begins request.place live entry;
 }
 
 -- where nothing was found there is no such file
 abbrev pub Starts : Request → KeptBody → Option Grant → Decision → Type 0
 Starts request entry grant d =
     MatchOption grant (d ≡ refusal_of request.from file_not_found)
-    (λ grant. d ≡ start_of request.from entry (begun_by request grant) request.options)
+    (λ grant. d ≡ start_of request entry (begun_by request grant))
 
 -- no change that touches what is kept
 abbrev pub KeepsNothing : Decision → Type 0
@@ -103,3 +114,13 @@ pub record Serves (v : View) (now : ℕ) (transfers : Transfers) (from : Peer) (
 abbrev pub Decides : View → ℕ → Transfers → Peer → List ℕ → Decision → Type 0
 Decides v now transfers from bytes d =
     Serves v now transfers from bytes (way v now transfers from bytes) d
+
+-- by the tables themselves: what is decided is the step that answers the datagram, and what it keeps
+-- is right by them again
+pub record Answers (tables : Tables) (datagram : Datagram) (transfers : Transfers)
+    (kept : Entries) (d : Decision) : Type 0 where
+  pub step : TftpStep tables datagram.at.0 transfers datagram.from datagram.bytes.now
+      (given_by d datagram.at.0 transfers datagram.from)
+  pub keeps : kept_behind d.change kept
+      ≡ kept_after tables datagram.at.0 transfers datagram.from datagram.bytes.now kept
+  pub right : AllRight tables (kept_behind d.change kept)

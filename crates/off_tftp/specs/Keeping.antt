@@ -6,18 +6,15 @@ use Rattle.off_base.specs.declared.addresses.Ip4.{Ip4}
 use Rattle.off_base.specs.declared.addresses.Peer.{Peer}
 use Rattle.off_base.specs.declared.macs.Mac.{Mac}
 use Rattle.off_defs.specs.declared.tables.Modem.{Modem}
-use Rattle.off_defs.specs.State.{Tables, Said, Transfer}
+use Rattle.off_defs.specs.State.{Tables, Transfer}
 use Rattle.off_account_rules.specs.Rows.{lease_in}
 use Rattle.off_kept.specs.Entries.{Entries, kept_of, with_first}
-use Rattle.off_kept.specs.Right.{AllRight}
 use Rattle.off_kept.specs.declared.bodies.KeptBody.{KeptBody}
 use Rattle.off_outside.specs.KeeperSeen.{KeeperSeen}
 use Rattle.off_outside.specs.KeeperCalls.{Spent}
 use Rattle.off_transfer_rules.specs.Transfers.{Transfers}
 use Rattle.off_transfer_rules.specs.View.{View, view, owner_by}
 use Rattle.off_transfer_rules.specs.Steps.{Way, Accepts, way, is_repeated}
-use Rattle.off_transfer_rules.specs.declared.words.TftpWord.{TftpWord}
-use Rattle.off_tftp.specs.Saying.{Answers}
 
 -- whether the entry of a modem is kept
 abbrev pub is_kept : Option Mac → Entries → Bool
@@ -65,10 +62,3 @@ kept_by v other entries = entries
 abbrev pub kept_after : Tables → ℕ → Transfers → Peer → List ℕ → Entries → Entries
 kept_after tables now transfers from bytes entries =
     kept_by (view tables from.ip) (way (view tables from.ip) now transfers from bytes) entries
-
--- a datagram is answered over the tables, and what is kept is right by them again
-pub record AnswersKeeping (tables : Tables) (now : ℕ) (old new : Transfers) (from : Peer)
-    (bytes : List ℕ) (said after : Said) (kept keeps : Entries) (word : TftpWord) : Type 0 where
-  pub answers : Answers tables now old new from bytes said after word
-  pub keeps_is : keeps ≡ kept_after tables now old from bytes kept
-  pub right : AllRight tables keeps

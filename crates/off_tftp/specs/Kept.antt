@@ -26,8 +26,8 @@ is_in_front peer [] = false
 is_in_front peer (entry ∷ entries) = is_eq (peer_cmp peer entry.0)
 
 -- there is room for a peer's transfer, or one to be replaced
-abbrev pub HasPlaceFor : Transfers → Peer → Type 0
-HasPlaceFor transfers peer =
+abbrev pub HasRoomFor : Transfers → Peer → Type 0
+HasRoomFor transfers peer =
     has_no_room transfers ≡ true → IsTrue (is_some (map.get transfers peer))
 
 -- a peer's transfer is changed, where it has one

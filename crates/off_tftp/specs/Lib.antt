@@ -1,6 +1,7 @@
 pub mod Built
 pub mod Kept
-pub mod Saying
+pub mod Places
+pub mod Ticking
 pub mod Keeping
 pub mod Granted
 pub mod Deciding

@@ -7,13 +7,14 @@ ghost use Rattle.off_transfer_rules.specs.Steps.{Repeats, way_of_last, no_longer
 ghost use Rattle.off_transfer_rules.specs.Transfers.{is_at_last};
 ghost use Rattle.off_tftp.specs.Deciding.{Does, CanBe, KeepsNothing, refusal_of};
 ghost use Rattle.off_tftp.specs.declared.deciding.Change.TheVariants.{Ends};
+ghost use Rattle.off_tftp.specs.Places.{IsPlaceOf};
 ghost use Rattle.off_tftp.specs.Seen.{view_of};
 ghost use Rattle.off_tftp.specs.Stages.{repeats, stage_of};
 
 use crate::deciding::{Change, Decision, Refusal, packet_to, refuse};
 use crate::gathering::Seen;
 use crate::judging::agrees;
-use crate::transfers::Transfers;
+use crate::transfers::{Place, Transfers};
 use off_base::{Moment, NoMemory, Peer};
 use off_transfer_rules::TftpWord;
 use std::alloc::Global;
@@ -33,20 +34,22 @@ pub(crate) enum Stage {
 
 impl Transfers {
     /// Whether a peer's transfer began with this request, and nothing was acknowledged since.
-    pub(crate) fn repeats(&self, from: Peer, bytes: &[u8]) -> bool
+    pub(crate) fn repeats(&self, from: Peer, place: Place, bytes: &[u8]) -> bool
+        requires { IsPlaceOf self.now from place }
         ensures { result ≡ repeats bytes.now (map.get self.now from) }
     {
-        match self.get(from) {
+        match self.get(from, place) {
             Some(live) => live.is_repeated(bytes),
             None => false,
         }
     }
 
     /// What the acknowledgement of a packet comes to.
-    pub(crate) fn stage_of(&self, from: Peer, number: u16) -> Stage
+    pub(crate) fn stage_of(&self, from: Peer, place: Place, number: u16) -> Stage
+        requires { IsPlaceOf self.now from place }
         ensures { result ≡ stage_of number (map.get self.now from) }
     {
-        let Some(live) = self.get(from) else {
+        let Some(live) = self.get(from, place) else {
             return Stage::Unknown;
         };
         if live.sent() != number {
@@ -60,14 +63,20 @@ impl Transfers {
     }
 
     /// The first packet goes again.
-    pub(crate) fn repeat(&self, alloc: Global, from: Peer) -> Result<Decision, NoMemory>
+    pub(crate) fn repeat(
+        &self,
+        alloc: Global,
+        from: Peer,
+        place: Place,
+    ) -> Result<Decision, NoMemory>
+        requires { IsPlaceOf self.now from place }
         ensures done { (v : View) (now : ℕ) (bytes : List ℕ) → IfOk result
             (λ d. IfSome (map.get self.now from)
             (λ x. Does v now self.now from bytes (Repeats x) d)) }
         ensures bare { IfOk result KeepsNothing }
         ensures able { IfOk result (λ d. CanBe d.change self.now from) }
     {
-        let Some(live) = self.get(from) else {
+        let Some(live) = self.get(from, place) else {
             return Ok(Decision {
                 word: TftpWord::Again,
                 sent: None,
@@ -78,7 +87,7 @@ impl Transfers {
         Ok(Decision {
             word: TftpWord::Again,
             sent: Some(packet_to(from, packet)),
-            change: Change::AsksAgain,
+            change: Change::AsksAgain(place),
         })
     }
 
@@ -89,8 +98,10 @@ impl Transfers {
         seen: &Seen,
         now: Moment,
         from: Peer,
+        place: Place,
     ) -> Result<Decision, NoMemory>
-        requires { IfSome (map.get self.now from) (λ x. is_at_last x ≡ false) }
+        requires place { IsPlaceOf self.now from place }
+        requires more { IfSome (map.get self.now from) (λ x. is_at_last x ≡ false) }
         ensures done { (bytes : List ℕ) → IfOk result
             (λ d. IfSome (map.get self.now from)
             (λ x. Does (view_of seen.now) now.0 self.now from bytes
@@ -98,7 +109,7 @@ impl Transfers {
         ensures bare { IfOk result KeepsNothing }
         ensures able { IfOk result (λ d. CanBe d.change self.now from) }
     {
-        let Some(live) = self.get(from) else {
+        let Some(live) = self.get(from, place) else {
             return Ok(Decision {
                 word: TftpWord::Unknown,
                 sent: None,
@@ -106,26 +117,27 @@ impl Transfers {
             });
         };
         if !agrees(seen, now, from.ip, live) {
-            return break_off(alloc, from);
+            return break_off(alloc, from, place);
         }
         let packet = live.next_packet(alloc)?;
         let number = live.next_number();
         Ok(Decision {
             word: TftpWord::Block(number),
             sent: Some(packet_to(from, packet)),
-            change: Change::GoesOn,
+            change: Change::GoesOn(place),
         })
     }
 }
 
 // Ends a transfer with a refusal.
-fn break_off(alloc: Global, from: Peer) -> Result<Decision, NoMemory>
-    ensures { IfOk result (λ d. d ≡ record (refusal_of from no_longer_agreed) { change = Ends }) }
+fn break_off(alloc: Global, from: Peer, place: Place) -> Result<Decision, NoMemory>
+    ensures { IfOk result
+        (λ d. d ≡ record (refusal_of from no_longer_agreed) { change = Ends place }) }
 {
     let refusal = refuse(alloc, from, Refusal::Agreement)?;
     Ok(Decision {
         word: refusal.word,
         sent: refusal.sent,
-        change: Change::Ends,
+        change: Change::Ends(place),
     })
 }

@@ -2,10 +2,10 @@
 
 ghost use Rattle.std.specs.Prelude.{◌≡◌, IfOk};
 ghost use Rattle.off_transfer_rules.specs.Transfers.{packet_to};
-ghost use Rattle.off_tftp.specs.Saying.{denial};
-ghost use Rattle.off_tftp.specs.Deciding.{refusal_of, denial_of};
+ghost use Rattle.off_tftp.specs.Deciding.{denial, refusal_of, denial_of};
 
 use crate::live::Live;
+use crate::transfers::Place;
 use off_base::{Bytes, NoMemory, Peer};
 use off_defs::{Sent, Service};
 use off_kept::KeptBody;
@@ -13,27 +13,34 @@ use off_packets::error_packet;
 use off_transfer_rules::TftpWord;
 use std::alloc::Global;
 
-/// The word of the log, the packet that is sent, if any, and what becomes of the peer's transfer.
+/// What a datagram comes to.
 #[derive(Drop)]
-pub(crate) struct Decision {
-    pub(crate) word: TftpWord,
-    pub(crate) sent: Option<Sent>,
-    pub(crate) change: Change,
+pub struct Decision {
+    /// The word with which the log has it.
+    pub word: TftpWord,
+    /// The packet that goes to its peer, if any.
+    pub sent: Option<Sent>,
+    /// What becomes of the peer's transfer.
+    pub change: Change,
 }
 
-/// What becomes of the peer's transfer.
+/// What becomes of the peer's transfer, and where that stands.
 #[derive(Drop)]
-pub(crate) enum Change {
+pub enum Change {
     /// It stays as it is, where there is one.
     Stays,
     /// Its first packet is sent again.
-    AsksAgain,
+    AsksAgain(Place),
     /// Its next block is sent.
-    GoesOn,
+    GoesOn(Place),
     /// It ends.
-    Ends,
+    Ends(Place),
     /// Another one begins, and what its file is made of is kept for its modem.
-    Begins { live: Live, entry: KeptBody },
+    Begins {
+        place: Place,
+        live: Live,
+        entry: KeptBody,
+    },
 }
 
 /// A packet to a peer, from the port of requests.

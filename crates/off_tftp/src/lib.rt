@@ -5,7 +5,8 @@
 //! may be shared with other files of the modem and with what is kept (`bodies`). A datagram is read
 //! (`off_packets`); by the peer's transfer it's told what is to be read of the tables
 //! (`acknowledging`, `gathering`), and what was read judges it (`judging`, `opening`). What it comes
-//! to is a value (`deciding`) before anything is said or done (`datagrams`).
+//! to is a value (`deciding`) before anything is said or done (`datagrams`); whoever calls says it
+//! and has its change made.
 #![tactic(auto)]
 
 mod acknowledging;
@@ -21,7 +22,10 @@ mod requests;
 mod ticking;
 mod transfers;
 
+pub use deciding::{Change, Decision};
 pub use off_kept::{Kept, KeptBody};
 pub use off_packets::{Options, Packet, PacketFault, read_packet};
 pub use off_transfer_rules::{TftpWord, Ticked};
+pub use requests::Datagram;
+pub use ticking::TickDone;
 pub use transfers::Transfers;

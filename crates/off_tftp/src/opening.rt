@@ -1,21 +1,21 @@
 //! A read request that didn't come before.
 
 ghost use Rattle.std.specs.Prelude.{◌≡◌, ◌≤◌, List, Option, Some, length, option_map};
-ghost use Rattle.std.specs.Prelude.{true, false, is_some, Ok, IfOk, IfSome};
+ghost use Rattle.std.specs.Prelude.{true, false, is_some, Ok, IfOk, IfSome, MatchResult};
 ghost use Rattle.std.specs.FinMap as map;
 ghost use Rattle.off_base.specs.Tree.{Tree, spelling};
-ghost use Rattle.off_defs.specs.declared.tables.Modem.{Modem as ModemSeen};
 ghost use Rattle.off_account_rules.specs.Rows.{passes};
 ghost use Rattle.off_file_rules.specs.Name.{name_of};
 ghost use Rattle.off_packets.specs.Packets.{Reads, packet_of};
 ghost use Rattle.off_transfer_rules.specs.View.{View, is_own_name};
-ghost use Rattle.off_transfer_rules.specs.Steps.{way_anew, way_for_modem};
+ghost use Rattle.off_transfer_rules.specs.Steps.{way_anew};
 ghost use Rattle.off_transfer_rules.specs.Transfers.{first_word};
-ghost use Rattle.off_tftp.specs.Keeping.{entry_of, entry_for, BeginsFor};
-ghost use Rattle.off_tftp.specs.Opened.{IsBegun};
+ghost use Rattle.off_tftp.specs.Keeping.{entry_for, BeginsFor};
+ghost use Rattle.off_tftp.specs.Opened.{IsBegun, Finds, Refuses, Begins};
+ghost use Rattle.off_tftp.specs.Places.{IsPlaceOf};
 ghost use Rattle.off_tftp.specs.Granted.{IsFor};
 ghost use Rattle.off_tftp.specs.Deciding.{Serves, CanBe, Starts, after_change};
-ghost use Rattle.off_tftp.specs.Seen.{view_with, held_by, IsNamed, HasName, CanServe};
+ghost use Rattle.off_tftp.specs.Seen.{view_with, held_by, IsNamed, CanServe};
 ghost use Rattle.off_tftp.specs.Stages.{lacks_room, repeats};
 
 use crate::deciding::{Change, Decision, Refusal, packet_to, refuse};
@@ -25,13 +25,22 @@ use crate::judging::holder;
 use crate::live::Live;
 use crate::requests::{Grant, Named, Request};
 use crate::transfers::Transfers;
-use off_base::{Mac, NoMemory, Peer};
+use off_base::{Mac, NoMemory};
 use off_defs::Site;
 use off_files::Body;
 use off_kept::KeptBody;
 use off_packets::Options;
 use off_transfer_rules::TftpWord;
 use std::alloc::Global;
+
+// What a read request is granted: the modem whose file it asks for, that modem's subscriber, and
+// the body of the file.
+#[derive(Clone, Copy)]
+struct Found<'a> {
+    modem: Mac,
+    subscriber: u32,
+    body: &'a KeptBody,
+}
 
 impl Transfers {
     /// Opens the file that is asked for, or refuses.
@@ -45,6 +54,7 @@ impl Transfers {
         requires least { IfSome request.now.options.blksize (λ size. 8 ≤ size) }
         requires read { packet_of request.now.bytes.now
             ≡ Ok (Reads request.now.name.now request.now.options) }
+        requires place { IsPlaceOf self.now request.now.from request.now.place }
         requires named { IsNamed request.now.at.0 request.now.from.ip request.now.name.now
             seen.now }
         ensures done { (profile : Option (List Tree))
@@ -61,61 +71,64 @@ impl Transfers {
             (after_change d.change request.now.at.0 self.now request.now.from)
             request.now.from)) }
     {
-        let Some(mac) = holder(request.at, seen.lease) else {
-            return refuse(alloc, request.from, Refusal::NoLease);
-        };
-        let Some(modem) = &seen.modem else {
-            return refuse(alloc, request.from, Refusal::Agreement);
-        };
-        self.open_for(alloc, seen, request, mac, modem.subscriber)
-    }
-
-    // Opens the file of a modem, if it's the one that is asked for and there is room.
-    #[tactic(auto, using(crate::proofs::BodyLemmas::beginnings))]
-    fn open_for(
-        &self,
-        alloc: Global,
-        seen: &Seen,
-        request: &Request<'_>,
-        mac: Mac,
-        subscriber: u32,
-    ) -> Result<Decision, NoMemory>
-        requires least { IfSome request.now.options.blksize (λ size. 8 ≤ size) }
-        requires read { packet_of request.now.bytes.now
-            ≡ Ok (Reads request.now.name.now request.now.options) }
-        requires named { HasName request.now.from.ip request.now.name.now mac seen.now }
-        ensures done { (modem : ModemSeen) (profile : Option (List Tree))
-            → modem.subscriber ≡ subscriber → seen.now.modem ≡ Some modem
-            → seen.now.body ≡ option_map (entry_of modem) profile
-            → CanServe (view_with seen.now profile) request.now.at.0 request.now.from.ip
-            → IfOk result (Serves (view_with seen.now profile) request.now.at.0 self.now
-            request.now.from request.now.bytes.now
-            (way_for_modem (view_with seen.now profile) request.now.from.ip
-            (lacks_room self.now request.now.from) request.now.name.now request.now.options mac
-            (Some modem))) }
-        ensures able { IfOk result (λ d. CanBe d.change self.now request.now.from) }
-        ensures begins { repeats request.now.bytes.now (map.get self.now request.now.from) ≡ false
-            → IfOk result (λ d. BeginsFor (Some mac) request.now.bytes.now (map.get
-            (after_change d.change request.now.at.0 self.now request.now.from)
-            request.now.from)) }
-    {
-        let Some(found) = &seen.body else {
-            return refuse(alloc, request.from, Refusal::Name);
-        };
-        if self.lacks_room(request.from) {
-            return refuse(alloc, request.from, Refusal::Full);
+        match judge(seen, request, self.lacks_room(request)) {
+            Ok(found) => begin(alloc, &seen.site, request, &found),
+            Err(why) => refuse(alloc, request.from, why),
         }
-        let entry = shared(found)?;
-        let grant = grant_for(&seen.site, found.body.share()?, request, mac, subscriber);
-        start(alloc, request, entry, grant)
     }
 
     // Whether a transfer for the peer has neither room nor another one to replace.
-    fn lacks_room(&self, peer: Peer) -> bool
-        ensures { result ≡ lacks_room self.now peer }
+    fn lacks_room(&self, request: &Request<'_>) -> bool
+        requires { IsPlaceOf self.now request.now.from request.now.place }
+        ensures { result ≡ lacks_room self.now request.now.from }
     {
-        self.get(peer).is_none() && self.is_full()
+        self.get(request.from, request.place).is_none() && self.is_full()
     }
+}
+
+// The rules for a read request that didn't come before, in their order. The first that is broken
+// refuses it.
+fn judge<'a>(seen: &'a Seen, request: &Request<'_>, lacks_room: bool) -> Result<Found<'a>, Refusal>
+    ensures { MatchResult result
+        (λ found. Finds request.now.at.0 seen.now lacks_room found)
+        (λ why. Refuses request.now seen.now lacks_room why) }
+{
+    let Some(modem) = holder(request.at, seen.lease) else {
+        return Err(Refusal::NoLease);
+    };
+    let Some(row) = &seen.modem else {
+        return Err(Refusal::Agreement);
+    };
+    let Some(body) = &seen.body else {
+        return Err(Refusal::Name);
+    };
+    if lacks_room {
+        return Err(Refusal::Full);
+    }
+    Ok(Found {
+        modem,
+        subscriber: row.subscriber,
+        body,
+    })
+}
+
+// Begins a transfer of what was found.
+fn begin(
+    alloc: Global,
+    site: &Option<Site>,
+    request: &Request<'_>,
+    found: &Found<'_>,
+) -> Result<Decision, NoMemory>
+    requires least { IfSome request.now.options.blksize (λ size. 8 ≤ size) }
+    requires read { packet_of request.now.bytes.now
+        ≡ Ok (Reads request.now.name.now request.now.options) }
+    requires named { passes (is_own_name request.now.name.now found.now.modem request.now.from.ip)
+        site.now ≡ true }
+    ensures { IfOk result (Begins request.now site.now found.now) }
+{
+    let entry = shared(found.body)?;
+    let grant = grant_for(site, found.body.body.share()?, request, found);
+    start(alloc, request, entry, grant)
 }
 
 // A transfer that begins with its first packet, where there is a file.
@@ -141,7 +154,11 @@ fn start(
     Ok(Decision {
         word: first_word(request.options),
         sent: Some(packet_to(request.from, packet)),
-        change: Change::Begins { live, entry },
+        change: Change::Begins {
+            place: request.place,
+            live,
+            entry,
+        },
     })
 }
 
@@ -161,16 +178,15 @@ fn grant_for(
     site: &Option<Site>,
     body: Body,
     request: &Request<'_>,
-    modem: Mac,
-    subscriber: u32,
+    found: &Found<'_>,
 ) -> Option<Grant>
     ensures built { (v : View) → v.site ≡ site.now → option_map spelling v.profile ≡ Some body
         → CanServe v request.now.at.0 request.now.from.ip
         → IsBegun v request.now.at.0 request.now.from.ip (option_map (λ g. g.file) result) }
-    ensures right { passes (is_own_name request.now.name.now modem request.now.from.ip) site.now
-        ≡ true → IfSome result (λ grant. request.now.name.now
+    ensures right { passes (is_own_name request.now.name.now found.now.modem request.now.from.ip)
+        site.now ≡ true → IfSome result (λ grant. request.now.name.now
         ≡ name_of grant.named.secret grant.modem grant.named.ip) }
-    ensures whose { IfSome result (IsFor modem subscriber) }
+    ensures whose { IfSome result (IsFor found.now.modem found.now.subscriber) }
     ensures few { IfSome result (λ grant. length grant.file ≤ 6200) }
     ensures sited { is_some result ≡ true → is_some site.now ≡ true }
 {
@@ -184,8 +200,8 @@ fn grant_for(
         ip,
     };
     Some(Grant {
-        modem,
-        subscriber,
+        modem: found.modem,
+        subscriber: found.subscriber,
         named,
         file,
     })

@@ -2,7 +2,7 @@
 //! came for too long are closed.
 
 ghost use Rattle.std.specs.Prelude.{◌≡◌, ◌+◌, ◌≤◌, ◌<◌, ◌++◌, suc, take, drop, vec_len, Ok};
-ghost use Rattle.std.specs.Prelude.{IfOk, OnOk, OnErr, slice_index_or};
+ghost use Rattle.std.specs.Prelude.{IfOk, OnErr, slice_index_or};
 ghost use Rattle.std.specs.List.{flat_map};
 ghost use Rattle.std.specs.Vec.{vec_capacity};
 ghost use Rattle.std.specs.FinMap as map;
@@ -10,105 +10,83 @@ ghost use Rattle.off_base.specs.declared.addresses.Peer.{Peer as PeerSeen};
 ghost use Rattle.off_defs.specs.State.{Transfer};
 ghost use Rattle.off_transfer_rules.specs.Ticks.{tick_items};
 ghost use Rattle.off_tftp.specs.Kept.{tick_left, ticked_list};
-ghost use Rattle.off_tftp.specs.Saying.{says_more, nothing_ticked, Ticks, IsSaidBehind};
+ghost use Rattle.off_tftp.specs.Deciding.{items_of};
+ghost use Rattle.off_tftp.specs.Ticking.{says_items, nothing_done, Ticks};
 
 use crate::deciding::packet_to;
 use crate::live::Live;
 use crate::transfers::Transfers;
 use off_base::{Moment, NoMemory, Peer};
+use off_defs::Sent;
 use off_outside::Replies;
 use off_transfer_rules::Ticked;
 use std::alloc::Global;
 
+/// What a Tick did: the packets that go again, in the order of peers, and how many transfers it sent
+/// again and closed.
+#[derive(Drop)]
+pub struct TickDone {
+    pub packets: Replies,
+    pub ticked: Ticked,
+}
+
 impl Transfers {
     /// What a Tick does at a moment. Where no transfer is live it takes no memory. After `NoMemory`
-    /// the transfers and `out` are as before.
-    pub fn on_tick(
-        &mut self,
-        alloc: Global,
-        now: Moment,
-        out: &mut Replies,
-    ) -> Result<Ticked, NoMemory>
-        ensures ticks { IfOk result (Ticks now.0 self.old self.new out.old out.new) }
-        ensures idle { self.old ≡ map.empty → result ≡ Ok nothing_ticked }
+    /// the transfers are as before.
+    pub fn on_tick(&mut self, alloc: Global, now: Moment) -> Result<TickDone, NoMemory>
+        ensures ticks { IfOk result (Ticks now.0 self.old self.new) }
+        ensures idle { self.old ≡ map.empty → result ≡ Ok nothing_done }
         ensures kept { OnErr result (self.new ≡ self.old) }
-        ensures unsaid { OnErr result (out.new ≡ out.old) }
     {
         if self.is_empty() {
-            return Ok(Ticked {
-                again: 0,
-                closed: 0,
+            return Ok(TickDone {
+                packets: Replies::new(alloc),
+                ticked: Ticked {
+                    again: 0,
+                    closed: 0,
+                },
             });
         }
-        let said = out.len();
-        say_due(alloc, &self.live, now, out)?;
-        let again = out.len() - said;
+        let packets = due_packets(alloc, &self.live, now)?;
+        let again = packets.len();
         let before = self.live.len();
         tick_all(&mut self.live, now);
         let closed = before - self.live.len();
-        Ok(Ticked {
+        let ticked = Ticked {
             again: again as u32,
             closed: closed as u32,
-        })
+        };
+        Ok(TickDone { packets, ticked })
     }
 }
 
-// Says all that is sent again, or nothing.
-#[tactic(auto, using(crate::proofs::TickedLemmas::taken_back))]
-fn say_due(
-    alloc: Global,
-    entries: &Vec<(Peer, Live)>,
-    now: Moment,
-    out: &mut Replies,
-) -> Result<(), NoMemory>
-    ensures says { OnOk result
-        (out.new ≡ says_more out.old (flat_map (tick_items now.0) entries.now.items)) }
-    ensures unsaid { OnErr result (out.new ≡ out.old) }
+// The packets that go again, in the order of peers.
+fn due_packets(alloc: Global, entries: &Vec<(Peer, Live)>, now: Moment) -> Result<Replies, NoMemory>
+    ensures { IfOk result
+        (λ packets. packets ≡ says_items (flat_map (tick_items now.0) entries.now.items)) }
 {
-    let said = out.len();
-    if push_due(alloc, entries, now, out).is_ok() {
-        return Ok(());
-    }
-    out.truncate(said);
-    Err(NoMemory)
-}
-
-// Says what is sent again, in the order of peers.
-#[tactic(auto, using(crate::proofs::TickedLemmas::behind_more))]
-fn push_due(
-    alloc: Global,
-    entries: &Vec<(Peer, Live)>,
-    now: Moment,
-    out: &mut Replies,
-) -> Result<(), NoMemory>
-    ensures says { OnOk result
-        (out.new ≡ says_more out.old (flat_map (tick_items now.0) entries.now.items)) }
-    ensures behind { IsSaidBehind out.old out.new }
-{
+    let mut packets = Replies::new(alloc);
     for place in 0..entries.len() {
-        push_if_due(alloc, &entries[place], now, out)?;
+        if let Some(packet) = due_packet(alloc, &entries[place], now)? {
+            packets.push(packet)?;
+        }
     }
-    Ok(())
+    Ok(packets)
 }
 
-fn push_if_due(
-    alloc: Global,
-    entry: &(Peer, Live),
-    now: Moment,
-    out: &mut Replies,
-) -> Result<(), NoMemory>
-    ensures says { OnOk result
-        (out.new ≡ says_more out.old (tick_items now.0 (entry.now.0, entry.now.1))) }
-    ensures unsaid { OnErr result (out.new ≡ out.old) }
+// The packet of a transfer that goes again, if one does.
+fn due_packet(alloc: Global, entry: &(Peer, Live), now: Moment) -> Result<Option<Sent>, NoMemory>
+    ensures { IfOk result
+        (λ packet. items_of packet ≡ tick_items now.0 (entry.now.0, entry.now.1)) }
 {
     if !entry.1.is_due(now) {
-        return Ok(());
+        return Ok(None);
     }
     if !entry.1.has_resend() {
-        return Ok(());
+        return Ok(None);
     }
     let bytes = entry.1.last_packet(alloc)?;
-    out.push(packet_to(entry.0, bytes))
+    Ok(Some(packet_to(entry.0, bytes)))
 }
 
 // What a Tick leaves of all, from the last one on.

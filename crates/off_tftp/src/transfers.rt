@@ -8,7 +8,8 @@ ghost use Rattle.std.specs.FinMap as map;
 ghost use Rattle.off_defs.specs.State.{peer_cmp};
 ghost use Rattle.off_transfer_rules.specs.Transfers.{has_no_room, is_at_last, gone_on};
 ghost use Rattle.off_transfer_rules.specs.Transfers.{asked_again};
-ghost use Rattle.off_tftp.specs.Kept.{AreKept, place_of, is_in_front, HasPlaceFor, changed};
+ghost use Rattle.off_tftp.specs.Kept.{AreKept, place_of, is_in_front, HasRoomFor, changed};
+ghost use Rattle.off_tftp.specs.Places.{IsPlaceOf};
 
 use crate::live::Live;
 use off_base::{Moment, NoMemory, Peer};
@@ -41,6 +42,12 @@ impl Model for Transfers {
     ghost invariant = { λ t. AreKept t.live.items
         × (vec_len t.live ≤ 256)
         × (256 ≤ vec_capacity t.live) };
+}
+
+/// Where a peer's transfer stands among those that are live, or is to be put.
+#[derive(Clone, Copy)]
+pub struct Place {
+    pub(crate) index: usize,
 }
 
 impl Transfers {
@@ -76,60 +83,69 @@ impl Transfers {
         self.live.len() >= MOST
     }
 
+    /// Where a peer's transfer stands, or is to be put. It's the one search of a datagram.
+    pub(crate) fn find(&self, peer: Peer) -> Place
+        ensures { IsPlaceOf self.now peer result }
+    {
+        Place {
+            index: place_of(&self.live, peer),
+        }
+    }
+
     /// The transfer of a peer.
-    pub(crate) fn get(&self, peer: Peer) -> Option<&Live>
+    pub(crate) fn get(&self, peer: Peer, place: Place) -> Option<&Live>
+        requires { IsPlaceOf self.now peer place }
         ensures { MatchOption result (map.get self.now peer ≡ None)
             (λ live. map.get self.now peer ≡ Some live.now) }
     {
-        let place = place_of(&self.live, peer);
-        if is_at(&self.live, place, peer) {
-            Some(&self.live[place].1)
+        if is_at(&self.live, place.index, peer) {
+            Some(&self.live[place.index].1)
         } else {
             None
         }
     }
 
     /// Puts a peer's transfer in, in place of an older one.
-    pub(crate) fn put(&mut self, peer: Peer, live: Live)
-        requires { HasPlaceFor self.old peer }
+    pub(crate) fn put(&mut self, peer: Peer, place: Place, live: Live)
+        requires place { IsPlaceOf self.old peer place }
+        requires room { HasRoomFor self.old peer }
         ensures { self.new ≡ map.insert self.old peer live }
     {
-        let place = place_of(&self.live, peer);
-        if is_at(&self.live, place, peer) {
-            self.live[place].1 = live;
+        if is_at(&self.live, place.index, peer) {
+            self.live[place.index].1 = live;
         } else {
-            insert_at(&mut self.live, place, (peer, live));
+            insert_at(&mut self.live, place.index, (peer, live));
         }
     }
 
     /// Ends a peer's transfer, if it has one.
-    pub(crate) fn end(&mut self, peer: Peer)
+    pub(crate) fn end(&mut self, peer: Peer, place: Place)
+        requires { IsPlaceOf self.old peer place }
         ensures { self.new ≡ map.remove self.old peer }
     {
-        let place = place_of(&self.live, peer);
-        if is_at(&self.live, place, peer) {
-            let _ended = self.live.remove(place);
+        if is_at(&self.live, place.index, peer) {
+            let _ended = self.live.remove(place.index);
         }
     }
 
     /// The next block of a peer's transfer was sent.
-    pub(crate) fn go_on(&mut self, peer: Peer, now: Moment)
-        requires { IfSome (map.get self.old peer) (λ x. is_at_last x ≡ false) }
+    pub(crate) fn go_on(&mut self, peer: Peer, place: Place, now: Moment)
+        requires place { IsPlaceOf self.old peer place }
+        requires more { IfSome (map.get self.old peer) (λ x. is_at_last x ≡ false) }
         ensures { self.new ≡ changed self.old peer (gone_on now.0) }
     {
-        let place = place_of(&self.live, peer);
-        if is_at(&self.live, place, peer) {
-            self.live[place].1.go_on(now);
+        if is_at(&self.live, place.index, peer) {
+            self.live[place.index].1.go_on(now);
         }
     }
 
     /// The first packet of a peer's transfer was sent again.
-    pub(crate) fn ask_again(&mut self, peer: Peer, now: Moment)
+    pub(crate) fn ask_again(&mut self, peer: Peer, place: Place, now: Moment)
+        requires { IsPlaceOf self.old peer place }
         ensures { self.new ≡ changed self.old peer (asked_again now.0) }
     {
-        let place = place_of(&self.live, peer);
-        if is_at(&self.live, place, peer) {
-            self.live[place].1.ask_again(now);
+        if is_at(&self.live, place.index, peer) {
+            self.live[place.index].1.ask_again(now);
         }
     }
 }

@@ -34,7 +34,7 @@ returns-in-Ok-Ack-clause-told g c =
 pub returns-in-Ok-Error-clause-told : goal.returns-in-Ok-Error-clause-told
 returns-in-Ok-Error-clause-told g c =
     let is : packet_of c.args.datagram.now.bytes.now ≡ Ok GivesUp = c.in-Ok-Error.ensures.exact ∙ ap (λ (p : Packet). Ok (meant_by p)) c.in-Ok-Error.field-0-is in
-    reads_none (λ t right. leave_decides c.args.datagram.now.at.0 c.args.self.now c.args.datagram.now.from c.args.datagram.now.bytes.now (view_at t c.args.datagram.now.hub c.args.datagram.now.from.ip) is)
+    reads_none (λ t right. leave_decides c.args.datagram.now.at.0 c.args.self.now c.args.datagram.now.from c.args.datagram.now.bytes.now (view_at t c.args.datagram.now.hub c.args.datagram.now.from.ip) c.find-place.result is)
 
 pub returns-in-Ok-Write-clause-told : goal.returns-in-Ok-Write-clause-told
 returns-in-Ok-Write-clause-told g c =

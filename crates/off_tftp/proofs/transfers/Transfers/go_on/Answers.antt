@@ -1,31 +1,31 @@
 use Rattle.std.proofs.Common.{◌≡◌, slice_set, ap, subst, false, Option, IfSome}
 use Rattle.off_defs.specs.State.{Transfer}
 use Rattle.off_transfer_rules.specs.Transfers.{gone_on, is_at_last}
-use Rattle.off_tftp.proofs.EntryLemmas.{got, set_is_put, sorted_put, kept_changed, unchanged}
+use Rattle.off_tftp.proofs.EntryLemmas.{own_place, got, set_is_put, sorted_put, kept_changed, unchanged}
 use Rattle.off_tftp.proofs.transfers.Transfers.go_on.Goals as goal
 
 pub go_on-requires : goal.go_on-requires
 go_on-requires c =
     subst (λ (o : Option Transfer). IfSome o (λ (x : Transfer). is_at_last x ≡ false))
-    (got c.args.peer c.args.self.now c.self.inside.live.items c.place_of-place.result c.index_mut.result.now c.is_at.result c.self.invariant.0 c.self.view_is c.place_of-place.ensures.place
+    (got c.args.peer c.args.self.now c.self.inside.live.items c.args.place.index c.index_mut.result.now c.is_at.result c.self.invariant.0 c.self.view_is (own_place c.args.peer c.args.self.now c.self.inside.live.items c.args.place.index c.self.invariant.0 c.self.view_is c.requires.place)
     c.is_at.ensures c.if-is_at.true c.index_mut.ensures.value)
-    c.requires
+    c.requires.more
 
 pub invariant_of-self : goal.invariant_of-self
 invariant_of-self c = (
   sorted_put c.args.peer c.go_on.new.self c.self.inside.live.items _ c.self.invariant.0
-      (set_is_put c.args.peer c.self.inside.live.items c.place_of-place.result c.index_mut.result.now c.go_on.new.self c.is_at.result c.place_of-place.ensures.place c.is_at.ensures c.if-is_at.true c.index_mut.ensures.value),
+      (set_is_put c.args.peer c.self.inside.live.items c.args.place.index c.index_mut.result.now c.go_on.new.self c.is_at.result (own_place c.args.peer c.args.self.now c.self.inside.live.items c.args.place.index c.self.invariant.0 c.self.view_is c.requires.place) c.is_at.ensures c.if-is_at.true c.index_mut.ensures.value),
   c.self.invariant.1,
   c.self.invariant.2,
 )
 
 pub returns-then-is_at : goal.returns-then-is_at
 returns-then-is_at c =
-    kept_changed c.args.peer c.args.self.now c.self.inside.live.items _ c.place_of-place.result c.index_mut.result.now c.is_at.result (gone_on c.args.now.0) c.self.invariant.0 c.self.view_is
-    c.place_of-place.ensures.place c.is_at.ensures c.if-is_at.true c.index_mut.ensures.value
-    (ap (λ (x : Transfer). slice_set c.self.inside.live.items c.place_of-place.result (c.index_mut.result.now.0, x)) c.go_on.ensures)
+    kept_changed c.args.peer c.args.self.now c.self.inside.live.items _ c.args.place.index c.index_mut.result.now c.is_at.result (gone_on c.args.now.0) c.self.invariant.0 c.self.view_is
+    (own_place c.args.peer c.args.self.now c.self.inside.live.items c.args.place.index c.self.invariant.0 c.self.view_is c.requires.place) c.is_at.ensures c.if-is_at.true c.index_mut.ensures.value
+    (ap (λ (x : Transfer). slice_set c.self.inside.live.items c.args.place.index (c.index_mut.result.now.0, x)) c.go_on.ensures)
 
 pub returns-else-is_at : goal.returns-else-is_at
 returns-else-is_at c =
-    unchanged c.args.peer c.args.self.now c.self.inside.live.items c.place_of-place.result c.is_at.result (gone_on c.args.now.0) c.self.invariant.0 c.self.view_is c.place_of-place.ensures.place
+    unchanged c.args.peer c.args.self.now c.self.inside.live.items c.args.place.index c.is_at.result (gone_on c.args.now.0) c.self.invariant.0 c.self.view_is (own_place c.args.peer c.args.self.now c.self.inside.live.items c.args.place.index c.self.invariant.0 c.self.view_is c.requires.place)
     c.is_at.ensures c.if-is_at.false

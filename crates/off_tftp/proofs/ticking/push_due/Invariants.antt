@@ -1,9 +1,0 @@
--- What is sent again of those so far is said.
-use Rattle.std.proofs.Common.{◌≡◌, take}
-use Rattle.std.specs.List.{flat_map}
-use Rattle.off_transfer_rules.specs.Ticks.{tick_items}
-use Rattle.off_tftp.specs.Saying.{says_more}
-use Rattle.off_tftp.proofs.ticking.push_due.Given as goal
-
-abbrev pub invariant-loop-place : goal.invariant-loop-place
-invariant-loop-place l = l.out ≡ says_more l.fn.out (flat_map (tick_items l.now.0) (take l.place l.entries.items))
