@@ -1,22 +1,26 @@
 -- The lease of an address behind writes, by the last of them that changes it.
-use Rattle.std.proofs.Common.{◌≡◌, ℕ, zero, suc, ◌+◌, ◌<◌, true, false, cond, not, Option, Some, None, unwrap_or, option_and_then, List, [], ◌∷◌, ◌++◌, length, take, refl, sym, ap, ◌∙◌, arith}
+use Rattle.std.proofs.Common.{◌≡◌, ℕ, zero, suc, ◌+◌, ◌<◌, ◌≤◌, Bool, true, false, cond, not, Option, Some, None, unwrap_or, option_and_then, List, [], ◌∷◌, ◌++◌, length, take, refl, sym, ap, subst, ◌∙◌, arith}
 use Rattle.std.proofs.lemmas.Bool.{not-true, not-false}
-use Rattle.std.specs.List.{slice_get}
+use Rattle.std.specs.List.{slice_get, filter}
 use Rattle.std.specs.Ordering.{eq_by_cmp}
 use Rattle.off_base.specs.declared.addresses.Ip4.{Ip4}
 use Rattle.off_defs.specs.declared.keys.Key.TheVariants as key
 use Rattle.off_defs.specs.declared.tables.Row.{Row}
 use Rattle.off_defs.specs.declared.tables.Row.TheVariants as row
 use Rattle.off_defs.specs.declared.tables.DeviceLease.{DeviceLease}
-use Rattle.off_defs.specs.declared.orders.Write.{Write}
-use Rattle.off_defs.specs.declared.orders.Write.TheVariants.{Put, Drop}
+use Rattle.off_defs.specs.declared.writes.Write.{Write}
+use Rattle.off_defs.specs.declared.writes.Write.TheVariants.{Put, Drop}
 use Rattle.off_defs.specs.State.{Tables}
 use Rattle.off_defs.specs.Tables.{row_at, with_row, written, write_all}
 use Rattle.off_defs.proofs.TableLemmas.{row_with, row_without}
-use Rattle.off_account_rules.specs.Rows.{as_device, device_in}
-use Rattle.off_outside.proofs.KeeperLemmas.{reads_as, reads_none, spent_none, spent_one, spent_within}
+use Rattle.off_account_rules.specs.Rows.{passes, as_device, device_in}
+use Rattle.off_account_rules.specs.Good.{is_address}
+use Rattle.off_outside.specs.KeeperSeen.{KeeperSeen}
+use Rattle.off_outside.specs.KeeperCalls.{Spent}
+use Rattle.off_outside.proofs.KeeperLemmas.{reads_as, reads_none, spent_none, spent_one, spent_then, spent_within}
 use Rattle.off_cpe_laws.proofs.RowLemmas.{device_read, device_without}
 use Rattle.off_behind.specs.Changes.{change_of, old_at, olds_of, by_address}
+use Rattle.off_behind.specs.Neighbours.{is_elsewhere, elsewhere}
 use Rattle.off_behind.proofs.WriteLemmas.{written_more}
 
 -- what a change leaves to an address
@@ -104,6 +108,67 @@ olds_grow t ws i old olds within at so_far = let there = some_there ws i within 
 pub length-olds : (t : Tables) (ws : List Write) → length (olds_of t ws) ≡ length ws
 length-olds t [] = refl
 length-olds t (w ∷ ws) = ap suc (length-olds (written t w) ws)
+
+-- ---- how many of them are read
+
+length-filter-append : {A : Type 0} (p : A → Bool) (xs ys : List A) → length (filter p (xs ++ ys)) ≡ length (filter p xs) + length (filter p ys)
+length-filter-append p [] ys = omega arith
+length-filter-append p (x ∷ xs) ys =
+    elim (p x) as (λ b. length (cond b (x ∷ filter p (xs ++ ys)) (filter p (xs ++ ys))) ≡ length (cond b (x ∷ filter p xs) (filter p xs)) + length (filter p ys)) [
+      | true ↦ omega (arith, length-filter-append p xs ys)
+      | false ↦ length-filter-append p xs ys
+    ]
+
+length-filter-one : {A : Type 0} (p : A → Bool) (x : A) → length (filter p (x ∷ [])) ≡ cond (p x) 1 0
+length-filter-one p x = elim (p x) as (λ b. length (cond b (x ∷ []) []) ≡ cond b 1 0) [ true ↦ refl | false ↦ refl ]
+
+take_more : {A : Type 0} (xs : List A) (i : ℕ) (x : A) → slice_get xs i ≡ Some x → take (i + 1) xs ≡ take i xs ++ x ∷ []
+take_more {A} xs i x is = ap (λ n. take n xs) (next i) ∙ go xs i is
+  where
+    next : (n : ℕ) → n + 1 ≡ suc n
+    next n = omega arith
+
+    go : (ys : List A) (k : ℕ) → slice_get ys k ≡ Some x → take (suc k) ys ≡ take k ys ++ x ∷ []
+    go [] k e = cc
+    go (y ∷ ys) zero e = let same : y ≡ x = cc in ap (λ z. z ∷ []) same
+    go (y ∷ ys) (suc k) e = ap (λ zs. y ∷ zs) (go ys k e)
+
+few_taken : {A : Type 0} (p : A → Bool) (xs : List A) (k : ℕ) → length (filter p (take k xs)) ≤ length (filter p xs)
+few_taken p xs zero = omega arith
+few_taken p [] (suc k) = omega arith
+few_taken p (x ∷ xs) (suc k) =
+    elim (p x) as (λ b. length (cond b (x ∷ filter p (take k xs)) (filter p (take k xs))) ≤ length (cond b (x ∷ filter p xs) (filter p xs))) [
+      | true ↦ omega (arith, few_taken p xs k)
+      | false ↦ few_taken p xs k
+    ]
+
+pub spent_grows : (known : Option (Ip4 × DeviceLease)) (ws : List Write) (i : ℕ) {a b c : KeeperSeen} → i < length ws → Spent (length (elsewhere known (take i ws))) a b
+    → ((w : Write) → slice_get ws i ≡ Some w → Spent (cond (is_elsewhere known w) 1 0) b c) → Spent (length (elsewhere known (take (i + 1) ws))) a c
+spent_grows known ws i within so_far one =
+    let there = some_there ws i within in
+    spent_within (spent_then so_far (one there.0 there.1))
+    (omega (
+      arith,
+      ap (λ (xs : List Write). length (elsewhere known xs)) (take_more ws i there.0 there.1),
+      length-filter-append (is_elsewhere known) (take i ws) (there.0 ∷ []),
+      length-filter-one (is_elsewhere known) there.0,
+    ))
+
+pub spent_in_all : (known : Option (Ip4 × DeviceLease)) (ws : List Write) (i : ℕ) {a b : KeeperSeen} → Spent (length (elsewhere known (take i ws))) a b → Spent (length (elsewhere known ws)) a b
+spent_in_all known ws i so_far = spent_within so_far (few_taken (is_elsewhere known) ws i)
+
+-- a write whose address is the one that is known asks none, and each other one asks one at most
+pub spent_at : (known : Option (Ip4 × DeviceLease)) (w x : Write) (a : Ip4) (lease : Option DeviceLease) {b c : KeeperSeen} → Some x ≡ Some w → Some (a, lease) ≡ change_of x
+    → Spent (cond (passes (λ entry. is_address a entry.0) known) 0 1) b c → Spent (cond (is_elsewhere known w) 1 0) b c
+spent_at known w x a lease {b} {c} same is spent =
+    let e : x ≡ w = cc in
+    subst (λ (n : ℕ). Spent n b c)
+    (swapped (passes (λ (entry : Ip4 × DeviceLease). is_address a entry.0) known)
+    ∙ ap (λ (change : Option (Ip4 × Option DeviceLease)). cond (passes (λ (ch : Ip4 × Option DeviceLease). not (passes (λ (entry : Ip4 × DeviceLease). is_address ch.0 entry.0) known)) change) 1 0) (is ∙ ap change_of e)) spent
+  where
+    swapped : (b : Bool) → ◌≡◌ {A = ℕ} (cond b 0 1) (cond (not b) 1 0)
+    swapped true = refl
+    swapped false = refl
 
 -- one reading at most
 pub ruleset one_read = (reads_as, reads_none, spent_none, spent_one, spent_within)

@@ -8,3 +8,4 @@ pub mod FormerLemmas
 pub mod ReadLemmas
 pub mod FollowLemmas
 pub mod DropLemmas
+pub mod NeighbourLemmas

@@ -1,7 +1,7 @@
 -- The rows of one kind as a list in the order of their own keys: what a put and a drop make of it. Pools, modems and leases are such lists too.
-use Rattle.std.proofs.Common.{◌≡◌, Bool, true, false, cond, not, ◌&&◌, Option, Some, None, List, [], ◌∷◌, inl, inr, refl, sym, ap, subst, ◌∙◌}
+use Rattle.std.proofs.Common.{◌≡◌, Bool, true, false, cond, not, Option, Some, None, List, [], ◌∷◌, inl, inr, refl, sym, ap, subst, ◌∙◌}
 use lib.Dec.{T}
-use Rattle.std.specs.Ordering.{is_eq, is_lt, eq_by_cmp}
+use Rattle.std.specs.Ordering.{is_eq, eq_by_cmp}
 use Rattle.std.specs.List.{filter, filter_map, cons_option}
 use Rattle.std.specs.Cmp.{IsTotalOrder}
 use Rattle.std.specs.declared.cmp.Ordering.{Ordering}
@@ -19,16 +19,13 @@ use Rattle.off_defs.specs.State.{Tables}
 use Rattle.off_defs.specs.Tables.{with_row, without}
 use Rattle.off_defs.proofs.KeyLemmas.{key_total, key_exact}
 use Rattle.off_defs.proofs.EntryLemmas.{first, second}
+use Rattle.off_defs.proofs.ListingLemmas.{listed_sorted}
 use Rattle.off_defs.proofs.TableLemmas.{entries_with, entries_without}
 use Rattle.off_account_rules.specs.Rows.{device_of, devices}
 use Rattle.off_table_laws.proofs.ListLemmas.{In, made_in}
 use Rattle.off_table_laws.proofs.EntryRows.{below_in}
 use Rattle.off_behind.specs.Changes.{by_address}
 use Rattle.off_cpe_laws.proofs.RowLemmas.{made}
-
-pub both : (a b : Bool) → T a → T b → T (a && b)
-both true b p q = q
-both false b p q = absurd p
 
 module _ {K X N Y : Type 0} (R : K → K → Ordering) (o : IsTotalOrder R) (exact : (a b : K) → R a b ≡ Equal → a ≡ b) (give : K × X → Option (N × Y)) (key_of : N → K) (row_of : Y → X)
     (gives : (n : N) (y : Y) → give (key_of n, row_of y) ≡ Some (n, y))
@@ -105,27 +102,6 @@ module _ {K X N Y : Type 0} (R : K → K → Ordering) (o : IsTotalOrder R) (exa
             | false ↦ rest
           ]
 
-  -- they stand in the order of their own keys
-  listed_below : (n : N) (es : List (K × X)) → T (list.below_all R (key_of n) es) → T (list.below_all by_key n (filter_map give es))
-  listed_below n [] h = tt
-  listed_below n (e ∷ es) h =
-      let after = listed_below n es (second _ _ h) in
-      elim (give e) as (λ g. give e ≡ g → T (list.below_all by_key n (cons_option g (filter_map give es)))) [
-        | None ↦ λ f. after
-        | Some z ↦ λ f. both (is_lt (by_key n z.0)) (list.below_all by_key n (filter_map give es)) (subst (λ (k : K). T (is_lt (R (key_of n) k))) (named e z.0 z.1 f) (first _ _ h)) after
-      ] refl
-
-  listed_sorted : (es : List (K × X)) → T (list.is_sorted R es) → T (list.is_sorted by_key (filter_map give es))
-  listed_sorted [] h = tt
-  listed_sorted (e ∷ es) h =
-      let after = listed_sorted es (second _ _ h) in
-      elim (give e) as (λ g. give e ≡ g → T (list.is_sorted by_key (cons_option g (filter_map give es)))) [
-        | None ↦ λ f. after
-        | Some z ↦ λ f.
-            both (list.below_all by_key z.0 (filter_map give es)) (list.is_sorted by_key (filter_map give es))
-            (listed_below z.0 es (subst (λ (k : K). T (list.below_all R k es)) (named e z.0 z.1 f) (first _ _ h))) after
-      ] refl
-
   -- nothing of the key is in a list of those above it
   none_kept : (n : N) (ys : List (N × Y)) → ((z : N × Y) → In z ys → by_key n z.0 ≡ Less) → filter (keeps_z n) ys ≡ ys
   none_kept n [] below = refl
@@ -188,4 +164,4 @@ devices_lost t a held none =
     ∙ listed_lost key_cmp key_total key_exact device_of key.Device row.Device (λ n y. refl) named_device a held (map.entries t) none (map.entries_sorted t)
 
 pub devices_sorted : (t : Tables) → T (list.is_sorted by_address (devices t))
-devices_sorted t = listed_sorted key_cmp key_total key_exact device_of key.Device row.Device (λ n y. refl) named_device (map.entries t) (map.entries_sorted t)
+devices_sorted t = listed_sorted key_cmp device_of key.Device named_device (map.entries t) (map.entries_sorted t)

@@ -12,8 +12,8 @@ use Rattle.off_base.specs.declared.addresses.Ip4.{Ip4}
 use Rattle.off_defs.specs.declared.keys.Key.TheVariants as key
 use Rattle.off_defs.specs.declared.tables.Row.TheVariants as row
 use Rattle.off_defs.specs.declared.tables.DeviceLease.{DeviceLease}
-use Rattle.off_defs.specs.declared.orders.Write.{Write}
-use Rattle.off_defs.specs.declared.orders.Write.TheVariants.{Put, Drop}
+use Rattle.off_defs.specs.declared.writes.Write.{Write}
+use Rattle.off_defs.specs.declared.writes.Write.TheVariants.{Put, Drop}
 use Rattle.off_defs.specs.State.{Tables}
 use Rattle.off_defs.specs.Tables.{written}
 use Rattle.off_defs.proofs.KeyLemmas.{key_total, key_exact}
@@ -24,7 +24,8 @@ use Rattle.off_table_laws.proofs.MadeLemmas.{made_with, made_without}
 use Rattle.off_cpe_laws.proofs.RowLemmas.{listed_device}
 use Rattle.off_behind.specs.Buckets.{Leases, Bucket, bucket_at, is_in, Indexes}
 use Rattle.off_behind.specs.Changes.{change_of, old_at, holds, by_address, place_in, without_address, taken}
-use Rattle.off_behind.proofs.ListingLemmas.{both, devices_with, devices_without, devices_lost, devices_sorted}
+use Rattle.off_defs.proofs.EntryLemmas.{both}
+use Rattle.off_behind.proofs.ListingLemmas.{devices_with, devices_without, devices_lost, devices_sorted}
 use Rattle.off_behind.proofs.BucketWrites.{bucket_put, bucket_drop, put_fresh, filters_swap, filter_all}
 
 -- addresses are in an order

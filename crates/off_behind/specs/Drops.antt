@@ -2,7 +2,7 @@
 use Rattle.std.specs.Prelude.{◌≡◌, ◌==◌, Bool, not, true, ◌&&◌, nat_le, List, Option, is_some}
 use Rattle.std.specs.List.{filter, list_any}
 use Rattle.off_base.specs.declared.addresses.Ip4.{Ip4}
-use Rattle.off_defs.specs.declared.orders.Write.{Write}
+use Rattle.off_defs.specs.declared.writes.Write.{Write}
 use Rattle.off_account_rules.specs.Rows.{passes}
 use Rattle.off_behind.specs.Buckets.{Leases}
 use Rattle.off_behind.specs.Changes.{change_of}

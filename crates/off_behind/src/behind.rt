@@ -2,16 +2,16 @@ ghost use Rattle.std.specs.Prelude.{◌≡◌, List, [], IfOk, OnOk, length, vec
 ghost use Rattle.off_base.specs.declared.addresses.Ip4.{Ip4};
 ghost use Rattle.off_defs.specs.declared.tables.DeviceLease.{DeviceLease};
 ghost use Rattle.off_account_rules.specs.Rows.{devices};
-ghost use Rattle.off_cpe_rules.specs.Behind.{own_among, others_among};
 ghost use Rattle.off_defs.specs.State.{Tables};
 ghost use Rattle.off_defs.specs.Tables.{write_all};
 ghost use Rattle.off_behind.specs.Buckets.{bucket_of, bucket_at, Indexes, leases_in};
 ghost use Rattle.off_behind.specs.Changes.{HasRoom, olds_of};
+ghost use Rattle.off_behind.specs.Neighbours.{AreNeighbours, StandsIn};
 ghost use Rattle.off_outside.specs.KeeperCalls.{Looks, WalksOnce};
 
 use crate::bucket::Bucket;
 use crate::buckets::{bucket_of, empty};
-use crate::leases::{others_among, own_among};
+use crate::leases::{Neighbours, neighbours_among};
 use crate::reading::take_all;
 use crate::writing::{follow_writes, reserve_all, take_writes};
 use off_base::{Ip4, Mac, Moment, NoMemory};
@@ -48,8 +48,8 @@ impl Devices {
         })
     }
 
-    /// The leases of a keeper's tables. It walks over them once, and commits nothing. After an error
-    /// there is nothing; `Failed` comes only where the keeper counted a fault.
+    /// The leases of a keeper's tables. It walks over them once, and commits nothing. After an
+    /// error there is nothing; `Failed` comes only where the keeper counted a fault.
     pub fn of<K: Keeper>(alloc: Global, keeper: &mut K) -> Result<Devices, KeepErr>
         ensures told { Looks result (K.seen keeper.old) (K.seen keeper.new)
             (λ index t. Indexes index (devices t)) }
@@ -82,9 +82,9 @@ impl Devices {
         take_writes(&mut self.buckets, writes, olds);
     }
 
-    /// Takes writes that were done, whatever leases their addresses had: each bucket is searched for
-    /// each address of a device's lease that is written. There is room in hand for those that they
-    /// put.
+    /// Takes writes that were done, whatever leases their addresses had. Where they put no device's
+    /// lease, each bucket is gone over once for all that they drop; else it's searched for each
+    /// address of a device's lease that is written. There is room in hand for those that they put.
     pub fn follow(&mut self, writes: &Writes)
         requires { HasRoom writes.now self.old }
         ensures { (t : Tables) → Indexes self.old (devices t)
@@ -93,20 +93,13 @@ impl Devices {
         follow_writes(&mut self.buckets, writes);
     }
 
-    /// The address of the device's own lease behind the modem.
-    pub fn own(&self, modem: Mac, device: Mac) -> Option<Ip4>
-        ensures { (leases : List (Ip4 × DeviceLease)) → Indexes self.now leases
-            → result ≡ own_among modem device leases }
+    /// What the leases behind the modem are to one of its devices. One bucket is gone over, once.
+    pub fn neighbours(&self, now: Moment, modem: Mac, device: Mac) -> Neighbours
+        ensures are { (leases : List (Ip4 × DeviceLease)) → Indexes self.now leases
+            → AreNeighbours result now.0 modem device leases }
+        ensures stands { (t : Tables) → Indexes self.now (devices t) → StandsIn result.own t }
     {
-        own_among(self.bucket(modem), modem, device)
-    }
-
-    /// How many other devices have live leases behind the modem.
-    pub fn others(&self, now: Moment, modem: Mac, device: Mac) -> u64
-        ensures { (leases : List (Ip4 × DeviceLease)) → Indexes self.now leases
-            → result ≡ others_among now.0 modem device leases }
-    {
-        others_among(self.bucket(modem), now, modem, device)
+        neighbours_among(self.bucket(modem), now, modem, device)
     }
 
     // The bucket of a modem.

@@ -1,48 +1,45 @@
 //! Leases of devices in the order of their addresses.
 
-ghost use Rattle.std.specs.Prelude.{◌≡◌, ◌&&◌, not, ◌<◌, length};
+ghost use Rattle.std.specs.Prelude.{◌≡◌, ◌&&◌, ◌<◌, length};
 ghost use Rattle.off_account_rules.specs.Rows.{passes};
 ghost use Rattle.off_account_rules.specs.Good.{is_mac, device_owner, is_same_owner};
-ghost use Rattle.off_cpe_rules.specs.Behind.{is_live, is_owned, is_behind, is_other};
-ghost use Rattle.off_cpe_rules.specs.Behind.{own_among, others_among};
+ghost use Rattle.off_cpe_rules.specs.Behind.{is_live, is_owned, is_behind};
+ghost use Rattle.off_behind.specs.Neighbours.{AreNeighbours};
 
 use off_base::{Ip4, Mac, Moment};
 use off_defs::{DeviceHold, DeviceLease};
 
-/// The address of the device's own lease behind the modem.
-pub(crate) fn own_among(leases: &[(Ip4, DeviceLease)], modem: Mac, device: Mac) -> Option<Ip4>
-    ensures { result ≡ own_among modem device leases.now }
-{
-    for entry in leases {
-        if is_owned(modem, device, entry.1) {
-            return Some(entry.0);
-        }
-    }
-    None
+/// What the leases behind a modem are to one of its devices.
+#[derive(Clone, Copy, Debug, PartialEq, Eq)]
+pub struct Neighbours {
+    /// The device's own lease, with its address.
+    pub own: Option<(Ip4, DeviceLease)>,
+    /// How many other devices have live leases.
+    pub others: u64,
 }
 
-/// How many other devices have live leases behind the modem.
-pub(crate) fn others_among(
+/// What the leases behind a modem are to one of its devices, of leases that may be of other modems
+/// too.
+pub(crate) fn neighbours_among(
     leases: &[(Ip4, DeviceLease)],
     now: Moment,
     modem: Mac,
     device: Mac,
-) -> u64
-    ensures { result ≡ others_among now.0 modem device leases.now }
+) -> Neighbours
+    ensures { AreNeighbours result now.0 modem device leases.now }
 {
+    let mut own = None;
     let mut others = 0_u64;
     for entry in leases {
-        if is_other(now, modem, device, entry.1) {
-            others += 1;
+        if is_behind(modem, entry.1) {
+            if is_owned(modem, device, entry.1) {
+                own = own.or(Some(*entry));
+            } else if is_live(now, entry.1) {
+                others += 1;
+            }
         }
     }
-    others
-}
-
-fn is_other(now: Moment, modem: Mac, device: Mac, lease: DeviceLease) -> bool
-    ensures { result ≡ is_other now.0 modem device lease }
-{
-    is_behind(modem, lease) && !is_owned(modem, device, lease) && is_live(now, lease)
+    Neighbours { own, others }
 }
 
 fn is_live(now: Moment, lease: DeviceLease) -> bool

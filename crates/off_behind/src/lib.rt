@@ -13,4 +13,4 @@ mod writing;
 
 pub use behind::Devices;
 pub use formers::read_olds;
-pub use leases::{is_mac, owner_of};
+pub use leases::{Neighbours, is_mac, owner_of};

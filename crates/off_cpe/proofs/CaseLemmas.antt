@@ -4,23 +4,24 @@ use Rattle.std.proofs.lemmas.Bool.{and_parts}
 use Rattle.std.specs.List.{list_all}
 use Rattle.off_base.specs.declared.addresses.Ip4.{Ip4}
 use Rattle.off_base.specs.declared.macs.Mac.{Mac}
+use Rattle.off_defs.specs.declared.tables.DeviceHold.TheVariants.{Offered}
 use Rattle.off_defs.specs.declared.tables.DeviceLease.{DeviceLease}
 use Rattle.off_defs.specs.State.{Tables}
 use Rattle.off_dhcp.specs.Datagram.{Received}
-use Rattle.off_account_rules.specs.Rows.{device_in, device_pools}
-use Rattle.off_asking.specs.Asking.{is_discover, is_request, is_decline}
+use Rattle.off_account_rules.specs.Rows.{passes, device_in, device_pools}
+use Rattle.off_asking.specs.Asking.{client, is_discover, is_request, is_decline}
 use Rattle.off_asking.specs.Choice.{pool_among}
 use Rattle.off_asking.specs.Claims.{refused_by}
 use Rattle.off_cpe_rules.specs.Behind.{device_case, chosen_in}
 use Rattle.off_cpe_rules.specs.Rules.{early, late, rules_for}
-use Rattle.off_cpe_rules.specs.Steps.{settled, settled_in, step_behind, accepts, offers, acknowledges, declines, releases, refuses, reply_to_refused, step_by, unless_refused}
+use Rattle.off_cpe_rules.specs.Steps.{is_live_bound, own_drop, own_elsewhere, device_row, for_some, reply_for, settled, settled_in, step_behind, accepts, offers, acknowledges, declines, releases, refuses, reply_to_refused, step_by, unless_refused}
 use Rattle.off_cpe_rules.specs.declared.cases.DeviceCase.{DeviceCase}
 use Rattle.off_cpe_rules.specs.declared.results.DeviceStep.{DeviceStep}
 use Rattle.off_cpe_rules.specs.declared.words.DeviceWord.{DeviceWord}
 use Rattle.off_cpe_rules.specs.declared.words.DeviceWord.TheVariants as word
 use Rattle.off_cpe.specs.Stages.{own_rules, row_rules}
 
-refused_none : (xs ys : List (DeviceWord × Bool)) → refused_by xs ≡ None → refused_by (xs ++ ys) ≡ refused_by ys
+pub refused_none : (xs ys : List (DeviceWord × Bool)) → refused_by xs ≡ None → refused_by (xs ++ ys) ≡ refused_by ys
 refused_none [] ys none = refl
 refused_none (x ∷ xs) ys none =
     elim x.1 as (λ b. cond b (Some x.0) (refused_by xs) ≡ None → cond b (Some x.0) (refused_by (xs ++ ys)) ≡ refused_by ys) [
@@ -80,22 +81,31 @@ module _ (now : ℕ) (modem : Mac) (m : Received) (c : DeviceCase) where
   late_accepts chosen lease passed none =
       sym (settled_late chosen lease passed ∙ ap (unless_refused m c (accepts now modem m c chosen lease)) none)
 
-  -- the lease matters to a DISCOVER alone
-  accepts_same : (chosen : Option Ip4) (lease other : Option DeviceLease) → (is_discover m ≡ true → lease ≡ other)
+  -- the lease matters to a DISCOVER alone, and there by whether it's bound and lasts
+  abbrev lasts : Option DeviceLease → Bool
+  lasts lease = passes (is_live_bound now) lease
+
+  abbrev offers_by : Option Ip4 → Bool → DeviceStep
+  offers_by chosen lasts =
+      step_by word.Offer (for_some
+      (λ address. cond lasts [] (own_drop (own_elsewhere address c.own) ++ device_row address (Offered modem (client m)) 120 now ∷ [])) chosen) (reply_for 2 m c chosen)
+
+  accepts_same : (chosen : Option Ip4) (lease other : Option DeviceLease) → (is_discover m ≡ true → lasts lease ≡ lasts other)
       → accepts now modem m c chosen lease ≡ accepts now modem m c chosen other
   accepts_same chosen lease other same =
       let rest = cond (is_request m) (acknowledges now modem m c chosen) (cond (is_decline m) (declines now chosen) (releases chosen)) in
-      elim (is_discover m) as (λ b. (b ≡ true → lease ≡ other) → cond b (offers now modem m c chosen lease) rest ≡ cond b (offers now modem m c chosen other) rest) [
-        | true ↦ λ s. ap (offers now modem m c chosen) (s refl)
+      elim (is_discover m) as (λ b. (b ≡ true → lasts lease ≡ lasts other) → cond b (offers now modem m c chosen lease) rest ≡ cond b (offers now modem m c chosen other) rest) [
+        | true ↦ λ s. ap (offers_by chosen) (s refl)
         | false ↦ λ s. refl
       ] same
 
-  lease_matters : (chosen : Option Ip4) (lease other : Option DeviceLease) → (is_discover m ≡ true → lease ≡ other)
+  lease_matters : (chosen : Option Ip4) (lease other : Option DeviceLease) → (is_discover m ≡ true → lasts lease ≡ lasts other)
       → settled now modem m c chosen lease ≡ settled now modem m c chosen other
   unfolding settled
   lease_matters chosen lease other same = ap (λ s. unless_refused m c s (refused_by (rules_for m c chosen))) (accepts_same chosen lease other same)
 
-  pub case_answered : (t : Tables) (chosen : Option Ip4) (lease : Option DeviceLease) → chosen ≡ chosen_in t now m c → (is_discover m ≡ true → lease ≡ option_and_then (device_in t) chosen)
+  pub case_answered : (t : Tables) (chosen : Option Ip4) (lease : Option DeviceLease) → chosen ≡ chosen_in t now m c
+      → (is_discover m ≡ true → lasts lease ≡ lasts (option_and_then (device_in t) chosen))
       → settled now modem m c chosen lease ≡ settled_in t now modem m c (chosen_in t now m c)
   case_answered t chosen lease chose leased =
       lease_matters chosen lease (option_and_then (device_in t) chosen) leased ∙ ap (settled_in t now modem m c) chose

@@ -3,5 +3,5 @@ mod CaseLemmas
 mod RowLemmas
 mod StageLemmas
 mod ChoiceLemmas
-mod PoolLemmas
 mod WriteLemmas
+mod LeaseLemmas

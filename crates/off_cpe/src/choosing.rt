@@ -1,32 +1,30 @@
 //! The address that a message is about, and its lease.
 
-ghost use Rattle.std.specs.Prelude.{◌≡◌, true, Some, None, option_and_then, if◌then◌else◌};
+ghost use Rattle.std.specs.Prelude.{◌≡◌, false, Some, None, if◌then◌else◌};
 ghost use Rattle.std.specs.Option.{option_or};
 ghost use Rattle.off_base.specs.declared.addresses.Ip4.{Ip4};
 ghost use Rattle.off_defs.specs.State.{Tables};
-ghost use Rattle.off_account_rules.specs.Rows.{has_address, device_in, device_pools};
-ghost use Rattle.off_asking.specs.Asking.{is_discover};
+ghost use Rattle.off_account_rules.specs.Rows.{has_address, device_pools};
+ghost use Rattle.off_asking.specs.Asking.{is_discover, claimed};
 ghost use Rattle.off_asking.specs.Choice.{least_of, provided, choice_by, pool_among};
 ghost use Rattle.off_cpe_rules.specs.Behind.{is_free, chosen_in};
 ghost use Rattle.off_runs.specs.Held.{KeepsPools};
 ghost use Rattle.off_device_runs.specs.Ground.{device_ground};
-ghost use Rattle.off_cpe.specs.Stages.{IsBehind};
-ghost use Rattle.off_outside.specs.KeeperCalls.{Looks, Spent};
+ghost use Rattle.off_cpe.specs.Stages.{IsBehind, own_lease};
 
 use off_asking::{Asked, at_address, claimed, is_discover};
 use off_base::Ip4;
 use off_cpe_rules::DeviceCase;
 use off_defs::{DeviceLease, Pool};
 use off_device_runs::DeviceRuns;
-use off_outside::{KeepErr, Keeper};
-use off_readers::{has_address, read_device};
-use std::alloc::Global;
+use off_readers::has_address;
 
 /// The address that the message is about: for a DISCOVER it is chosen.
 pub(crate) fn choose(pools: &DeviceRuns, m: &Asked<'_>, case: &DeviceCase) -> Option<Ip4>
-    ensures { (t : Tables) → KeepsPools pools.now.pools (device_ground t)
+    ensures is { (t : Tables) → KeepsPools pools.now.pools (device_ground t)
         → case.now.pool ≡ pool_among (device_pools t) m.now
         → result ≡ chosen_in t pools.now.at m.now case.now }
+    ensures claimed { is_discover m.now ≡ false → result ≡ claimed m.now }
 {
     if !is_discover(m) {
         return claimed(m);
@@ -102,23 +100,16 @@ fn if_so(holds: bool, address: Ip4) -> Option<Ip4>
     if holds { Some(address) } else { None }
 }
 
-/// The lease of the address that is offered. For other messages it doesn't matter, and is no call.
-#[tactic(auto, using(crate::proofs::Chain::rows))]
-pub(crate) fn lease_of<K: Keeper>(
-    alloc: Global,
-    keeper: &mut K,
-    m: &Asked<'_>,
-    chosen: Option<Ip4>,
-) -> Result<Option<DeviceLease>, KeepErr>
-    ensures told { Looks result (K.seen keeper.old) (K.seen keeper.new)
-        (λ lease t. is_discover m.now ≡ true → lease ≡ option_and_then (device_in t) chosen) }
-    ensures few { Spent 1 (K.seen keeper.old) (K.seen keeper.new) }
+/// The lease of the address that is chosen, where it's the device's own. Any other one that is
+/// chosen for an offer is free, so that its lease doesn't matter.
+pub(crate) fn own_lease(own: Option<(Ip4, DeviceLease)>, chosen: Option<Ip4>) -> Option<DeviceLease>
+    ensures { result ≡ own_lease own chosen }
 {
-    if !is_discover(m) {
-        return Ok(None);
-    }
-    match chosen {
-        Some(address) => read_device(alloc, keeper, address),
-        None => Ok(None),
+    let (held, lease) = own?;
+    let address = chosen?;
+    if held.0 == address.0 {
+        Some(lease)
+    } else {
+        None
     }
 }

@@ -20,5 +20,5 @@ mod ruling;
 mod settling;
 mod writing;
 
-pub use answering::{answer, answer_by};
+pub use answering::{DeviceAnswer, answer, answer_by};
 pub use off_cpe_rules::{DeviceStep, DeviceWord};

@@ -1,33 +1,45 @@
 //! Which modem the client of a message is behind.
 
-ghost use Rattle.std.specs.Prelude.{◌≡◌, ◌||◌, if◌then◌else◌, Ok, Some, None, option_and_then};
-ghost use Rattle.std.specs.Prelude.{true};
-ghost use Rattle.off_asking.specs.Asking.{is_request, is_release};
+ghost use Rattle.std.specs.Prelude.{◌≡◌, ◌||◌, Ok, Some, None, option_map, option_and_then};
+ghost use Rattle.std.specs.Prelude.{true, is_some, IfOk, IfSome};
+ghost use Rattle.off_asking.specs.Asking.{is_discover, is_request, is_release};
 ghost use Rattle.off_cpe_rules.specs.Behind.{is_another, named_modem, modem_for};
 ghost use Rattle.off_cpe_rules.specs.Behind.{recorded_modem, modem_behind};
 ghost use Rattle.off_cpe.specs.Calls.{is_own, is_own_by};
+ghost use Rattle.off_cpe.specs.Stages.{IsFound};
 ghost use Rattle.off_outside.specs.KeeperCalls.{Looks, Spent};
 
 use off_asking::{Asked, Kind, client, is_relay_cut, relayed};
 use off_base::Mac;
 use off_behind::{is_mac, owner_of};
-use off_defs::DeviceLease;
+use off_defs::{DeviceLease, Modem};
 use off_outside::{KeepErr, Keeper};
 use off_readers::{read_device, read_modem};
 use std::alloc::Global;
 
-/// The modem that the client is behind, where it's a device. It's one call at most.
+/// The modem that a device is behind.
+#[derive(Clone, Copy, Debug, PartialEq, Eq)]
+pub(crate) struct FoundModem {
+    pub(crate) mac: Mac,
+    /// The number of its subscriber, where its row was read.
+    pub(crate) subscriber: Option<u32>,
+}
+
+/// The modem that the client is behind, where it's a device. It's one call at most. For a DISCOVER
+/// it's the modem's row that is read.
 #[tactic(auto, using(crate::proofs::Chain::rows), unfolding(off_cpe_rules::specs::Behind::modem_behind))]
 pub(crate) fn modem_behind<K: Keeper>(
     alloc: Global,
     keeper: &mut K,
     m: &Asked<'_>,
-) -> Result<Option<Mac>, KeepErr>
+) -> Result<Option<FoundModem>, KeepErr>
     ensures told { Looks result (K.seen keeper.old) (K.seen keeper.new)
-        (λ modem t. modem ≡ modem_behind t m.now) }
+        (λ found t. IsFound found t (modem_behind t m.now)) }
     ensures own { is_own m.now ≡ true → result ≡ Ok None }
     ensures spent { is_own m.now ≡ true → Spent 0 (K.seen keeper.old) (K.seen keeper.new) }
     ensures once { Spent 1 (K.seen keeper.old) (K.seen keeper.new) }
+    ensures discovered { is_discover m.now ≡ true
+        → IfOk result (λ found. IfSome found (λ modem. is_some modem.subscriber ≡ true)) }
 {
     if is_relay_cut(m) {
         return Ok(None);
@@ -45,19 +57,20 @@ fn named_modem<K: Keeper>(
     keeper: &mut K,
     m: &Asked<'_>,
     remote: Mac,
-) -> Result<Option<Mac>, KeepErr>
+) -> Result<Option<FoundModem>, KeepErr>
     ensures told { Looks result (K.seen keeper.old) (K.seen keeper.new)
-        (λ modem t. modem ≡ named_modem t m.now remote) }
+        (λ found t. IsFound found t (named_modem t m.now remote)) }
     ensures own { is_own_by m.now (Some remote) ≡ true → result ≡ Ok None }
     ensures spent { is_own_by m.now (Some remote) ≡ true
         → Spent 0 (K.seen keeper.old) (K.seen keeper.new) }
     ensures once { Spent 1 (K.seen keeper.old) (K.seen keeper.new) }
+    ensures read { IfOk result (λ found. IfSome found (λ modem. is_some modem.subscriber ≡ true)) }
 {
     if !is_another(m, remote) {
         return Ok(None);
     }
     let row = read_modem(alloc, keeper, remote)?;
-    Ok(if_so(row.is_some(), remote))
+    Ok(on_record(remote, row))
 }
 
 fn is_another(m: &Asked<'_>, remote: Mac) -> bool
@@ -67,10 +80,18 @@ fn is_another(m: &Asked<'_>, remote: Mac) -> bool
     remote.0.as_slice() != client.0.as_slice()
 }
 
-fn if_so(holds: bool, modem: Mac) -> Option<Mac>
-    ensures { result ≡ (if holds then Some modem else None) }
+// The modem by its row, where it has one.
+fn on_record(mac: Mac, row: Option<Modem>) -> Option<FoundModem>
+    ensures { result ≡ option_map
+        (λ row. record { mac = mac; subscriber = Some row.subscriber }) row }
 {
-    if holds { Some(modem) } else { None }
+    match row {
+        Some(row) => Some(FoundModem {
+            mac,
+            subscriber: Some(row.subscriber),
+        }),
+        None => None,
+    }
 }
 
 // The modem of the lease that the client has, where it renews or releases it.
@@ -79,9 +100,9 @@ fn recorded_modem<K: Keeper>(
     alloc: Global,
     keeper: &mut K,
     m: &Asked<'_>,
-) -> Result<Option<Mac>, KeepErr>
+) -> Result<Option<FoundModem>, KeepErr>
     ensures told { Looks result (K.seen keeper.old) (K.seen keeper.new)
-        (λ modem t. modem ≡ recorded_modem t m.now) }
+        (λ found t. IsFound found t (recorded_modem t m.now)) }
     ensures own { is_own_by m.now None ≡ true → result ≡ Ok None }
     ensures spent { is_own_by m.now None ≡ true
         → Spent 0 (K.seen keeper.old) (K.seen keeper.new) }
@@ -91,7 +112,18 @@ fn recorded_modem<K: Keeper>(
         return Ok(None);
     }
     let lease = read_device(alloc, keeper, m.ciaddr())?;
-    Ok(modem_for(client(m), lease))
+    Ok(unread(modem_for(client(m), lease)))
+}
+
+// A modem whose row isn't read.
+fn unread(modem: Option<Mac>) -> Option<FoundModem>
+    ensures { result ≡ option_map (λ mac. record { mac = mac; subscriber = None }) modem }
+{
+    let mac = modem?;
+    Some(FoundModem {
+        mac,
+        subscriber: None,
+    })
 }
 
 fn is_of_a_lease(m: &Asked<'_>) -> bool

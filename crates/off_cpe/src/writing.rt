@@ -2,7 +2,7 @@
 
 ghost use Rattle.std.specs.Prelude.{◌≡◌, ◌++◌, [], ◌∷◌, IfOk, OnOk};
 ghost use Rattle.off_account_rules.specs.Rows.{passes};
-ghost use Rattle.off_cpe_rules.specs.Steps.{device_row, device_drop, own_elsewhere};
+ghost use Rattle.off_cpe_rules.specs.Steps.{device_row, own_drop, own_elsewhere};
 ghost use Rattle.off_cpe_rules.specs.Steps.{is_bound, is_live_bound, offered, bound};
 ghost use Rattle.off_cpe_rules.specs.Steps.{set_aside, given_up};
 
@@ -97,7 +97,7 @@ fn push_row(
 }
 
 fn push_drop(writes: &mut Writes, address: Option<Ip4>) -> Result<(), NoMemory>
-    ensures { OnOk result (writes.new ≡ writes.old ++ device_drop address) }
+    ensures { OnOk result (writes.new ≡ writes.old ++ own_drop address) }
 {
     match address {
         Some(address) => writes.push(Write::Drop(Key::Device(address))),

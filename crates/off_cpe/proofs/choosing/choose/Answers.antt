@@ -7,11 +7,11 @@ use Rattle.off_asking.specs.Asking.{is_discover, at_address, named_address, clai
 use Rattle.off_asking.specs.Choice.{choice_by}
 use Rattle.off_cpe_rules.specs.Behind.{is_free}
 use Rattle.off_cpe.specs.Stages.{IsBehind}
-use Rattle.off_cpe.proofs.PoolLemmas.{discovered}
+use Rattle.off_asking.proofs.PoolLemmas.{discovered}
 use Rattle.off_cpe.proofs.choosing.choose.Goals as goal
 
-pub returns-in-Some : goal.returns-in-Some
-returns-in-Some c = λ t keeps served.
+pub returns-in-Some-clause-is : goal.returns-in-Some-clause-is
+returns-in-Some-clause-is c = λ t keeps served.
     let m = c.args.m.now in
     let now = c.args.pools.now.at in
     let case = c.args.case.now in

@@ -4,7 +4,7 @@ use Rattle.off_account_rules.specs.Rows.{has_address, device_pools}
 use Rattle.off_runs.specs.Runs.{is_open}
 use Rattle.off_device_runs.specs.Ground.{device_ground, expiry_in}
 use Rattle.off_cpe.proofs.ChoiceLemmas.{open_is_free}
-use Rattle.off_cpe.proofs.PoolLemmas.{free_there}
+use Rattle.off_runs.proofs.OpenLemmas.{free_there}
 use Rattle.off_cpe.proofs.choosing.is_free.Goals as goal
 
 pub returns-then-has_address : goal.returns-then-has_address

@@ -4,7 +4,7 @@ use Rattle.off_defs.specs.declared.tables.Pool.{Pool}
 use Rattle.off_account_rules.specs.Rows.{device_pools}
 use Rattle.off_runs.specs.Runs.{in_pool}
 use Rattle.off_device_runs.specs.Ground.{device_ground}
-use Rattle.off_cpe.proofs.PoolLemmas.{relay_pool, renewed_pool, no_pool, not_zero, zero_too}
+use Rattle.off_asking.proofs.PoolLemmas.{relay_pool, renewed_pool, no_pool, not_zero, zero_too}
 use Rattle.off_cpe.proofs.gathering.pool_for.Goals as goal
 
 pub returns-then-relay-ne0-clause-is : goal.returns-then-relay-ne0-clause-is

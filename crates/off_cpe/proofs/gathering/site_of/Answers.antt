@@ -4,7 +4,7 @@ use Rattle.off_defs.specs.State.{Tables}
 use Rattle.off_account_rules.specs.Rows.{hub_in, site_of}
 use Rattle.off_runs.specs.Held.{KeepsPools}
 use Rattle.off_runs.specs.Leases.{ground}
-use Rattle.off_cpe.proofs.StageLemmas.{looks_as}
+use Rattle.off_readers.proofs.LooksLemmas.{looks_as}
 use Rattle.off_cpe.proofs.gathering.site_of.Goals as goal
 
 pub returns-clause-told : goal.returns-clause-told
