@@ -1,4 +1,4 @@
-pub mod EntryTrees
-pub mod HeightLemmas
+pub mod EntryLemmas
 pub mod MemKeeperLemmas
-pub mod TreeLemmas
+pub mod PlaceLemmas
+pub mod ShelfLemmas

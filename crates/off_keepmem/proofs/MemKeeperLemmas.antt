@@ -1,13 +1,13 @@
 -- A keeper in memory: its entries as tables, and what it tells of a call.
-use Rattle.std.proofs.Common.{◌≡◌, ℕ, ◌≤◌, not, Option, Some, List, [], ◌∷◌, Result, Ok, Err, inl, length, refl, sym, ap, subst, ◌∙◌, arith, suc, zero, ◌+◌, ◌++◌, take, slice_get, add-one}
+use Rattle.std.proofs.Common.{◌≡◌, ◌≤◌, not, Option, List, [], ◌∷◌, Result, Ok, Err, inl, length, refl, sym, ap, subst, ◌∙◌, arith}
 use Rattle.std.specs.List.{filter, find}
 use Rattle.std.specs.Ordering.{eq_by_cmp}
 use Rattle.std.specs.FinMap as map
 use Rattle.std.specs.FinMap.Entries as list
 use Rattle.off_defs.specs.declared.keys.Key.{Key}
 use Rattle.off_defs.specs.declared.tables.Row.{Row}
-use Rattle.off_defs.specs.declared.orders.Write.{Write}
-use Rattle.off_defs.specs.declared.orders.Write.TheVariants.{Put, Drop}
+use Rattle.off_defs.specs.declared.writes.Write.{Write}
+use Rattle.off_defs.specs.declared.writes.Write.TheVariants.{Put, Drop}
 use Rattle.off_defs.specs.Keys.{key_cmp}
 use Rattle.off_defs.specs.State.{Tables}
 use Rattle.off_defs.specs.Tables.{row_at, with_row, without, written, write_all, is_after, next_entry}
@@ -19,11 +19,9 @@ use Rattle.off_defs.specs.Counts.{Tallied, one_more, most_count}
 use Rattle.off_defs.proofs.CountLemmas.{tallied_one}
 use Rattle.off_outside.specs.InMemory.{CallsHeld}
 use Rattle.off_outside.specs.KeeperCalls.{Still, Crash, Reads, NotDone, Looks, Commits, WasCounted, keeper_faults_in}
-use Rattle.off_keepmem.specs.KeeperInMemory.{MemKeeperHeld, keeper_seen, MemRead, MemUndone, MemLooks, MemCommits, IsShallow}
-use Rattle.off_keepmem.specs.Trees.{Rises, row_in, put_entry, but_key, next_in, entries_written, rows_after}
-use Rattle.off_keepmem.specs.Heights.{TreeHeld, FitsDepth, least_entries}
-use Rattle.off_keepmem.proofs.TreeLemmas.{rises_none, put_rises, drop_rises}
-use Rattle.off_keepmem.proofs.HeightLemmas.{few_in_45, fits_bare}
+use Rattle.off_keepmem.specs.KeeperInMemory.{MemKeeperHeld, keeper_seen, MemRead, MemUndone, MemLooks, MemCommits}
+use Rattle.off_keepmem.specs.Entries.{Rises, row_in, put_entry, but_key, next_in, entries_written, rows_after}
+use Rattle.off_keepmem.proofs.ShelfLemmas.{rises_none, put_rises, drop_rises}
 
 abbrev tables_of : List (Key × Row) → Tables
 tables_of entries = map.from_sorted {R = key_cmp} entries
@@ -38,23 +36,6 @@ row_held es key h = sym (map.get-from_sorted key_cmp es key h)
 pub next_held : (es : List (Key × Row)) (place : Option Key) → Rises es → next_in place es ≡ next_entry place (tables_of es)
 unfolding Rises next_in
 next_held es place h = ap (λ (v : List (Key × Row)). find (is_after place) v) (sym (map.entries-from_sorted key_cmp es h))
-
-pub shallow_held : (m : MemKeeperHeld) (rows : TreeHeld) → Rises rows.entries → FitsDepth rows → m.tables ≡ tables_of rows.entries → m.depth ≡ rows.depth → IsShallow m
-unfolding Rises
-shallow_held m rows rises fits tables depth =
-    let len : map.len m.tables ≡ length rows.entries = ap (λ (t : Tables). map.len t) tables
-    ∙ map.len-entries (tables_of rows.entries)
-    ∙ ap (λ (es : List (Key × Row)). length es) (map.entries-from_sorted key_cmp rows.entries rises) in
-    let least : least_entries m.depth ≤ map.len m.tables = omega (arith, fits.least, ap least_entries depth) in
-    record { least = least; few = λ below. few_in_45 m.depth (map.len m.tables) least below }
-
-pub shallow_same : (old new : MemKeeperHeld) → IsShallow old → new.tables ≡ old.tables → new.depth ≡ old.depth → IsShallow new
-shallow_same old new shallow tables depth =
-    let len : map.len new.tables ≡ map.len old.tables = ap (λ (t : Tables). map.len t) tables in
-    record {
-      least = omega (arith, len, shallow.least, ap least_entries depth);
-      few = λ below. let low : old.depth ≤ 45 = shallow.few (omega (arith, len)) in omega arith;
-    }
 
 put_held : (es : List (Key × Row)) (key : Key) (row : Row) → Rises es → Rises (put_entry key row es) → tables_of (put_entry key row es) ≡ with_row (tables_of es) key row
 unfolding Rises put_entry
@@ -166,4 +147,4 @@ commit_counted writes (Ok a) old new h = counted_by old new h.fits (ap (λ (v : 
 commit_counted writes (Err err) old new h = counted_by old new h.calls_fit (ap (λ (v : CallsHeld). v.made) h.calls)
 
 -- a keeper without rows
-pub ruleset none_rules = (none_held, rises_none, fits_bare)
+pub ruleset none_rules = (none_held, rises_none)

@@ -10,14 +10,13 @@ use Rattle.off_keepmem.specs.KeeperInMemory.{MemKeeperHeld}
 
 abbrev pub keeper_code : Coded MemKeeperHeld
 keeper_code =
-    code_by ((Tables × (ℕ × ℕ)) × ((List ℕ × ℕ) × (ℕ × ℕ)))
-    (coded× (coded× (map.code key.the_row.coded row.the_row.coded) (coded× coded_ℕ coded_ℕ))
+    code_by ((Tables × ℕ) × ((List ℕ × ℕ) × (ℕ × ℕ)))
+    (coded× (coded× (map.code key.the_row.coded row.the_row.coded) coded_ℕ)
     (coded× (coded× (coded_list coded_ℕ) coded_ℕ) (coded× coded_ℕ coded_ℕ)))
-    (λ m. ((m.tables, (m.depth, m.spare)), ((m.calls.listed, m.calls.made), (m.faults, m.commits))))
+    (λ m. ((m.tables, m.spare), ((m.calls.listed, m.calls.made), (m.faults, m.commits))))
     (λ p. record {
       tables = p.0.0;
-      depth = p.0.1.0;
-      spare = p.0.1.1;
+      spare = p.0.1;
       calls = record { listed = p.1.0.0; made = p.1.0.1 };
       faults = p.1.1.0;
       commits = p.1.1.1;

@@ -1,7 +1,7 @@
 -- The keeper in memory: what it holds, and exactly what each call makes of it.
-use Rattle.std.specs.Prelude.{◌≡◌, ℕ, ◌<◌, ◌≤◌, ◌^◌, max, List, Result, MatchResult}
+use Rattle.std.specs.Prelude.{◌≡◌, ℕ, ◌≤◌, max, List, Result, MatchResult}
 use Rattle.std.specs.FinMap as map
-use Rattle.off_defs.specs.declared.orders.Write.{Write}
+use Rattle.off_defs.specs.declared.writes.Write.{Write}
 use Rattle.off_defs.specs.State.{Tables}
 use Rattle.off_defs.specs.Tables.{write_all}
 use Rattle.off_defs.specs.Counts.{one_more, most_count}
@@ -9,30 +9,20 @@ use Rattle.off_outside.specs.InMemory.{CallsHeld, one_called, IsToFail}
 use Rattle.off_outside.specs.KeeperSeen.{KeeperSeen}
 use Rattle.off_outside.specs.declared.keeper.KeepErr.{KeepErr}
 use Rattle.off_outside.specs.declared.keeper.KeepErr.TheVariants.{Memory, Failed}
-use Rattle.off_keepmem.specs.Heights.{least_entries}
 
--- its tables, how many of the boxes of its tree of rows stand one below another, and how many it
--- has in stock for rows to come
+-- its tables, and how many empty shelves it has in stock for rows to come
 pub record MemKeeperHeld : Type 0 where
   pub tables : Tables
-  pub depth : ℕ
   pub spare : ℕ
   pub calls : CallsHeld
   pub faults : ℕ
   pub commits : ℕ
-
--- It has at least as many rows as a balanced tree of its depth (Adelson-Velsky and Landis, 1962).
--- So fewer than 2 ^ 32 rows stand in 45 levels at most
-pub record IsShallow (m : MemKeeperHeld) : Type 0 where
-  pub least : least_entries m.depth ≤ map.len m.tables
-  pub few : map.len m.tables < 2 ^ 32 → m.depth ≤ 45
 
 -- a new one
 abbrev pub empty_keeper : List ℕ → MemKeeperHeld
 empty_keeper fails =
     record {
       tables = map.empty;
-      depth = 0;
       spare = 0;
       calls = record { listed = fails; made = 0 };
       faults = 0;
@@ -92,18 +82,16 @@ faults_after Failed faults = one_more faults
 pub record MemUndone (err : KeepErr) (old new : MemKeeperHeld) : Type 0 where
   pub cause : IsCause err old.calls
   pub tables : new.tables ≡ old.tables
-  pub depth : new.depth ≡ old.depth
   pub calls : new.calls ≡ one_called old.calls
   pub calls_fit : old.calls.made ≤ most_count
   pub fits : old.faults ≤ most_count
   pub faults : new.faults ≡ faults_after err old.faults
   pub commits : new.commits ≡ old.commits
 
--- All but the stock of boxes is as before, and that has as many as are wanted at most, unless it
+-- All but the stock of shelves is as before, and that has as many as are wanted at most, unless it
 -- had more
 pub record SameButSpare (wanted : ℕ) (old new : MemKeeperHeld) : Type 0 where
   pub tables : new.tables ≡ old.tables
-  pub depth : new.depth ≡ old.depth
   pub calls : new.calls ≡ old.calls
   pub faults : new.faults ≡ old.faults
   pub commits : new.commits ≡ old.commits

@@ -1,9 +1,6 @@
-pub mod Heights
-pub mod Inside
+pub mod Entries
 pub mod KeeperCode
 pub mod KeeperInMemory
-pub mod NodeFalls
-pub mod Nodes
+pub mod Plans
 pub mod Puts
-pub mod Taken
-pub mod Trees
+pub mod Shelves

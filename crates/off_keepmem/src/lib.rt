@@ -1,14 +1,14 @@
-//! The tables in memory: a keeper over a balanced tree.
+//! The tables in memory: a keeper over shelves of rows.
 //!
 //! A commit first takes all the memory that it wants, and then makes its change without any, so it
 //! does all of its writes or none.
 #![tactic(auto)]
 
-mod balance;
-mod copies;
-mod growing;
+mod entry;
 mod mem_keeper;
-mod spare;
-mod tree;
+mod order;
+mod planned;
+mod shelf;
+mod table;
 
 pub use mem_keeper::{MemKeeper, Plan};

@@ -1,4 +1,4 @@
-ghost use Rattle.std.specs.Prelude.{◌≡◌, ◌+◌, ◌≤◌, ◌∷◌, ◌++◌, [], MatchResult, IfOk, OnOk};
+ghost use Rattle.std.specs.Prelude.{◌≡◌, ◌+◌, ◌≤◌, ◌∷◌, ◌++◌, [], min, MatchResult, IfOk, OnOk};
 ghost use Rattle.std.specs.Option.{option_map};
 ghost use Rattle.off_defs.specs.Counts.{most_count, one_more};
 ghost use Rattle.off_defs.specs.Told.{one_exact};
@@ -6,30 +6,23 @@ ghost use Rattle.off_defs.specs.Tables.{row_at, next_entry, write_all};
 ghost use Rattle.off_outside.specs.KeeperCalls.{Looks, Commits, WasCounted};
 ghost use Rattle.off_keepmem.specs.KeeperInMemory.{keeper_seen, KeeperTells, empty_keeper};
 ghost use Rattle.off_keepmem.specs.KeeperInMemory.{MemRead, MemUndone, MemLooks, MemCommits};
-ghost use Rattle.off_keepmem.specs.KeeperInMemory.{SameButSpare, IsShallow};
+ghost use Rattle.off_keepmem.specs.KeeperInMemory.{SameButSpare};
 ghost use Rattle.off_keepmem.specs.Puts.{puts_in, is_put};
 
-use crate::copies::copy_write;
-use crate::growing::write_all;
-use crate::spare::Spare;
-use crate::tree::Tree;
+use crate::planned::Planned;
+use crate::table::Table;
 use off_base::NoMemory;
 use off_defs::{Key, Row, Write, Writes};
 use off_outside::{Calls, Failing, KeepErr, Keeper, one_more};
 use off_rows::copy_row;
 use std::alloc::Global;
 use std::marker::Model;
-use std::mem;
 
-/// How high the tree of rows may be when more are to come.
-const MOST_LEVELS: u8 = 64;
-
-/// A keeper that holds its tables in memory, in a balanced tree. A call takes time that grows as
-/// the logarithm of the rows.
+/// A keeper that holds its tables in memory, on shelves of rows. A call looks through the list of
+/// shelves and then through one of them, by halves.
 #[derive(Drop)]
 pub struct MemKeeper {
-    rows: Tree,
-    spare: Spare,
+    rows: Table,
     failing: Failing,
     faults: u64,
     commits: u64,
@@ -39,7 +32,7 @@ impl Model for MemKeeper {
     ghost use Rattle.std.specs.FinMap as map;
     ghost use Rattle.off_keepmem.specs.KeeperInMemory.{MemKeeperHeld};
     ghost use Rattle.off_keepmem.specs.KeeperCode.{keeper_code};
-    ghost use Rattle.off_keepmem.specs.Inside.{RowsHeld};
+    ghost use Rattle.off_keepmem.specs.Entries.{Rises};
 
     ghost Value = { MemKeeperHeld };
 
@@ -47,27 +40,26 @@ impl Model for MemKeeper {
 
     ghost view = { λ m. record {
       tables = map.from_sorted m.rows.entries;
-      depth = m.rows.depth;
-      spare = m.spare;
+      spare = m.rows.spare;
       calls = m.failing;
       faults = m.faults;
       commits = m.commits;
     } };
 
-    ghost invariant = { λ m. RowsHeld m.rows m.spare };
+    ghost invariant = { λ m. Rises m.rows.entries };
 }
 
 /// Writes for which a keeper has taken all memory. Contracts see the list of them.
 #[derive(Drop)]
 pub struct Plan {
-    writes: Vec<Write>,
+    writes: Vec<Planned>,
 }
 
 impl Model for Plan {
     ghost use Rattle.std.specs.Prelude.{List};
     ghost use Rattle.std.specs.Coded.{codes};
-    ghost use Rattle.off_defs.specs.declared.orders.Write.{Write};
-    ghost use Rattle.off_defs.specs.contracts.orders.Write as write;
+    ghost use Rattle.off_defs.specs.declared.writes.Write.{Write};
+    ghost use Rattle.off_defs.specs.contracts.writes.Write as write;
 
     ghost Value = { List Write };
 
@@ -84,8 +76,7 @@ impl MemKeeper {
         ensures tells { KeeperTells result (⟦<MemKeeper as Keeper>⟧.seen result) }
     {
         MemKeeper {
-            rows: Tree::new(),
-            spare: Spare::new(alloc),
+            rows: Table::new(alloc),
             failing: Failing::new(fails),
             faults: 0,
             commits: 0,
@@ -100,16 +91,6 @@ impl MemKeeper {
         self.failing.made()
     }
 
-    /// How many boxes of the tree of rows stand one below another. A call goes down as many at
-    /// most, and its stack grows with them.
-    #[tactic(auto, using(crate::proofs::MemKeeperLemmas::shallow_held))]
-    pub fn depth(&self) -> u8
-        ensures depth { result ≡ self.now.depth }
-        ensures shallow { IsShallow self.now }
-    {
-        self.rows.height()
-    }
-
     /// Takes all the memory that these writes want, and changes no tables, also after `NoMemory`.
     /// It isn't counted as a call.
     pub fn plan(&mut self, alloc: Global, writes: &Writes) -> Result<Plan, NoMemory>
@@ -117,29 +98,33 @@ impl MemKeeper {
         ensures room { OnOk result (puts_in writes.now ≤ self.new.spare) }
         ensures rest { SameButSpare (puts_in writes.now) self.old self.new }
     {
-        let copies = copied(alloc, writes)?;
-        self.plan_owned(alloc, copies)
+        let planned = copied(alloc, writes)?;
+        self.ready(alloc, planned)
     }
 
     /// The same for writes that are given away: their rows are moved, and none is copied.
-    ///
-    /// A tree of more than 64 levels has over 2^45 rows, and gets no more (`NoMemory`): no machine
-    /// has the memory for their boxes.
-    #[tactic(auto, using(crate::proofs::HeightLemmas::most_in_64))]
     pub fn plan_owned(&mut self, alloc: Global, writes: Vec<Write>) -> Result<Plan, NoMemory>
         ensures plan { IfOk result (λ plan. plan ≡ writes.items) }
         ensures room { OnOk result (puts_in writes.items ≤ self.new.spare) }
         ensures rest { SameButSpare (puts_in writes.items) self.old self.new }
     {
-        if self.rows.height() > MOST_LEVELS {
-            return Err(NoMemory);
-        }
+        let planned = boxed(alloc, writes)?;
+        self.ready(alloc, planned)
+    }
+
+    /// The same where the rows have their boxes.
+    fn ready(&mut self, alloc: Global, writes: Vec<Planned>) -> Result<Plan, NoMemory>
+        ensures plan { IfOk result (λ plan. plan ≡ writes.items) }
+        ensures room { OnOk result (puts_in writes.items ≤ self.new.spare) }
+        ensures rest { SameButSpare (puts_in writes.items) self.old self.new }
+    {
         let puts = count_puts(&writes);
-        self.spare.reserve(alloc, puts)?;
+        self.rows.reserve(alloc, puts)?;
         Ok(Plan { writes })
     }
 
-    /// Does the writes of a plan, in order. It takes no memory, and isn't counted as a call.
+    /// Does the writes of a plan, in order, and then gives back all empty shelves but eight. It
+    /// takes no memory, and isn't counted as a call.
     #[tactic(auto, using(crate::proofs::MemKeeperLemmas::all_held))]
     pub fn apply(&mut self, plan: Plan)
         requires { puts_in plan ≤ self.old.spare }
@@ -147,11 +132,11 @@ impl MemKeeper {
         ensures calls { self.new.calls ≡ self.old.calls }
         ensures faults { self.new.faults ≡ self.old.faults }
         ensures commits { self.new.commits ≡ self.old.commits }
-        ensures spent { self.old.spare ≤ self.new.spare + puts_in plan }
-        ensures shallow { IsShallow self.new }
+        ensures few { self.new.spare ≤ 8 }
+        ensures spent { min self.old.spare 8 ≤ self.new.spare + puts_in plan }
     {
-        let rows = mem::replace(&mut self.rows, Tree::new());
-        self.rows = write_all(rows, plan.writes, &mut self.spare);
+        self.rows.write_all(plan.writes);
+        self.rows.trim();
     }
 
     /// Counts a call, and fails where it is listed.
@@ -159,7 +144,6 @@ impl MemKeeper {
         ensures did { MatchResult result (λ _. MemRead self.old self.new)
             (λ err. MemUndone err self.old self.new) }
         ensures fits { self.old.faults ≤ most_count }
-        ensures shallow { IsShallow self.new }
     {
         let faults = self.faults;
         if self.failing.call() {
@@ -174,7 +158,7 @@ impl MemKeeper {
     pub fn row(&self, alloc: Global, key: Key) -> Result<Option<Row>, NoMemory>
         ensures { IfOk result (λ row. row ≡ row_at self.now.tables key) }
     {
-        match self.rows.find(key) {
+        match self.rows.find(&key) {
             Some(row) => Ok(Some(copy_row(alloc, row)?)),
             None => Ok(None),
         }
@@ -210,10 +194,8 @@ impl MemKeeper {
         Ok(self.entry_behind(alloc, place)?)
     }
 
-    #[tactic(auto, using(crate::proofs::MemKeeperLemmas::shallow_same))]
     fn do_all(&mut self, alloc: Global, writes: &Writes) -> Result<(), KeepErr>
         ensures did { MemCommits result self.old self.new writes.now }
-        ensures shallow { IsShallow self.new }
     {
         self.count_call()?;
         let plan = self.plan(alloc, writes)?;
@@ -250,7 +232,6 @@ impl Keeper for MemKeeper {
         ensures told { Commits result (keeper_seen self.old) (keeper_seen self.new) writes.now }
         ensures counted { WasCounted (keeper_seen self.old) (keeper_seen self.new) }
         ensures exact { MemCommits result self.old self.new writes.now }
-        ensures shallow { IsShallow self.new }
     {
         self.do_all(alloc, writes)
     }
@@ -260,39 +241,41 @@ impl Keeper for MemKeeper {
     ghost rests = { λ m tables told opened might. absurd might };
 }
 
-/// The same writes again.
-fn copied(alloc: Global, writes: &Writes) -> Result<Vec<Write>, NoMemory>
+// The same writes again, with a box for each row.
+fn copied(alloc: Global, writes: &Writes) -> Result<Vec<Planned>, NoMemory>
     ensures { IfOk result (λ copies. copies.items ≡ writes.now) }
 {
     let mut copies = Vec::new(alloc);
     for i in 0..writes.len() {
         let write = writes.get(i);
-        push_copy(alloc, &mut copies, write)?;
+        push(&mut copies, Planned::copy(alloc, write)?)?;
     }
     Ok(copies)
 }
 
-fn push_copy(alloc: Global, copies: &mut Vec<Write>, write: &Write) -> Result<(), NoMemory>
-    ensures { OnOk result (copies.new.items ≡ copies.old.items ++ write.now ∷ []) }
+// Writes that are given away, with a box for each row.
+fn boxed(alloc: Global, writes: Vec<Write>) -> Result<Vec<Planned>, NoMemory>
+    ensures { IfOk result (λ planned. planned.items ≡ writes.items) }
 {
-    match copies.push(copy_write(alloc, write)?) {
+    let mut planned = Vec::new(alloc);
+    for write in writes {
+        push(&mut planned, Planned::new(alloc, write)?)?;
+    }
+    Ok(planned)
+}
+
+fn push(planned: &mut Vec<Planned>, write: Planned) -> Result<(), NoMemory>
+    ensures { OnOk result (planned.new.items ≡ planned.old.items ++ write ∷ []) }
+{
+    match planned.push(write) {
         Ok(()) => Ok(()),
         Err(_refused) => Err(NoMemory),
     }
 }
 
-/// How many of the writes put a row.
-fn count_puts(writes: &[Write]) -> usize
+// How many of the writes put a row.
+fn count_puts(writes: &[Planned]) -> usize
     ensures { result ≡ puts_in writes.now }
 {
-    writes.iter().filter(|write| puts_a_row(write)).count()
-}
-
-fn puts_a_row(write: &Write) -> bool
-    ensures { result ≡ is_put write.now }
-{
-    match write {
-        Write::Put(_key, _row) => true,
-        Write::Drop(_key) => false,
-    }
+    writes.iter().filter(|write| write.puts_a_row()).count()
 }

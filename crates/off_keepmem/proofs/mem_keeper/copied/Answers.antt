@@ -3,4 +3,4 @@ use Rattle.off_base.proofs.TreeLemmas.{taken}
 use Rattle.off_keepmem.proofs.mem_keeper.copied.Goals as goal
 
 pub loop-i-preserved : goal.loop-i-preserved
-loop-i-preserved c = rw (c.in_ok-push_copy.ensures, c.loop-i.invariant) (sym (taken _ _ _ c.get-write.ensures))
+loop-i-preserved c = rw (c.in_ok-push.ensures, c.loop-i.invariant, c.in_ok-copy.ensures) (sym (taken _ _ _ c.get-write.ensures))

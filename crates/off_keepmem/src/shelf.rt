@@ -1,0 +1,274 @@
+ghost use Rattle.std.specs.Prelude.{◌≡◌, ◌+◌, ◌<◌, ◌≤◌, ◌∷◌, ◌++◌, [], Some, length, take, drop};
+ghost use Rattle.std.specs.Prelude.{IfOk, vec_len, slice_get};
+ghost use Rattle.std.specs.List.{insert};
+ghost use Rattle.std.specs.Vec.{vec_capacity};
+ghost use Rattle.std.specs.Option.{option_map};
+ghost use Rattle.std.specs.Ordering.{is_lt, is_eq, is_gt};
+ghost use Rattle.off_keepmem.specs.Entries.{Rises, row_in, next_in, put_entry, but_key};
+ghost use Rattle.off_keepmem.specs.Entries.{compared, AreBelow, NoneBelow, is_in_front, lent_entry};
+ghost use Rattle.off_keepmem.specs.Shelves.{starts_by};
+
+use crate::entry::Entry;
+use crate::order::compared;
+use off_base::NoMemory;
+use off_defs::{Key, Row};
+use std::alloc::Global;
+use std::cmp::Ordering;
+use std::marker::Model;
+
+/// How many entries a shelf has room for.
+pub(crate) const ROOM: usize = 64;
+
+/// Entries in the order of their keys, with room for 64 from the start. Contracts see the list of
+/// them. The first key stands beside them, so that a search among shelves reads no entries.
+#[derive(Drop)]
+pub(crate) struct Shelf {
+    first: Key,
+    entries: Vec<Entry>,
+}
+
+impl Model for Shelf {
+    ghost use Rattle.std.specs.Prelude.{List, ◌≤◌, vec_len};
+    ghost use Rattle.std.specs.Vec.{vec_capacity};
+    ghost use Rattle.std.specs.Coded.{codes};
+    ghost use Rattle.off_defs.specs.declared.keys.Key.{Key};
+    ghost use Rattle.off_defs.specs.declared.tables.Row.{Row};
+    ghost use Rattle.off_defs.specs.contracts.keys.Key as key;
+    ghost use Rattle.off_defs.specs.contracts.tables.Row as row;
+    ghost use Rattle.off_keepmem.specs.Shelves.{StartsAt};
+
+    ghost Value = { List (Key × Row) };
+
+    ghost coded = { Prim.hlevel (codes, key.the_row.coded, row.the_row.coded) };
+
+    ghost view = { λ s. s.entries.items };
+
+    ghost invariant = { λ s. StartsAt s.first s.entries.items
+        × (vec_len s.entries ≤ 64)
+        × (64 ≤ vec_capacity s.entries) };
+}
+
+/// An entry whose row is lent.
+#[derive(Clone, Copy)]
+pub(crate) struct EntryRef<'a> {
+    pub(crate) key: Key,
+    pub(crate) row: &'a Row,
+}
+
+impl Shelf {
+    /// An empty shelf.
+    pub(crate) fn new(alloc: Global) -> Result<Shelf, NoMemory>
+        ensures { IfOk result (λ shelf. shelf ≡ []) }
+    {
+        match Vec::with_capacity(alloc, ROOM) {
+            Ok(entries) => Ok(Shelf {
+                first: Key::Site,
+                entries,
+            }),
+            Err(_refused) => Err(NoMemory),
+        }
+    }
+
+    /// How many entries there are.
+    pub(crate) fn len(&self) -> usize
+        ensures count { result ≡ length self.now }
+        ensures few { result ≤ 64 }
+    {
+        self.entries.len()
+    }
+
+    /// Whether the first entry has this key or one below it.
+    #[tactic(auto, using(crate::proofs::EntryLemmas::starts_is))]
+    pub(crate) fn starts_by(&self, key: &Key) -> bool
+        requires { 0 < length self.now }
+        ensures { result ≡ starts_by key.now self.now }
+    {
+        !is_below(key, &self.first)
+    }
+
+    /// The row of a key.
+    #[tactic(auto, using(crate::proofs::EntryLemmas::place_rules))]
+    pub(crate) fn get(&self, key: &Key) -> Option<&Row>
+        requires { Rises self.now }
+        ensures { option_map (λ row. row.now) result ≡ row_in key.now self.now }
+    {
+        let place = place_of(&self.entries, key);
+        if is_at(&self.entries, place, key) {
+            Some(self.entries[place].row())
+        } else {
+            None
+        }
+    }
+
+    /// The first entry behind a key.
+    #[tactic(auto, using(crate::proofs::EntryLemmas::place_rules))]
+    pub(crate) fn next(&self, key: &Key) -> Option<EntryRef<'_>>
+        requires { Rises self.now }
+        ensures { option_map lent_entry result ≡ next_in (Some key.now) self.now }
+    {
+        let place = place_of(&self.entries, key);
+        if is_at(&self.entries, place, key) {
+            entry_at(&self.entries, place + 1)
+        } else {
+            entry_at(&self.entries, place)
+        }
+    }
+
+    /// The first entry.
+    pub(crate) fn front(&self) -> Option<EntryRef<'_>>
+        ensures { option_map lent_entry result ≡ slice_get self.now 0 }
+    {
+        entry_at(&self.entries, 0)
+    }
+
+    /// Gives the key this row. Says at which place.
+    #[tactic(auto, using(crate::proofs::EntryLemmas::place_rules))]
+    pub(crate) fn put(&mut self, key: Key, row: Box<Row>) -> usize
+        requires rises { Rises self.old }
+        requires room { length self.old < 64 }
+        ensures entries { self.new ≡ put_entry key row.value self.old }
+        ensures within { result ≤ 64 }
+        ensures grows { length self.new ≤ length self.old + 1 }
+    {
+        let place = place_of(&self.entries, &key);
+        if is_at(&self.entries, place, &key) {
+            self.entries[place].replace(row);
+        } else {
+            insert_at(&mut self.entries, place, Entry::new(key, row));
+            self.first = *self.entries[0].key();
+        }
+        place
+    }
+
+    /// Takes the key's row away, if it has one.
+    #[tactic(auto, using(crate::proofs::EntryLemmas::place_rules))]
+    pub(crate) fn remove(&mut self, key: &Key)
+        requires { Rises self.old }
+        ensures entries { self.new ≡ but_key key.now self.old }
+        ensures shrinks { length self.new ≤ length self.old }
+    {
+        let place = place_of(&self.entries, key);
+        if is_at(&self.entries, place, key) {
+            let _entry = self.entries.remove(place);
+            if let Some(first) = self.entries.first() {
+                self.first = *first.key();
+            }
+        }
+    }
+
+    /// Moves the entries from a place on to an empty shelf.
+    pub(crate) fn split(&mut self, place: usize, upper: &mut Shelf)
+        requires within { 0 < place }
+        requires inside { place ≤ length self.old }
+        requires empty { upper.old ≡ [] }
+        ensures lower { self.new ≡ take place self.old }
+        ensures upper { upper.new ≡ drop place self.old }
+    {
+        move_from(&mut self.entries, place, &mut upper.entries);
+        if let Some(first) = upper.entries.first() {
+            upper.first = *first.key();
+        }
+    }
+
+    /// Moves all entries of another shelf behind these.
+    pub(crate) fn join(&mut self, other: &mut Shelf)
+        requires some { 0 < length self.old }
+        requires room { length self.old + length other.old ≤ 64 }
+        ensures all { self.new ≡ self.old ++ other.old }
+        ensures empty { other.new ≡ [] }
+    {
+        let _is_done = self.entries.append(&mut other.entries).is_ok();
+    }
+}
+
+// How many entries have keys below this one.
+#[tactic(auto, using(crate::proofs::EntryLemmas::search_rules))]
+fn place_of(entries: &Vec<Entry>, key: &Key) -> usize
+    requires { Rises entries.now.items }
+    ensures within { result ≤ vec_len entries.now }
+    ensures front { AreBelow key.now (take result entries.now.items) }
+    ensures behind { NoneBelow key.now (drop result entries.now.items) }
+{
+    let mut low = 0;
+    let mut high = entries.len();
+    'search: while low < high {
+        let middle = low + (high - low) / 2;
+        if is_above(key, entries[middle].key()) {
+            low = middle + 1;
+        } else {
+            high = middle;
+        }
+    }
+    low
+}
+
+// Whether the entry of this key stands at the place.
+#[tactic(auto, using(crate::proofs::EntryLemmas::front_rules))]
+fn is_at(entries: &Vec<Entry>, place: usize, key: &Key) -> bool
+    ensures { result ≡ is_in_front key.now (drop place entries.now.items) }
+{
+    if place < entries.len() {
+        is_same(key, entries[place].key())
+    } else {
+        false
+    }
+}
+
+fn is_above(key: &Key, other: &Key) -> bool
+    ensures { result ≡ is_gt (compared key.now other.now) }
+{
+    compared(key, other) == Ordering::Greater
+}
+
+fn is_same(key: &Key, other: &Key) -> bool
+    ensures { result ≡ is_eq (compared key.now other.now) }
+{
+    compared(key, other) == Ordering::Equal
+}
+
+fn is_below(key: &Key, other: &Key) -> bool
+    ensures { result ≡ is_lt (compared key.now other.now) }
+{
+    compared(key, other) == Ordering::Less
+}
+
+// The entry at a place, if there is one.
+fn entry_at(entries: &Vec<Entry>, place: usize) -> Option<EntryRef<'_>>
+    ensures { option_map lent_entry result ≡ slice_get entries.now.items place }
+{
+    if place < entries.len() {
+        let entry = &entries[place];
+        return Some(EntryRef {
+            key: *entry.key(),
+            row: entry.row(),
+        });
+    }
+    None
+}
+
+// Inserts an entry where there is room for it.
+fn insert_at(entries: &mut Vec<Entry>, place: usize, entry: Entry)
+    requires within { place ≤ vec_len entries.old }
+    requires room { vec_len entries.old < vec_capacity entries.old }
+    ensures items { entries.new.items ≡ insert entries.old.items place entry }
+    ensures len { vec_len entries.new ≡ vec_len entries.old + 1 }
+    ensures capacity { vec_capacity entries.old ≤ vec_capacity entries.new }
+{
+    let _is_done = entries.insert(place, entry).is_ok();
+}
+
+// Moves the entries from a place on to the end of a list that has room for them.
+fn move_from(entries: &mut Vec<Entry>, place: usize, upper: &mut Vec<Entry>)
+    requires inside { place ≤ vec_len entries.old }
+    requires room { vec_len upper.old + vec_len entries.old ≤ vec_capacity upper.old + place }
+    ensures lower { entries.new.items ≡ take place entries.old.items }
+    ensures lower_len { vec_len entries.new ≡ place }
+    ensures lower_room { vec_capacity entries.new ≡ vec_capacity entries.old }
+    ensures upper { upper.new.items ≡ upper.old.items ++ drop place entries.old.items }
+    ensures upper_len { vec_len upper.new + place ≡ vec_len upper.old + vec_len entries.old }
+    ensures upper_room { vec_capacity upper.old ≤ vec_capacity upper.new }
+{
+    for entry in entries.drain(place..) {
+        let _is_done = upper.push(entry).is_ok();
+    }
+}
