@@ -7,18 +7,20 @@ Openings: a journal of so many modems' rows (four each, as tests/bench/starts.py
 64 KiB of rows a record; the first with renewals behind it, RECORDS in all; and a file of SQLite's format with the rows. officed is started over each, by turns,
 and ends behind no turns, with status 0 where the tables are good: seconds, of the processor too, and the most memory, of the first start and the least of three.
 
-Commits: four clerks put subscribers one behind another, over a journal, over a file and in memory; before, between and behind them one sync and two syncs a
-change by a bare loop, which writes what a journal writes. Commits a second, the share of the bare loop's, and the processor's time of a change.
+Commits: clerks put subscribers one behind another, over a journal, over a file and in memory: sixteen of clerks_clients.c (by `cc`), which have a change ready
+whenever the office can take one, and four in Python, whose own time is in their figure. Before, between and behind them one sync and two syncs a change by a bare
+loop, which writes what a journal writes, to a file that grows and, for two, within one that has room. Commits a second, the share of each bare loop's, and the
+processor's time of a change: what the office takes for a connection and a request is in it. A commit by itself is measured by journal.main (tests/bench/run).
 
 It prints figures and judges nothing. It wants bin/officed built (or OFFICE_PROGRAM); files go to the folder of OFFICE_STORES, or to the system's for such files.
 How loaded the machine is, is printed with each part.
 """
-import json
 import multiprocessing
 import os
 import random
-import socket
+import shutil
 import struct
+import subprocess
 import sys
 import tempfile
 import time
@@ -27,11 +29,14 @@ import starts
 
 HERE = os.path.dirname(os.path.abspath(__file__))
 sys.path.insert(0, os.path.join(HERE, "..", "acceptance"))
-from harness import free_ports, processor_seconds, start, stop  # noqa: E402
-from harness.clerks import read_to_end, request  # noqa: E402
+from harness import free_ports, script, serving  # noqa: E402
+from harness.clerks import Clerk, is_heard  # noqa: E402
+from harness.machine import load, processor_seconds  # noqa: E402
 
 sys.dont_write_bytecode = True
-CLERKS, AT_ONCE = 4, 65_536
+CLERKS, MANY_CLERKS, AT_ONCE = 4, 16, 65_536
+# syncs a change of the bare loops, and the room that their file has
+LOOPS = {"one": (1, 0), "two": (2, 0), "two with room": (2, 1 << 20)}
 
 
 def put(key, row):
@@ -74,10 +79,6 @@ def made(path, writes, *what):
     return "journal:" + path
 
 
-def load():
-    return "load " + " ".join(f"{each:.1f}" for each in os.getloadavg())
-
-
 def openings(modems=200_000, records=5_000_000):
     rows = list(starts.rows(modems))
     random.Random(1).shuffle(rows)
@@ -100,10 +101,12 @@ def openings(modems=200_000, records=5_000_000):
         print(f"  {load()}", flush=True)
 
 
-def syncs(folder, each, seconds):
-    """Changes a second of a bare loop with one sync a change, or two."""
+def syncs(folder, each, room, seconds):
+    """Changes a second of a bare loop with one sync a change, or two, of a file that grows or, with room, within one."""
     done, place = 0, 0
     with open(os.path.join(folder, "bare"), "wb", buffering=0) as file:
+        os.pwrite(file.fileno(), bytes(room), 0)
+        os.fsync(file.fileno())
         until = time.perf_counter() + seconds
         while time.perf_counter() < until:
             os.pwrite(file.fileno(), b"\1" * 32, place + 1)
@@ -112,61 +115,74 @@ def syncs(folder, each, seconds):
                 os.pwrite(file.fileno(), b"\1", place)
                 os.fdatasync(file.fileno())
             done, place = done + 1, place + 32
+            if place + 33 > room > 0:
+                place = 0
     return done / seconds
 
 
 def clerk(port, first, seconds, told):
-    done, until = 0, time.perf_counter() + seconds
+    done, until, one = 0, time.perf_counter() + seconds, Clerk(port, patience=60)
     while time.perf_counter() < until:
-        body = json.dumps({"active": True, "cpes": 2, "name": f"Ann {done}"}).encode()
-        with socket.create_connection(("127.0.0.1", port), timeout=60) as peer:
-            peer.sendall(request("PUT", f"/subscribers/{first + done % 100_000}", body))
-            if b" 200 " not in (read_to_end(peer) or b"").split(b"\r\n")[0]:
-                raise SystemExit("a change isn't done")
+        one.must("PUT", f"/subscribers/{first + done % 100_000}", {"active": True, "cpes": 2, "name": f"Ann {done}"})
         done += 1
     told.put(done)
 
 
-def commits(store, seconds):
+def by_python(port, seconds):
+    """How many changes four clerks in Python make."""
+    told = multiprocessing.Queue()
+    clerks = [multiprocessing.Process(target=clerk, args=(port, 1_000_000 * (place + 1), seconds, told)) for place in range(CLERKS)]
+    for each in clerks:
+        each.start()
+    done = sum(told.get(timeout=60 + seconds) for _ in clerks)
+    for each in clerks:
+        each.join()
+    return done
+
+
+def by_c(program):
+    """The same of sixteen clerks of a program that takes little time itself."""
+    def put(port, seconds):
+        words = [program, str(port), str(MANY_CLERKS), str(int(seconds * 1000)), "1000000"]
+        return int(subprocess.run(words, stdout=subprocess.PIPE, check=True, timeout=60 + seconds).stdout.split()[0])
+    return put
+
+
+def commits(store, put, seconds):
     """Changes a second, and microseconds of processor of each."""
-    ports, told = free_ports(), multiprocessing.Queue()
-    with tempfile.TemporaryFile() as log:
-        program = start(ports, 10**12, log, store=store)
-        try:
-            for _ in range(600):
-                try:
-                    socket.create_connection(("127.0.0.1", ports[3]), timeout=1).close()
-                    break
-                except OSError:
-                    time.sleep(0.05)
-            before = processor_seconds(program.pid)
-            clerks = [multiprocessing.Process(target=clerk, args=(ports[3], 1_000_000 * (place + 1), seconds, told)) for place in range(CLERKS)]
-            for each in clerks:
-                each.start()
-            done = sum(told.get(timeout=60 + seconds) for _ in clerks)
-            for each in clerks:
-                each.join()
-            return done / seconds, (processor_seconds(program.pid) - before) / done * 1e6
-        finally:
-            stop(program)
+    ports = free_ports()
+    with tempfile.TemporaryFile() as log, serving(ports, log, store=store) as program:
+        is_heard(ports[3], seconds=60)
+        before, began = processor_seconds(program.pid), time.perf_counter()
+        done = put(ports[3], seconds)
+        return done / (time.perf_counter() - began), (processor_seconds(program.pid) - before) / done * 1e6
 
 
 def all_commits(seconds=5):
     with tempfile.TemporaryDirectory(dir=os.environ.get("OFFICE_STORES")) as folder:
-        print(f"changes by {CLERKS} clerks; {load()}", flush=True)
-        bare = {1: [], 2: []}
+        print(f"changes by clerks; {load()}", flush=True)
+        bare = {loop: [] for loop in LOOPS}
 
-        def both():
-            for each in bare:
-                bare[each].append(syncs(folder, each, 1))
-        stores = {"journal": ("journal:" + os.path.join(folder, "office.journal"), 2), "sqlite": (os.path.join(folder, "office.db"), 1), "memory": ("memory", None)}
-        both()
-        for name, (store, each) in stores.items():
-            rate, cost = commits(store, seconds)
-            both()
-            beside = f", {rate / (sum(bare[each][-2:]) / 2):.2f} of a bare loop of {each} syncs a change before and behind it" if each else ""
-            print(f"  {name}: {rate:.0f} a second, {cost:.0f} µs of processor each{beside}", flush=True)
-        print(f"  bare loops: {', '.join(f'{rate:.0f}' for rate in bare[1])} a second of one sync, {', '.join(f'{rate:.0f}' for rate in bare[2])} of two; {load()}")
+        def all_bare():
+            for loop, (each, room) in LOOPS.items():
+                bare[loop].append(syncs(folder, each, room, 0.5))
+        clerks = {f"{CLERKS} in Python": by_python}
+        if shutil.which("cc"):
+            program = os.path.join(folder, "clerks_clients")
+            subprocess.run(["cc", "-O2", "-o", program, os.path.join(HERE, "clerks_clients.c")], check=True)
+            clerks = {f"{MANY_CLERKS} in C": by_c(program), **clerks}
+        stores = {"journal": ("journal:" + os.path.join(folder, "office.journal"), ("two", "two with room")),
+                  "sqlite": (os.path.join(folder, "office.db"), ("one",)), "memory": ("memory", ())}
+        all_bare()
+        for name, (store, loops) in stores.items():
+            for who, put in clerks.items():
+                rate, cost = commits(store, put, seconds)
+                all_bare()
+                beside = "".join(f", {rate / (sum(bare[loop][-2:]) / 2):.2f} of the bare loop '{loop}' before and behind it" for loop in loops)
+                print(f"  {name}, {who}: {rate:.0f} a second, {cost:.0f} µs of processor each{beside}", flush=True)
+        for loop, rates in bare.items():
+            print(f"  bare, {loop}: {', '.join(f'{rate:.0f}' for rate in rates)} a second")
+        print(f"  {load()}")
 
 
 def main():
@@ -179,4 +195,4 @@ def main():
 
 
 if __name__ == "__main__":
-    sys.exit(main())
+    sys.exit(script(main))

@@ -1,8 +1,9 @@
 //! A crash at each call.
 
-use crate::journals::{Left, ROOM, ROWS, disk_of, found, run};
+use crate::journals::{Left, ROOM, ROWS, disk_of, found, run, run_in_steps};
 use off_base::NoMemory;
 use off_journal::JournalKeeper;
+use off_memdisk::MemDisk;
 use off_outside::Calls;
 use std::alloc::Global;
 use std::test::Fail;
@@ -12,6 +13,9 @@ const PICKS: u64 = 8;
 
 /// The writes and syncs of a run that opens a journal and puts all rows: three, and four a row.
 const ALL_CALLS: u64 = 19;
+
+// Room for one record of a row, and not for two.
+const STEP: usize = 30;
 
 // No run makes so many calls.
 const MANY_CALLS: u64 = 40;
@@ -110,6 +114,23 @@ fn whichever_call_fails(rt: HostRuntime) -> Result<(), Fail> {
     for one in 1..=ALL_CALLS {
         for last in one..=ALL_CALLS + 1 {
             let left = run(alloc, ROOM, failing(alloc, one, last)?)?;
+            assert!(rt;
+                all_kept(alloc, &left)?,
+                "call {one} fails, and {last} is the last"
+            );
+        }
+    }
+    Ok(())
+}
+
+// The disk grows in steps: a record that doesn't fit has zeros behind it.
+#[test]
+fn whichever_call_fails_in_steps(rt: HostRuntime) -> Result<(), Fail> {
+    let alloc = rt.alloc();
+    for one in 1..=ALL_CALLS {
+        for last in one..=ALL_CALLS + 1 {
+            let disk = MemDisk::new(alloc, ROOM, failing(alloc, one, last)?)?;
+            let left = run_in_steps(alloc, disk, STEP)?;
             assert!(rt;
                 all_kept(alloc, &left)?,
                 "call {one} fails, and {last} is the last"

@@ -84,6 +84,26 @@ fn a_commit_is_a_record(rt: HostRuntime) -> Result<(), Fail> {
     Ok(())
 }
 
+// Zeros stand behind the first record. The second is written over them; the third doesn't fit, and
+// has zeros behind it again.
+#[test]
+fn a_disk_grows_in_steps(rt: HostRuntime) -> Result<(), Fail> {
+    let alloc = rt.alloc();
+    let disk = MemDisk::new(alloc, ROOM, Calls::new(alloc))?;
+    let Ok(begun) = JournalKeeper::begin_with_room(alloc, disk, 30) else {
+        return Err(Fail::from("an empty disk isn't opened"));
+    };
+    let mut keeper = begun;
+    assert!(rt; put(alloc, &mut keeper, 0));
+    assert!(rt; keeper.disk().bytes().starts_with(&ONE_ROW));
+    assert_eq!(rt; keeper.disk().bytes().len(), 53);
+    assert!(rt; put(alloc, &mut keeper, 1));
+    assert_eq!(rt; keeper.disk().bytes().len(), 53);
+    assert!(rt; put(alloc, &mut keeper, 2));
+    assert_eq!(rt; keeper.disk().bytes().len(), 97);
+    Ok(())
+}
+
 #[test]
 fn files_are_opened_or_bad(rt: HostRuntime) -> Result<(), Fail> {
     let one_row = ONE_ROW.as_slice();

@@ -60,8 +60,12 @@ pub(crate) struct Left {
 
 /// Begins a journal on an empty disk, and puts each row, whatever became of those before it.
 pub(crate) fn run(alloc: Global, room: usize, fails: Calls) -> Result<Left, NoMemory> {
-    let disk = MemDisk::new(alloc, room, fails)?;
-    match JournalKeeper::begin(alloc, disk) {
+    run_in_steps(alloc, MemDisk::new(alloc, room, fails)?, 0)
+}
+
+/// The same, where a record that doesn't fit into the disk has so many zeros behind it.
+pub(crate) fn run_in_steps(alloc: Global, disk: MemDisk, step: usize) -> Result<Left, NoMemory> {
+    match JournalKeeper::begin_with_room(alloc, disk, step) {
         Ok(keeper) => Ok(filled(alloc, keeper)),
         Err(unopened) => Ok(unbegun(unopened)),
     }

@@ -24,26 +24,26 @@ module _ (ps : List (List ℕ)) (p : List ℕ) (n : ℕ) (long : length (blocks 
       → Leaves (EitherState ps p) d0 d1 × AllLeft (IsClosed ps) d1
   end_1 {d0} {d1} {k} w all = (record_leaves w.passes all, all_by w.passes all (λ d c has torn. torn_behind ps n long k d c has torn))
 
-  -- the record stands on the disk
-  staged : {d0 d1 : DiskSeen} → HasStored (n + 1) (closed_record p) d0 d1 → AllLeft (IsClosed ps) d0
+  -- the record stands on the disk, with room behind it
+  staged : (room : List ℕ) {d0 d1 : DiskSeen} → HasStored (n + 1) (closed_record p ++ room) d0 d1 → AllLeft (IsClosed ps) d0
       → Leaves (EitherState ps p) d0 d1 × AllLeft (IsDoubtful ps p) d1
-  staged s all = (
+  staged room s all = (
     record_leaves s.written.passes all,
-    stored_left (IsClosed ps) (IsDoubtful ps p) s all (λ d c has holds. written_behind ps n long p d c has holds),
+    stored_left (IsClosed ps) (IsDoubtful ps p) s all (λ d c has holds. written_behind ps n long p room d c has holds),
   )
 
   -- the gate failed
-  pub end_2 : {d0 d1 d2 : DiskSeen} → HasStored (n + 1) (closed_record p) d0 d1 → NotWritten n 1 d1 d2 → AllLeft (IsClosed ps) d0
+  pub end_2 : (room : List ℕ) {d0 d1 d2 : DiskSeen} → HasStored (n + 1) (closed_record p ++ room) d0 d1 → NotWritten n 1 d1 d2 → AllLeft (IsClosed ps) d0
       → Leaves (EitherState ps p) d0 d2 × AllLeft (IsDoubtful ps p) d2
-  end_2 s w all =
-      let one = staged s all in
+  end_2 room s w all =
+      let one = staged room s all in
       (leaves_then one.0 (gate_leaves w.passes one.1), gate_torn w.passes one.1)
 
   -- all is done
-  pub end_3 : {d0 d1 d2 : DiskSeen} → HasStored (n + 1) (closed_record p) d0 d1 → HasStored n (1 ∷ []) d1 d2 → AllLeft (IsClosed ps) d0
+  pub end_3 : (room : List ℕ) {d0 d1 d2 : DiskSeen} → HasStored (n + 1) (closed_record p ++ room) d0 d1 → HasStored n (1 ∷ []) d1 d2 → AllLeft (IsClosed ps) d0
       → Leaves (EitherState ps p) d0 d2 × AllLeft (IsClosed (ps ++ p ∷ [])) d2
-  end_3 s t all =
-      let one = staged s all in (
+  end_3 room s t all =
+      let one = staged room s all in (
         leaves_then one.0 (gate_leaves t.written.passes one.1),
         stored_left (IsDoubtful ps p) (IsClosed (ps ++ p ∷ [])) t one.1 (λ d c has holds. opened_gate ps n long p d c has holds),
       )
@@ -86,31 +86,33 @@ appended_1 {n} {k} {p} w = record {
   does = λ ps place all. end_1 ps p n place w all;
 }
 
-appended_2_at : (n : ℕ) (p : List ℕ) (d0 d1 d2 : DiskSeen) → HasStored (n + 1) (closed_record p) d0 d1 → NotWritten n 1 d1 d2 → Appends n p appended.Doubtful d0 d2
-appended_2_at n p d0 d1 d2 s w = record {
+appended_2_at : (n : ℕ) (p room : List ℕ) (d0 d1 d2 : DiskSeen) → HasStored (n + 1) (closed_record p ++ room) d0 d1 → NotWritten n 1 d1 d2
+    → Appends n p appended.Doubtful d0 d2
+appended_2_at n p room d0 d1 d2 s w = record {
   size = omega (arith, s.written.size, w.no_shorter);
   time = elapsed_then (elapsed s.written.passes) (elapsed w.passes);
-  long = omega (arith, s.written.size, w.no_shorter, record_size p);
+  long = omega (arith, s.written.size, w.no_shorter, record_size p, length-append (closed_record p) room);
   faults = grew_from s.written.faults w.faults;
-  does = λ ps place all. end_2 ps p n place s w all;
+  does = λ ps place all. end_2 ps p n place room s w all;
 }
 
-pub appended_2 : {n : ℕ} {p bytes : List ℕ} {d0 d1 d2 : DiskSeen} → bytes ≡ closed_record p → HasStored (n + 1) bytes d0 d1 → NotWritten n 1 d1 d2
+pub appended_2 : {n : ℕ} {p bytes : List ℕ} {d0 d1 d2 : DiskSeen} (room : List ℕ) → bytes ≡ closed_record p ++ room → HasStored (n + 1) bytes d0 d1 → NotWritten n 1 d1 d2
     → Appends n p appended.Doubtful d0 d2
-appended_2 {n} {p} {bytes} {d0} {d1} {d2} is s w = appended_2_at n p d0 d1 d2 (subst (λ (b : List ℕ). HasStored (n + 1) b d0 d1) is s) w
+appended_2 {n} {p} {bytes} {d0} {d1} {d2} room is s w = appended_2_at n p room d0 d1 d2 (subst (λ (b : List ℕ). HasStored (n + 1) b d0 d1) is s) w
 
-appended_3_at : (n : ℕ) (p : List ℕ) (d0 d1 d2 : DiskSeen) → HasStored (n + 1) (closed_record p) d0 d1 → HasStored n (1 ∷ []) d1 d2 → Appends n p appended.Opened d0 d2
-appended_3_at n p d0 d1 d2 s t = record {
+appended_3_at : (n : ℕ) (p room : List ℕ) (d0 d1 d2 : DiskSeen) → HasStored (n + 1) (closed_record p ++ room) d0 d1 → HasStored n (1 ∷ []) d1 d2
+    → Appends n p appended.Opened d0 d2
+appended_3_at n p room d0 d1 d2 s t = record {
   size = omega (arith, s.written.size, t.written.size);
   time = elapsed_then (elapsed s.written.passes) (elapsed t.written.passes);
-  long = omega (arith, s.written.size, t.written.size, record_size p);
+  long = omega (arith, s.written.size, t.written.size, record_size p, length-append (closed_record p) room);
   faults = t.written.faults ∙ s.written.faults;
-  does = λ ps place all. end_3 ps p n place s t all;
+  does = λ ps place all. end_3 ps p n place room s t all;
 }
 
-pub appended_3 : {n : ℕ} {p bytes : List ℕ} {d0 d1 d2 : DiskSeen} → bytes ≡ closed_record p → HasStored (n + 1) bytes d0 d1 → HasStored n (1 ∷ []) d1 d2
+pub appended_3 : {n : ℕ} {p bytes : List ℕ} {d0 d1 d2 : DiskSeen} (room : List ℕ) → bytes ≡ closed_record p ++ room → HasStored (n + 1) bytes d0 d1 → HasStored n (1 ∷ []) d1 d2
     → Appends n p appended.Opened d0 d2
-appended_3 {n} {p} {bytes} {d0} {d1} {d2} is s t = appended_3_at n p d0 d1 d2 (subst (λ (b : List ℕ). HasStored (n + 1) b d0 d1) is s) t
+appended_3 {n} {p} {bytes} {d0} {d1} {d2} room is s t = appended_3_at n p room d0 d1 d2 (subst (λ (b : List ℕ). HasStored (n + 1) b d0 d1) is s) t
 
 pub closed_1 : {n : ℕ} {d0 d1 : DiskSeen} → NotWritten n 1 d0 d1 → Settles n false d0 d1
 closed_1 {n} w = record {

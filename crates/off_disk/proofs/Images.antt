@@ -33,13 +33,14 @@ module _ (ps : List (List ℕ)) (n : ℕ) (long : length (blocks ps) ≡ n) wher
       sym (take-append-drop (n + 1) c) ∙ (ap (λ (l : List ℕ). l ++ drop (n + 1) c) front ∙ append_assoc (blocks ps) (closed.gate ∷ []) (drop (n + 1) c)) in
       record { gate = closed.gate; rest = drop (n + 1) c; is = whole; shut = closed.shut }
 
-  pub written_behind : (p d c : List ℕ) → IsClosed ps d → Holds (n + 1) (closed_record p) d c → IsDoubtful ps p c
-  written_behind p d c closed holds =
+  pub written_behind : (p room d c : List ℕ) → IsClosed ps d → Holds (n + 1) (closed_record p ++ room) d c → IsDoubtful ps p c
+  written_behind p room d c closed holds =
       let front : take (n + 1) d ≡ blocks ps ++ closed.gate ∷ [] = ap (λ (l : List ℕ). take (n + 1) l) closed.is ∙ front_one (blocks ps) closed.gate closed.rest n long in
-      let rest = drop (n + 1 + length (closed_record p)) d in
-      let whole : c ≡ blocks ps ++ closed.gate ∷ (closed_record p ++ rest) =
-      holds ∙ (ap (λ (l : List ℕ). l ++ (closed_record p ++ rest)) front ∙ append_assoc (blocks ps) (closed.gate ∷ []) (closed_record p ++ rest)) in
-      let inner : closed_record p ++ rest ≡ record_of p ++ 0 ∷ rest = append_assoc (record_of p) (0 ∷ []) rest in
+      let last = drop (n + 1 + length (closed_record p ++ room)) d in
+      let rest = room ++ last in
+      let whole : c ≡ blocks ps ++ closed.gate ∷ ((closed_record p ++ room) ++ last) =
+      holds ∙ (ap (λ (l : List ℕ). l ++ ((closed_record p ++ room) ++ last)) front ∙ append_assoc (blocks ps) (closed.gate ∷ []) ((closed_record p ++ room) ++ last)) in
+      let inner : (closed_record p ++ room) ++ last ≡ record_of p ++ 0 ∷ rest = append_assoc (closed_record p) room last ∙ append_assoc (record_of p) (0 ∷ []) rest in
       record { gate = closed.gate; rest = rest; is = whole ∙ ap (λ (l : List ℕ). blocks ps ++ closed.gate ∷ l) inner }
 
   -- behind the gate stands the same

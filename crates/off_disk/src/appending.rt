@@ -1,5 +1,6 @@
 //! The two changes of a journal's file: a record is appended, and a gate in doubt is closed.
-ghost use Rattle.std.specs.Prelude.{◌≡◌, ℕ, List, ◌<◌, ◌≤◌, length, MatchResult, true, false};
+ghost use Rattle.std.specs.Prelude.{◌≡◌, ℕ, List, ◌++◌, ◌<◌, ◌≤◌, length, MatchResult, true};
+ghost use Rattle.std.specs.Prelude.{false};
 ghost use Rattle.off_disk.specs.DiskCalls.{HasStored, NotWritten};
 ghost use Rattle.off_disk.specs.Crashing.{Appends, Settles, closed_record};
 ghost use Rattle.off_disk.specs.Records.{IsShort};
@@ -19,9 +20,11 @@ pub enum Appended {
 }
 
 /// Writes a record behind a closed gate, with a closed gate at its end, and then opens the gate.
+/// Bytes may stand behind the closed gate: the next records are written over them.
 pub fn append<D: Disk>(disk: &mut D, gate: u64, bytes: &[u8]) -> Appended
     requires { gate < (D.seen disk.old).size }
-    ensures { (payload : List ℕ) → bytes.now ≡ closed_record payload → IsShort payload
+    ensures { (payload room : List ℕ) → bytes.now ≡ closed_record payload ++ room
+        → IsShort payload
         → Appends gate payload result (D.seen disk.old) (D.seen disk.new) }
 {
     let Ok(()) = write_synced(disk, gate + 1, bytes) else {

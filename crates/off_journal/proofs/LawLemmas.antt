@@ -1,6 +1,6 @@
 -- Bytes are one journal.
 use Rattle.std.proofs.Common.{◌≡◌, ℕ, List, [], ◌∷◌, ◌++◌, length, refl, sym, ap, subst, ◌∙◌, arith, append_assoc, length-append, map as each}
-use Rattle.off_defs.specs.declared.orders.Write.{Write}
+use Rattle.off_defs.specs.declared.writes.Write.{Write}
 use Rattle.off_disk.specs.Records.{record_of, blocks, IsOpen, Stands}
 use Rattle.off_disk.specs.RecordLaws.{stands_one, open_one}
 use Rattle.off_journal.specs.Payload.{payload_of}

@@ -5,8 +5,8 @@ use Rattle.std.proofs.lemmas.Nat.{from_be_bytes-to_be_bytes_4}
 use Rattle.off_tlv.proofs.GrammarLemmas.{same_parts}
 use Rattle.off_defs.specs.declared.keys.Key.{Key}
 use Rattle.off_defs.specs.declared.tables.Row.{Row}
-use Rattle.off_defs.specs.declared.orders.Write.{Write}
-use Rattle.off_defs.specs.declared.orders.Write.TheVariants.{Put, Drop}
+use Rattle.off_defs.specs.declared.writes.Write.{Write}
+use Rattle.off_defs.specs.declared.writes.Write.TheVariants.{Put, Drop}
 use Rattle.off_rows.specs.KeyBytes.{key_bytes, IsRanged}
 use Rattle.off_rows.specs.RowBytes.{counted, row_bytes, IsRowOf}
 use Rattle.off_rows.proofs.KeyOrder.{one_key}

@@ -2,7 +2,7 @@
 use Rattle.std.proofs.Common.{◌≡◌, ℕ, ◌+◌, ◌<◌, ◌^◌, List, [], ◌∷◌, ◌++◌, length, drop, refl, sym, ap, subst, ◌∙◌, arith, map as each}
 use Rattle.std.proofs.lemmas.List.{drop_at}
 use Rattle.std.specs.FinMap as map
-use Rattle.off_defs.specs.declared.orders.Write.{Write}
+use Rattle.off_defs.specs.declared.writes.Write.{Write}
 use Rattle.off_defs.specs.State.{Tables}
 use Rattle.off_defs.specs.Tables.{write_all}
 use Rattle.off_disk.specs.DiskSeen.{DiskSeen}

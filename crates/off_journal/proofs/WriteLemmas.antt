@@ -15,7 +15,7 @@ use Rattle.off_defs.specs.declared.tables.DeviceHold.{DeviceHold}
 use Rattle.off_defs.specs.declared.tables.DeviceHold.TheVariants as device
 use Rattle.off_defs.specs.declared.tables.ImportKind.{ImportKind}
 use Rattle.off_defs.specs.declared.tables.ImportKind.TheVariants.{Subscribers, Modems}
-use Rattle.off_defs.specs.declared.orders.Write.{Write}
+use Rattle.off_defs.specs.declared.writes.Write.{Write}
 use Rattle.off_rows.specs.RowBytes.{row_bytes, counted, flag_bytes, hold_bytes, device_hold_bytes, import_kind_bytes, RowRanged, SettingsStand, OwnerIsMac, OwnersAreMacs}
 use Rattle.off_defs.specs.Counts.{one_more}
 use Rattle.off_outside.specs.declared.keeper.KeepErr.{KeepErr}

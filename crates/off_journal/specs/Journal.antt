@@ -1,7 +1,7 @@
 -- What a file of records stands for: commits in order, and the tables that they make.
 use Rattle.std.specs.Prelude.{◌≡◌, ℕ, List, [], ◌∷◌, map as each}
 use Rattle.std.specs.FinMap as map
-use Rattle.off_defs.specs.declared.orders.Write.{Write}
+use Rattle.off_defs.specs.declared.writes.Write.{Write}
 use Rattle.off_defs.specs.State.{Tables}
 use Rattle.off_defs.specs.Tables.{write_all}
 use Rattle.off_disk.specs.Records.{Stands, IsShort}

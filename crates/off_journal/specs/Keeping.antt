@@ -1,7 +1,7 @@
 -- What is seen of a keeper over a journal, and what it keeps of its disk.
 use Rattle.std.specs.Prelude.{◌≡◌, ℕ, ◌+◌, ◌≤◌, ◌^◌, ◌⊎◌, ◌++◌, List, length}
 use Rattle.std.specs.Prelude.{map as each, Result, Ok, Err}
-use Rattle.off_defs.specs.declared.orders.Write.{Write}
+use Rattle.off_defs.specs.declared.writes.Write.{Write}
 use Rattle.off_defs.specs.State.{Tables}
 use Rattle.off_defs.specs.Tables.{write_all}
 use Rattle.off_defs.specs.Counts.{Grew, one_more, most_count}

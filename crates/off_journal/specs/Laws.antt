@@ -1,6 +1,6 @@
 -- What holds of all journals.
 use Rattle.std.specs.Prelude.{◌≡◌, ℕ, List}
-use Rattle.off_defs.specs.declared.orders.Write.{Write}
+use Rattle.off_defs.specs.declared.writes.Write.{Write}
 use Rattle.off_defs.specs.State.{Tables}
 use Rattle.off_journal.specs.Journal.{IsJournal, Opens}
 use Rattle.off_journal.specs.Begin.{Gives, IsBadAt}

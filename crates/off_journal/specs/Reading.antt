@@ -2,7 +2,7 @@
 use Rattle.std.specs.Prelude.{◌≢◌, ℕ, List, ◌++◌}
 use Rattle.off_defs.specs.declared.keys.Key.{Key}
 use Rattle.off_defs.specs.declared.tables.Row.{Row}
-use Rattle.off_defs.specs.declared.orders.Write.{Write}
+use Rattle.off_defs.specs.declared.writes.Write.{Write}
 use Rattle.off_rows.specs.RowBytes.{row_bytes, IsRowOf}
 use Rattle.off_spelled.specs.Storable.{IsSpelled, AllSpelled}
 use Rattle.off_journal.specs.Payload.{write_bytes, payload_of, put_row}

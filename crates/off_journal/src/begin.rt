@@ -88,11 +88,27 @@ impl<D: Disk> JournalKeeper<D> {
             (⟦<JournalKeeper<D> as Keeper>⟧.seen keeper))
             (λ refused. NotBegun refused.why (D.seen disk) (D.seen refused.disk)) }
     {
-        let Ok(room) = zeros(alloc, STRETCH) else {
+        JournalKeeper::begin_with_room(alloc, disk, 0)
+    }
+
+    /// The same, of a disk that grows in steps: a record that doesn't fit into it has so many zeros
+    /// behind it, over which the next ones are written. A sync of what was written within a file is
+    /// quicker than one of a file that has grown.
+    pub fn begin_with_room(
+        alloc: Global,
+        disk: D,
+        room: usize,
+    ) -> Result<JournalKeeper<D>, Unopened<D>>
+        ensures { MatchResult result
+            (λ keeper. HasBegun (D.seen disk)
+            (⟦<JournalKeeper<D> as Keeper>⟧.seen keeper))
+            (λ refused. NotBegun refused.why (D.seen disk) (D.seen refused.disk)) }
+    {
+        let Ok(stretch) = zeros(alloc, STRETCH) else {
             let why = OpenErr::Memory;
             return Err(Unopened { why, disk });
         };
-        let mut ahead = ReadAhead::over(disk, room);
+        let mut ahead = ReadAhead::over(disk, stretch);
         match open(alloc, &mut ahead) {
             Ok(found) => Ok(JournalKeeper {
                 disk: ahead.into_disk(),
@@ -100,6 +116,7 @@ impl<D: Disk> JournalKeeper<D> {
                 rows: found.rows,
                 last: Last::Closed,
                 counts: Counts::new(),
+                room,
             }),
             Err(why) => Err(Unopened {
                 why,

@@ -10,7 +10,7 @@ ghost use Rattle.off_journal.specs.Keeping.{OwnCommitted, FailsByCause};
 ghost use Rattle.off_journal.specs.KeepingLaws.{journal_rests, one_journal_tells};
 ghost use Rattle.off_journal.specs.declared.keeper.Last.TheVariants.{Closed};
 
-use crate::spelling::record_of;
+use crate::spelling::{push_zeros, record_of};
 use off_defs::{Key, Row, Writes};
 use off_disk::{Appended, Disk, append, close};
 use off_keepmem::{MemKeeper, Plan};
@@ -55,6 +55,8 @@ pub struct JournalKeeper<D: Disk> {
     pub(crate) rows: MemKeeper,
     pub(crate) last: Last,
     pub(crate) counts: Counts,
+    // How many zeros are written behind a record that doesn't fit into the disk.
+    pub(crate) room: usize,
     ghost within: { gate < (D.seen disk).size },
 }
 
@@ -71,6 +73,18 @@ impl<D: Disk> JournalKeeper<D> {
         ensures { result ≡ self.disk }
     {
         self.disk
+    }
+
+    // How many zeros are written behind a record of so many bytes.
+    fn room_behind(&self, bytes: usize) -> usize
+        ensures fits { self.now.gate + bytes < (D.seen self.now.disk).size → result ≡ 0 }
+        ensures passes { (D.seen self.now.disk).size ≤ self.now.gate + bytes
+            → result ≡ self.now.room }
+    {
+        if (bytes as u64) < self.disk.length() - self.gate {
+            return 0;
+        }
+        self.room
     }
 
     /// Closes a gate that is in doubt.
@@ -158,14 +172,17 @@ impl<D: Disk> Keeper for JournalKeeper<D> {
             self.old.counts.own self.new.counts.own }
     {
         self.counts.calls = one_more(self.counts.calls);
-        let record = record_of(alloc, writes, &mut self.counts.own)?;
+        let mut record = record_of(alloc, writes, &mut self.counts.own)?;
+        let length = record.len();
+        let room = self.room_behind(length);
+        push_zeros(alloc, &mut record, room)?;
         let plan = self.rows.plan(alloc, writes)?;
         let Ok(()) = self.settle() else {
             return Err(KeepErr::Failed);
         };
         match append(&mut self.disk, self.gate, record.as_slice()) {
             Appended::Opened => {
-                self.gate += record.len() as u64;
+                self.gate += length as u64;
                 self.rows.apply(plan);
                 self.counts.commits = one_more(self.counts.commits);
                 Ok(())

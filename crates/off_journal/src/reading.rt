@@ -2,7 +2,7 @@ ghost use Rattle.std.specs.Prelude.{◌≡◌, ◌≢◌, ℕ, ◌+◌, ◌<◌,
 ghost use Rattle.std.specs.Prelude.{MatchResult, MatchOption, OnOk};
 ghost use Rattle.std.specs.Int.{to_be_bytes, w32};
 ghost use Rattle.off_defs.specs.declared.keys.Key.{Key};
-ghost use Rattle.off_defs.specs.declared.orders.Write.{Write};
+ghost use Rattle.off_defs.specs.declared.writes.Write.{Write};
 ghost use Rattle.off_rows.specs.KeyBytes.{key_bytes, IsRanged};
 ghost use Rattle.off_rows.specs.RowBytes.{counted, row_bytes, IsRowOf};
 ghost use Rattle.off_rows.specs.Reading.{WhyNoRow};

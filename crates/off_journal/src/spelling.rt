@@ -1,7 +1,7 @@
 ghost use Rattle.std.specs.Prelude.{◌≡◌, ℕ, ◌+◌, ◌≤◌, ◌<◌, ◌^◌, ◌++◌, [], ◌∷◌, length, OnOk, OnErr};
-ghost use Rattle.std.specs.Prelude.{IfOk};
+ghost use Rattle.std.specs.Prelude.{IfOk, replicate};
 ghost use Rattle.std.specs.Int.{to_be_bytes, w32};
-ghost use Rattle.off_defs.specs.declared.orders.Write.TheVariants as write;
+ghost use Rattle.off_defs.specs.declared.writes.Write.TheVariants as write;
 ghost use Rattle.off_rows.specs.RowBytes.{counted};
 ghost use Rattle.off_disk.specs.Crashing.{closed_record};
 ghost use Rattle.off_disk.specs.Records.{record_of};
@@ -42,6 +42,14 @@ fn closed(alloc: Global, payload: &Bytes) -> Result<Bytes, NoMemory>
     record.push_all(payload.as_slice())?;
     record.push_all(&[0])?;
     Ok(record)
+}
+
+// Zeros behind a record, over which the next ones are written.
+pub(crate) fn push_zeros(alloc: Global, record: &mut Bytes, count: usize) -> Result<(), NoMemory>
+    ensures { OnOk result (record.new ≡ record.old ++ replicate count 0) }
+{
+    let zeros = vec![in alloc; 0; count]?;
+    record.push_all(&zeros)
 }
 
 // The writes' bytes, one behind another.

@@ -8,6 +8,9 @@ use off_file_disk::{DiskErr, FileDisk, open_disk};
 use off_journal::{Disk, Failed, JournalKeeper, OpenErr};
 use off_outside::Keeper;
 
+// A file of changes grows by so many bytes at once.
+const ROOM: usize = 1 << 16;
+
 /// A keeper of the tables in a journal.
 pub type FileJournal = JournalKeeper<FileDisk>;
 
@@ -36,7 +39,7 @@ pub fn open_journal(rt: &HostRuntime, path: &str) -> Result<FileJournal, StoreEr
     if !may_be {
         return Err(StoreErr::Refused);
     }
-    match JournalKeeper::begin(rt.alloc(), disk) {
+    match JournalKeeper::begin_with_room(rt.alloc(), disk, ROOM) {
         Ok(keeper) => Ok(keeper),
         Err(unopened) => Err(not_begun(unopened.why)),
     }

@@ -1,7 +1,7 @@
 use Rattle.std.proofs.Common.{subst, sym}
 use Rattle.off_journal.specs.Begin.{HasOpened, NotOpened}
 use Rattle.off_journal.proofs.Opening.{begun, unasked}
-use Rattle.off_journal.proofs.keeper.JournalKeeper.begin.Goals as goal
+use Rattle.off_journal.proofs.keeper.JournalKeeper.begin_with_room.Goals as goal
 
 pub returns-in_default : goal.returns-in_default
 returns-in_default g c = unasked (g.D.Disk.seen c.args.disk)
