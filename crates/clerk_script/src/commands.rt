@@ -1,10 +1,11 @@
 ghost use Rattle.std.specs.Prelude.{IsTrue};
-ghost use Rattle.off_rows.specs.Sound.{is_sound};
+ghost use Rattle.off_orders.specs.Sound.{is_sound};
 
 use crate::faults::show_fault;
 use off_base::{Bytes, NoMemory};
 use off_clerk::{CommandErr, Fault, command_of, reply_json};
-use off_defs::{Command, Hold, ImportKind, Key, Lease, Reply, ShownRow};
+use off_defs::{Hold, ImportKind, Key, Lease};
+use off_orders::{Command, Reply, ShownRow};
 use script_words::{Line, Page, Unread, show_key, show_seen, show_seen_pool};
 use std::alloc::Global;
 

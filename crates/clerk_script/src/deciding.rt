@@ -6,9 +6,9 @@ use crate::faults::show_fault;
 use off_accounts::{AccountErr, Planned, count_rows, decide, read_users};
 use off_base::{Moment, NoMemory};
 use off_clerk::Fault;
-use off_defs::{Command, Reply, Write};
+use off_defs::Write;
 use off_keepmem::MemKeeper;
-use off_rows::sound;
+use off_orders::{Command, Reply, sound};
 use script_words::{
     Line, Page, Unread, read_command, show_key, show_row, show_seen, show_seen_pool,
 };

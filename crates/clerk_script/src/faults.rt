@@ -1,6 +1,7 @@
 use off_clerk::{Fault, fault_json, fault_status, fault_word};
-use off_defs::{Kind, Rule};
+use off_defs::Kind;
 use off_http::HttpFault;
+use off_orders::Rule;
 use off_tree::{Path, TreeFault};
 use script_words::{Line, Page, Unread};
 use std::alloc::Global;

@@ -1,6 +1,7 @@
 use off_base::NoMemory;
-use off_defs::{Command, ImportKind, ImportRow, ImportRows, Key, Row};
+use off_defs::{ImportKind, Key, Row};
 use off_import::{ImportErr, fault_words, read_import};
+use off_orders::{Command, ImportRow, ImportRows};
 use script_words::{Line, Page, Unread, show_row};
 use std::alloc::Global;
 

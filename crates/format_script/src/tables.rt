@@ -3,8 +3,9 @@ ghost use Rattle.off_rows.specs.RowBytes.{CanSpell};
 
 use crate::imports::read_kind;
 use off_base::{Bytes, Mac};
-use off_defs::{Command, ImportRow, ImportRows, Key, Row, Write};
-use off_rows::{RowErr, copy_row, decode, decode_key, encode, encode_key, key_text, sound};
+use off_defs::{Key, Row, Write};
+use off_orders::{Command, ImportRow, ImportRows, sound};
+use off_rows::{RowErr, copy_row, decode, decode_key, encode, encode_key, key_text};
 use script_words::{Line, Page, Unread, read_command, read_key, read_write, show_row};
 use std::alloc::Global;
 

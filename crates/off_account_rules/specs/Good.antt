@@ -25,7 +25,7 @@ use Rattle.off_defs.specs.declared.tables.Lease.{Lease}
 use Rattle.off_defs.specs.declared.tables.DeviceLease.{DeviceLease}
 use Rattle.off_defs.specs.declared.tables.DeviceHold.{DeviceHold}
 use Rattle.off_defs.specs.declared.tables.DeviceHold.TheVariants as device
-use Rattle.off_account_rules.specs.Rows.{passes, is_possible, has_address, overlaps, as_modem, as_pool, as_lease, as_held, as_pool_hub, as_device, number_or_0}
+use Rattle.off_account_rules.specs.Rows.{passes, is_possible, has_address, overlaps, as_modem, as_pool, as_lease, as_held, as_pool_hub, as_device, number_or_0, devices}
 
 abbrev pub is_there : Tables → Key → Bool
 is_there tables key = is_some (row_at tables key)
@@ -38,20 +38,13 @@ raw_pool_of entry = None
 abbrev pub raw_pools : Tables → List (ℕ × Pool)
 raw_pools tables = filter_map raw_pool_of (map.entries tables)
 
--- the same of pools for devices, and all leases of devices
+-- the same of pools for devices
 abbrev pub raw_device_pool_of : Key × Row → Option (ℕ × Pool)
 raw_device_pool_of (key.DevicePool n, row.Pool pool) = Some (n, pool)
 raw_device_pool_of entry = None
 
 abbrev pub raw_device_pools : Tables → List (ℕ × Pool)
 raw_device_pools tables = filter_map raw_device_pool_of (map.entries tables)
-
-abbrev pub raw_device_of : Key × Row → Option (Ip4 × DeviceLease)
-raw_device_of (key.Device address, row.Device lease) = Some (address, lease)
-raw_device_of entry = None
-
-abbrev pub raw_devices : Tables → List (Ip4 × DeviceLease)
-raw_devices tables = filter_map raw_device_of (map.entries tables)
 
 -- a pool of modems and one for devices have no address in common
 abbrev pub is_disjoint : Pool → ℕ × Pool → Bool
@@ -126,7 +119,7 @@ is_owned_apart address (Some owner) other =
 abbrev pub device_stands : Tables → Ip4 → DeviceLease → Bool
 device_stands tables address lease =
     (device_pools_around tables address == 1)
-    && list_all (is_owned_apart address (device_owner lease.hold)) (raw_devices tables)
+    && list_all (is_owned_apart address (device_owner lease.hold)) (devices tables)
 
 -- a pool is apart from all others, and one for devices too
 abbrev pub pool_stands : Tables → ℕ → Pool → Bool

@@ -1,4 +1,4 @@
 pub mod Rows
+pub mod Changes
 pub mod Good
 pub mod Migration
-pub mod Clerk

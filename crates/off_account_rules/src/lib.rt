@@ -1,5 +1,5 @@
-//! When the office's tables are good, and what each of a clerk's commands does to them, in
-//! definitions alone (`specs/`).
+//! How the rows of subscribers, modems, classes, pools and leases are read, and when the office's
+//! tables are good, in definitions alone (`specs/`).
 #![tactic(auto)]
 
 mod counts;

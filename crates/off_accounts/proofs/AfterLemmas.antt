@@ -12,17 +12,18 @@ use Rattle.off_defs.specs.declared.tables.Class.{Class}
 use Rattle.off_defs.specs.declared.tables.Pool.{Pool}
 use Rattle.off_defs.specs.declared.tables.Site.{Site}
 use Rattle.off_base.specs.declared.macs.Mac.{Mac}
-use Rattle.off_defs.specs.declared.rules.Rule.{Rule}
-use Rattle.off_defs.specs.declared.orders.Kind.{Kind}
-use Rattle.off_defs.specs.declared.orders.Kind.TheVariants.{Subscribers, AddOns, Modems, Classes, Pools, Hubs, DevicePools}
-use Rattle.off_defs.specs.declared.orders.Command.{Command}
-use Rattle.off_defs.specs.declared.orders.Command.TheVariants.{PutHub, PutSubscriber, PutAddOn, PutModem, PutClass, PutPool, PutDevicePool, Remove}
+use Rattle.off_orders.specs.declared.rules.Rule.{Rule}
+use Rattle.off_defs.specs.declared.kinds.Kind.{Kind}
+use Rattle.off_defs.specs.declared.kinds.Kind.TheVariants.{Subscribers, AddOns, Modems, Classes, Pools, Hubs, DevicePools}
+use Rattle.off_orders.specs.declared.orders.Command.{Command}
+use Rattle.off_orders.specs.declared.orders.Command.TheVariants.{PutHub, PutSubscriber, PutAddOn, PutModem, PutClass, PutPool, PutDevicePool, Remove}
 use Rattle.off_defs.specs.State.{Tables}
 use Rattle.off_defs.specs.Tables.{with_row, without}
-use Rattle.off_rows.specs.Sound.{is_add_on_number, is_sound_pool, is_sound_subscriber}
+use Rattle.off_orders.specs.Sound.{is_add_on_number, is_sound_pool, is_sound_subscriber}
 use Rattle.off_account_rules.specs.declared.counts.Counts.{Counts}
 use Rattle.off_account_rules.specs.Rows.{seen_at, is_possible, is_of_kind, counts_of}
-use Rattle.off_account_rules.specs.Clerk.{limit, rules_of, lost_leases, lost_devices, lease_drops, add_on_keys}
+use Rattle.off_account_rules.specs.Changes.{add_on_keys}
+use Rattle.off_orders.specs.Clerk.{limit, rules_of, lost_leases, lost_devices, lease_drops}
 use Rattle.off_accounts.specs.declared.subject.Subject.{Subject}
 use Rattle.off_accounts.specs.Changes.{count_in, with_count, counts_put, counts_drop}
 use Rattle.off_accounts.specs.Tests.{limit_rule}

@@ -8,11 +8,12 @@ use Rattle.off_defs.specs.declared.tables.Row.{Row}
 use Rattle.off_defs.specs.declared.tables.Pool.{Pool}
 use Rattle.off_defs.specs.declared.tables.Lease.{Lease}
 use Rattle.off_defs.specs.declared.tables.DeviceLease.{DeviceLease}
-use Rattle.off_defs.specs.declared.orders.Write.{Write}
+use Rattle.off_defs.specs.declared.writes.Write.{Write}
 use Rattle.off_defs.specs.State.{Tables}
 use Rattle.off_defs.specs.Tables.{is_after, behind, next_entry}
 use Rattle.off_account_rules.specs.Rows.{lease_of, device_of, leases, devices}
-use Rattle.off_account_rules.specs.Clerk.{gives_up, lease_drops, device_drop}
+use Rattle.off_account_rules.specs.Changes.{gives_up}
+use Rattle.off_orders.specs.Clerk.{lease_drops, device_drop}
 use Rattle.off_accounts.specs.declared.whose.Whose.{Whose}
 use Rattle.off_accounts.specs.declared.whose.Whose.TheVariants.{Modems as OfModems, Devices as OfDevices}
 use Rattle.off_accounts.specs.declared.lost.Lost.{Lost}

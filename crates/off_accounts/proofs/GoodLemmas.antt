@@ -1,13 +1,13 @@
 -- What is planned of a command leaves good tables good.
 use Rattle.std.proofs.Common.{◌≡◌, ℕ, Result, Ok, Err, IfOk, MatchResult, subst}
 use Rattle.std.specs.Prelude.{IsTrue}
-use Rattle.off_defs.specs.declared.orders.Command.{Command}
-use Rattle.off_rows.specs.Sound.{is_sound}
+use Rattle.off_orders.specs.declared.orders.Command.{Command}
+use Rattle.off_orders.specs.Sound.{is_sound}
 use Rattle.off_account_rules.specs.declared.counts.Counts.{Counts}
 use Rattle.off_account_rules.specs.Rows.{counts_of}
 use Rattle.off_account_rules.specs.Good.{Good}
-use Rattle.off_account_rules.specs.Clerk.{Decision, stepped_by, clerk_step}
-use Rattle.off_table_laws.proofs.StepLaws.{step_keeps_good}
+use Rattle.off_orders.specs.Clerk.{Decision, stepped_by, clerk_step}
+use Rattle.off_order_laws.proofs.StepLaws.{step_keeps_good}
 use Rattle.off_users.specs.Users.{UsersHeld, StandsFor}
 use Rattle.off_outside.specs.KeeperSeen.{KeeperSeen}
 use Rattle.off_outside.specs.KeeperCalls.{Reads}

@@ -8,12 +8,12 @@ use Rattle.std.specs.FinMap as map
 use Rattle.off_defs.specs.declared.keys.Key.{Key}
 use Rattle.off_defs.specs.declared.tables.Row.{Row}
 use Rattle.off_defs.specs.declared.tables.Pool.{Pool}
-use Rattle.off_defs.specs.declared.rules.Rule.TheVariants as rule
+use Rattle.off_orders.specs.declared.rules.Rule.TheVariants as rule
 use Rattle.off_defs.specs.Kinds.{kind_of}
 use Rattle.off_defs.specs.State.{Tables}
 use Rattle.off_defs.specs.Tables.{behind, next_entry}
 use Rattle.off_account_rules.specs.Rows.{pool_of, pools, pool_hub_in}
-use Rattle.off_account_rules.specs.Clerk.{hub_in_use}
+use Rattle.off_orders.specs.Clerk.{hub_in_use}
 use Rattle.off_outside.specs.KeeperSeen.{KeeperSeen}
 use Rattle.off_outside.specs.KeeperCalls.{Reads, Spent, WasCounted}
 use Rattle.off_outside.proofs.KeeperLemmas.{reads_then, spent_one}

@@ -12,22 +12,22 @@ use Rattle.off_defs.specs.declared.tables.Row.{Row}
 use Rattle.off_defs.specs.declared.tables.Row.TheVariants as row
 use Rattle.off_defs.specs.declared.tables.Batch.{Batch}
 use Rattle.off_defs.specs.declared.tables.ImportKind.{ImportKind}
-use Rattle.off_defs.specs.declared.orders.ImportRow.{ImportRow}
-use Rattle.off_defs.specs.declared.orders.Command.{Command}
-use Rattle.off_defs.specs.declared.orders.Command.TheVariants.{Import}
-use Rattle.off_defs.specs.declared.orders.Kind.{Kind}
-use Rattle.off_defs.specs.declared.orders.Kind.TheVariants.{Subscribers, AddOns, Modems, Classes, Pools, Batches, Hubs, DevicePools}
-use Rattle.off_defs.specs.declared.orders.Write.{Write}
-use Rattle.off_defs.specs.declared.orders.Write.TheVariants.{Put}
-use Rattle.off_defs.specs.declared.orders.Reply.{Reply}
-use Rattle.off_defs.specs.declared.orders.Reply.TheVariants.{Rows}
-use Rattle.off_defs.specs.declared.rules.Rule.{Rule}
-use Rattle.off_defs.specs.declared.rules.Rule.TheVariants as rule
+use Rattle.off_orders.specs.declared.orders.ImportRow.{ImportRow}
+use Rattle.off_orders.specs.declared.orders.Command.{Command}
+use Rattle.off_orders.specs.declared.orders.Command.TheVariants.{Import}
+use Rattle.off_defs.specs.declared.kinds.Kind.{Kind}
+use Rattle.off_defs.specs.declared.kinds.Kind.TheVariants.{Subscribers, AddOns, Modems, Classes, Pools, Batches, Hubs, DevicePools}
+use Rattle.off_defs.specs.declared.writes.Write.{Write}
+use Rattle.off_defs.specs.declared.writes.Write.TheVariants.{Put}
+use Rattle.off_orders.specs.declared.orders.Reply.{Reply}
+use Rattle.off_orders.specs.declared.orders.Reply.TheVariants.{Rows}
+use Rattle.off_orders.specs.declared.rules.Rule.{Rule}
+use Rattle.off_orders.specs.declared.rules.Rule.TheVariants as rule
 use Rattle.off_defs.specs.State.{Tables}
 use Rattle.off_defs.specs.Tables.{row_at, with_row, write_all}
 use Rattle.off_account_rules.specs.declared.counts.Counts.{Counts}
 use Rattle.off_account_rules.specs.Rows.{possible, as_batch, batch_in, seen_at, is_of_kind, count_of, counts_of}
-use Rattle.off_account_rules.specs.Clerk.{decided, limit, limit_of, refusal, accepted, by_rule, rows_written, batch_row, is_kind, imported_as, import_decided}
+use Rattle.off_orders.specs.Clerk.{decided, limit, limit_of, refusal, accepted, by_rule, rows_written, batch_row, is_kind, imported_as, import_decided}
 use Rattle.off_accounts.specs.declared.results.Planned.{Planned}
 use Rattle.off_accounts.specs.declared.results.AccountErr.{AccountErr}
 use Rattle.off_accounts.specs.Deciding.{IsDecided, NotDecided}
@@ -35,7 +35,7 @@ use Rattle.off_accounts.specs.Changes.{count_in, counts_put}
 use Rattle.off_accounts.specs.Tests.{limit_rule}
 use Rattle.off_accounts.proofs.CountsLemmas.{count_with, same_counts}
 use Rattle.off_accounts.proofs.LimitLemmas.{limit_is}
-use Rattle.off_rows.specs.Sound.{is_sound, is_row_of}
+use Rattle.off_orders.specs.Sound.{is_sound, is_row_of}
 use Rattle.off_users.specs.Users.{UsersHeld, StandsFor}
 use Rattle.off_outside.specs.declared.keeper.KeepErr.{KeepErr}
 use Rattle.off_outside.specs.declared.keeper.KeepErr.TheVariants as keeper

@@ -8,21 +8,21 @@ use Rattle.off_defs.specs.declared.tables.Row.{Row}
 use Rattle.off_defs.specs.declared.tables.Row.TheVariants as row
 use Rattle.off_defs.specs.declared.tables.Subscriber.{Subscriber}
 use Rattle.off_defs.specs.declared.tables.Modem.{Modem}
-use Rattle.off_defs.specs.declared.orders.ImportRow.TheVariants as imported
-use Rattle.off_defs.specs.declared.orders.Kind.{Kind}
-use Rattle.off_defs.specs.declared.orders.Kind.TheVariants.{Subscribers, Modems}
-use Rattle.off_defs.specs.declared.rules.Rule.{Rule}
+use Rattle.off_orders.specs.declared.orders.ImportRow.TheVariants as imported
+use Rattle.off_defs.specs.declared.kinds.Kind.{Kind}
+use Rattle.off_defs.specs.declared.kinds.Kind.TheVariants.{Subscribers, Modems}
+use Rattle.off_orders.specs.declared.rules.Rule.{Rule}
 use Rattle.off_defs.specs.State.{Tables}
 use Rattle.off_defs.specs.Tables.{with_row, write_all}
-use Rattle.off_rows.specs.Sound.{is_sound_subscriber}
+use Rattle.off_orders.specs.Sound.{is_sound_subscriber}
 use Rattle.off_account_rules.specs.declared.counts.Counts.{Counts}
 use Rattle.off_account_rules.specs.Rows.{seen_at, is_possible, is_of_kind, counts_of}
-use Rattle.off_account_rules.specs.Clerk.{limit, no_subscriber, no_class, row_breaks}
+use Rattle.off_orders.specs.Clerk.{limit, no_subscriber, no_class, row_breaks}
 use Rattle.off_accounts.specs.Changes.{counts_put}
 use Rattle.off_accounts.proofs.CountsLemmas.{kept, counts_with}
 use Rattle.off_accounts.proofs.LimitLemmas.{limit_is}
 use Rattle.off_accounts.proofs.PresentLemmas.{subscriber_is, class_is}
-use Rattle.off_defs.specs.declared.orders.ImportRow.{ImportRow}
+use Rattle.off_orders.specs.declared.orders.ImportRow.{ImportRow}
 use Rattle.off_outside.specs.KeeperSeen.{KeeperSeen}
 use Rattle.off_outside.specs.KeeperCalls.{Reads}
 use Rattle.off_outside.proofs.KeeperLemmas.{reads_then, reads_as}

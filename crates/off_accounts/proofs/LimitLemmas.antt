@@ -5,14 +5,14 @@ use Rattle.std.proofs.lemmas.Bool.{le-leb, lt-leb, leb-true, leb-false}
 use Rattle.off_base.specs.Choices.{when}
 use Rattle.off_base.specs.Number.{greatest_u64}
 use Rattle.off_defs.specs.declared.keys.Key.{Key}
-use Rattle.off_defs.specs.declared.orders.Kind.{Kind}
-use Rattle.off_defs.specs.declared.orders.Kind.TheVariants.{Subscribers, AddOns, Modems, Classes, Pools, Batches, Hubs, DevicePools}
-use Rattle.off_defs.specs.declared.rules.Rule.{Rule}
-use Rattle.off_defs.specs.declared.rules.Rule.TheVariants as rule
+use Rattle.off_defs.specs.declared.kinds.Kind.{Kind}
+use Rattle.off_defs.specs.declared.kinds.Kind.TheVariants.{Subscribers, AddOns, Modems, Classes, Pools, Batches, Hubs, DevicePools}
+use Rattle.off_orders.specs.declared.rules.Rule.{Rule}
+use Rattle.off_orders.specs.declared.rules.Rule.TheVariants as rule
 use Rattle.off_defs.specs.State.{Tables}
 use Rattle.off_account_rules.specs.declared.counts.Counts.{Counts}
 use Rattle.off_account_rules.specs.Rows.{seen_at, count_of, counts_of}
-use Rattle.off_account_rules.specs.Clerk.{limit, limit_of}
+use Rattle.off_orders.specs.Clerk.{limit, limit_of}
 use Rattle.off_accounts.specs.Changes.{count_in, with_count, counts_put}
 use Rattle.off_accounts.specs.Tests.{limit_rule}
 use Rattle.off_accounts.proofs.PresentLemmas.{absent}

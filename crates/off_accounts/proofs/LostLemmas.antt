@@ -14,7 +14,7 @@ use Rattle.off_defs.specs.declared.tables.Row.TheVariants as row
 use Rattle.off_defs.specs.declared.tables.Pool.{Pool}
 use Rattle.off_defs.specs.declared.tables.Lease.{Lease}
 use Rattle.off_defs.specs.declared.tables.DeviceLease.{DeviceLease}
-use Rattle.off_defs.specs.declared.orders.Write.{Write}
+use Rattle.off_defs.specs.declared.writes.Write.{Write}
 use Rattle.off_defs.specs.Keys.{key_cmp}
 use Rattle.off_defs.specs.Kinds.{kind_of}
 use Rattle.off_defs.specs.Tables.{is_after}
@@ -22,7 +22,8 @@ use Rattle.off_rows.specs.KeyBytes.{IsRanged}
 use Rattle.off_readers.proofs.WalkLemmas.{kinds_rise, kinds_fall}
 use Rattle.off_readers.proofs.KindLemmas.{only_pools}
 use Rattle.off_account_rules.specs.Rows.{passes, has_address, lease_of, device_of, device_pool_of}
-use Rattle.off_account_rules.specs.Clerk.{gives_up, is_live, is_live_device, lease_drops, device_drop}
+use Rattle.off_account_rules.specs.Changes.{gives_up}
+use Rattle.off_orders.specs.Clerk.{is_live, is_live_device, lease_drops, device_drop}
 use Rattle.off_accounts.specs.declared.whose.Whose.{Whose}
 use Rattle.off_accounts.specs.declared.whose.Whose.TheVariants.{Modems as OfModems, Devices as OfDevices}
 use Rattle.off_accounts.specs.declared.lost.Lost.{Lost}

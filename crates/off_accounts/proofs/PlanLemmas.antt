@@ -13,17 +13,17 @@ use Rattle.off_defs.specs.declared.tables.Row.TheVariants as row
 use Rattle.off_defs.specs.declared.tables.Class.{Class}
 use Rattle.off_defs.specs.declared.tables.Pool.{Pool}
 use Rattle.off_defs.specs.declared.tables.Site.{Site}
-use Rattle.off_defs.specs.declared.rules.Rule.{Rule}
-use Rattle.off_defs.specs.declared.rules.Rule.TheVariants as rule
-use Rattle.off_defs.specs.declared.orders.Kind.{Kind}
-use Rattle.off_defs.specs.declared.orders.Kind.TheVariants.{Subscribers, AddOns, Modems, Classes, Pools, Batches, Hubs, DevicePools}
-use Rattle.off_defs.specs.declared.orders.Write.{Write}
-use Rattle.off_defs.specs.declared.orders.Write.TheVariants.{Put, Drop}
+use Rattle.off_orders.specs.declared.rules.Rule.{Rule}
+use Rattle.off_orders.specs.declared.rules.Rule.TheVariants as rule
+use Rattle.off_defs.specs.declared.kinds.Kind.{Kind}
+use Rattle.off_defs.specs.declared.kinds.Kind.TheVariants.{Subscribers, AddOns, Modems, Classes, Pools, Batches, Hubs, DevicePools}
+use Rattle.off_defs.specs.declared.writes.Write.{Write}
+use Rattle.off_defs.specs.declared.writes.Write.TheVariants.{Put, Drop}
 use Rattle.off_defs.specs.State.{Tables}
 use Rattle.off_defs.specs.Tables.{with_row, without, write_all}
-use Rattle.off_rows.specs.Sound.{is_add_on_number, is_sound_pool}
+use Rattle.off_orders.specs.Sound.{is_add_on_number, is_sound_pool}
 use Rattle.off_account_rules.specs.Rows.{class_is_good, add_on_is_good, is_of_kind, is_possible, is_offset, is_lease_time, has_pool_size, counts_of}
-use Rattle.off_account_rules.specs.Clerk.{pool_hub_write}
+use Rattle.off_orders.specs.Clerk.{pool_hub_write}
 use Rattle.off_accounts.proofs.CountsLemmas.{counts_with_other, counts_without_other}
 
 -- the row of a pool's hub isn't counted

@@ -5,12 +5,12 @@ use Rattle.off_defs.specs.declared.keys.Key.{Key}
 use Rattle.off_defs.specs.declared.keys.Key.TheVariants as key
 use Rattle.off_defs.specs.declared.tables.Row.{Row}
 use Rattle.off_defs.specs.declared.tables.Row.TheVariants as row
-use Rattle.off_defs.specs.declared.rules.Rule.{Rule}
-use Rattle.off_defs.specs.declared.rules.Rule.TheVariants as rule
+use Rattle.off_orders.specs.declared.rules.Rule.{Rule}
+use Rattle.off_orders.specs.declared.rules.Rule.TheVariants as rule
 use Rattle.off_defs.specs.State.{Tables}
 use Rattle.off_defs.specs.Tables.{row_at}
 use Rattle.off_account_rules.specs.Rows.{possible, seen_at, as_site, as_subscriber, as_class, site_fits, subscriber_fits, class_is_good}
-use Rattle.off_account_rules.specs.Clerk.{no_row, no_subscriber, no_class, no_hub}
+use Rattle.off_orders.specs.Clerk.{no_row, no_subscriber, no_class, no_hub}
 
 pub absent : {X : Type 0} (o : Option X) → is_none o ≡ not (is_some o)
 absent None = refl

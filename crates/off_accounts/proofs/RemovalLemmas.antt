@@ -8,10 +8,10 @@ use Rattle.off_defs.specs.declared.keys.Key.{Key}
 use Rattle.off_defs.specs.declared.keys.Key.TheVariants.{Subscriber, AddOn, Lease, Held, Device}
 use Rattle.off_defs.specs.declared.tables.Lease.{Lease as LeaseRow}
 use Rattle.off_defs.specs.declared.tables.DeviceLease.{DeviceLease}
-use Rattle.off_defs.specs.declared.orders.Kind.{Kind}
-use Rattle.off_defs.specs.declared.orders.Kind.TheVariants.{Subscribers, AddOns, Modems, Classes, Pools, Batches, Hubs, DevicePools}
-use Rattle.off_defs.specs.declared.orders.Write.{Write}
-use Rattle.off_defs.specs.declared.orders.Write.TheVariants.{Drop}
+use Rattle.off_defs.specs.declared.kinds.Kind.{Kind}
+use Rattle.off_defs.specs.declared.kinds.Kind.TheVariants.{Subscribers, AddOns, Modems, Classes, Pools, Batches, Hubs, DevicePools}
+use Rattle.off_defs.specs.declared.writes.Write.{Write}
+use Rattle.off_defs.specs.declared.writes.Write.TheVariants.{Drop}
 use Rattle.off_defs.specs.Keys.{key_cmp}
 use Rattle.off_defs.specs.State.{Tables}
 use Rattle.off_defs.specs.Tables.{row_at, without, write_all}
@@ -19,7 +19,8 @@ use Rattle.off_defs.proofs.TableLemmas.{row_without, same_key}
 use Rattle.off_account_rules.specs.declared.counts.Counts.{Counts}
 use Rattle.off_account_rules.specs.Rows.{possible, seen_at, is_of_kind, counts_of}
 use Rattle.off_account_rules.specs.Good.{owner_of}
-use Rattle.off_account_rules.specs.Clerk.{no_row, lease_drops, held_drop, device_drop, add_on_keys}
+use Rattle.off_account_rules.specs.Changes.{held_drop, add_on_keys}
+use Rattle.off_orders.specs.Clerk.{no_row, lease_drops, device_drop}
 use Rattle.off_accounts.specs.Changes.{count_in, with_count, counts_drop}
 use Rattle.off_accounts.proofs.CountsLemmas.{kept, counts_without, counts_without_other}
 use Rattle.off_accounts.proofs.PresentLemmas.{row_present}

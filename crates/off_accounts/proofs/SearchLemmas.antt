@@ -8,7 +8,7 @@ use Rattle.off_defs.specs.declared.tables.Row.{Row}
 use Rattle.off_defs.specs.declared.tables.Pool.{Pool}
 use Rattle.off_defs.specs.State.{Tables}
 use Rattle.off_defs.specs.Tables.{is_after, behind, next_entry}
-use Rattle.off_account_rules.specs.Clerk.{is_other_with_relay}
+use Rattle.off_orders.specs.Clerk.{is_other_with_relay}
 use Rattle.off_accounts.specs.declared.whose.Whose.{Whose}
 use Rattle.off_accounts.specs.declared.lost.Lost.{Lost}
 use Rattle.off_accounts.specs.declared.searching.Sought.{Sought}

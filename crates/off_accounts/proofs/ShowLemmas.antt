@@ -6,18 +6,18 @@ use Rattle.off_defs.specs.declared.keys.Key.TheVariants as key
 use Rattle.off_defs.specs.declared.tables.Row.{Row}
 use Rattle.off_defs.specs.declared.tables.Row.TheVariants as row
 use Rattle.off_defs.specs.declared.tables.Pool.{Pool}
-use Rattle.off_defs.specs.declared.shown.ShownRow.{ShownRow}
-use Rattle.off_defs.specs.declared.rules.Rule.TheVariants as rule
-use Rattle.off_defs.specs.declared.orders.Write.{Write}
-use Rattle.off_defs.specs.declared.orders.Reply.{Reply}
-use Rattle.off_defs.specs.declared.orders.Reply.TheVariants.{Shown, ShownPool}
-use Rattle.off_defs.specs.declared.orders.Command.TheVariants.{Show}
-use Rattle.off_defs.specs.Shown.{shown_row}
+use Rattle.off_orders.specs.declared.shown.ShownRow.{ShownRow}
+use Rattle.off_orders.specs.declared.rules.Rule.TheVariants as rule
+use Rattle.off_defs.specs.declared.writes.Write.{Write}
+use Rattle.off_orders.specs.declared.orders.Reply.{Reply}
+use Rattle.off_orders.specs.declared.orders.Reply.TheVariants.{Shown, ShownPool}
+use Rattle.off_orders.specs.declared.orders.Command.TheVariants.{Show}
+use Rattle.off_orders.specs.Shown.{shown_row}
 use Rattle.off_defs.specs.State.{Tables}
 use Rattle.off_defs.specs.Tables.{write_all}
 use Rattle.off_account_rules.specs.declared.counts.Counts.{Counts}
 use Rattle.off_account_rules.specs.Rows.{seen_at, as_pool, pool_in, pool_hub_in, is_possible, counts_of}
-use Rattle.off_account_rules.specs.Clerk.{shown, shown_as, accepted}
+use Rattle.off_orders.specs.Clerk.{shown, shown_as, accepted}
 use Rattle.off_users.specs.Users.{UsersHeld}
 use Rattle.off_accounts.specs.Deciding.{IsRuling, ShowsRow, ShowsAt}
 use Rattle.off_accounts.specs.declared.whose.Whose.TheVariants.{Modems as OfModems}

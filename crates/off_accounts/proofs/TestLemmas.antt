@@ -10,17 +10,17 @@ use Rattle.off_base.specs.declared.moments.Moment.{Moment}
 use Rattle.off_defs.specs.declared.keys.Key.{Key}
 use Rattle.off_defs.specs.declared.keys.Key.TheVariants as key
 use Rattle.off_defs.specs.declared.tables.Pool.{Pool}
-use Rattle.off_defs.specs.declared.rules.Rule.{Rule}
-use Rattle.off_defs.specs.declared.rules.Rule.TheVariants as rule
-use Rattle.off_defs.specs.declared.orders.Kind.TheVariants.{Subscribers, AddOns, Modems, Classes, Pools, Hubs, DevicePools}
-use Rattle.off_defs.specs.declared.orders.Command.{Command}
-use Rattle.off_defs.specs.declared.orders.Command.TheVariants.{PutHub, PutSubscriber, PutAddOn, PutModem, PutClass, PutPool, PutDevicePool, Remove, Show, Import}
+use Rattle.off_orders.specs.declared.rules.Rule.{Rule}
+use Rattle.off_orders.specs.declared.rules.Rule.TheVariants as rule
+use Rattle.off_defs.specs.declared.kinds.Kind.TheVariants.{Subscribers, AddOns, Modems, Classes, Pools, Hubs, DevicePools}
+use Rattle.off_orders.specs.declared.orders.Command.{Command}
+use Rattle.off_orders.specs.declared.orders.Command.TheVariants.{PutHub, PutSubscriber, PutAddOn, PutModem, PutClass, PutPool, PutDevicePool, Remove, Show, Import}
 use Rattle.off_defs.specs.State.{Tables}
 use Rattle.off_tree.specs.declared.tables.Kind.TheVariants as tree
 use Rattle.off_tree.specs.Fault.{first_fault}
 use Rattle.off_account_rules.specs.declared.counts.Counts.{Counts}
 use Rattle.off_account_rules.specs.Rows.{has_pool_size, is_lease_time, is_offset, counts_of, modems}
-use Rattle.off_account_rules.specs.Clerk.{limit, no_subscriber, no_class, no_hub, no_row, hub_in_use, pool_overlap, device_overlap, other_device_overlap, modems_overlap, relay_taken, device_relay_taken, pool_has_leases, pool_has_devices, has_modems, class_in_use, rules_of, removal_rules}
+use Rattle.off_orders.specs.Clerk.{limit, no_subscriber, no_class, no_hub, no_row, hub_in_use, pool_overlap, device_overlap, other_device_overlap, modems_overlap, relay_taken, device_relay_taken, pool_has_leases, pool_has_devices, has_modems, class_in_use, rules_of, removal_rules}
 use Rattle.off_accounts.specs.declared.whose.Whose.{Whose}
 use Rattle.off_accounts.specs.declared.whose.Whose.TheVariants.{Modems as OfModems, Devices as OfDevices}
 use Rattle.off_accounts.specs.declared.subject.Subject.{Subject}

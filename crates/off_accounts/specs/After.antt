@@ -2,12 +2,12 @@
 use Rattle.std.specs.Prelude.{◌≡◌, ℕ, None}
 use Rattle.off_base.specs.Choices.{first_there}
 use Rattle.off_defs.specs.declared.keys.Key.{Key}
-use Rattle.off_defs.specs.declared.orders.Command.{Command}
+use Rattle.off_orders.specs.declared.orders.Command.{Command}
 use Rattle.off_defs.specs.State.{Tables}
 use Rattle.off_defs.specs.Tables.{write_all}
 use Rattle.off_account_rules.specs.declared.counts.Counts.{Counts}
 use Rattle.off_account_rules.specs.Rows.{counts_of}
-use Rattle.off_account_rules.specs.Clerk.{rules_of, no_row, writes_of, removal_writes}
+use Rattle.off_orders.specs.Clerk.{rules_of, no_row, writes_of, removal_writes}
 use Rattle.off_accounts.specs.declared.subject.Subject.{Subject}
 use Rattle.off_accounts.specs.Tests.{IsSubject}
 

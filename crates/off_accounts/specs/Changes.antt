@@ -1,7 +1,7 @@
 -- How the counts of rows change where a key gets a row, and where it loses it.
 use Rattle.std.specs.Prelude.{ℕ, ◌+◌, ◌-◌, Bool, true, false}
-use Rattle.off_defs.specs.declared.orders.Kind.{Kind}
-use Rattle.off_defs.specs.declared.orders.Kind.TheVariants.{Subscribers, AddOns, Modems, Classes, Pools, Batches, Hubs, DevicePools}
+use Rattle.off_defs.specs.declared.kinds.Kind.{Kind}
+use Rattle.off_defs.specs.declared.kinds.Kind.TheVariants.{Subscribers, AddOns, Modems, Classes, Pools, Batches, Hubs, DevicePools}
 use Rattle.off_account_rules.specs.declared.counts.Counts.{Counts}
 
 -- the count of a kind

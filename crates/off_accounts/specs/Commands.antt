@@ -1,14 +1,14 @@
 -- What `decide` says of an import besides what it says of each command.
 use Rattle.std.specs.Prelude.{◌≡◌, ℕ, ◌+◌, ◌*◌, Option, Some, None, length, IsTrue}
-use Rattle.off_defs.specs.declared.orders.Command.{Command}
-use Rattle.off_defs.specs.declared.orders.Command.TheVariants.{PutHub, PutSubscriber, PutAddOn, PutModem, PutClass, PutPool, PutDevicePool, Remove, Show, Import}
-use Rattle.off_defs.specs.declared.orders.Reply.TheVariants.{Rows}
+use Rattle.off_orders.specs.declared.orders.Command.{Command}
+use Rattle.off_orders.specs.declared.orders.Command.TheVariants.{PutHub, PutSubscriber, PutAddOn, PutModem, PutClass, PutPool, PutDevicePool, Remove, Show, Import}
+use Rattle.off_orders.specs.declared.orders.Reply.TheVariants.{Rows}
 use Rattle.off_defs.specs.State.{Tables}
 use Rattle.off_defs.specs.Tables.{write_all}
 use Rattle.off_account_rules.specs.declared.counts.Counts.{Counts}
 use Rattle.off_account_rules.specs.Rows.{counts_of}
 use Rattle.off_account_rules.specs.Good.{Good}
-use Rattle.off_table_laws.specs.Laws.{secret_fits}
+use Rattle.off_order_laws.specs.Laws.{secret_fits}
 use Rattle.off_users.specs.Users.{UsersHeld, StandsFor}
 use Rattle.off_outside.specs.KeeperSeen.{KeeperSeen}
 use Rattle.off_accounts.specs.declared.results.Planned.{Planned}

@@ -1,23 +1,23 @@
 -- What `decide` says of a command: what is to be written and answered, or which rule refuses it.
 use Rattle.std.specs.Prelude.{◌≡◌, ℕ, Bool, true, false, IsTrue, [], Option, Some, None, Result, Ok, Err}
 use Rattle.off_base.specs.Choices.{first_there}
-use Rattle.off_defs.specs.declared.orders.Command.{Command}
-use Rattle.off_defs.specs.declared.orders.Command.TheVariants.{PutHub, PutSubscriber, PutAddOn, PutModem, PutClass, PutPool, PutDevicePool, Remove, Show, Import}
+use Rattle.off_orders.specs.declared.orders.Command.{Command}
+use Rattle.off_orders.specs.declared.orders.Command.TheVariants.{PutHub, PutSubscriber, PutAddOn, PutModem, PutClass, PutPool, PutDevicePool, Remove, Show, Import}
 use Rattle.off_defs.specs.declared.keys.Key.{Key}
 use Rattle.off_defs.specs.declared.keys.Key.TheVariants as key
-use Rattle.off_defs.specs.declared.orders.Reply.TheVariants.{Done, Shown, ShownPool}
+use Rattle.off_orders.specs.declared.orders.Reply.TheVariants.{Done, Shown, ShownPool}
 use Rattle.off_defs.specs.declared.tables.Row.{Row}
 use Rattle.off_defs.specs.declared.tables.Row.TheVariants as row
 use Rattle.off_defs.specs.declared.tables.Pool.{Pool}
-use Rattle.off_defs.specs.declared.shown.ShownRow.{ShownRow}
-use Rattle.off_defs.specs.declared.orders.Reply.{Reply}
-use Rattle.off_defs.specs.Shown.{shown_row}
+use Rattle.off_orders.specs.declared.shown.ShownRow.{ShownRow}
+use Rattle.off_orders.specs.declared.orders.Reply.{Reply}
+use Rattle.off_orders.specs.Shown.{shown_row}
 use Rattle.off_defs.specs.State.{Tables}
 use Rattle.off_defs.specs.Tables.{write_all}
 use Rattle.off_account_rules.specs.declared.counts.Counts.{Counts}
 use Rattle.off_account_rules.specs.Rows.{is_possible, counts_of}
-use Rattle.off_account_rules.specs.Clerk.{rules_of, writes_of, decided, by_rule, accepted, refusal}
-use Rattle.off_defs.specs.declared.rules.Rule.{Rule}
+use Rattle.off_orders.specs.Clerk.{rules_of, writes_of, decided, by_rule, accepted, refusal}
+use Rattle.off_orders.specs.declared.rules.Rule.{Rule}
 use Rattle.off_users.specs.Users.{UsersHeld, StandsFor}
 use Rattle.off_outside.specs.declared.keeper.KeepErr.{KeepErr}
 use Rattle.off_outside.specs.declared.keeper.KeepErr.TheVariants as keeper

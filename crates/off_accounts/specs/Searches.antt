@@ -9,12 +9,13 @@ use Rattle.off_defs.specs.declared.tables.Row.{Row}
 use Rattle.off_defs.specs.declared.tables.Pool.{Pool}
 use Rattle.off_defs.specs.declared.tables.Lease.{Lease}
 use Rattle.off_defs.specs.declared.tables.DeviceLease.{DeviceLease}
-use Rattle.off_defs.specs.declared.orders.Write.{Write}
-use Rattle.off_defs.specs.declared.rules.Rule.{Rule}
-use Rattle.off_defs.specs.declared.rules.Rule.TheVariants as rule
+use Rattle.off_defs.specs.declared.writes.Write.{Write}
+use Rattle.off_orders.specs.declared.rules.Rule.{Rule}
+use Rattle.off_orders.specs.declared.rules.Rule.TheVariants as rule
 use Rattle.off_defs.specs.State.{Tables}
 use Rattle.off_account_rules.specs.Rows.{passes, overlaps, pool_of, device_pool_of, lease_of, device_of, pools, leases, devices, pool_hub_in}
-use Rattle.off_account_rules.specs.Clerk.{is_other_with_relay, gives_up, is_live, is_live_device, lease_drops, device_drop}
+use Rattle.off_account_rules.specs.Changes.{gives_up}
+use Rattle.off_orders.specs.Clerk.{is_other_with_relay, is_live, is_live_device, lease_drops, device_drop}
 use Rattle.off_accounts.specs.declared.whose.Whose.{Whose}
 use Rattle.off_accounts.specs.declared.whose.Whose.TheVariants.{Modems as OfModems, Devices as OfDevices}
 use Rattle.off_accounts.specs.declared.lost.Lost.{Lost}

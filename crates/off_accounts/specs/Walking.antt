@@ -7,8 +7,8 @@ use Rattle.off_defs.specs.declared.keys.Key.{Key}
 use Rattle.off_defs.specs.declared.keys.Key.TheVariants as key
 use Rattle.off_defs.specs.declared.tables.Row.{Row}
 use Rattle.off_defs.specs.declared.tables.Pool.{Pool}
-use Rattle.off_defs.specs.declared.orders.Command.{Command}
-use Rattle.off_defs.specs.declared.orders.Command.TheVariants.{PutHub, PutSubscriber, PutAddOn, PutModem, PutClass, PutPool, PutDevicePool, Remove, Show, Import}
+use Rattle.off_orders.specs.declared.orders.Command.{Command}
+use Rattle.off_orders.specs.declared.orders.Command.TheVariants.{PutHub, PutSubscriber, PutAddOn, PutModem, PutClass, PutPool, PutDevicePool, Remove, Show, Import}
 use Rattle.off_defs.specs.State.{Tables}
 use Rattle.off_defs.specs.Tables.{is_after}
 use Rattle.off_defs.specs.Kinds.{kind_of}

@@ -1,5 +1,5 @@
 ghost use Rattle.std.specs.Prelude.{◌≡◌, IsTrue, MatchResult, IfOk, IfSome};
-ghost use Rattle.off_rows.specs.Sound.{is_sound};
+ghost use Rattle.off_orders.specs.Sound.{is_sound};
 ghost use Rattle.off_account_rules.specs.Rows.{counts_of};
 ghost use Rattle.off_users.specs.Users.{StandsFor};
 ghost use Rattle.off_outside.specs.KeeperCalls.{Reads, Spent};
@@ -14,7 +14,8 @@ use crate::putting::Refused;
 use crate::results::{AccountErr, Planned};
 use off_account_rules::Counts;
 use off_base::Moment;
-use off_defs::{Batch, Command};
+use off_defs::Batch;
+use off_orders::Command;
 use off_outside::{KeepErr, Keeper};
 use off_users::Users;
 use std::alloc::Global;

@@ -1,10 +1,10 @@
 //! How many rows of each kind there are behind a command, once its rules are passed.
 
 ghost use Rattle.std.specs.Prelude.{◌≡◌, ◌≤◌, true, None, is_some, length, count_by};
-ghost use Rattle.off_defs.specs.declared.orders.Kind.TheVariants.{Hubs};
-ghost use Rattle.off_rows.specs.Sound.{is_sound, is_removable};
+ghost use Rattle.off_defs.specs.declared.kinds.Kind.TheVariants.{Hubs};
+ghost use Rattle.off_orders.specs.Sound.{is_sound, is_removable};
 ghost use Rattle.off_account_rules.specs.Rows.{seen_at};
-ghost use Rattle.off_account_rules.specs.Clerk.{add_on_keys};
+ghost use Rattle.off_account_rules.specs.Changes.{add_on_keys};
 ghost use Rattle.off_outside.specs.KeeperCalls.{Looks, Spent};
 ghost use Rattle.off_accounts.specs.Deciding.{calls_to_count, calls_to_count_removed};
 ghost use Rattle.off_accounts.specs.After.{CountsAfter, CountsAfterRemoval};
@@ -14,7 +14,8 @@ ghost use Rattle.off_accounts.specs.Tests.{limit_rule};
 use crate::limits::{counts_put, fewer_add_ons, one_less};
 use crate::subject::Subject;
 use off_account_rules::Counts;
-use off_defs::{ADD_ONS, Command, Key, Kind, Site};
+use off_defs::{ADD_ONS, Key, Kind, Site};
+use off_orders::Command;
 use off_outside::{KeepErr, Keeper};
 use off_readers::has_row;
 use std::alloc::Global;

@@ -1,6 +1,6 @@
 ghost use Rattle.std.specs.Prelude.{◌≡◌, false, IsTrue, MatchResult, IfOk, IfSome};
-ghost use Rattle.off_defs.specs.declared.orders.Reply.TheVariants.{Done};
-ghost use Rattle.off_rows.specs.Sound.{is_sound};
+ghost use Rattle.off_orders.specs.declared.orders.Reply.TheVariants.{Done};
+ghost use Rattle.off_orders.specs.Sound.{is_sound};
 ghost use Rattle.off_account_rules.specs.Rows.{counts_of};
 ghost use Rattle.off_users.specs.Users.{StandsFor};
 ghost use Rattle.off_outside.specs.KeeperCalls.{Looks, Reads, Spent};
@@ -17,7 +17,7 @@ use crate::subject::subject_of;
 use crate::testing::first_broken;
 use off_account_rules::Counts;
 use off_base::Moment;
-use off_defs::{Command, Reply, Rule};
+use off_orders::{Command, Reply, Rule};
 use off_outside::{KeepErr, Keeper};
 use off_users::Users;
 use std::alloc::Global;

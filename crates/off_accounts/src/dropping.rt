@@ -1,7 +1,8 @@
 ghost use Rattle.std.specs.Prelude.{◌≡◌, ◌∷◌, [], ◌++◌, Some, OnOk, cond};
 ghost use Rattle.off_defs.specs.declared.keys.Key.TheVariants.{Device};
-ghost use Rattle.off_defs.specs.declared.orders.Write.TheVariants.{Drop};
-ghost use Rattle.off_account_rules.specs.Clerk.{lease_drops, device_drop, held_drop, gives_up};
+ghost use Rattle.off_defs.specs.declared.writes.Write.TheVariants.{Drop};
+ghost use Rattle.off_account_rules.specs.Changes.{held_drop, gives_up};
+ghost use Rattle.off_orders.specs.Clerk.{lease_drops, device_drop};
 ghost use Rattle.off_account_rules.specs.Good.{owner_of};
 ghost use Rattle.off_account_rules.specs.Rows.{lease_of, device_of};
 ghost use Rattle.off_defs.specs.State.{Tables};

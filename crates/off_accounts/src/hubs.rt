@@ -5,12 +5,13 @@ ghost use Rattle.off_defs.specs.Kinds.{kind_of};
 ghost use Rattle.off_defs.specs.State.{Tables};
 ghost use Rattle.off_rows.specs.KeyBytes.{IsRanged};
 ghost use Rattle.off_account_rules.specs.Rows.{pool_of};
-ghost use Rattle.off_account_rules.specs.Clerk.{hub_in_use};
+ghost use Rattle.off_orders.specs.Clerk.{hub_in_use};
 ghost use Rattle.off_outside.specs.KeeperCalls.{Looks, Spent};
 ghost use Rattle.off_accounts.specs.Searches.{least_of, of_hub_in, hub_rule};
 ghost use Rattle.off_accounts.specs.Walking.{hub_calls};
 
-use off_defs::{Key, Row, Rule};
+use off_defs::{Key, Row};
+use off_orders::Rule;
 use off_outside::{KeepErr, Keeper};
 use off_readers::{is_past_pools, is_possible, next_behind, read_pool_hub};
 use std::alloc::Global;

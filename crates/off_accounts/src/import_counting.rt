@@ -4,7 +4,8 @@ ghost use Rattle.off_accounts.specs.Imports.{IsCounted};
 
 use crate::limits::{counts_put, limit_rule};
 use off_account_rules::Counts;
-use off_defs::{Kind, Rule};
+use off_defs::Kind;
+use off_orders::Rule;
 
 /// The counts behind a put of a row of the kind at a key that has a row already, or hasn't, or the
 /// rule that there may be only so many.

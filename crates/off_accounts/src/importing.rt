@@ -3,8 +3,8 @@
 
 ghost use Rattle.std.specs.Prelude.{◌≡◌, ℕ, ◌+◌, ◌*◌, ◌≤◌, true, length, IfOk, MatchResult};
 ghost use Rattle.std.specs.List.{list_all};
-ghost use Rattle.off_defs.specs.declared.orders.Reply.TheVariants.{Rows};
-ghost use Rattle.off_account_rules.specs.Clerk.{is_kind};
+ghost use Rattle.off_orders.specs.declared.orders.Reply.TheVariants.{Rows};
+ghost use Rattle.off_orders.specs.Clerk.{is_kind};
 ghost use Rattle.off_outside.specs.declared.keeper.KeepErr.TheVariants.{Memory};
 ghost use Rattle.off_outside.specs.KeeperCalls.{Looks, Spent};
 ghost use Rattle.off_accounts.specs.Imports.{is_sound_row, IsImported, IsRepeated};
@@ -15,7 +15,8 @@ use crate::progress::Progress;
 use crate::putting::{Refused, put_rows};
 use crate::results::Planned;
 use off_account_rules::Counts;
-use off_defs::{Batch, ImportKind, ImportRows, Key, Kind, Reply, Row, Rule, Write, Writes};
+use off_defs::{Batch, ImportKind, Key, Kind, Row, Write, Writes};
+use off_orders::{ImportRows, Reply, Rule};
 use off_outside::{KeepErr, Keeper};
 use off_readers::read_batch;
 use std::alloc::Global;

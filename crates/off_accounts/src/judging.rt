@@ -2,7 +2,7 @@
 
 ghost use Rattle.std.specs.Prelude.{◌≡◌, true, is_some, IfOk};
 ghost use Rattle.off_defs.specs.Tables.{write_all};
-ghost use Rattle.off_defs.specs.declared.orders.ImportRow.TheVariants as imported;
+ghost use Rattle.off_orders.specs.declared.orders.ImportRow.TheVariants as imported;
 ghost use Rattle.off_account_rules.specs.Rows.{seen_at, counts_of};
 ghost use Rattle.off_outside.specs.KeeperCalls.{Looks, Spent};
 ghost use Rattle.off_accounts.specs.Imports.{Shows, IsJudged, is_sound_row, was_put};
@@ -11,7 +11,8 @@ use crate::import_counting::count_put;
 use crate::progress::{Progress, was_put};
 use off_account_rules::Counts;
 use off_base::Mac;
-use off_defs::{ImportRow, Key, Kind, Modem, Rule};
+use off_defs::{Key, Kind, Modem};
+use off_orders::{ImportRow, Rule};
 use off_outside::{KeepErr, Keeper};
 use off_readers::has_row;
 use std::alloc::Global;

@@ -1,13 +1,14 @@
 //! How many rows of each kind there may be, and how many there are after a write.
 
 ghost use Rattle.std.specs.Prelude.{◌≡◌, ◌-◌, true, None};
-ghost use Rattle.off_defs.specs.declared.orders.Kind.TheVariants.{AddOns};
-ghost use Rattle.off_account_rules.specs.Clerk.{limit_of};
+ghost use Rattle.off_defs.specs.declared.kinds.Kind.TheVariants.{AddOns};
+ghost use Rattle.off_orders.specs.Clerk.{limit_of};
 ghost use Rattle.off_accounts.specs.Changes.{count_in, with_count, counts_put, counts_drop};
 ghost use Rattle.off_accounts.specs.Tests.{limit_rule};
 
 use off_account_rules::Counts;
-use off_defs::{Kind, Rule};
+use off_defs::Kind;
+use off_orders::Rule;
 
 /// The rule that there may be only so many rows of a kind, where a key of it gets a row.
 pub fn limit_rule(counts: &Counts, kind: Kind, is_there: bool) -> Option<Rule>

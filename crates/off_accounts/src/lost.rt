@@ -2,7 +2,7 @@ ghost use Rattle.std.specs.Prelude.{◌≡◌, false, Some};
 ghost use Rattle.off_defs.specs.declared.keys.Key.{Key};
 ghost use Rattle.off_defs.specs.declared.tables.Row.{Row};
 ghost use Rattle.off_defs.specs.Tables.{is_after};
-ghost use Rattle.off_account_rules.specs.Clerk.{gives_up};
+ghost use Rattle.off_account_rules.specs.Changes.{gives_up};
 ghost use Rattle.off_rows.specs.KeyBytes.{IsRanged};
 ghost use Rattle.off_accounts.specs.Searches.{is_given_up};
 ghost use Rattle.off_accounts.specs.Walking.{AllBehind, is_past_first, is_past_last};

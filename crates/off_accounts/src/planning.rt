@@ -4,10 +4,11 @@
 ghost use Rattle.std.specs.Prelude.{◌≡◌, [], ◌∷◌, true, is_some, MatchResult, map};
 ghost use Rattle.off_defs.specs.declared.keys.Key.TheVariants as key;
 ghost use Rattle.off_defs.specs.declared.tables.Row.TheVariants as row;
-ghost use Rattle.off_defs.specs.declared.orders.Write.TheVariants.{Drop};
+ghost use Rattle.off_defs.specs.declared.writes.Write.TheVariants.{Drop};
 ghost use Rattle.off_outside.specs.declared.keeper.KeepErr.TheVariants.{Memory};
 ghost use Rattle.off_outside.specs.KeeperCalls.{Looks, Spent};
-ghost use Rattle.off_account_rules.specs.Clerk.{add_on_keys, pool_hub_write, removal_writes, writes_of};
+ghost use Rattle.off_account_rules.specs.Changes.{add_on_keys};
+ghost use Rattle.off_orders.specs.Clerk.{pool_hub_write, removal_writes, writes_of};
 ghost use Rattle.off_accounts.specs.Deciding.{most_calls, most_calls_removing};
 ghost use Rattle.off_accounts.specs.Tests.{SubjectStands, IsSubject};
 ghost use Rattle.off_accounts.specs.Walking.{drop_calls, drop_calls_removing, lease_calls};
@@ -20,7 +21,8 @@ use crate::dropping::with_drops;
 use crate::subject::Subject;
 use crate::whose::Whose;
 use off_base::Settings;
-use off_defs::{ADD_ONS, Class, Command, Key, Pool, Row, Write, Writes};
+use off_defs::{ADD_ONS, Class, Key, Pool, Row, Write, Writes};
+use off_orders::Command;
 use off_outside::{KeepErr, Keeper};
 use std::alloc::Global;
 

@@ -6,7 +6,8 @@ ghost use Rattle.off_accounts.specs.Imports.{put_of, row_key, is_sound_row};
 
 use off_account_rules::Counts;
 use off_base::NoMemory;
-use off_defs::{ImportRow, Key, Row, Write, Writes};
+use off_defs::{Key, Row, Write, Writes};
+use off_orders::ImportRow;
 use std::alloc::Global;
 use std::collections::BTreeSet;
 

@@ -11,7 +11,7 @@ ghost use Rattle.off_accounts.specs.Imports.{IsPut, IsStep, AreRowsPut};
 use crate::judging::judge;
 use crate::progress::{Progress, begin, put_row};
 use off_account_rules::Counts;
-use off_defs::{ImportRow, ImportRows, Rule};
+use off_orders::{ImportRow, ImportRows, Rule};
 use off_outside::{KeepErr, Keeper};
 use std::alloc::Global;
 

@@ -1,6 +1,7 @@
 use off_account_rules::Counts;
 use off_base::Moment;
-use off_defs::{Reply, Rule, Writes};
+use off_defs::Writes;
+use off_orders::{Reply, Rule};
 use off_outside::KeepErr;
 
 /// What a command is to do.

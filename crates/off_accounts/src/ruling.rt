@@ -15,7 +15,8 @@ use crate::testing::{Test, unless};
 use crate::values::{add_on_fault, class_fault};
 use crate::whose::Whose;
 use off_base::Moment;
-use off_defs::{Command, Key, Kind, Pool, Rule, Site};
+use off_defs::{Key, Kind, Pool, Site};
+use off_orders::{Command, Rule};
 use off_readers::{has_pool_size, is_lease_time, is_offset};
 
 // Where a command has fewer rules.

@@ -2,7 +2,7 @@
 
 ghost use Rattle.std.specs.Prelude.{◌≡◌, false, Some, IfOk};
 ghost use Rattle.off_defs.specs.declared.keys.Key.TheVariants as key;
-ghost use Rattle.off_defs.specs.declared.orders.Command.TheVariants.{Show};
+ghost use Rattle.off_orders.specs.declared.orders.Command.TheVariants.{Show};
 ghost use Rattle.off_outside.specs.KeeperCalls.{Looks, Spent};
 ghost use Rattle.off_accounts.specs.Deciding.{IsRuling, AnswersCommand, calls_to_show};
 ghost use Rattle.off_accounts.specs.Walking.{is_of_pool};
@@ -12,7 +12,8 @@ use crate::subject::as_pool;
 use crate::whose::{Whose, pool_number};
 use off_account_rules::Counts;
 use off_base::Moment;
-use off_defs::{Key, Reply, Rule, ShownRow, Writes};
+use off_defs::{Key, Writes};
+use off_orders::{Reply, Rule, ShownRow};
 use off_outside::{KeepErr, Keeper};
 use off_readers::{read_pool_hub, read_row};
 use off_users::Users;

@@ -6,7 +6,8 @@ ghost use Rattle.off_users.specs.Users.{StandsFor};
 ghost use Rattle.off_accounts.specs.Tests.{SubjectStands, IsSubject, calls_for_subject, uses_at};
 ghost use Rattle.off_accounts.specs.Walking.{PoolStands, IsPoolAt};
 
-use off_defs::{Command, Key, Pool, Row};
+use off_defs::{Key, Pool, Row};
+use off_orders::Command;
 use off_outside::{KeepErr, Keeper};
 use off_readers::read_row;
 use off_users::Users;

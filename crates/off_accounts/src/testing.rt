@@ -1,7 +1,7 @@
 ghost use Rattle.std.specs.Prelude.{◌≡◌, false, not, map};
 ghost use Rattle.off_base.specs.Choices.{when, first_there};
 ghost use Rattle.off_outside.specs.KeeperCalls.{Looks, Spent, WasCounted};
-ghost use Rattle.off_account_rules.specs.Clerk.{no_subscriber, no_class, no_hub};
+ghost use Rattle.off_orders.specs.Clerk.{no_subscriber, no_class, no_hub};
 ghost use Rattle.off_accounts.specs.Tests.{says, looks_up, searches, lookups, any_searches};
 ghost use Rattle.off_accounts.specs.Tests.{found_rule, rule_at, overlap_rule, sought_rule};
 ghost use Rattle.off_accounts.specs.Walking.{WalksOver, looks_at, test_calls, tests_calls};
@@ -10,7 +10,8 @@ ghost use Rattle.off_defs.specs.State.{Tables};
 use crate::hubs::hub_in_use;
 use crate::searching::{Sought, search};
 use crate::whose::{Whose, lease_address, pool_number};
-use off_defs::{Key, Rule};
+use off_defs::Key;
+use off_orders::Rule;
 use off_outside::{KeepErr, Keeper};
 use off_readers::has_row;
 use std::alloc::Global;

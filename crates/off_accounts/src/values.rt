@@ -1,10 +1,10 @@
 ghost use Rattle.std.specs.Prelude.{◌≡◌, option_map};
 ghost use Rattle.off_tree.specs.declared.tables.Kind.TheVariants as tree;
 ghost use Rattle.off_tree.specs.Fault.{first_fault};
-ghost use Rattle.off_defs.specs.declared.rules.Rule.TheVariants as rule;
+ghost use Rattle.off_orders.specs.declared.rules.Rule.TheVariants as rule;
 
 use off_base::Settings;
-use off_defs::Rule;
+use off_orders::Rule;
 use off_tree::{check_addon, check_class};
 
 /// The first fault of an add-on's settings, or `None` where they're good.

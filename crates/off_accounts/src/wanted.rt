@@ -1,7 +1,8 @@
 ghost use Rattle.std.specs.Prelude.{◌≡◌, ◌&&◌, Some};
 ghost use Rattle.off_account_rules.specs.Rows.{passes, fitting_pool, lease_of, device_of};
-ghost use Rattle.off_account_rules.specs.Clerk.{is_other_with_relay, gives_up, is_live};
-ghost use Rattle.off_account_rules.specs.Clerk.{is_live_device};
+ghost use Rattle.off_account_rules.specs.Changes.{gives_up};
+ghost use Rattle.off_orders.specs.Clerk.{is_other_with_relay, is_live};
+ghost use Rattle.off_orders.specs.Clerk.{is_live_device};
 ghost use Rattle.off_accounts.specs.Searches.{is_wanted, is_another, is_overlapping, pool_given};
 
 use crate::lost::{Lost, gives_up};

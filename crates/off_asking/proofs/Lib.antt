@@ -1,2 +1,5 @@
 pub mod SpanLemmas
 pub mod TextLemmas
+pub mod ClaimLemmas
+pub mod PoolLemmas
+pub mod ChoiceLemmas

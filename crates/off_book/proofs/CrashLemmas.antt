@@ -1,11 +1,12 @@
 -- A run that lasts through crashes: with one more turn at its end, and with calls that only read before or behind it.
 use Rattle.std.proofs.Common.{◌≡◌, ℕ, ◌<◌, ◌≤◌, ◌⊎◌, List, [], ◌∷◌, ◌++◌, refl, subst, inl, inr, arith}
+use mathlib.Core.Logic.{⊎_map}
 use Rattle.std.proofs.lemmas.Bool.{cases_lt}
-use Rattle.off_defs.specs.declared.orders.Write.{Write}
 use Rattle.off_defs.specs.declared.results.Outcome.{Outcome}
 use Rattle.off_defs.specs.declared.results.Outcome.TheVariants.{Did, Memory, Keeper}
 use Rattle.off_defs.specs.State.{Tables, State}
 use Rattle.off_defs.specs.Tables.{doubt_behind}
+use Rattle.off_defs.proofs.TableLemmas.{doubt_more}
 use Rattle.off_book.specs.Step.{Step}
 use Rattle.off_book.specs.Run.{Turn, Run, effect_of}
 use Rattle.off_book.specs.Crashes.{Begins, Doubt, doubt_in, Lasts}
@@ -13,19 +14,14 @@ use Rattle.off_book.specs.Crashes.{Begins, Doubt, doubt_in, Lasts}
 abbrev Opens : Type 1
 Opens = ℕ → Tables → Type 0
 
--- what may be in doubt may be so where more may
-doubt_more : (writes : List Write) {old new : Type 0} → (new → old) → doubt_behind writes new → doubt_behind writes old
-doubt_more [] more doubt = more doubt
-doubt_more (write ∷ writes) more doubt = doubt
-
-in_more : (outcome : Outcome) {old new : Type 0} (begun : Type 0) → (new → old) → doubt_in outcome new begun → doubt_in outcome old begun
-in_more Did begun more doubt = more doubt
-in_more Memory begun more doubt = more doubt
-in_more Keeper begun more (inl doubt) = inl (more doubt)
-in_more Keeper begun more (inr own) = inr own
+-- what may be in doubt, and may have been begun, where more may
+pub in_more : (outcome : Outcome) {old new begun more : Type 0} → (new → old) → (begun → more) → doubt_in outcome new begun → doubt_in outcome old more
+in_more Did before more doubt = before doubt
+in_more Memory before more doubt = before doubt
+in_more Keeper before more doubt = ⊎_map before more doubt
 
 pub doubts_more : (d e : Tables → Type 0) (s : State) (turn : Turn) (u : Tables) → (e u → d u) → Doubt e s turn u → Doubt d s turn u
-doubts_more d e s turn u more doubt = doubt_more turn.commit (in_more turn.outcome (Begins s turn.event u) more) doubt
+doubts_more d e s turn u more doubt = doubt_more turn.commit (in_more turn.outcome more (λ begun. begun)) doubt
 
 pub lasts_later : (opened : Opens) (ends doubt : Tables → Type 0) (from : ℕ) (s : State) (turns : List Turn) (to : ℕ) (last : State)
     → Lasts opened ends doubt from s turns to last → from ≤ to
@@ -42,19 +38,9 @@ lasts_run opened ends doubt from s (turn ∷ turns) to last lasts =
     (lasts.1.0, (lasts.1.1.1.0, lasts_run opened ends (Doubt doubt s turn) lasts.0 lasts.1.0 turns to last lasts.1.1.1.1.1))
 
 -- what is in doubt behind a turn, by what it would leave
-as_behind : (writes : List Write) {old new : Type 0} → (new → old) → doubt_behind writes new → doubt_behind writes old
-as_behind [] more doubt = more doubt
-as_behind (write ∷ writes) more doubt = doubt
-
-as_in : (outcome : Outcome) (doubt : Type 0) {p q : Type 0} → (p → q) → doubt_in outcome doubt p → doubt_in outcome doubt q
-as_in Did doubt more is = is
-as_in Memory doubt more is = is
-as_in Keeper doubt more (inl is) = inl is
-as_in Keeper doubt more (inr begun) = inr (more begun)
-
 pub doubts_by : (doubt : Tables → Type 0) (s : State) (turn : Turn) (u : Tables) {p : Type 0} → (p → Begins s turn.event u)
     → doubt_behind turn.commit (doubt_in turn.outcome (doubt u) p) → Doubt doubt s turn u
-doubts_by doubt s turn u more is = as_behind turn.commit (as_in turn.outcome (doubt u) more) is
+doubts_by doubt s turn u more is = doubt_more turn.commit (in_more turn.outcome (λ doubt. doubt) more) is
 
 -- what a keeper tells over one more turn, which it began at the moment `to` over the tables of `mid`, and answered at `after`
 pub record OneTurn (old new : ℕ → Tables → Type 0) (before behind : Tables → Type 0) (to after : ℕ) (mid last : State) (turn : Turn) : Type 0 where
@@ -64,26 +50,14 @@ pub record OneTurn (old new : ℕ → Tables → Type 0) (before behind : Tables
   pub doubts : (u : Tables) → behind u → Doubt before mid turn u
   pub rests : (u : Tables) → new after u → (u ≡ last.tables) ⊎ behind u
 
-or_more : {p d e : Type 0} → (e → d) → p ⊎ e → p ⊎ d
-or_more more (inl same) = inl same
-or_more more (inr doubt) = inr (more doubt)
-
-or_first : {p d : Type 0} (q : Type 0) → p ⊎ d → p ⊎ (d ⊎ q)
-or_first q (inl same) = inl same
-or_first q (inr doubt) = inr (inl doubt)
-
-or_left : {d e q : Type 0} → (e → d) → e ⊎ q → d ⊎ q
-or_left more (inl doubt) = inl (more doubt)
-or_left more (inr begun) = inr begun
-
 at_end : (old new : Opens) (before behind doubt : Tables → Type 0) (from to after : ℕ) (s last : State) (turn : Turn)
     → OneTurn old new before behind to after s last turn → ((u : Tables) → before u → doubt u)
     → ((m : ℕ) (u : Tables) → from ≤ m → m ≤ to → old m u → (u ≡ s.tables) ⊎ doubt u)
     → (m : ℕ) (u : Tables) → from ≤ m → m ≤ after → new m u → (to < m) ⊎ (m ≤ to) → (u ≡ s.tables) ⊎ (doubt u ⊎ Begins s turn.event u)
 at_end old new before behind doubt from to after s last turn one ends opens m u behind_from upto opened (inl second) =
-    or_more (or_left (ends u)) (one.within m u second upto opened)
+    ⊎_map (λ same. same) (⊎_map (ends u) (λ begun. begun)) (one.within m u second upto opened)
 at_end old new before behind doubt from to after s last turn one ends opens m u behind_from upto opened (inr first) =
-    or_first (Begins s turn.event u) (opens m u behind_from first (one.past m u first opened))
+    ⊎_map (λ same. same) inl (opens m u behind_from first (one.past m u first opened))
 
 pub lasts_push : (old new : Opens) (before behind doubt : Tables → Type 0) (from : ℕ) (s : State) (turns : List Turn) (to after : ℕ) (mid last : State) (turn : Turn)
     → Lasts old before doubt from s turns to mid → Step mid turn.event turn.outcome (effect_of turn last) → OneTurn old new before behind to after mid last turn
@@ -108,7 +82,7 @@ lasts_push old new before behind doubt from s [] to after mid last turn lasts st
                     λ u ends. doubts_more doubt before s turn u (lasts.1.1.0 u) (here.doubts u ends),
                     λ m u behind_from upto opened.
                         let same : m ≡ after = omega arith in
-                        or_more (λ ends. doubts_more doubt before s turn u (lasts.1.1.0 u) (here.doubts u ends)) (here.rests u (subst (λ n. new n u) same opened)),
+                        ⊎_map (λ same. same) (λ ends. doubts_more doubt before s turn u (lasts.1.1.0 u) (here.doubts u ends)) (here.rests u (subst (λ n. new n u) same opened)),
                   ),
                 ),
               ),
@@ -187,7 +161,7 @@ pub lasts_doubt : (opened : Opens) (ends doubt more : Tables → Type 0) (from :
     → ((u : Tables) → doubt u → more u) → Lasts opened ends doubt from s turns to last → Lasts opened ends more from s turns to last
 lasts_doubt opened ends doubt more from s [] to last wider lasts = (
   lasts.0,
-  (lasts.1.0, (λ u ended. wider u (lasts.1.1.0 u ended), λ m u behind_from upto shown. or_more (wider u) (lasts.1.1.1 m u behind_from upto shown))),
+  (lasts.1.0, (λ u ended. wider u (lasts.1.1.0 u ended), λ m u behind_from upto shown. ⊎_map (λ same. same) (wider u) (lasts.1.1.1 m u behind_from upto shown))),
 )
 lasts_doubt opened ends doubt more from s (turn ∷ turns) to last wider lasts = (
   lasts.0,
@@ -198,7 +172,7 @@ lasts_doubt opened ends doubt more from s (turn ∷ turns) to last wider lasts =
       (
         lasts.1.1.1.0,
         (
-          λ m u behind_from upto shown. or_more (or_left (wider u)) (lasts.1.1.1.1.0 m u behind_from upto shown),
+          λ m u behind_from upto shown. ⊎_map (λ same. same) (⊎_map (wider u) (λ begun. begun)) (lasts.1.1.1.1.0 m u behind_from upto shown),
           lasts_doubt opened ends (Doubt doubt s turn) (Doubt more s turn) lasts.0 lasts.1.0 turns to last (λ u. doubts_more more doubt s turn u (wider u)) lasts.1.1.1.1.1,
         ),
       ),
@@ -234,7 +208,7 @@ lasts_front new ends doubt before start from s (turn ∷ turns) to last later wi
               λ m u behind upto shown.
                   elim (cases_lt from m) [
                     | inl second ↦ wide.1.1.1.1.0 m u (omega (arith, second)) upto shown
-                    | inr first ↦ or_first (Begins s turn.event u) (early m u behind first shown)
+                    | inr first ↦ ⊎_map (λ same. same) inl (early m u behind first shown)
                   ],
               wide.1.1.1.1.1,
             ),

@@ -9,7 +9,7 @@ use Rattle.off_defs.specs.declared.results.Outcome.{Outcome}
 use Rattle.off_defs.specs.declared.results.Outcome.TheVariants.{Did, Memory, Keeper}
 use Rattle.off_defs.specs.declared.results.Sent.{Sent}
 use Rattle.off_defs.specs.Events.{end_event}
-use Rattle.off_defs.specs.declared.orders.Write.{Write}
+use Rattle.off_defs.specs.declared.writes.Write.{Write}
 use Rattle.off_defs.specs.State.{Tables, State, Said, Effect}
 use Rattle.off_defs.specs.Tables.{write_all}
 use Rattle.off_defs.specs.Counts.{commits_after, calls_after}

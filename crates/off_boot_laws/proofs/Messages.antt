@@ -1,7 +1,6 @@
 -- A known modem's DISCOVER is answered by an offer, and its REQUEST by an acknowledgement.
-use Rattle.std.proofs.Common.{◌≡◌, ℕ, ◌≤◌, Bool, true, false, true≢false, cond, not, ◌&&◌, ◌||◌, length, ◌==◌, List, [], ◌∷◌, Option, Some, None, option_and_then, MatchOption, ◌⊎◌, inl, inr, refl, sym, ap, subst, ◌∙◌, ltb, arith}
-use Rattle.std.proofs.lemmas.Bool.{and_from, and_parts, eq-eqb, leb-true, ltb-true, le-leb}
-use Rattle.std.specs.List.{AllByRecursion}
+use Rattle.std.proofs.Common.{◌≡◌, ℕ, ◌≤◌, Bool, true, false, true≢false, cond, not, ◌&&◌, ◌||◌, length, ◌==◌, List, [], ◌∷◌, Option, Some, None, option_and_then, MatchOption, ◌⊎◌, inl, inr, refl, sym, ap, subst, ◌∙◌}
+use Rattle.std.proofs.lemmas.Bool.{and_from, and_parts, eq-eqb, le-leb}
 use Rattle.std.specs.Option.{option_or}
 use Rattle.off_base.specs.declared.addresses.Ip4.{Ip4}
 use Rattle.off_base.specs.declared.macs.Mac.{Mac}
@@ -18,9 +17,8 @@ use Rattle.off_defs.specs.declared.tables.Site.{Site}
 use Rattle.off_defs.specs.declared.tables.Pool.{Pool}
 use Rattle.off_defs.specs.declared.tables.Modem.{Modem}
 use Rattle.off_defs.specs.declared.tables.Lease.{Lease}
-use Rattle.off_defs.specs.declared.tables.Hold.TheVariants.{Offered, Bound, Declined}
-use Rattle.off_defs.specs.declared.tables.Hold.{Hold}
-use Rattle.off_defs.specs.declared.orders.Write.{Write}
+use Rattle.off_defs.specs.declared.tables.Hold.TheVariants.{Offered}
+use Rattle.off_defs.specs.declared.writes.Write.{Write}
 use Rattle.off_defs.specs.Clock.{later_by}
 use Rattle.off_defs.specs.State.{Tables, State, Effect, at_moment}
 use Rattle.off_defs.specs.Tables.{write_all}
@@ -36,10 +34,9 @@ use Rattle.off_asking.specs.Choice.{provided}
 use Rattle.off_lease_rules.specs.Free.{pool_for, site_for, case_of, has_ended, is_free, choice, chosen_in, least_free}
 use Rattle.off_asking.specs.Claims.{is_another, names_another_server, claims_own, claims_wrongly, refused_by}
 use Rattle.off_lease_rules.specs.Rules.{has_cut_part, relays_another, is_no_modem, has_other_serial, is_for_a_server, rules_for}
-use Rattle.off_lease_rules.specs.Steps.{is_bound, is_live_bound, offer_to, accepts, unless_refused, settled, settled_in, lease_step}
+use Rattle.off_lease_rules.specs.Steps.{is_live_bound, offer_to, accepts, unless_refused, settled, settled_in, lease_step}
 use Rattle.off_lease_rules.specs.declared.cases.Case.{Case}
 use Rattle.off_lease_rules.specs.declared.results.LeaseStep.{LeaseStep}
-use Rattle.off_lease_rules.specs.declared.words.DhcpWord.{DhcpWord}
 use Rattle.off_lease_rules.specs.declared.words.DhcpWord.TheVariants as word
 use Rattle.off_lease_rules.specs.Words.{acts}
 use Rattle.off_lease_laws.specs.Outcomes.{WasOffered, Outcome as LeaseOutcome, refusal, offering, binding, declining, releasing}
@@ -47,7 +44,7 @@ use Rattle.off_lease_laws.specs.Effects.{lease_until, bound_until, IsLiveBound, 
 use Rattle.off_lease_laws.specs.Moves.{HoldersAgree}
 use Rattle.off_lease_laws.proofs.ChoiceLemmas.{chosen_fits}
 use Rattle.off_lease_laws.proofs.ChangeLemmas.{offered_writes, offer_lease_here}
-use Rattle.off_lease_laws.proofs.EffectLemmas.{acks_bind}
+use Rattle.off_lease_laws.proofs.EffectLemmas.{acks_bind, live_bound, live_not_ended}
 use Rattle.off_lease_laws.proofs.FreeLemmas.{choice_fits}
 use Rattle.off_lease_laws.proofs.OutcomeLemmas.{outcome}
 use Rattle.off_lease_laws.proofs.LawLemmas.{messages_do}
@@ -62,10 +59,7 @@ use Rattle.off_boot_laws.specs.Known.{IsOwn, SaysModem, IsOfModem}
 use Rattle.off_boot_laws.specs.Stages.{IsFree, DiscoversAreOffered, RequestsAreAcknowledged}
 use Rattle.off_boot_laws.proofs.Own.{discover_own, request_own}
 use Rattle.off_cpe_rules.specs.Behind.{modem_behind}
-
-none_broken : (rules : List (DhcpWord × Bool)) → AllByRecursion (λ (rule : DhcpWord × Bool). rule.1 ≡ false) rules → refused_by rules ≡ None
-none_broken [] all = refl
-none_broken (rule ∷ rules) all = ap (λ b. cond b (Some rule.0) (refused_by rules)) all.0 ∙ none_broken rules all.1
+use Rattle.off_asking.proofs.ClaimLemmas.{none_broken}
 
 -- the message as one of its kind
 abbrev pub of_kind : ℕ → Received → Received
@@ -208,13 +202,13 @@ module _ (t : Tables) (now : ℕ) (m : Received) where
 
 -- ---- a REQUEST
 
-formed : (f : Form) (a : Ip4) → asked_by f ≡ Some a → is_formless f ≡ false
+pub formed : (f : Form) (a : Ip4) → asked_by f ≡ Some a → is_formless f ≡ false
 formed (Selecting b) a e = refl
 formed (InitReboot b) a e = refl
 formed (Renewing b) a e = refl
 formed NoForm a e = cc
 
-no_lack : (b c : Bool) → ((true && not b && false) || (false && not c)) ≡ false
+pub no_lack : (b c : Bool) → ((true && not b && false) || (false && not c)) ≡ false
 no_lack true c = refl
 no_lack false c = refl
 
@@ -289,25 +283,6 @@ pub record OffersOne (t : Tables) (now : ℕ) (m : Received) (step : LeaseStep) 
   pub lasts : (lease ≡ lease_until (Offered (client m)) (later_by 120 now)) ⊎ IsLiveBound now (client m) (Some lease)
 
 -- a lease that is live and bound is bound to its owner
-bound_owner : (hold : Hold) (mac : Mac) → is_bound hold ≡ true → owner_of hold ≡ Some mac → hold ≡ Bound mac
-bound_owner (Offered other) mac b o = cc
-bound_owner (Bound other) mac b o = ap Bound (let same : other ≡ mac = cc in same)
-bound_owner Declined mac b o = cc
-
-live_bound : (now : ℕ) (mac : Mac) (o : Option Lease) → passes (is_live_bound now) o ≡ true → option_and_then (λ (lease : Lease). owner_of lease.hold) o ≡ Some mac
-    → IsLiveBound now mac o
-live_bound now mac None h e = cc
-live_bound now mac (Some lease) h e =
-    let parts = and_parts (is_bound lease.hold) (ltb now lease.expiry.0) h in
-    record { expiry = lease.expiry.0; bound = ap (λ hold. Some (lease_until hold lease.expiry.0)) (bound_owner lease.hold mac parts.0 e); live = ltb-true now lease.expiry.0 parts.1 }
-
-live_not_ended : (now : ℕ) (o : Option Lease) → passes (is_live_bound now) o ≡ true → has_ended now o ≡ true → ⊥
-live_not_ended now None h e = cc
-live_not_ended now (Some lease) h e =
-    let live = ltb-true now lease.expiry.0 (and_parts (is_bound lease.hold) (ltb now lease.expiry.0) h).1 in
-    let ended = leb-true lease.expiry.0 now e in
-    omega (arith, live, ended)
-
 module _ (t : Tables) (now : ℕ) (m : Received) (agree : HoldersAgree t) (step : LeaseStep) (was : WasOffered t now m step) where
   fits : (has_address was.pool was.address ≡ true) × ((held_in t (client m) ≡ Some was.address) ⊎ (is_free t now was.pool was.address ≡ true))
   fits = chosen_fits t now was.pool (held_in t (client m)) (at_address (named_address m)) was.address was.chosen

@@ -18,7 +18,7 @@ use Rattle.off_lease_rules.specs.Free.{numbered_pool_for, pool_for, site_for}
 use Rattle.off_lease_laws.proofs.ChoiceLemmas.{found, pool_read}
 use Rattle.off_boot_laws.specs.Known.{IsPoolOf}
 
-served_by : (m : Received) (pool : Pool) → IsPoolOf m pool → serves m pool ≡ true
+pub served_by : (m : Received) (pool : Pool) → IsPoolOf m pool → serves m pool ≡ true
 served_by m pool (inl relayed) =
     ap (λ b. cond b (is_renewal m && has_address pool (ip m.ciaddr)) (eqb pool.relay.0 m.giaddr))
     (false_from_ne_true (eqb m.giaddr 0) (λ e. relayed.0 (eqb-true m.giaddr 0 e)))

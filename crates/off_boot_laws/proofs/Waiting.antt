@@ -94,7 +94,7 @@ undone_serves s after turn mac step undone served =
     undone_says (at_moment s turn.event.at.0) served.takes.from served.takes.bytes turn.outcome (effect_of turn after) served.word
     (subst (λ (what : What). Does (at_moment s turn.event.at.0) what turn.outcome (effect_of turn after)) served.takes.came step) served.line undone
 
-one_message : (turn : Turn) (m other : Received) → TakesMessage m turn → TakesMessage other turn → m ≡ other
+pub one_message : (turn : Turn) (m other : Received) → TakesMessage m turn → TakesMessage other turn → m ≡ other
 one_message turn m other a b =
     let came : ◌≡◌ {A = What} (Datagram Dhcp a.from a.bytes) (Datagram Dhcp b.from b.bytes) = sym a.came ∙ b.came in
     let same : a.bytes ≡ b.bytes = cc in

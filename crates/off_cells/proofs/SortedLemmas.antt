@@ -1,5 +1,5 @@
 -- Cells in one list as a map, at a key's place.
-use Rattle.std.proofs.Common.{◌≡◌, ℕ, zero, suc, ◌<◌, ◌≤◌, slice_get, Bool, true, false, cond, not, T, List, [], ◌∷◌, ◌++◌, length, take, drop, Option, Some, None, IsTrue, slice_index_or, slice_set, refl, sym, ap, ◌∙◌, subst, arith}
+use Rattle.std.proofs.Common.{◌≡◌, ℕ, zero, suc, ◌<◌, ◌≤◌, slice_get, Bool, true, false, cond, not, List, [], ◌∷◌, ◌++◌, length, take, drop, Option, Some, None, slice_index_or, slice_set, refl, sym, ap, ◌∙◌, subst, arith}
 use Rattle.std.specs.List.{find as first_of_all}
 use Rattle.std.specs.Option.{option_map}
 use Rattle.std.specs.Ordering.{nat_cmp, is_eq, eq_by_cmp}
@@ -8,10 +8,10 @@ use Rattle.std.specs.Cmp.Lexicographic.{slice_cmp, nat_list_cmp_total}
 use Rattle.std.specs.declared.cmp.Ordering.{Ordering}
 use Rattle.std.specs.FinMap as map
 use Rattle.std.specs.FinMap.Entries.{put, where_key, is_sorted-put, is_sorted-where_key, find-where_key}
-use Rattle.off_defs.proofs.EntryLemmas.{is_equal}
+use Rattle.off_defs.proofs.EntryLemmas.{holds, held, is_equal}
 use Rattle.off_cells.specs.CellsSeen.{Cell, CellMap, is_behind}
 use Rattle.off_cells.specs.SortedCells.{AreInOrder, place_of, is_in_front}
-use Rattle.off_cells.proofs.PlaceLemmas.{value_at, put_at, less_at, put_there, found_there, removed_there}
+use Rattle.off_defs.proofs.PlaceLemmas.{opened, set_opened, value_at, put_at, less_at, put_there, found_there, removed_there}
 
 abbrev bytes_cmp : List ℕ → List ℕ → Ordering
 bytes_cmp = slice_cmp nat_cmp
@@ -28,14 +28,6 @@ same_cells xs ys same = map.same_map nat_list_cmp_total exact xs ys same
 get_removed : (xs : CellMap) (key q : List ℕ) → map.get (map.remove xs key) q ≡ cond (eq_by_cmp bytes_cmp q key) None (map.get xs q)
 get_removed xs key q = map.get-remove nat_list_cmp_total xs key q
 
-pub true_T : (b : Bool) → IsTrue b → T b
-true_T true p = tt
-true_T false p = cc
-
-pub T_true : (b : Bool) → T b → IsTrue b
-T_true true p = refl
-T_true false p = absurd p
-
 abbrev kept : List Cell → CellMap
 kept es = map.from_sorted es
 
@@ -43,7 +35,7 @@ pub none_kept : kept [] ≡ map.empty
 none_kept = map.empty_of_len (kept []) (map.len-entries (kept []) ∙ ap length (map.entries-from_sorted bytes_cmp [] tt))
 
 pub entries_kept : (es : List Cell) → AreInOrder es → map.entries (kept es) ≡ es
-entries_kept es sorted = map.entries-from_sorted bytes_cmp es (true_T (map.is_sorted bytes_cmp es) sorted)
+entries_kept es sorted = map.entries-from_sorted bytes_cmp es (held (map.is_sorted bytes_cmp es) sorted)
 
 pub len_kept : (es : List Cell) → AreInOrder es → map.len (kept es) ≡ length es
 len_kept es sorted = map.len-entries (kept es) ∙ ap length (entries_kept es sorted)
@@ -55,16 +47,6 @@ in_front_within key [] zero at = cc
 in_front_within key [] (suc n) at = cc
 in_front_within key (e ∷ es) zero at = omega arith
 in_front_within key (e ∷ es) (suc n) at = omega (arith, in_front_within key es n at)
-
-pub opened : (es : List Cell) (n : ℕ) (e : Cell) → n < length es → e ≡ slice_index_or es n e → drop n es ≡ e ∷ drop (suc n) es
-opened [] n e within is = absurd (omega (arith, within))
-opened (x ∷ es) zero e within is = ap (λ (y : Cell). y ∷ es) (sym is)
-opened (x ∷ es) (suc n) e within is = opened es n e (omega (arith, within)) is
-
-pub set_opened : (es : List Cell) (n : ℕ) (y : Cell) → n < length es → slice_set es n y ≡ take n es ++ y ∷ drop (suc n) es
-set_opened [] n y within = absurd (omega (arith, within))
-set_opened (x ∷ es) zero y within = refl
-set_opened (x ∷ es) (suc n) y within = ap (λ (t : List Cell). x ∷ t) (set_opened es n y (omega (arith, within)))
 
 -- what stands in front is the key's own, or isn't
 own_value : (key : List ℕ) (e : Cell) (es : List Cell) → is_in_front key (e ∷ es) ≡ true → value_at bytes_cmp key (e ∷ es) ≡ Some e.1
@@ -86,8 +68,8 @@ own_less key e es at = ap (λ b. cond b es (e ∷ es)) at
 
 pub get_kept : (key : List ℕ) (xs : CellMap) (es : List Cell) (n : ℕ) → AreInOrder es → kept es ≡ xs → n ≡ place_of key es → map.get xs key ≡ value_at bytes_cmp key (drop n es)
 get_kept key xs es n sorted is place =
-    ap (λ (m : CellMap). map.get m key) (sym is) ∙ map.get-from_sorted bytes_cmp es key (true_T (map.is_sorted bytes_cmp es) sorted)
-    ∙ found_there bytes_cmp key nat_list_cmp_total es (true_T (map.is_sorted bytes_cmp es) sorted) ∙ ap (λ m. value_at bytes_cmp key (drop m es)) (sym place)
+    ap (λ (m : CellMap). map.get m key) (sym is) ∙ map.get-from_sorted bytes_cmp es key (held (map.is_sorted bytes_cmp es) sorted)
+    ∙ found_there bytes_cmp key nat_list_cmp_total es (held (map.is_sorted bytes_cmp es) sorted) ∙ ap (λ m. value_at bytes_cmp key (drop m es)) (sym place)
 
 -- the entry at the place, where it is the key's own
 pub got : (key : List ℕ) (xs : CellMap) (es : List Cell) (n : ℕ) (e : Cell) (at : Bool) → AreInOrder es → kept es ≡ xs → n ≡ place_of key es
@@ -124,7 +106,7 @@ insert_is_put key es n v at place front none =
 
 pub sorted_put : (key : List ℕ) (v : List ℕ) (es fs : List Cell) → AreInOrder es → fs ≡ put bytes_cmp key v es → AreInOrder fs
 sorted_put key v es fs sorted is =
-    subst AreInOrder (sym is) (T_true (map.is_sorted bytes_cmp (put bytes_cmp key v es)) (is_sorted-put bytes_cmp nat_list_cmp_total key v es (true_T (map.is_sorted bytes_cmp es) sorted)))
+    subst AreInOrder (sym is) (holds (map.is_sorted bytes_cmp (put bytes_cmp key v es)) (is_sorted-put bytes_cmp nat_list_cmp_total key v es (held (map.is_sorted bytes_cmp es) sorted)))
 
 pub kept_put : (key : List ℕ) (v : List ℕ) (xs : CellMap) (es fs : List Cell) → AreInOrder es → kept es ≡ xs → fs ≡ put bytes_cmp key v es → kept fs ≡ map.insert xs key v
 kept_put key v xs es fs sorted is made =
@@ -154,12 +136,12 @@ drop_one_more (e ∷ es) (suc n) = drop_one_more es n
 pub remove_is : (key : List ℕ) (es : List Cell) (n : ℕ) (at : Bool) → AreInOrder es → n ≡ place_of key es → at ≡ is_in_front key (drop n es) → at ≡ true
     → take n es ++ drop (suc n) es ≡ others key es
 remove_is key es n at sorted place front own =
-    sym (removed_there bytes_cmp key nat_list_cmp_total es (true_T (map.is_sorted bytes_cmp es) sorted) ∙ ap (λ m. take m es ++ less_at bytes_cmp key (drop m es)) (sym place)
+    sym (removed_there bytes_cmp key nat_list_cmp_total es (held (map.is_sorted bytes_cmp es) sorted) ∙ ap (λ m. take m es ++ less_at bytes_cmp key (drop m es)) (sym place)
     ∙ ap (λ (d : List Cell). take n es ++ d) (own_behind key (drop n es) (sym front ∙ own) ∙ drop_one_more es n))
 
 pub sorted_others : (key : List ℕ) (es fs : List Cell) → AreInOrder es → fs ≡ others key es → AreInOrder fs
 sorted_others key es fs sorted is =
-    subst AreInOrder (sym is) (T_true (map.is_sorted bytes_cmp (others key es)) (is_sorted-where_key bytes_cmp (λ x. not (eq_by_cmp bytes_cmp key x)) es (true_T (map.is_sorted bytes_cmp es) sorted)))
+    subst AreInOrder (sym is) (holds (map.is_sorted bytes_cmp (others key es)) (is_sorted-where_key bytes_cmp (λ x. not (eq_by_cmp bytes_cmp key x)) es (held (map.is_sorted bytes_cmp es) sorted)))
 
 turned : (b : Bool) (x : Option (List ℕ)) → cond (not b) x None ≡ cond b None x
 turned true x = refl
@@ -174,9 +156,9 @@ get_others key q es =
 pub kept_removed : (key : List ℕ) (xs : CellMap) (es fs : List Cell) → AreInOrder es → kept es ≡ xs → fs ≡ others key es → kept fs ≡ map.remove xs key
 kept_removed key xs es fs sorted is made =
     same_cells (kept fs) (map.remove xs key) (λ q.
-    map.get-from_sorted bytes_cmp fs q (true_T (map.is_sorted bytes_cmp fs) (sorted_others key es fs sorted made))
+    map.get-from_sorted bytes_cmp fs q (held (map.is_sorted bytes_cmp fs) (sorted_others key es fs sorted made))
     ∙ ap (map.find bytes_cmp q) made ∙ get_others key q es
-    ∙ ap (λ (v : Option (List ℕ)). cond (eq_by_cmp bytes_cmp q key) None v) (sym (map.get-from_sorted bytes_cmp es q (true_T (map.is_sorted bytes_cmp es) sorted)) ∙ ap (λ (m : CellMap). map.get m q) is)
+    ∙ ap (λ (v : Option (List ℕ)). cond (eq_by_cmp bytes_cmp q key) None v) (sym (map.get-from_sorted bytes_cmp es q (held (map.is_sorted bytes_cmp es) sorted)) ∙ ap (λ (m : CellMap). map.get m q) is)
     ∙ sym (get_removed xs key q))
 
 -- nothing is removed where nothing stands
@@ -201,7 +183,7 @@ find_first key p (e ∷ es) is =
 pub found_held : (key : List ℕ) (p : Cell → Bool) (es : List Cell) → AreInOrder es → ((e : Cell) → p e ≡ eq_by_cmp bytes_cmp key e.0)
     → option_map (λ (e : Cell). e.1) (first_of_all p es) ≡ map.get (kept es) key
 found_held key p es sorted is =
-    find_first key p es is ∙ sym (map.get-from_sorted bytes_cmp es key (true_T (map.is_sorted bytes_cmp es) sorted))
+    find_first key p es is ∙ sym (map.get-from_sorted bytes_cmp es key (held (map.is_sorted bytes_cmp es) sorted))
 
 pub next_held : (place : Option (List ℕ)) (es : List Cell) → AreInOrder es → first_of_all (is_behind place) es ≡ first_of_all (is_behind place) (map.entries (kept es))
 next_held place es sorted = ap (λ (v : List Cell). first_of_all (is_behind place) v) (sym (entries_kept es sorted))

@@ -25,10 +25,10 @@ use Rattle.off_defs.specs.declared.keys.Key.TheVariants as key
 use Rattle.off_defs.specs.declared.tables.Modem.{Modem}
 use Rattle.off_defs.specs.declared.tables.Subscriber.{Subscriber}
 use Rattle.off_defs.specs.declared.tables.Row.TheVariants as row
-use Rattle.off_defs.specs.declared.shown.ShownRow.TheVariants as seen
-use Rattle.off_defs.specs.declared.orders.Command.TheVariants.{PutSubscriber, PutModem}
+use Rattle.off_orders.specs.declared.shown.ShownRow.TheVariants as seen
+use Rattle.off_orders.specs.declared.orders.Command.TheVariants.{PutSubscriber, PutModem}
 use Rattle.off_rows.specs.RowBytes.{RowRanged}
-use Rattle.off_rows.specs.Sound.{is_sound_subscriber}
+use Rattle.off_orders.specs.Sound.{is_sound_subscriber}
 use Rattle.off_clerk_rules.specs.declared.faults.ClerkErr.{ClerkErr}
 use Rattle.off_clerk_rules.specs.declared.faults.ClerkErr.TheVariants.{Value}
 use Rattle.off_clerk_rules.specs.declared.names.Name.TheVariants as field

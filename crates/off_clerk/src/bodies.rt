@@ -1,6 +1,6 @@
 ghost use Rattle.std.specs.Prelude.{◌≡◌, MatchResult, Ok, IsTrue, IfOk};
 ghost use Rattle.serde_json.specs.View.{view};
-ghost use Rattle.off_rows.specs.Sound.{is_sound_subscriber, is_sound_pool};
+ghost use Rattle.off_orders.specs.Sound.{is_sound_subscriber, is_sound_pool};
 ghost use Rattle.off_clerk_rules.specs.Commands.{GivesWanted, GivesFault, object_in, site_in};
 ghost use Rattle.off_clerk_rules.specs.Commands.{subscriber_in};
 ghost use Rattle.off_clerk_rules.specs.Commands.{add_on_in, modem_in, class_in, pool_in, hub_of_pool_in};

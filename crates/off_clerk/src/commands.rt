@@ -1,5 +1,5 @@
 ghost use Rattle.std.specs.Prelude.{IsTrue, IfOk};
-ghost use Rattle.off_rows.specs.Sound.{is_sound, is_shown, is_add_on_number};
+ghost use Rattle.off_orders.specs.Sound.{is_sound, is_shown, is_add_on_number};
 ghost use Rattle.off_import_rules.specs.Reading.{import_in};
 ghost use Rattle.off_clerk_rules.specs.Commands.{GivesWanted, command_read, asked_of, put_read};
 ghost use Rattle.off_clerk_rules.specs.Commands.{as_import};
@@ -12,9 +12,10 @@ use crate::bodies::{
 use crate::paths::{path_of, place_at};
 use off_base::Mac;
 use off_clerk_rules::{ClerkErr, CommandErr, Place};
-use off_defs::{Command, ImportKind, Key};
+use off_defs::{ImportKind, Key};
 use off_import::read_import;
 use off_import_rules::ImportErr;
+use off_orders::Command;
 use std::alloc::Global;
 
 /// The command that a request means: its method (RFC 9110, section 9), its target's path up to the

@@ -8,9 +8,9 @@ use crate::texts::{push_address, push_number};
 use crate::words::fault_word;
 use off_base::{Bytes, Ip4, NoMemory};
 use off_clerk_rules::{ClerkErr, Fault, Name};
-use off_defs::Rule;
 use off_import::{FaultText, fault_detail};
 use off_import_rules::ImportFault;
+use off_orders::Rule;
 use off_tree::TreeFault;
 use std::alloc::Global;
 

@@ -1,12 +1,13 @@
 ghost use Rattle.std.specs.Prelude.{◌≡◌, ◌++◌, codes, decimal, IfOk, OnOk};
-ghost use Rattle.off_defs.specs.declared.shown.ShownRow.TheVariants as row;
+ghost use Rattle.off_orders.specs.declared.shown.ShownRow.TheVariants as row;
 ghost use Rattle.off_clerk_rules.specs.Replies.{reply_text, row_text, pool_text, rest_of_pool};
 ghost use Rattle.off_clerk_rules.specs.Replies.{owner_text, state_text};
 
 use crate::arrays::push_settings;
 use crate::texts::{push_address, push_flag, push_mac, push_number, push_signed, push_text};
 use off_base::{Bytes, NoMemory, Settings};
-use off_defs::{Class, Hold, Lease, Modem, Pool, Reply, ShownRow, Site, Subscriber};
+use off_defs::{Class, Hold, Lease, Modem, Pool, Site, Subscriber};
+use off_orders::{Reply, ShownRow};
 use std::alloc::Global;
 
 /// The reply as a JSON object (RFC 8259) without white space, its keys in ascending order:

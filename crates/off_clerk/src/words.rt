@@ -4,8 +4,8 @@ ghost use Rattle.off_clerk_rules.specs.Faults.{word_of, clerk_word, http_word, r
 ghost use Rattle.off_clerk_rules.specs.Faults.{status_of, clerk_status, http_status, rule_status};
 
 use off_clerk_rules::{ClerkErr, Fault};
-use off_defs::Rule;
 use off_http::HttpFault;
+use off_orders::Rule;
 
 // The status of an answer, and the word in it.
 #[derive(Clone, Copy)]

@@ -14,10 +14,10 @@ use Rattle.off_base.specs.Tree.{leaf, group, followed, no_more}
 use Rattle.off_defs.specs.declared.keys.Key.TheVariants as key
 use Rattle.off_defs.specs.declared.tables.Pool.{Pool}
 use Rattle.off_defs.specs.declared.tables.ImportKind.TheVariants.{Subscribers}
-use Rattle.off_defs.specs.declared.shown.ShownRow.TheVariants as row
-use Rattle.off_defs.specs.declared.orders.Command.TheVariants.{PutHub, PutSubscriber, PutAddOn, PutPool, PutDevicePool, Remove, Show, Import}
-use Rattle.off_defs.specs.declared.orders.Reply.TheVariants.{Shown, ShownPool}
-use Rattle.off_defs.specs.declared.rules.Rule.TheVariants as rule
+use Rattle.off_orders.specs.declared.shown.ShownRow.TheVariants as row
+use Rattle.off_orders.specs.declared.orders.Command.TheVariants.{PutHub, PutSubscriber, PutAddOn, PutPool, PutDevicePool, Remove, Show, Import}
+use Rattle.off_orders.specs.declared.orders.Reply.TheVariants.{Shown, ShownPool}
+use Rattle.off_orders.specs.declared.rules.Rule.TheVariants as rule
 use Rattle.off_import_rules.specs.declared.faults.ImportFault.TheVariants as import
 use Rattle.off_clerk_rules.specs.declared.names.Name.TheVariants as field
 use Rattle.off_clerk_rules.specs.declared.faults.ClerkErr.TheVariants.{NoPath, NoMethod, Value}

@@ -4,8 +4,8 @@ use Rattle.std.specs.Prelude.{ℕ, ◌==◌, List, [], ◌++◌, codes, decimal,
 use Rattle.off_base.specs.AddressText.{ip_text_of}
 use Rattle.off_tree.specs.declared.paths.TreeFault.{TreeFault}
 use Rattle.off_tree.specs.declared.paths.TreeFault.TheVariants as tree
-use Rattle.off_defs.specs.declared.rules.Rule.{Rule}
-use Rattle.off_defs.specs.declared.rules.Rule.TheVariants as rule
+use Rattle.off_orders.specs.declared.rules.Rule.{Rule}
+use Rattle.off_orders.specs.declared.rules.Rule.TheVariants as rule
 use Rattle.off_http.specs.declared.answers.HttpFault.{HttpFault}
 use Rattle.off_http.specs.declared.answers.HttpFault.TheVariants as http
 use Rattle.off_clerk_rules.specs.declared.faults.ClerkErr.{ClerkErr}

@@ -11,10 +11,10 @@ use Rattle.off_base.specs.Tree.{Tree, Row, leaf, group, no_more, followed}
 use Rattle.off_defs.specs.declared.tables.Pool.{Pool}
 use Rattle.off_defs.specs.declared.tables.Hold.{Hold}
 use Rattle.off_defs.specs.declared.tables.Hold.TheVariants.{Offered, Bound, Declined}
-use Rattle.off_defs.specs.declared.shown.ShownRow.{ShownRow}
-use Rattle.off_defs.specs.declared.shown.ShownRow.TheVariants as row
-use Rattle.off_defs.specs.declared.orders.Reply.{Reply}
-use Rattle.off_defs.specs.declared.orders.Reply.TheVariants.{Done, Shown, ShownPool, Rows}
+use Rattle.off_orders.specs.declared.shown.ShownRow.{ShownRow}
+use Rattle.off_orders.specs.declared.shown.ShownRow.TheVariants as row
+use Rattle.off_orders.specs.declared.orders.Reply.{Reply}
+use Rattle.off_orders.specs.declared.orders.Reply.TheVariants.{Done, Shown, ShownPool, Rows}
 
 -- a text as a JSON string, with the escapes that serde_json writes
 abbrev pub text_of : List ℕ → List ℕ

@@ -2,9 +2,9 @@ ghost use Rattle.std.specs.Prelude.{◌≡◌};
 ghost use Rattle.off_clerk_rules.specs.declared.faults.CommandErr.TheVariants.{Fault};
 
 use crate::names::Name;
-use off_defs::Rule;
 use off_http::HttpFault;
 use off_import_rules::ImportFault;
+use off_orders::Rule;
 
 /// Why a request is no command.
 #[derive(Clone, Copy, Debug, PartialEq, Eq)]

@@ -12,22 +12,23 @@ use Rattle.off_defs.specs.declared.tables.Batch.{Batch}
 use Rattle.off_defs.specs.declared.tables.DeviceLease.{DeviceLease}
 use Rattle.off_defs.specs.declared.tables.ImportKind.{ImportKind}
 use Rattle.off_defs.specs.declared.tables.Pool.{Pool}
-use Rattle.off_defs.specs.declared.orders.Command.{Command}
-use Rattle.off_defs.specs.declared.orders.Command.TheVariants.{PutHub, PutSubscriber, PutAddOn, PutModem, PutClass, PutPool, PutDevicePool, Remove, Show, Import}
-use Rattle.off_defs.specs.declared.orders.ImportRow.{ImportRow}
-use Rattle.off_defs.specs.declared.orders.ImportRow.TheVariants as imported
-use Rattle.off_defs.specs.declared.orders.Kind.TheVariants.{Batches}
-use Rattle.off_defs.specs.declared.orders.Reply.{Reply}
-use Rattle.off_defs.specs.declared.orders.Reply.TheVariants.{Done, Rows}
-use Rattle.off_defs.specs.declared.orders.Write.{Write}
-use Rattle.off_defs.specs.declared.orders.Write.TheVariants.{Put}
-use Rattle.off_defs.specs.declared.rules.Rule.{Rule}
+use Rattle.off_orders.specs.declared.orders.Command.{Command}
+use Rattle.off_orders.specs.declared.orders.Command.TheVariants.{PutHub, PutSubscriber, PutAddOn, PutModem, PutClass, PutPool, PutDevicePool, Remove, Show, Import}
+use Rattle.off_orders.specs.declared.orders.ImportRow.{ImportRow}
+use Rattle.off_orders.specs.declared.orders.ImportRow.TheVariants as imported
+use Rattle.off_defs.specs.declared.kinds.Kind.TheVariants.{Batches}
+use Rattle.off_orders.specs.declared.orders.Reply.{Reply}
+use Rattle.off_orders.specs.declared.orders.Reply.TheVariants.{Done, Rows}
+use Rattle.off_defs.specs.declared.writes.Write.{Write}
+use Rattle.off_defs.specs.declared.writes.Write.TheVariants.{Put}
+use Rattle.off_orders.specs.declared.rules.Rule.{Rule}
 use Rattle.off_defs.specs.State.{Tables}
 use Rattle.off_defs.specs.Tables.{row_at, write_all}
-use Rattle.off_rows.specs.Sound.{is_sound, is_removable}
+use Rattle.off_orders.specs.Sound.{is_sound, is_removable}
 use Rattle.off_account_rules.specs.Rows.{possible, seen_at, as_device, device_in, device_pool_in, batch_in, devices}
 use Rattle.off_account_rules.specs.Good.{Good}
-use Rattle.off_account_rules.specs.Clerk.{Refusal, Decision, Accepted, accepted, by_rule, shown_as, shown, limit, rules_of, removal_rules, writes_of, removal_writes, gives_up, lost_leases, lost_devices, is_live_device, lease_drops, device_drop, pool_has_devices, row_writes, row_breaks, then_writes, unless_broken, rows_written, batch_row, imported_as, import_decided, decided, stepped_by, clerk_step}
+use Rattle.off_account_rules.specs.Changes.{gives_up}
+use Rattle.off_orders.specs.Clerk.{Refusal, Decision, Accepted, accepted, by_rule, shown_as, shown, limit, rules_of, removal_rules, writes_of, removal_writes, lost_leases, lost_devices, is_live_device, lease_drops, device_drop, pool_has_devices, row_writes, row_breaks, then_writes, unless_broken, rows_written, batch_row, imported_as, import_decided, decided, stepped_by, clerk_step}
 use Rattle.off_clerk_rules.specs.Commands.{command_read}
 use Rattle.off_clerk_rules.specs.declared.faults.ClerkErr.{ClerkErr}
 use Rattle.off_table_laws.proofs.ListLemmas.{none_found, in_kept}
@@ -36,9 +37,9 @@ use Rattle.off_table_laws.proofs.Rows.{drop_row, rows_after, all_written}
 use Rattle.off_table_laws.proofs.GoodRows.{GoodRows}
 use Rattle.off_table_laws.proofs.Judging.{good_rows}
 use Rattle.off_table_laws.proofs.PoolLemmas.{set_pool, set_hub}
-use Rattle.off_table_laws.proofs.LostLeases.{rows_append, drops_other, is_other}
-use Rattle.off_table_laws.proofs.DevicePools.{set_device_pool, devices_left}
-use Rattle.off_table_laws.proofs.ClerkSteps.{hub_written}
+use Rattle.off_order_laws.proofs.LostLeases.{rows_append, drops_other, is_other}
+use Rattle.off_order_laws.proofs.DevicePools.{set_device_pool, devices_left}
+use Rattle.off_order_laws.proofs.ClerkSteps.{hub_written}
 use Rattle.off_cpe_laws.proofs.RowLemmas.{device_listed}
 use Rattle.off_book.specs.Http.{answer_result, answer_command, answer_request}
 use Rattle.off_laws.proofs.Requests.{MayBe, request_may}

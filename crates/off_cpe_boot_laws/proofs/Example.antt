@@ -14,20 +14,20 @@ use Rattle.off_defs.specs.declared.tables.Modem.{Modem}
 use Rattle.off_defs.specs.declared.tables.Subscriber.{Subscriber}
 use Rattle.off_defs.specs.declared.tables.DeviceHold.TheVariants.{Offered, Bound}
 use Rattle.off_defs.specs.declared.tables.DeviceLease.{DeviceLease}
-use Rattle.off_defs.specs.declared.orders.Write.{Write}
+use Rattle.off_defs.specs.declared.writes.Write.{Write}
 use Rattle.off_defs.specs.Clock.{later_by}
 use Rattle.off_defs.specs.State.{Tables, State, Effect, at_moment, start}
 use Rattle.off_defs.specs.Tables.{row_at, write_all}
 use Rattle.off_dhcp.specs.Datagram.{Received, message_fault, message_of}
 use Rattle.off_account_rules.specs.Rows.{possible, as_site, as_pool, as_pool_hub, as_subscriber, as_modem, as_lease, as_device, number_or_0, hub_in, pool_hub_in, site_of, subscriber_in, modem_in, pool_in, device_in, devices}
 use Rattle.off_account_rules.specs.Good.{Good, device_owner}
-use Rattle.off_table_laws.proofs.DevicePools.{is_no_device}
+use Rattle.off_order_laws.proofs.DevicePools.{is_no_device}
 use Rattle.off_table_laws.proofs.TableLaws.{device_owned, hub_of_pool}
 use Rattle.off_asking.specs.Asking.{ip, client, named_address, at_address, remote_identifier}
 use Rattle.off_asking.specs.Choice.{least_of, choice_by}
 use Rattle.off_lease_laws.proofs.Tests.{ip_or}
 use Rattle.off_cpe_rules.specs.Behind.{is_free, has_ended, own_among, modem_behind}
-use Rattle.off_cpe_rules.specs.Steps.{device_row, device_drop, own_elsewhere, offered, step_behind}
+use Rattle.off_cpe_rules.specs.Steps.{device_row, own_drop, own_elsewhere, offered, step_behind}
 use Rattle.off_cpe_laws.specs.Laws.{after_step}
 use Rattle.off_cpe_laws.proofs.WriteLemmas.{the_own}
 use Rattle.off_query_laws.proofs.KindLemmas.{no_query}
@@ -175,7 +175,7 @@ writes_first =
     let k = known_of tables 1700000000 asks_first tables_are_good known_first below_first in
     ap (λ s. s.writes) (discover_is tables 1700000000 modem asks_first refl k address chosen_first)
     ∙ ap (λ (o : Option DeviceLease). offered 1700000000 modem device own address o) (no_device_in address)
-    ∙ ap (λ (o : Option Ip4). device_drop (own_elsewhere address o) ++ device_row address (Offered modem device) 120 1700000000 ∷ []) (none_own own refl)
+    ∙ ap (λ (o : Option Ip4). own_drop (own_elsewhere address o) ++ device_row address (Offered modem device) 120 1700000000 ∷ []) (none_own own refl)
 
 -- after it the address is its own for two minutes, and all other rows are as before
 abbrev tables_again : Tables

@@ -8,8 +8,8 @@ use Rattle.off_defs.specs.declared.tables.Row.TheVariants as row
 use Rattle.off_defs.specs.declared.tables.Pool.{Pool}
 use Rattle.off_defs.specs.declared.tables.DeviceHold.TheVariants.{Offered, Bound, Declined}
 use Rattle.off_defs.specs.declared.tables.DeviceLease.{DeviceLease}
-use Rattle.off_defs.specs.declared.orders.Write.{Write}
-use Rattle.off_defs.specs.declared.orders.Write.TheVariants.{Put}
+use Rattle.off_defs.specs.declared.writes.Write.{Write}
+use Rattle.off_defs.specs.declared.writes.Write.TheVariants.{Put}
 use Rattle.off_defs.specs.Clock.{later_by}
 use Rattle.off_defs.specs.State.{Tables}
 use Rattle.off_defs.specs.Tables.{write_all}
@@ -22,7 +22,7 @@ use Rattle.off_asking.specs.Choice.{pool_among, choice_by}
 use Rattle.off_lease_laws.proofs.ChoiceLemmas.{provided_is}
 use Rattle.off_lease_laws.proofs.Tests.{ip_or, some_or}
 use Rattle.off_cpe_rules.specs.Behind.{has_ended, is_free, is_live, own_among}
-use Rattle.off_cpe_rules.specs.Steps.{lease_for, device_drop, own_elsewhere, is_live_bound, offered, bound, set_aside, given_up, step_behind}
+use Rattle.off_cpe_rules.specs.Steps.{lease_for, own_drop, own_elsewhere, is_live_bound, offered, bound, set_aside, given_up, step_behind}
 use Rattle.off_cpe_rules.specs.declared.results.DeviceStep.{DeviceStep}
 use Rattle.off_cpe_laws.specs.Laws.{after_step}
 use Rattle.off_cpe_laws.proofs.WriteLemmas.{the_own}
@@ -66,7 +66,7 @@ module _ (t : Tables) (good : Good t) (now : ℕ) (m : Received) (modem : Mac) (
   -- a lease of its own that is put there
   put_keeps : (fresh : DeviceLease) (o : Option Ip4) → own ≡ Some address → device_owner fresh.hold ≡ Some (modem, client m)
       → (IsDeviceBound owner.0 owner.1 address t → (expiry : ℕ) × (fresh ≡ device_until (Bound owner.0 owner.1) expiry))
-      → F (device_drop o ++ Put (key.Device address) (row.Device fresh) ∷ [])
+      → F (own_drop o ++ Put (key.Device address) (row.Device fresh) ∷ [])
   put_keeps fresh o mine is stays_bound =
       let here = given_here t fresh address o in
       keeps (is_owner mine) (record {
@@ -92,7 +92,7 @@ module _ (t : Tables) (good : Good t) (now : ℕ) (m : Received) (modem : Mac) (
     fresh = lease_for (Offered modem (client m)) 120 now
 
     -- the address isn't its own
-    offer_aside : (own ≡ Some address → ⊥) → F (device_drop (own_elsewhere a own) ++ Put (key.Device a) (row.Device fresh) ∷ [])
+    offer_aside : (own ≡ Some address → ⊥) → F (own_drop (own_elsewhere a own) ++ Put (key.Device a) (row.Device fresh) ∷ [])
     offer_aside apart =
         stays (given_other t fresh a (own_elsewhere a own) address
         (λ same.
@@ -104,12 +104,12 @@ module _ (t : Tables) (good : Good t) (now : ℕ) (m : Received) (modem : Mac) (
 
     -- the address is its own, and the pool has it: it's offered again, where it isn't bound
     offer_again : own ≡ Some address → has_address pool address ≡ true → passes (is_live_bound now) (device_in t a) ≡ false
-        → F (device_drop (own_elsewhere a own) ++ Put (key.Device a) (row.Device fresh) ∷ [])
+        → F (own_drop (own_elsewhere a own) ++ Put (key.Device a) (row.Device fresh) ∷ [])
     offer_again mine within unbound =
         let first = own_chosen (is_free t now pool) pool own (at_address (named_address m)) address mine within in
         let both : Some a ≡ Some address = sym chosen ∙ first in
         let same : a ≡ address = cc in
-        subst (λ (x : Ip4). F (device_drop (own_elsewhere a own) ++ Put (key.Device x) (row.Device fresh) ∷ [])) (sym same)
+        subst (λ (x : Ip4). F (own_drop (own_elsewhere a own) ++ Put (key.Device x) (row.Device fresh) ∷ [])) (sym same)
         (put_keeps fresh (own_elsewhere a own) mine refl (λ b.
         let row : Some lease ≡ Some (device_until (Bound owner.0 owner.1) b.expiry) = sym there ∙ b.is in
         let is : lease ≡ device_until (Bound owner.0 owner.1) b.expiry = cc in
@@ -118,9 +118,9 @@ module _ (t : Tables) (good : Good t) (now : ℕ) (m : Received) (modem : Mac) (
         let clash : true ≡ false = sym bound ∙ unbound in
         cc))
 
-    offer_own : own ≡ Some address → passes (is_live_bound now) (device_in t a) ≡ false → F (device_drop (own_elsewhere a own) ++ Put (key.Device a) (row.Device fresh) ∷ [])
+    offer_own : own ≡ Some address → passes (is_live_bound now) (device_in t a) ≡ false → F (own_drop (own_elsewhere a own) ++ Put (key.Device a) (row.Device fresh) ∷ [])
     offer_own mine unbound =
-        elim (has_address pool address) as (λ b. has_address pool address ≡ b → F (device_drop (own_elsewhere a own) ++ Put (key.Device a) (row.Device fresh) ∷ [])) [
+        elim (has_address pool address) as (λ b. has_address pool address ≡ b → F (own_drop (own_elsewhere a own) ++ Put (key.Device a) (row.Device fresh) ∷ [])) [
           | true ↦ λ within. offer_again mine within unbound
           | false ↦ λ without. gives (is_owner mine) (inl (leaves pool d among without))
         ] refl
@@ -128,11 +128,11 @@ module _ (t : Tables) (good : Good t) (now : ℕ) (m : Received) (modem : Mac) (
     offer_fate : (writes : List Write) → writes ≡ offered now modem (client m) own a (device_in t a) → F writes
     offer_fate writes is =
         elim (passes (is_live_bound now) (device_in t a)) as (λ b. passes (is_live_bound now) (device_in t a) ≡ b
-        → writes ≡ cond b [] (device_drop (own_elsewhere a own) ++ Put (key.Device a) (row.Device fresh) ∷ []) → F writes) [
+        → writes ≡ cond b [] (own_drop (own_elsewhere a own) ++ Put (key.Device a) (row.Device fresh) ∷ []) → F writes) [
           | true ↦ λ bound e. unwritten writes e
           | false ↦ λ unbound e.
               same_writes writes _ e
-              (elim (some_or ip_or own address) as (λ c. F (device_drop (own_elsewhere a own) ++ Put (key.Device a) (row.Device fresh) ∷ [])) [
+              (elim (some_or ip_or own address) as (λ c. F (own_drop (own_elsewhere a own) ++ Put (key.Device a) (row.Device fresh) ∷ [])) [
                 | inl mine ↦ offer_own mine unbound
                 | inr apart ↦ offer_aside apart
               ])

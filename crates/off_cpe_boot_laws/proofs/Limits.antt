@@ -11,8 +11,8 @@ use Rattle.off_defs.specs.declared.tables.DeviceHold.TheVariants.{Offered, Bound
 use Rattle.off_defs.specs.declared.tables.DeviceLease.{DeviceLease}
 use Rattle.off_defs.specs.declared.keys.Key.TheVariants as key
 use Rattle.off_defs.specs.declared.tables.Row.TheVariants as row
-use Rattle.off_defs.specs.declared.orders.Write.{Write}
-use Rattle.off_defs.specs.declared.orders.Write.TheVariants.{Put, Drop}
+use Rattle.off_defs.specs.declared.writes.Write.{Write}
+use Rattle.off_defs.specs.declared.writes.Write.TheVariants.{Put, Drop}
 use Rattle.off_defs.specs.State.{Tables, State, Effect, at_moment}
 use Rattle.off_defs.specs.Tables.{write_all}
 use Rattle.off_dhcp.specs.Datagram.{Received}
@@ -24,7 +24,7 @@ use Rattle.off_asking.specs.Asking.{client}
 use Rattle.off_asking.specs.Choice.{pool_among}
 use Rattle.off_lease_laws.proofs.Tests.{ip_or, mac_or, some_or}
 use Rattle.off_cpe_rules.specs.Behind.{is_live, is_behind, own_among, behind_among, device_case}
-use Rattle.off_cpe_rules.specs.Steps.{lease_for, device_drop, device_row, own_elsewhere, is_live_bound, step_behind}
+use Rattle.off_cpe_rules.specs.Steps.{lease_for, own_drop, device_row, own_elsewhere, is_live_bound, step_behind}
 use Rattle.off_cpe_rules.specs.declared.results.DeviceStep.{DeviceStep}
 use Rattle.off_cpe_rules.specs.declared.words.DeviceWord.{DeviceWord}
 use Rattle.off_cpe_rules.specs.declared.words.DeviceWord.TheVariants as word
@@ -71,13 +71,13 @@ module _ (t : Tables) (now : ℕ) (m : Received) (modem : Mac) (x : Ip4) where
   same_writes said writes other e f = subst (F said) (sym e) f
 
   put_fate : (said : DeviceWord) (lease : DeviceLease) (a : Ip4) (o : Option Ip4) → device_owner lease.hold ≡ Some (modem, client m) → Says said
-      → F said (device_drop o ++ Put (key.Device a) (row.Device lease) ∷ [])
+      → F said (own_drop o ++ Put (key.Device a) (row.Device lease) ∷ [])
   put_fate said lease a o owner says =
-      elim (ip_or x a) as (λ c. F said (device_drop o ++ Put (key.Device a) (row.Device lease) ∷ [])) [
-        | inl same ↦ granted lease (ap (device_in (write_all t (device_drop o ++ Put (key.Device a) (row.Device lease) ∷ []))) same ∙ given_here t lease a o) owner says
+      elim (ip_or x a) as (λ c. F said (own_drop o ++ Put (key.Device a) (row.Device lease) ∷ [])) [
+        | inl same ↦ granted lease (ap (device_in (write_all t (own_drop o ++ Put (key.Device a) (row.Device lease) ∷ []))) same ∙ given_here t lease a o) owner says
         | inr apart ↦
-            elim (some_or ip_or o x) as (λ c. F said (device_drop o ++ Put (key.Device a) (row.Device lease) ∷ [])) [
-              | inl is ↦ gone (ap (λ (p : Option Ip4). device_in (write_all t (device_drop p ++ Put (key.Device a) (row.Device lease) ∷ [])) x) is ∙ given_gone t lease a x apart)
+            elim (some_or ip_or o x) as (λ c. F said (own_drop o ++ Put (key.Device a) (row.Device lease) ∷ [])) [
+              | inl is ↦ gone (ap (λ (p : Option Ip4). device_in (write_all t (own_drop p ++ Put (key.Device a) (row.Device lease) ∷ [])) x) is ∙ given_gone t lease a x apart)
               | inr aside ↦ left (given_other t lease a o x apart aside)
             ]
       ]
@@ -85,7 +85,7 @@ module _ (t : Tables) (now : ℕ) (m : Received) (modem : Mac) (x : Ip4) where
   step_fate : (step : DeviceStep) → Aims t now modem m (pool_among (device_pools t) m) own step → F step.word step.writes
   step_fate step (idle e) = same_writes step.word step.writes [] e (left refl)
   step_fate step (offering pool a d among chosen e said) =
-      elim (passes (is_live_bound now) (device_in t a)) as (λ b. step.writes ≡ cond b [] (device_drop (own_elsewhere a own) ++ device_row a (Offered modem (client m)) 120 now ∷ [])
+      elim (passes (is_live_bound now) (device_in t a)) as (λ b. step.writes ≡ cond b [] (own_drop (own_elsewhere a own) ++ device_row a (Offered modem (client m)) 120 now ∷ [])
       → F step.word step.writes) [
         | true ↦ λ f. same_writes step.word step.writes [] f (left refl)
         | false ↦ λ f. same_writes step.word step.writes _ f (put_fate step.word (lease_for (Offered modem (client m)) 120 now) a (own_elsewhere a own) refl (inl said))

@@ -5,7 +5,7 @@ use Rattle.off_base.specs.declared.macs.Mac.{Mac}
 use Rattle.off_defs.specs.declared.keys.Key.TheVariants as key
 use Rattle.off_defs.specs.declared.tables.Row.TheVariants as row
 use Rattle.off_defs.specs.declared.tables.DeviceLease.{DeviceLease}
-use Rattle.off_defs.specs.declared.orders.Write.TheVariants.{Put, Drop}
+use Rattle.off_defs.specs.declared.writes.Write.TheVariants.{Put, Drop}
 use Rattle.off_defs.specs.State.{Tables}
 use Rattle.off_defs.specs.Tables.{without, write_all}
 use Rattle.off_account_rules.specs.Rows.{passes, device_in, devices}
@@ -15,7 +15,7 @@ use Rattle.off_table_laws.proofs.ListLemmas.{some_found}
 use Rattle.off_table_laws.proofs.Judging.{owner_own}
 use Rattle.off_table_laws.proofs.TableLaws.{device_owned}
 use Rattle.off_cpe_rules.specs.Behind.{is_owned, own_among}
-use Rattle.off_cpe_rules.specs.Steps.{device_drop}
+use Rattle.off_cpe_rules.specs.Steps.{own_drop}
 use Rattle.off_cpe_laws.proofs.RowLemmas.{own_ip, other_ip, device_with, device_without, device_listed}
 use Rattle.off_cpe_laws.proofs.WriteLemmas.{the_own}
 
@@ -34,14 +34,14 @@ module _ (t : Tables) (one : OneAddress t) (modem device : Mac) where
 -- ---- a lease is put, and another row may be dropped before
 
 module _ (t : Tables) (lease : DeviceLease) (address : Ip4) where
-  pub given_here : (o : Option Ip4) → device_in (write_all t (device_drop o ++ Put (key.Device address) (row.Device lease) ∷ [])) address ≡ Some lease
+  pub given_here : (o : Option Ip4) → device_in (write_all t (own_drop o ++ Put (key.Device address) (row.Device lease) ∷ [])) address ≡ Some lease
   given_here None = device_with t address lease address ∙ ap (λ b. cond b (Some lease) (device_in t address)) (own_ip address)
   given_here (Some y) =
       device_with (without t (key.Device y)) address lease address
       ∙ ap (λ b. cond b (Some lease) (device_in (without t (key.Device y)) address)) (own_ip address)
 
   pub given_other : (o : Option Ip4) (x : Ip4) → (x ≡ address → ⊥) → (o ≡ Some x → ⊥)
-      → device_in (write_all t (device_drop o ++ Put (key.Device address) (row.Device lease) ∷ [])) x ≡ device_in t x
+      → device_in (write_all t (own_drop o ++ Put (key.Device address) (row.Device lease) ∷ [])) x ≡ device_in t x
   given_other None x apart aside = device_with t address lease x ∙ ap (λ b. cond b (Some lease) (device_in t x)) (other_ip address x apart)
   given_other (Some y) x apart aside =
       device_with (without t (key.Device y)) address lease x
@@ -49,7 +49,7 @@ module _ (t : Tables) (lease : DeviceLease) (address : Ip4) where
       ∙ device_without t y x
       ∙ ap (λ b. cond b None (device_in t x)) (other_ip y x (λ same. aside (ap Some (sym same))))
 
-  pub given_gone : (x : Ip4) → (x ≡ address → ⊥) → device_in (write_all t (device_drop (Some x) ++ Put (key.Device address) (row.Device lease) ∷ [])) x ≡ None
+  pub given_gone : (x : Ip4) → (x ≡ address → ⊥) → device_in (write_all t (own_drop (Some x) ++ Put (key.Device address) (row.Device lease) ∷ [])) x ≡ None
   given_gone x apart =
       device_with (without t (key.Device x)) address lease x
       ∙ ap (λ b. cond b (Some lease) (device_in (without t (key.Device x)) x)) (other_ip address x apart)

@@ -7,8 +7,8 @@ use Rattle.off_defs.specs.declared.keys.Key.TheVariants as key
 use Rattle.off_defs.specs.declared.tables.Row.TheVariants as row
 use Rattle.off_defs.specs.declared.tables.Pool.{Pool}
 use Rattle.off_defs.specs.declared.tables.DeviceLease.{DeviceLease}
-use Rattle.off_defs.specs.declared.orders.Write.{Write}
-use Rattle.off_defs.specs.declared.orders.Write.TheVariants.{Put, Drop}
+use Rattle.off_defs.specs.declared.writes.Write.{Write}
+use Rattle.off_defs.specs.declared.writes.Write.TheVariants.{Put, Drop}
 use Rattle.off_defs.specs.State.{Tables}
 use Rattle.off_defs.specs.Tables.{row_at, write_all}
 use Rattle.off_dhcp.specs.Datagram.{Received}
@@ -27,7 +27,7 @@ use Rattle.off_table_laws.proofs.TableLaws.{device_owned, one_address_a_device}
 use Rattle.off_asking.specs.Asking.{client}
 use Rattle.off_asking.specs.Choice.{serves, pool_among, numbered_among}
 use Rattle.off_cpe_rules.specs.Behind.{own_among}
-use Rattle.off_cpe_rules.specs.Steps.{device_drop, own_elsewhere}
+use Rattle.off_cpe_rules.specs.Steps.{own_drop, own_elsewhere}
 use Rattle.off_cpe_laws.specs.Laws.{StepKeepsGood, after_step}
 use Rattle.off_cpe_laws.proofs.WriteLemmas.{nothing, gives, rests, frees, lies_in, wrote, one_address_stays, the_own}
 
@@ -82,7 +82,7 @@ module _ (t : Tables) (good : Good t) where
 
   -- what is given up elsewhere doesn't change where the address lies
   given : (address : Ip4) (lease : DeviceLease) → OnePoolOf key.DevicePool (row_at t) address → (o : Option Ip4)
-      → OneAddress (write_all t (device_drop o ++ Put (key.Device address) (row.Device lease) ∷ [])) → Good (write_all t (device_drop o ++ Put (key.Device address) (row.Device lease) ∷ []))
+      → OneAddress (write_all t (own_drop o ++ Put (key.Device address) (row.Device lease) ∷ [])) → Good (write_all t (own_drop o ++ Put (key.Device address) (row.Device lease) ∷ []))
   given address lease one None single =
       let writes = Put (key.Device address) (row.Device lease) ∷ [] in
       after_good writes (put_device (row_at t) g address lease one (once t writes single)) refl

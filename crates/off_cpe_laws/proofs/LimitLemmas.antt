@@ -9,8 +9,8 @@ use Rattle.off_defs.specs.declared.keys.Key.TheVariants as key
 use Rattle.off_defs.specs.declared.tables.Row.TheVariants as row
 use Rattle.off_defs.specs.declared.tables.Subscriber.{Subscriber}
 use Rattle.off_defs.specs.declared.tables.DeviceLease.{DeviceLease}
-use Rattle.off_defs.specs.declared.orders.Write.{Write}
-use Rattle.off_defs.specs.declared.orders.Write.TheVariants.{Put}
+use Rattle.off_defs.specs.declared.writes.Write.{Write}
+use Rattle.off_defs.specs.declared.writes.Write.TheVariants.{Put}
 use Rattle.off_defs.specs.State.{Tables}
 use Rattle.off_defs.specs.Tables.{without, write_all}
 use Rattle.off_dhcp.specs.Datagram.{Received}
@@ -21,7 +21,7 @@ use Rattle.off_asking.specs.Claims.{refused_by}
 use Rattle.off_cpe_rules.specs.Words.{acts}
 use Rattle.off_cpe_rules.specs.Behind.{is_live, is_owned, is_behind, is_other, own_among, others_among, behind_among, device_case, chosen_in}
 use Rattle.off_cpe_rules.specs.Rules.{is_full, rules_for}
-use Rattle.off_cpe_rules.specs.Steps.{device_drop, own_elsewhere, offers, acknowledges, declines, releases, accepts, unless_refused, settled, step_behind}
+use Rattle.off_cpe_rules.specs.Steps.{own_drop, own_elsewhere, offers, acknowledges, declines, releases, accepts, unless_refused, settled, step_behind}
 use Rattle.off_cpe_rules.specs.declared.cases.DeviceCase.{DeviceCase}
 use Rattle.off_cpe_rules.specs.declared.words.DeviceWord.{DeviceWord}
 use Rattle.off_cpe_rules.specs.declared.words.DeviceWord.TheVariants as word
@@ -50,7 +50,7 @@ module _ (now : ℕ) (modem device : Mac) where
   none_no_other a lease is = ap (λ (o : Option (Mac × Mac)). passes (λ (w : Mac × Mac). is_mac modem w.0) o && (not (is_owned modem device lease) && is_live now lease)) is
 
   fewer : (t : Tables) (a : Ip4) (lease : DeviceLease) → device_owner lease.hold ≡ Some (modem, device) → (o : Option Ip4)
-      → count_by other (devices (write_all t (device_drop o ++ Put (key.Device a) (row.Device lease) ∷ []))) ≤ count_by other (devices t)
+      → count_by other (devices (write_all t (own_drop o ++ Put (key.Device a) (row.Device lease) ∷ []))) ≤ count_by other (devices t)
   fewer t a lease is None = count_with other t a lease (own_no_other a lease is)
   fewer t a lease is (Some y) = omega (arith, count_with other (without t (key.Device y)) a lease (own_no_other a lease is), count_without other t y)
 

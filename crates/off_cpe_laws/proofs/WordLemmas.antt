@@ -1,5 +1,5 @@
 -- What a word says of a step: one that is refused writes nothing, and who is offered or acknowledged an address has a subscriber with service.
-use Rattle.std.proofs.Common.{◌≡◌, ◌⊎◌, ℕ, Bool, true, false, cond, not, ◌&&◌, Option, Some, None, option_and_then, [], refl, sym, ap, ◌∙◌, true≢false}
+use Rattle.std.proofs.Common.{◌≡◌, ◌⊎◌, ℕ, true, false, cond, not, ◌&&◌, Option, Some, None, option_and_then, [], refl, sym, ap, ◌∙◌, true≢false}
 use Rattle.off_base.specs.declared.addresses.Ip4.{Ip4}
 use Rattle.off_base.specs.declared.macs.Mac.{Mac}
 use Rattle.off_defs.specs.declared.tables.Subscriber.{Subscriber}
@@ -17,10 +17,7 @@ use Rattle.off_cpe_rules.specs.declared.cases.DeviceCase.{DeviceCase}
 use Rattle.off_cpe_rules.specs.declared.words.DeviceWord.TheVariants as word
 use Rattle.off_cpe_laws.proofs.RuleLemmas.{unbroken, refusals}
 use Rattle.off_cpe_laws.proofs.LimitLemmas.{Says, no_refusal, said_asks}
-
-not_false : (b : Bool) → not b ≡ false → b ≡ true
-not_false true e = refl
-not_false false e = cc
+use Rattle.std.proofs.lemmas.Bool.{not-false}
 
 there : (o : Option Subscriber) → passes (λ (s : Subscriber). s.active) o ≡ true → (s : Subscriber) × (o ≡ Some s)
 there None e = cc
@@ -55,7 +52,7 @@ module _ (now : ℕ) (modem : Mac) (m : Received) (c : DeviceCase) (chosen : Opt
         | None ↦ λ none s.
             let u = unbroken m c chosen none in
             let asked : (true && not (has_service c)) ≡ false = ap (λ b. b && not (has_service c)) (sym (said_asks now modem m c chosen lease s)) ∙ u.service in
-            not_false (has_service c) asked
+            not-false (has_service c) asked
         | Some w ↦ λ broken s. absurd (no_refusal now modem m c chosen lease w (refusals m c chosen w broken) s)
       ] refl says
 

@@ -10,8 +10,8 @@ use Rattle.off_defs.specs.declared.tables.Row.TheVariants as row
 use Rattle.off_defs.specs.declared.tables.Site.{Site}
 use Rattle.off_defs.specs.declared.tables.DeviceHold.TheVariants.{Offered, Bound, Declined}
 use Rattle.off_defs.specs.declared.tables.DeviceLease.{DeviceLease}
-use Rattle.off_defs.specs.declared.orders.Write.{Write}
-use Rattle.off_defs.specs.declared.orders.Write.TheVariants.{Put, Drop}
+use Rattle.off_defs.specs.declared.writes.Write.{Write}
+use Rattle.off_defs.specs.declared.writes.Write.TheVariants.{Put, Drop}
 use Rattle.off_defs.specs.State.{Tables}
 use Rattle.off_defs.specs.Tables.{with_row, without, write_all}
 use Rattle.off_dhcp.specs.Datagram.{Received}
@@ -23,7 +23,7 @@ use Rattle.off_asking.specs.Claims.{claims_own, claims_in_pool, refused_by}
 use Rattle.off_defs.specs.declared.tables.Pool.{Pool}
 use Rattle.off_cpe_rules.specs.Behind.{has_ended, is_free, is_owned, own_among, device_case, chosen_in}
 use Rattle.off_cpe_rules.specs.Rules.{rules_for}
-use Rattle.off_cpe_rules.specs.Steps.{lease_for, device_drop, own_elsewhere, is_live_bound, for_some, bound, accepts, offers, acknowledges, declines, releases, settled, step_behind, unless_refused}
+use Rattle.off_cpe_rules.specs.Steps.{lease_for, own_drop, own_elsewhere, is_live_bound, for_some, bound, accepts, offers, acknowledges, declines, releases, settled, step_behind, unless_refused}
 use Rattle.off_cpe_rules.specs.declared.cases.DeviceCase.{DeviceCase}
 use Rattle.off_cpe_rules.specs.declared.results.DeviceStep.{DeviceStep}
 use Rattle.off_table_laws.specs.Laws.{device_owner_in, OneAddress}
@@ -42,7 +42,7 @@ lies_in pool address = passes (λ (p : Pool). has_address p address) pool
 pub data Wrote (modem device : Mac) (pool : Option Pool) (own : Option Ip4) (step : DeviceStep) : Type 0 where
   nothing : step.writes ≡ [] → Wrote modem device pool own step
   gives : (address : Ip4) (lease : DeviceLease) → device_owner lease.hold ≡ Some (modem, device) → lies_in pool address ≡ true
-      → step.writes ≡ device_drop (own_elsewhere address own) ++ Put (key.Device address) (row.Device lease) ∷ [] → Wrote modem device pool own step
+      → step.writes ≡ own_drop (own_elsewhere address own) ++ Put (key.Device address) (row.Device lease) ∷ [] → Wrote modem device pool own step
   rests : (address : Ip4) (lease : DeviceLease) → device_owner lease.hold ≡ None → own ≡ Some address → step.writes ≡ Put (key.Device address) (row.Device lease) ∷ []
       → Wrote modem device pool own step
   frees : (address : Ip4) → step.writes ≡ Drop (key.Device address) ∷ [] → Wrote modem device pool own step
@@ -101,8 +101,8 @@ module _ (now : ℕ) (modem : Mac) (m : Received) (c : DeviceCase) (chosen : Opt
   offer_wrote None within = nothing refl
   offer_wrote (Some address) within =
       elim (passes (is_live_bound now) lease) as (λ b. passes (is_live_bound now) lease ≡ b → W (offers now modem m c (Some address) lease)) [
-        | true ↦ λ e. nothing (ap (λ b. cond b [] (device_drop (own_elsewhere address c.own) ++ Put (key.Device address) (row.Device (lease_for (Offered modem (client m)) 120 now)) ∷ [])) e)
-        | false ↦ λ e. gives address (lease_for (Offered modem (client m)) 120 now) refl (within address refl) (ap (λ b. cond b [] (device_drop (own_elsewhere address c.own) ++ Put (key.Device address) (row.Device (lease_for (Offered modem (client m)) 120 now)) ∷ [])) e)
+        | true ↦ λ e. nothing (ap (λ b. cond b [] (own_drop (own_elsewhere address c.own) ++ Put (key.Device address) (row.Device (lease_for (Offered modem (client m)) 120 now)) ∷ [])) e)
+        | false ↦ λ e. gives address (lease_for (Offered modem (client m)) 120 now) refl (within address refl) (ap (λ b. cond b [] (own_drop (own_elsewhere address c.own) ++ Put (key.Device address) (row.Device (lease_for (Offered modem (client m)) 120 now)) ∷ [])) e)
       ] refl
 
   bind_wrote : (o : Option Ip4) (site : Option Site) → c.site ≡ site → ((address : Ip4) → o ≡ Some address → passes (is_address address) c.own ≡ true)
@@ -112,7 +112,7 @@ module _ (now : ℕ) (modem : Mac) (m : Received) (c : DeviceCase) (chosen : Opt
   bind_wrote (Some address) (Some site) is own within =
       gives address (lease_for (Bound modem (client m)) site.lease now) refl (within address refl)
       (ap (λ (s : Option Site). for_some (bound now modem (client m) address) s) is
-      ∙ ap (λ (o : Option Ip4). device_drop o ++ Put (key.Device address) (row.Device (lease_for (Bound modem (client m)) site.lease now)) ∷ []) (sym (none_elsewhere c.own address (own address refl))))
+      ∙ ap (λ (o : Option Ip4). own_drop o ++ Put (key.Device address) (row.Device (lease_for (Bound modem (client m)) site.lease now)) ∷ []) (sym (none_elsewhere c.own address (own address refl))))
 
   decline_wrote : (o : Option Ip4) → ((address : Ip4) → o ≡ Some address → passes (is_address address) c.own ≡ true) → W (declines now o)
   decline_wrote None own = nothing refl
@@ -261,7 +261,7 @@ module _ (t : Tables) (one : OneAddress t) (a : Ip4) where
 
 module _ (t : Tables) (one : OneAddress t) (modem device : Mac) (a : Ip4) (lease : DeviceLease) (is : device_owner lease.hold ≡ Some (modem, device)) where
   after : Option Ip4 → Tables
-  after o = write_all t (device_drop o ++ Put (key.Device a) (row.Device lease) ∷ [])
+  after o = write_all t (own_drop o ++ Put (key.Device a) (row.Device lease) ∷ [])
 
   given_with : (y : Ip4) (b : Bool) → eqb y.0 a.0 ≡ b → own_among modem device (devices t) ≡ Some y → OneAddress (after (cond (not b) (Some y) None))
   unfolding after

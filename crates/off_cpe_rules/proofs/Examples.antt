@@ -8,8 +8,8 @@ use Rattle.off_defs.specs.declared.keys.Key.TheVariants as key
 use Rattle.off_defs.specs.declared.tables.Row.TheVariants as row
 use Rattle.off_defs.specs.declared.tables.DeviceHold.{DeviceHold}
 use Rattle.off_defs.specs.declared.tables.DeviceHold.TheVariants.{Declined}
-use Rattle.off_defs.specs.declared.orders.Write.{Write}
-use Rattle.off_defs.specs.declared.orders.Write.TheVariants.{Put, Drop}
+use Rattle.off_defs.specs.declared.writes.Write.{Write}
+use Rattle.off_defs.specs.declared.writes.Write.TheVariants.{Put, Drop}
 use Rattle.off_defs.specs.declared.results.Sent.{Sent}
 use Rattle.off_defs.specs.declared.results.Sent.TheVariants as sent
 use Rattle.off_dhcp.specs.Reply.{head, relay_options, nak_bytes, reply_bytes}

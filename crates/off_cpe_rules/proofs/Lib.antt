@@ -3,3 +3,4 @@ pub mod Examples
 mod RefusalExamples
 mod LeaseExamples
 mod ModemExamples
+mod TableExamples

@@ -9,8 +9,8 @@ use Rattle.off_defs.specs.declared.tables.Site.{Site}
 use Rattle.off_defs.specs.declared.tables.DeviceHold.{DeviceHold}
 use Rattle.off_defs.specs.declared.tables.DeviceHold.TheVariants.{Offered, Bound, Declined}
 use Rattle.off_defs.specs.declared.tables.DeviceLease.{DeviceLease}
-use Rattle.off_defs.specs.declared.orders.Write.{Write}
-use Rattle.off_defs.specs.declared.orders.Write.TheVariants.{Put, Drop}
+use Rattle.off_defs.specs.declared.writes.Write.{Write}
+use Rattle.off_defs.specs.declared.writes.Write.TheVariants.{Put, Drop}
 use Rattle.off_defs.specs.declared.results.Sent.{Sent}
 use Rattle.off_defs.specs.Clock.{later_by}
 use Rattle.off_defs.specs.State.{Tables}
@@ -37,9 +37,9 @@ abbrev pub device_row : Ip4 → DeviceHold → ℕ → ℕ → Write
 device_row address hold seconds now =
     Put (key.Device address) (row.Device (lease_for hold seconds now))
 
-abbrev pub device_drop : Option Ip4 → List Write
-device_drop None = []
-device_drop (Some address) = Drop (key.Device address) ∷ []
+abbrev pub own_drop : Option Ip4 → List Write
+own_drop None = []
+own_drop (Some address) = Drop (key.Device address) ∷ []
 
 -- the device's own address before, where it's another one
 abbrev pub own_elsewhere : Ip4 → Option Ip4 → Option Ip4
@@ -57,7 +57,7 @@ is_live_bound now lease = is_bound lease.hold && is_live now lease
 abbrev pub offered : ℕ → Mac → Mac → Option Ip4 → Ip4 → Option DeviceLease → List Write
 offered now modem device own address lease =
     if passes (is_live_bound now) lease then []
-    else device_drop (own_elsewhere address own)
+    else own_drop (own_elsewhere address own)
     ++ device_row address (Offered modem device) 120 now ∷ []
 
 -- it is bound for as long as the leases of the modem's hub last

@@ -12,7 +12,7 @@ use Rattle.off_defs.specs.declared.results.Outcome.TheVariants.{Did, Memory, Kee
 use Rattle.off_defs.specs.State.{Tables, State, Effect, at_moment}
 use Rattle.off_defs.specs.Tables.{row_at}
 use Rattle.off_dhcp.specs.Datagram.{Received, message_of}
-use Rattle.off_table_laws.proofs.DevicePools.{is_no_device}
+use Rattle.off_order_laws.proofs.DevicePools.{is_no_device}
 use Rattle.off_query_rules.specs.Asked.{query_of}
 use Rattle.off_cpe_rules.specs.Behind.{modem_behind}
 use Rattle.off_cpe_rules.specs.Steps.{step_behind, device_step}

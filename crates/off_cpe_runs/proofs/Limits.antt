@@ -10,7 +10,7 @@ use Rattle.off_defs.specs.State.{Tables, State, Effect, at_moment}
 use Rattle.off_dhcp.specs.Datagram.{Received}
 use Rattle.off_account_rules.specs.Rows.{possible, as_subscriber, as_modem, subscriber_in, modem_in, devices}
 use Rattle.off_account_rules.specs.Good.{Good}
-use Rattle.off_table_laws.proofs.DevicePools.{is_no_device}
+use Rattle.off_order_laws.proofs.DevicePools.{is_no_device}
 use Rattle.off_table_laws.proofs.TableLaws.{one_address_a_device}
 use Rattle.off_cpe_rules.specs.Behind.{device_case, behind_among}
 use Rattle.off_cpe_rules.specs.Steps.{step_behind}

@@ -35,6 +35,10 @@ pub second : (a b : Bool) → T (a && b) → T b
 second true b p = p
 second false b p = absurd p
 
+pub both : (a b : Bool) → T a → T b → T (a && b)
+both true b p q = q
+both false b p q = absurd p
+
 -- nothing passes where nothing is found
 pub filter_none : {A : Type 0} (p : A → Bool) (xs : List A) → find p xs ≡ None → filter p xs ≡ []
 filter_none p [] f = refl
@@ -52,6 +56,12 @@ filter_kept : {A : Type 0} (p : A → Bool) (x : A) (xs : List A) → p x ≡ tr
 filter_kept p x xs e = ap (λ b. cond b (x ∷ filter p xs) (filter p xs)) e
 
 module _ {K X : Type 0} (R : K → K → Ordering) where
+  -- a key below all entries has none of them
+  pub none_below : (k : K) (es : List (K × X)) → T (list.below_all R k es) → list.find R k es ≡ None
+  none_below k [] h = refl
+  none_below k (e ∷ es) h =
+      ap (λ r. cond (is_eq r) (Some e.1) (list.find R k es)) (is_less (R k e.0) (holds _ (first _ _ h))) ∙ none_below k es (second _ _ h)
+
   -- whether an entry lies behind a place of a walk
   abbrev pub after_by : Option K → K × X → Bool
   after_by None entry = true

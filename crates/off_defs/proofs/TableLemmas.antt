@@ -1,5 +1,5 @@
 -- Laws of the tables: what a write makes of a row and of the entries, and how a walk goes on.
-use Rattle.std.proofs.Common.{◌≡◌, true, cond, not, Option, Some, None, [], ◌∷◌, ap, ◌∙◌}
+use Rattle.std.proofs.Common.{◌≡◌, true, cond, not, Option, Some, None, List, [], ◌∷◌, ap, ◌∙◌}
 use Rattle.std.specs.List.{filter}
 use Rattle.std.specs.Ordering.{is_eq, eq_by_cmp}
 use Rattle.std.specs.Cmp.{tied_itself}
@@ -7,9 +7,10 @@ use Rattle.std.specs.FinMap as map
 use Rattle.std.specs.FinMap.Entries as list
 use Rattle.off_defs.specs.declared.keys.Key.{Key}
 use Rattle.off_defs.specs.declared.tables.Row.{Row}
+use Rattle.off_defs.specs.declared.writes.Write.{Write}
 use Rattle.off_defs.specs.Keys.{key_cmp}
 use Rattle.off_defs.specs.State.{Tables}
-use Rattle.off_defs.specs.Tables.{with_row, without, row_at, is_after, behind, next_entry}
+use Rattle.off_defs.specs.Tables.{with_row, without, row_at, is_after, behind, next_entry, doubt_behind}
 use Rattle.off_defs.proofs.KeyLemmas.{key_total, key_exact}
 use Rattle.off_defs.proofs.EntryLemmas.{is_equal, walk_goes, filter_none, entries_left}
 
@@ -51,3 +52,8 @@ next_of place entry t next = walk_goes key_cmp key_total place entry (map.entrie
 
 pub next_none : (place : Option Key) (t : Tables) → next_entry place t ≡ None → behind place (map.entries t) ≡ []
 next_none place t next = filter_none (is_after place) (map.entries t) next
+
+-- a commit that is in doubt behind writes is so where more may be
+pub doubt_more : (writes : List Write) {old new : Type 0} → (new → old) → doubt_behind writes new → doubt_behind writes old
+doubt_more [] more doubt = more doubt
+doubt_more (write ∷ writes) more doubt = doubt

@@ -2,7 +2,7 @@
 -- number.
 use Rattle.std.specs.Prelude.{◌≡◌, ℕ, ◌+◌, ◌≤◌, min, List, [], ◌∷◌}
 use Rattle.off_base.specs.Number.{greatest_u64}
-use Rattle.off_defs.specs.declared.orders.Write.{Write}
+use Rattle.off_defs.specs.declared.writes.Write.{Write}
 
 -- the greatest number of a counter
 abbrev pub most_count : ℕ

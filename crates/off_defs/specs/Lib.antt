@@ -9,4 +9,3 @@ pub mod Bounds
 pub mod Clock
 pub mod KeyText
 pub mod Kinds
-pub mod Shown

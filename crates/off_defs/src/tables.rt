@@ -45,7 +45,8 @@ pub struct Class {
     pub settings: Settings,
 }
 
-/// A pool of addresses, from which modems behind one relay (RFC 3046) are served.
+/// A pool of addresses, from which modems behind one relay (RFC 3046) are served, or devices behind
+/// modems.
 #[derive(Clone, Copy, Debug, PartialEq, Eq)]
 pub struct Pool {
     pub first: Ip4,

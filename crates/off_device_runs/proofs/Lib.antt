@@ -1,4 +1,3 @@
-pub mod ListingLemmas
 pub mod SeenLemmas
 pub mod WriteLemmas
 pub mod ReadLemmas

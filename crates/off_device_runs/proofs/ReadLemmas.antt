@@ -4,15 +4,15 @@ use Rattle.std.specs.List.{filter_map}
 use Rattle.std.specs.FinMap.{nat_cmp-IsAntisymmetric}
 use Rattle.std.specs.FinMap as map
 use Rattle.std.specs.FinMap.Entries as list
-use Rattle.std.specs.Ordering.{nat_cmp, is_eq, eq_by_cmp}
+use Rattle.std.specs.Ordering.{nat_cmp, eq_by_cmp}
 use Rattle.off_base.specs.declared.addresses.Ip4.{Ip4}
-use Rattle.off_defs.proofs.EntryLemmas.{is_equal, is_less, holds, first, second}
+use Rattle.off_defs.proofs.EntryLemmas.{is_equal, none_below, first, second}
 use Rattle.off_defs.specs.declared.keys.Key.{Key}
 use Rattle.off_defs.specs.declared.keys.Key.TheVariants as key
 use Rattle.off_defs.specs.declared.tables.Row.{Row}
 use Rattle.off_defs.specs.declared.tables.Pool.{Pool}
-use Rattle.off_defs.specs.declared.orders.Write.{Write}
-use Rattle.off_defs.specs.declared.orders.Write.TheVariants.{Put}
+use Rattle.off_defs.specs.declared.writes.Write.{Write}
+use Rattle.off_defs.specs.declared.writes.Write.TheVariants.{Put}
 use Rattle.off_defs.specs.Keys.{key_cmp}
 use Rattle.off_defs.specs.State.{Tables}
 use Rattle.off_defs.specs.Tables.{row_at}
@@ -32,11 +32,6 @@ use Rattle.off_device_runs.specs.Reading.{pool_put, lease_put, pools_put, leases
 use Rattle.off_device_runs.proofs.SeenLemmas.{pools_sorted, pool_seen}
 use Rattle.off_device_runs.proofs.WriteLemmas.{read_pool, put_pool, read_expiry, put_expiry}
 
-none_below : (k : Key) (es : List (Key × Row)) → T (list.below_all key_cmp k es) → list.find key_cmp k es ≡ None
-none_below k [] h = refl
-none_below k (e ∷ es) h =
-    ap (λ r. cond (is_eq r) (Some e.1) (list.find key_cmp k es)) (is_less (key_cmp k e.0) (holds _ (first _ _ h))) ∙ none_below k es (second _ _ h)
-
 -- ---- leases
 
 abbrev expiry_kept : Option Row → ℕ → ℕ
@@ -53,7 +48,7 @@ at_lease expiry m held es h a =
     → expiry_kept (lease_row es a) (cond (a == m.0) (end_held held) (expiry a)) ≡ expiry_kept (cond b (Some held) (lease_row es a)) (expiry a)) [
       | true ↦ λ e.
           let same : a ≡ m.0 = nat_cmp-IsAntisymmetric a m.0 (is_equal (nat_cmp a m.0) e) in
-          let none : lease_row es a ≡ None = none_below (key.Device (address a)) es (subst (λ n. T (list.below_all key_cmp (key.Device (address n)) es)) (sym same) h) in
+          let none : lease_row es a ≡ None = none_below key_cmp (key.Device (address a)) es (subst (λ n. T (list.below_all key_cmp (key.Device (address n)) es)) (sym same) h) in
           ap (λ o. expiry_kept o (cond (a == m.0) (end_held held) (expiry a))) none ∙ ap (λ b. cond b (end_held held) (expiry a)) (sym (same_number a m.0) ∙ e)
       | false ↦ λ e. ap (λ b. expiry_kept (lease_row es a) (cond b (end_held held) (expiry a))) (sym (same_number a m.0) ∙ e)
     ] refl
@@ -88,7 +83,7 @@ at_pool by m held es h n =
     → pool_kept (pool_row es n) (cond b (fitting held) (by n)) ≡ pool_kept (cond b (Some held) (pool_row es n)) (by n)) [
       | true ↦ λ e.
           let same : n ≡ m = nat_cmp-IsAntisymmetric n m (is_equal (nat_cmp n m) e) in
-          ap (λ o. pool_kept o (fitting held)) (none_below (key.DevicePool n) es (subst (λ k. T (list.below_all key_cmp (key.DevicePool k) es)) (sym same) h))
+          ap (λ o. pool_kept o (fitting held)) (none_below key_cmp (key.DevicePool n) es (subst (λ k. T (list.below_all key_cmp (key.DevicePool k) es)) (sym same) h))
       | false ↦ λ e. refl
     ] refl
 

@@ -23,7 +23,7 @@ use Rattle.off_table_laws.proofs.Judging.{good_rows}
 use Rattle.off_table_laws.proofs.Reading.{device_pool_row, row_device_pool, device_row}
 use Rattle.off_runs.specs.Runs.{address, in_pool}
 use Rattle.off_device_runs.specs.Ground.{expiry_of, DevicesMove}
-use Rattle.off_device_runs.proofs.ListingLemmas.{listed_sorted}
+use Rattle.off_defs.proofs.ListingLemmas.{listed_sorted}
 use Rattle.off_device_runs.proofs.WriteLemmas.{read_pool, pools_written, expiries_written, no_hubs}
 
 abbrev number_or : ℕ → Option (ℕ × Pool) → ℕ

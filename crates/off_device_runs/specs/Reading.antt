@@ -5,8 +5,8 @@ use Rattle.std.specs.FinMap as map
 use Rattle.off_defs.specs.declared.keys.Key.{Key}
 use Rattle.off_defs.specs.declared.keys.Key.TheVariants as key
 use Rattle.off_defs.specs.declared.tables.Row.{Row}
-use Rattle.off_defs.specs.declared.orders.Write.{Write}
-use Rattle.off_defs.specs.declared.orders.Write.TheVariants.{Put}
+use Rattle.off_defs.specs.declared.writes.Write.{Write}
+use Rattle.off_defs.specs.declared.writes.Write.TheVariants.{Put}
 use Rattle.off_defs.specs.State.{Tables}
 use Rattle.off_device_runs.specs.Ground.{taken_for}
 

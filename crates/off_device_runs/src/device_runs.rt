@@ -4,7 +4,7 @@ ghost use Rattle.std.specs.Prelude.{◌≡◌, ◌≤◌, ◌==◌, ℕ, List, O
 ghost use Rattle.std.specs.Prelude.{IfOk, IfSome, IsTrue};
 ghost use Rattle.std.specs.List.{find, list_any};
 ghost use Rattle.std.specs.Option.{option_map};
-ghost use Rattle.off_defs.specs.declared.orders.Write.{Write};
+ghost use Rattle.off_defs.specs.declared.writes.Write.{Write};
 ghost use Rattle.off_defs.specs.declared.tables.Pool.{Pool};
 ghost use Rattle.off_defs.specs.State.{Tables};
 ghost use Rattle.off_defs.specs.Tables.{write_all};

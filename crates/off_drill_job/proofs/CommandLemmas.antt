@@ -20,22 +20,23 @@ use Rattle.off_defs.specs.declared.tables.Lease.{Lease}
 use Rattle.off_defs.specs.declared.tables.Class.{Class}
 use Rattle.off_defs.specs.declared.tables.Subscriber.{Subscriber}
 use Rattle.off_defs.specs.declared.tables.Site.{Site}
-use Rattle.off_defs.specs.declared.orders.Write.{Write}
-use Rattle.off_defs.specs.declared.orders.Write.TheVariants.{Put, Drop}
-use Rattle.off_defs.specs.declared.orders.Reply.TheVariants.{Done}
-use Rattle.off_defs.specs.declared.orders.Kind.{Kind}
-use Rattle.off_defs.specs.declared.orders.Kind.TheVariants.{Subscribers, Modems, Classes, Pools, Hubs}
-use Rattle.off_defs.specs.declared.rules.Rule.{Rule}
-use Rattle.off_defs.specs.declared.rules.Rule.TheVariants as rule
+use Rattle.off_defs.specs.declared.writes.Write.{Write}
+use Rattle.off_defs.specs.declared.writes.Write.TheVariants.{Put, Drop}
+use Rattle.off_orders.specs.declared.orders.Reply.TheVariants.{Done}
+use Rattle.off_defs.specs.declared.kinds.Kind.{Kind}
+use Rattle.off_defs.specs.declared.kinds.Kind.TheVariants.{Subscribers, Modems, Classes, Pools, Hubs}
+use Rattle.off_orders.specs.declared.rules.Rule.{Rule}
+use Rattle.off_orders.specs.declared.rules.Rule.TheVariants as rule
 use Rattle.off_defs.specs.Keys.{key_cmp}
 use Rattle.off_defs.specs.State.{Tables}
 use Rattle.off_defs.specs.Tables.{row_at, with_row, without, write_all}
 use Rattle.off_defs.proofs.KeyLemmas.{key_total}
 use Rattle.off_defs.proofs.TableLemmas.{row_with, row_with_here, row_without, same_tables, same_key}
 use Rattle.off_account_rules.specs.Rows.{seen_at, count_of, is_counted, class_is_good, overlaps, pools, device_pool_of, device_pools, leases, pool_in, possible, as_site, as_subscriber, as_class, hub_in, subscriber_in, class_in}
-use Rattle.off_account_rules.specs.Clerk.{limit_of, limit, is_other_overlapping, is_other_with_relay, is_live, gives_up, lost_leases, lease_drops, rules_of, writes_of, by_rule, accepted, stepped_by, clerk_step}
+use Rattle.off_account_rules.specs.Changes.{gives_up}
+use Rattle.off_orders.specs.Clerk.{limit_of, limit, is_other_overlapping, is_other_with_relay, is_live, lost_leases, lease_drops, rules_of, writes_of, by_rule, accepted, stepped_by, clerk_step}
 use Rattle.off_table_laws.proofs.ListLemmas.{In}
-use Rattle.off_table_laws.proofs.LostLeases.{all_in_lease}
+use Rattle.off_order_laws.proofs.LostLeases.{all_in_lease}
 use Rattle.off_table_laws.proofs.MadeLemmas.{made_with}
 use Rattle.off_table_laws.proofs.Reading.{pool_row}
 use Rattle.off_lease_laws.proofs.ChoiceLemmas.{pool_read}

@@ -1,9 +1,9 @@
 -- What commands and turns did to a keeper: one step, none, and several behind one another.
 use Rattle.std.proofs.Common.{◌≡◌, ◌≢◌, ℕ, Bool, ◌<◌, ◌≤◌, ◌⊎◌, List, [], ◌∷◌, ◌++◌, refl, sym, ap, subst, ◌∙◌, inl, inr, arith}
 use Rattle.std.proofs.lemmas.Bool.{cases_lt}
-use Rattle.off_defs.specs.declared.orders.Command.{Command}
-use Rattle.off_defs.specs.declared.orders.Reply.{Reply}
-use Rattle.off_defs.specs.declared.orders.Write.{Write}
+use Rattle.off_orders.specs.declared.orders.Command.{Command}
+use Rattle.off_orders.specs.declared.orders.Reply.{Reply}
+use Rattle.off_defs.specs.declared.writes.Write.{Write}
 use Rattle.off_defs.specs.declared.events.Event.{Event}
 use Rattle.off_defs.specs.declared.results.Outcome.{Outcome}
 use Rattle.off_defs.specs.declared.results.Outcome.TheVariants.{Did, Memory, Keeper}
@@ -11,7 +11,7 @@ use Rattle.off_defs.specs.Counts.{commits_after}
 use Rattle.off_defs.specs.State.{Tables, State, Held, Said, state_of, held_at, held_at_start, start}
 use Rattle.off_defs.specs.Tables.{write_all, doubt_behind}
 use Rattle.off_defs.proofs.ToldLemmas.{told_then, told_self}
-use Rattle.off_account_rules.specs.Clerk.{Stepped, clerk_step, step_done}
+use Rattle.off_orders.specs.Clerk.{Stepped, clerk_step, step_done}
 use Rattle.off_book.specs.Step.{Step, completed}
 use Rattle.off_book.specs.Run.{Turn, effect_of, commits_by}
 use Rattle.off_book.specs.Crashes.{Begins, Doubt, doubt_in, Lasts}
@@ -28,9 +28,9 @@ use Rattle.off_office.specs.Opening.{OpensTo, doubt_opened}
 use Rattle.off_office.proofs.MirrorLemmas.{fits_as}
 use Rattle.off_office.proofs.OpeningLemmas.{leaves_opening, doubts_opened, opened_state}
 use Rattle.off_laws.proofs.StepLaws.{step_good}
-use Rattle.off_table_laws.specs.Laws.{secret_fits}
-use Rattle.off_table_laws.proofs.StepLaws.{step_keeps_good}
-use Rattle.off_rows.specs.Sound.{is_sound}
+use Rattle.off_order_laws.specs.Laws.{secret_fits}
+use Rattle.off_order_laws.proofs.StepLaws.{step_keeps_good}
+use Rattle.off_orders.specs.Sound.{is_sound}
 use Rattle.off_account_rules.specs.Good.{Good}
 use Rattle.off_account_rules.specs.Migration.{migrated}
 use Rattle.std.specs.Prelude.{IsTrue}

@@ -4,18 +4,18 @@ use Rattle.std.proofs.lemmas.Bool.{cases_lt}
 use Rattle.std.proofs.lemmas.List.Elements.{All-nil, All-cons, All-append}
 use Rattle.std.specs.FinMap as map
 use Rattle.off_defs.specs.State.{Tables, Held, held_at}
-use Rattle.off_defs.specs.declared.orders.Command.{Command}
-use Rattle.off_defs.specs.declared.orders.Reply.{Reply}
-use Rattle.off_defs.specs.declared.orders.Write.{Write}
+use Rattle.off_orders.specs.declared.orders.Command.{Command}
+use Rattle.off_orders.specs.declared.orders.Reply.{Reply}
+use Rattle.off_defs.specs.declared.writes.Write.{Write}
 use Rattle.off_defs.specs.declared.results.Outcome.TheVariants.{Did}
 use Rattle.off_defs.proofs.ToldLemmas.{told_then, told_self, told_weaker}
 use Rattle.off_defs.proofs.CountLemmas.{later_grew, tallied_none}
 use Rattle.off_account_rules.specs.Good.{Good}
-use Rattle.off_account_rules.specs.Clerk.{Stepped, clerk_step, step_refused}
-use Rattle.off_defs.specs.declared.rules.Rule.{Rule}
-use Rattle.off_rows.specs.Sound.{is_sound}
-use Rattle.off_table_laws.specs.Laws.{secret_fits}
-use Rattle.off_table_laws.proofs.StepLaws.{step_keeps_good}
+use Rattle.off_orders.specs.Clerk.{Stepped, clerk_step, step_refused}
+use Rattle.off_orders.specs.declared.rules.Rule.{Rule}
+use Rattle.off_orders.specs.Sound.{is_sound}
+use Rattle.off_order_laws.specs.Laws.{secret_fits}
+use Rattle.off_order_laws.proofs.StepLaws.{step_keeps_good}
 use Rattle.off_accounts.specs.declared.results.AccountErr.{AccountErr}
 use Rattle.off_accounts.specs.declared.results.AccountErr.TheVariants.{Refused, Failed, Memory}
 use Rattle.off_outside.specs.declared.keeper.KeepErr.{KeepErr}

@@ -1,14 +1,14 @@
 -- The commands of a drill, and what they do to the tables.
 use Rattle.std.specs.Prelude.{◌≡◌, ◌≢◌, ℕ, zero, suc, ◌+◌, ◌≤◌, List, [], ◌∷◌, ◌++◌, length, All, Result, Ok, Err}
-use Rattle.off_defs.specs.declared.orders.Command.{Command}
-use Rattle.off_defs.specs.declared.orders.Command.TheVariants.{PutHub, PutSubscriber, PutModem, PutClass, PutPool}
-use Rattle.off_defs.specs.declared.orders.Write.{Write}
+use Rattle.off_orders.specs.declared.orders.Command.{Command}
+use Rattle.off_orders.specs.declared.orders.Command.TheVariants.{PutHub, PutSubscriber, PutModem, PutClass, PutPool}
+use Rattle.off_defs.specs.declared.writes.Write.{Write}
 use Rattle.off_defs.specs.declared.results.Outcome.TheVariants.{Did}
 use Rattle.off_defs.specs.Counts.{Tallied}
 use Rattle.off_defs.specs.Told.{Told}
 use Rattle.off_defs.specs.State.{Tables}
 use Rattle.off_account_rules.specs.Good.{Good}
-use Rattle.off_account_rules.specs.Clerk.{clerk_step}
+use Rattle.off_orders.specs.Clerk.{clerk_step}
 use Rattle.off_outside.specs.declared.keeper.KeepErr.{KeepErr}
 use Rattle.off_outside.specs.declared.keeper.KeepErr.TheVariants as keep
 use Rattle.off_accounts.specs.declared.results.AccountErr.{AccountErr}

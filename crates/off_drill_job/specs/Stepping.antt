@@ -1,15 +1,15 @@
 -- What a drill does to its keeper: its commits, and what a crash meanwhile may open. The office is
 -- given commands first, all at the drill's first moment, and then acts on events.
 use Rattle.std.specs.Prelude.{◌≡◌, ℕ, ◌≤◌, ◌⊎◌, List, [], ◌∷◌}
-use Rattle.off_defs.specs.declared.orders.Command.{Command}
-use Rattle.off_defs.specs.declared.orders.Write.{Write}
+use Rattle.off_orders.specs.declared.orders.Command.{Command}
+use Rattle.off_defs.specs.declared.writes.Write.{Write}
 use Rattle.off_defs.specs.declared.results.Outcome.{Outcome}
 use Rattle.off_defs.specs.declared.results.Outcome.TheVariants.{Did, Memory, Keeper}
 use Rattle.off_defs.specs.Counts.{commits_after}
 use Rattle.off_defs.specs.Told.{Told}
 use Rattle.off_defs.specs.State.{Tables, State, Held, state_of, held_at, start}
 use Rattle.off_defs.specs.Tables.{write_all, doubt_behind}
-use Rattle.off_account_rules.specs.Clerk.{clerk_step}
+use Rattle.off_orders.specs.Clerk.{clerk_step}
 use Rattle.off_account_rules.specs.Migration.{migration, migrated}
 use Rattle.off_book.specs.Run.{Turn, commits_by}
 use Rattle.off_book.specs.Crashes.{doubt_in, Lasts}

@@ -7,7 +7,8 @@ ghost use Rattle.off_drill_job.specs.Founding.{put_subscriber, put_modem};
 
 use crate::rows::{RELAY, SECRET, SERVER, mac_of};
 use off_base::{Bytes, Ip4, NoMemory, Secret, Setting, Settings, Short};
-use off_defs::{Class, Command, Modem, Pool, Site, Subscriber};
+use off_defs::{Class, Modem, Pool, Site, Subscriber};
+use off_orders::Command;
 use std::alloc::Global;
 
 /// Puts the one hub.

@@ -1,8 +1,8 @@
 ghost use Rattle.std.specs.Prelude.{◌≡◌, ◌≤◌, ◌<◌, ◌+◌, ◌∷◌, [], IsTrue, MatchResult, OnOk};
 ghost use Rattle.std.specs.FinMap as map;
 ghost use Rattle.off_defs.specs.State.{held_at};
-ghost use Rattle.off_rows.specs.Sound.{is_sound};
-ghost use Rattle.off_table_laws.specs.Laws.{secret_fits};
+ghost use Rattle.off_orders.specs.Sound.{is_sound};
+ghost use Rattle.off_order_laws.specs.Laws.{secret_fits};
 ghost use Rattle.off_drill_rules.specs.Rows.{begins_at, with_site, with_class, founded, peopled};
 ghost use Rattle.off_drill_rules.specs.Law.{held_behind};
 ghost use Rattle.off_drill_job.specs.Founding.{GaveCommand, Builds, Halts, PassesOver};
@@ -12,8 +12,8 @@ use crate::commands::{put_class, put_hub, put_modem, put_pool, put_subscriber};
 use crate::rows::BEGINS_AT;
 use off_accounts::AccountErr;
 use off_base::Moment;
-use off_defs::Command;
 use off_office::Office;
+use off_orders::Command;
 use off_outside::{KeepErr, Keeper};
 use std::alloc::Global;
 

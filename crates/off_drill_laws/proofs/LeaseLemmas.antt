@@ -12,7 +12,7 @@ use Rattle.off_defs.specs.declared.keys.Key.TheVariants as key
 use Rattle.off_defs.specs.declared.tables.Row.TheVariants as row
 use Rattle.off_defs.specs.declared.tables.Lease.{Lease}
 use Rattle.off_defs.specs.declared.tables.Pool.{Pool}
-use Rattle.off_defs.specs.declared.orders.Write.TheVariants.{Put}
+use Rattle.off_defs.specs.declared.writes.Write.TheVariants.{Put}
 use Rattle.off_defs.specs.State.{Tables}
 use Rattle.off_base.specs.declared.macs.Mac.{Mac}
 use Rattle.off_dhcp.specs.Datagram.{Received, mac_of_client, message_fault, message_of}

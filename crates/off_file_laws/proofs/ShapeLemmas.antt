@@ -1,5 +1,5 @@
 -- Good settings are settings of a file: the tables against the grammar.
-use Rattle.std.proofs.Common.{◌≡◌, ℕ, ◌+◌, Bool, true, false, cond, eqb, List, [], ◌∷◌, length, map, refl, sym, ap, subst, ◌∙◌, arith, lit≤, Option, Some, None}
+use Rattle.std.proofs.Common.{◌≡◌, ℕ, ◌+◌, Bool, true, false, cond, eqb, List, [], ◌∷◌, length, map, refl, ap, subst, ◌∙◌, arith, lit≤, Option, Some, None}
 use Rattle.std.specs.Prelude.{◌&&◌, ◌||◌, not}
 use Rattle.std.specs.List.{AllByRecursion, list_all}
 use Rattle.off_base.specs.Tree.{Tree, Row, leaf, group, no_more, followed, code_of, row_of, row_length, Fits, RowFits, AllFit}
@@ -19,6 +19,7 @@ use Rattle.off_file_rules.specs.Profile.{has_flow, has_classifier, flow_rise, cl
 use Rattle.off_file_laws.specs.Laws.{SpellsProfile}
 use Rattle.off_file_laws.proofs.CountLemmas.{test_same}
 use Rattle.off_file_laws.proofs.AgreeLemmas.{AllGood, all_join}
+use Rattle.std.proofs.lemmas.Bool.{not-true}
 
 -- ---- the lists of settings that a profile has, by the tables and by the grammar
 
@@ -137,13 +138,9 @@ rule_right s code rule e =
 
 -- ---- the shape
 
-not_true : (b : Bool) → not b ≡ true → b ≡ false
-not_true true e = sym e
-not_true false e = refl
-
 leaf_form : (level : grammar.Level) (code : ℕ) (form : Form) (value : List ℕ) → (grammar.is_code level code ≡ true) × (form_fits (grammar.is_group level code) form ≡ true) → LeafFits form value
     → (grammar.is_code level code ≡ true) × (grammar.is_group level code ≡ false)
-leaf_form level code (Leaf a b r) value fits is = (fits.0, not_true (grammar.is_group level code) fits.1)
+leaf_form level code (Leaf a b r) value fits is = (fits.0, not-true (grammar.is_group level code) fits.1)
 leaf_form level code Group value fits is = absurd is
 
 group_form : (level : grammar.Level) (code : ℕ) (form : Form) → (grammar.is_code level code ≡ true) × (form_fits (grammar.is_group level code) form ≡ true) → IsGroup form
@@ -273,7 +270,7 @@ module _ (is : ℕ → Bool) (none : (kind : Kind) → list_all (λ (rule : Rule
   other_code kind code rule e =
       rule_by (rule_with code (table_of (Top kind))) None rule (is code ≡ false) e
       (λ found. let p = line_passes (λ (r : Rule). not (is r.code)) code rule (table_of (Top kind)) (none kind) found in
-      subst (λ (c : ℕ). is c ≡ false) p.1 (not_true (is rule.code) p.0))
+      subst (λ (c : ℕ). is c ≡ false) p.1 (not-true (is rule.code) p.0))
       (λ nowhere. no_rule rule (is code ≡ false) nowhere)
 
   pub never_stands : (kind : Kind) (t : Tree) → Stands (Top kind) t → is (code_of t) ≡ false

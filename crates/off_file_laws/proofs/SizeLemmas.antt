@@ -1,22 +1,17 @@
 -- How long a file is.
-use Rattle.std.proofs.Common.{◌≡◌, ℕ, suc, ◌+◌, ◌*◌, ◌%◌, ◌<◌, ◌≤◌, Bool, true, false, List, [], ◌∷◌, ◌++◌, length, map, replicate, refl, ap, ◌∙◌, arith, length-append}
+use Rattle.std.proofs.Common.{◌≡◌, ℕ, suc, ◌+◌, ◌*◌, ◌%◌, ◌<◌, ◌≤◌, Bool, true, false, List, [], ◌∷◌, length, map, replicate, refl, ap, ◌∙◌, arith, length-append}
 use Rattle.std.proofs.lemmas.List.{length-replicate}
-use Rattle.md5.proofs.StandardFacts.{length-md5}
 use Rattle.off_base.specs.Tree.{Tree, leaf, group, spelling, tree_length, trees_length}
 use Rattle.off_base.specs.declared.addresses.Ip4.{Ip4}
 use Rattle.off_base.proofs.TreeLemmas.{length-spelling}
-use Rattle.off_mic.proofs.SealLemmas.{length-hmac}
-use Rattle.off_mic.specs.Mic.{without_mics, cm_mic_of, cmts_mic_of, digest_text, with_cm, with_both, Sealed}
+use Rattle.off_mic.proofs.SealLemmas.{length_join, length_both}
+use Rattle.off_mic.specs.Mic.{with_both, Sealed}
 use Rattle.off_tree.specs.declared.tables.Kind.TheVariants.{Class}
 use Rattle.off_tree.specs.Good.{GoodSettings}
 use Rattle.off_file_rules.specs.Profile.{raised, all_raised, devices, profile_of}
 use Rattle.off_file_rules.specs.File.{stamps, with_stamps}
 use Rattle.off_file_laws.proofs.AgreeLemmas.{AllGood}
 use Rattle.off_file_laws.proofs.ShapeLemmas.{row_length_raised}
-
-length_join : (ts us : List Tree) → trees_length (ts ++ us) ≡ trees_length ts + trees_length us
-length_join [] us = omega arith
-length_join (t ∷ ts) us = omega (arith, length_join ts us)
 
 tree_length_raised : (k : ℕ) (t : Tree) → tree_length (raised k t) ≡ tree_length t
 tree_length_raised k (leaf code value) = refl
@@ -40,16 +35,6 @@ profile_short true cpes class adds good all =
     let own : trees_length class ≤ 2048 = good.whole in
     omega (arith, length_join class (devices cpes ∷ all_raised adds), add_ons_short 0 adds (omega arith) all)
 profile_short false cpes class adds good all = omega arith
-
-length_both : (secret : List ℕ) (ts : List Tree) → trees_length (with_both secret ts) ≡ trees_length ts + 36
-length_both secret ts =
-    omega (
-      arith,
-      length_join (with_cm ts) (leaf 7 (cmts_mic_of secret (with_cm ts)) ∷ []),
-      length_join ts (leaf 6 (cm_mic_of ts) ∷ []),
-      length-hmac secret (digest_text (with_cm ts)),
-      length-md5 (spelling (without_mics ts)),
-    )
 
 to_four : (n body pads : ℕ) → n ≡ body + suc pads → body ≤ 6198 → pads ≤ 3 → n % 4 ≡ 0 → n ≤ 6200
 to_four n body pads is few more even = omega arith

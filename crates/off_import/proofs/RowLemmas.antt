@@ -4,9 +4,9 @@ use Rattle.std.specs.Prelude.{nat_lt, IsTrue}
 use Rattle.std.proofs.lemmas.Bool.Decides.{nat_tests}
 use Rattle.std.proofs.lemmas.List.Folds.{list_all-append}
 use Rattle.std.specs.List.{list_all}
-use Rattle.off_rows.specs.Sound.{is_row_of}
+use Rattle.off_orders.specs.Sound.{is_row_of}
 use Rattle.off_defs.specs.declared.tables.ImportKind.{ImportKind}
-use Rattle.off_defs.specs.declared.orders.ImportRow.{ImportRow}
+use Rattle.off_orders.specs.declared.orders.ImportRow.{ImportRow}
 use Rattle.off_import_rules.specs.Reading.{rows_of_records, row_of_record, ◌>>=◌, most_import_rows}
 use Rattle.off_import_rules.specs.declared.faults.ImportFault.{ImportFault}
 use Rattle.off_import_rules.specs.declared.faults.ImportFault.TheVariants.{TooMany}

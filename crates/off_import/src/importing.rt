@@ -1,6 +1,6 @@
 ghost use Rattle.std.specs.Prelude.{◌≡◌, IsTrue, IfOk};
 ghost use Rattle.csv.specs.Reading.{default_config, records, strip_bom};
-ghost use Rattle.off_rows.specs.Sound.{is_sound};
+ghost use Rattle.off_orders.specs.Sound.{is_sound};
 ghost use Rattle.off_import.specs.Rows.{AreRowsOf};
 ghost use Rattle.off_import.specs.Records.{StandsBetween, records_left};
 ghost use Rattle.off_import_rules.specs.Reading.{GivesImport, import_in, table_of_records};
@@ -10,8 +10,9 @@ use crate::records::{next_record, records_of};
 use crate::rows::{is_header, read_row};
 use csv::{ByteRecord, Reader};
 use md5::{Digest, Md5};
-use off_defs::{Command, ImportKind, ImportRows};
+use off_defs::ImportKind;
 use off_import_rules::{ImportErr, ImportFault, MOST_ROWS};
+use off_orders::{Command, ImportRows};
 use std::alloc::Global;
 
 /// The import that bytes mean: its rows, in order, and the digest of all bytes.

@@ -2,15 +2,16 @@ ghost use Rattle.std.specs.Prelude.{◌≡◌, ◌≢◌, IsTrue, IfOk, MatchOpt
 ghost use Rattle.std.specs.Cmp.Lexicographic.{pointwise};
 ghost use Rattle.csv.specs.Records.{fields_of};
 ghost use Rattle.off_defs.specs.declared.tables.ImportKind.TheVariants.{Subscribers, Modems};
-ghost use Rattle.off_rows.specs.Sound.{is_row_of};
+ghost use Rattle.off_orders.specs.Sound.{is_row_of};
 ghost use Rattle.off_import.specs.Rows.{four_listed};
 ghost use Rattle.off_import_rules.specs.Columns.{columns};
 ghost use Rattle.off_import_rules.specs.Reading.{row_of_record};
 
 use crate::values::{devices, flag, mac, number, short};
 use csv::ByteRecord;
-use off_defs::{ImportKind, ImportRow, Modem, Subscriber};
+use off_defs::{ImportKind, Modem, Subscriber};
 use off_import_rules::ImportFault;
+use off_orders::ImportRow;
 
 // The fields of a record that has one for each column.
 #[derive(Clone, Copy)]

@@ -3,8 +3,8 @@ use Rattle.std.proofs.Common.{◌≡◌, ℕ, ◌<◌, ◌≤◌, ◌⊎◌, Lis
 use Rattle.std.proofs.lemmas.Bool.{cases_lt}
 use Rattle.off_defs.specs.Told.{Told}
 use Rattle.off_defs.specs.Counts.{Grew, Tallied, commits_after}
-use Rattle.off_defs.specs.declared.orders.Command.{Command}
-use Rattle.off_defs.specs.declared.orders.Write.{Write}
+use Rattle.off_orders.specs.declared.orders.Command.{Command}
+use Rattle.off_defs.specs.declared.writes.Write.{Write}
 use Rattle.off_defs.specs.State.{Tables}
 use Rattle.off_defs.specs.Tables.{write_all, doubt_behind}
 use Rattle.off_account_rules.specs.Migration.{migrated}

@@ -8,19 +8,19 @@ use Rattle.off_defs.proofs.ToldLemmas.{told_weaker}
 use Rattle.off_defs.specs.Counts.{Grew, most_count}
 use Rattle.off_defs.specs.State.{Tables, Held, held_at, held_at_start}
 use Rattle.off_defs.specs.declared.tables.ImportKind.{ImportKind}
-use Rattle.off_defs.specs.declared.orders.Command.{Command}
-use Rattle.off_defs.specs.declared.orders.Command.TheVariants.{Import}
-use Rattle.off_defs.specs.declared.orders.ImportRow.{ImportRow}
-use Rattle.off_defs.specs.declared.orders.Reply.{Reply}
-use Rattle.off_defs.specs.declared.rules.Rule.{Rule}
-use Rattle.off_defs.specs.declared.orders.Reply.TheVariants.{Rows}
+use Rattle.off_orders.specs.declared.orders.Command.{Command}
+use Rattle.off_orders.specs.declared.orders.Command.TheVariants.{Import}
+use Rattle.off_orders.specs.declared.orders.ImportRow.{ImportRow}
+use Rattle.off_orders.specs.declared.orders.Reply.{Reply}
+use Rattle.off_orders.specs.declared.rules.Rule.{Rule}
+use Rattle.off_orders.specs.declared.orders.Reply.TheVariants.{Rows}
 use Rattle.off_account_rules.specs.Good.{Opens, Good, IsLeastBad}
 use Rattle.off_account_rules.specs.Migration.{migrated}
-use Rattle.off_account_rules.specs.Clerk.{Stepped, clerk_step, step_done, step_refused}
-use Rattle.off_rows.specs.Sound.{is_sound}
-use Rattle.off_table_laws.specs.Laws.{secret_fits}
-use Rattle.off_table_laws.proofs.StepLaws.{step_keeps_good}
-use Rattle.off_defs.specs.declared.orders.Write.{Write}
+use Rattle.off_orders.specs.Clerk.{Stepped, clerk_step, step_done, step_refused}
+use Rattle.off_orders.specs.Sound.{is_sound}
+use Rattle.off_order_laws.specs.Laws.{secret_fits}
+use Rattle.off_order_laws.proofs.StepLaws.{step_keeps_good}
+use Rattle.off_defs.specs.declared.writes.Write.{Write}
 use Rattle.off_defs.specs.declared.keys.Key.{Key}
 use Rattle.off_defs.specs.Tables.{write_all}
 use Rattle.off_import_rules.specs.Reading.{◌>>=◌, import_in, table_of_records}

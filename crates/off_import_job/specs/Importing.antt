@@ -6,13 +6,13 @@ use Rattle.off_defs.specs.Told.{Told}
 use Rattle.off_defs.specs.State.{Tables}
 use Rattle.off_defs.specs.Tables.{write_all, doubt_behind}
 use Rattle.off_defs.specs.declared.tables.ImportKind.{ImportKind}
-use Rattle.off_defs.specs.declared.orders.Command.{Command}
-use Rattle.off_defs.specs.declared.orders.Reply.{Reply}
-use Rattle.off_defs.specs.declared.orders.Reply.TheVariants.{Rows}
-use Rattle.off_defs.specs.declared.orders.Write.{Write}
+use Rattle.off_orders.specs.declared.orders.Command.{Command}
+use Rattle.off_orders.specs.declared.orders.Reply.{Reply}
+use Rattle.off_orders.specs.declared.orders.Reply.TheVariants.{Rows}
+use Rattle.off_defs.specs.declared.writes.Write.{Write}
 use Rattle.off_account_rules.specs.Good.{Opens, Good}
 use Rattle.off_account_rules.specs.Migration.{migration, migrated}
-use Rattle.off_account_rules.specs.Clerk.{clerk_step, step_done, step_refused}
+use Rattle.off_orders.specs.Clerk.{clerk_step, step_done, step_refused}
 use Rattle.off_import_rules.specs.Reading.{import_in, GivesFault}
 use Rattle.off_import_rules.specs.declared.faults.ImportErr.{ImportErr}
 use Rattle.off_accounts.specs.declared.results.AccountErr.{AccountErr}

@@ -1,7 +1,7 @@
 -- What is told of an import, word by word, and the status.
 use Rattle.std.specs.Prelude.{ℕ, ◌==◌, List, [], ◌∷◌, ◌++◌, codes, decimal, if◌then◌else◌}
-use Rattle.off_defs.specs.declared.rules.Rule.{Rule}
-use Rattle.off_defs.specs.declared.rules.Rule.TheVariants as rule
+use Rattle.off_orders.specs.declared.rules.Rule.{Rule}
+use Rattle.off_orders.specs.declared.rules.Rule.TheVariants as rule
 use Rattle.off_clerk_rules.specs.Faults.{rule_word}
 use Rattle.off_import_rules.specs.Faults.{fault_words}
 use Rattle.off_import_rules.specs.declared.faults.ImportErr.{ImportErr}

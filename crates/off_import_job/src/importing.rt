@@ -1,16 +1,17 @@
 ghost use Rattle.std.specs.Prelude.{◌≡◌, ℕ, IsTrue, IfOk, MatchResult};
 ghost use Rattle.off_defs.specs.State.{held_at_start};
-ghost use Rattle.off_defs.specs.declared.orders.Reply.TheVariants.{Rows};
-ghost use Rattle.off_rows.specs.Sound.{is_sound};
+ghost use Rattle.off_orders.specs.declared.orders.Reply.TheVariants.{Rows};
+ghost use Rattle.off_orders.specs.Sound.{is_sound};
 ghost use Rattle.off_import_job.specs.Importing.{ReadAs, NotTaken, CarriesOut, Ends, Imports};
 
 use crate::telling::tell_end;
 use off_accounts::AccountErr;
 use off_base::Moment;
-use off_defs::{Command, ImportKind, Reply};
+use off_defs::ImportKind;
 use off_import::{ImportErr, read_import};
 use off_jobs::{InputErr, read_input};
 use off_office::{Office, StartErr};
+use off_orders::{Command, Reply};
 use off_outside::{Keeper, Sink, Source};
 use std::alloc::Global;
 

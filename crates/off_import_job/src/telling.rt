@@ -13,9 +13,9 @@ use itoa::Buffer;
 use off_accounts::AccountErr;
 use off_clerk::fault_word;
 use off_clerk_rules::Fault;
-use off_defs::Rule;
 use off_import::{ImportErr, fault_words};
 use off_jobs::{InputErr, Line, numbered_line, refused_line, tell};
+use off_orders::Rule;
 use off_outside::Sink;
 
 /// Tells what became of an import, and answers the status, or 4 where the sink fails.

@@ -9,8 +9,8 @@ use Rattle.md5.specs.Md5.{block_words, rounds, compress, hash_after, digest_byte
 use Rattle.off_base.specs.AddressText.{mac_of}
 use Rattle.off_base.specs.Number.{number_read}
 use Rattle.off_defs.specs.declared.tables.ImportKind.TheVariants.{Subscribers, Modems}
-use Rattle.off_defs.specs.declared.orders.ImportRow.TheVariants as imported
-use Rattle.off_defs.specs.declared.orders.Command.TheVariants.{Import}
+use Rattle.off_orders.specs.declared.orders.ImportRow.TheVariants as imported
+use Rattle.off_orders.specs.declared.orders.Command.TheVariants.{Import}
 use Rattle.off_import_rules.specs.Reading.{import_in}
 use Rattle.off_import_rules.specs.declared.faults.ImportFault.TheVariants.{Header, Width, Field}
 

@@ -8,10 +8,10 @@ use Rattle.csv.specs.Reading.{default_config, records, strip_bom}
 use Rattle.md5.specs.Md5.{md5}
 use Rattle.off_defs.specs.declared.tables.ImportKind.{ImportKind}
 use Rattle.off_defs.specs.declared.tables.ImportKind.TheVariants.{Subscribers, Modems}
-use Rattle.off_defs.specs.declared.orders.ImportRow.{ImportRow}
-use Rattle.off_defs.specs.declared.orders.ImportRow.TheVariants as imported
-use Rattle.off_defs.specs.declared.orders.Command.{Command}
-use Rattle.off_defs.specs.declared.orders.Command.TheVariants.{Import}
+use Rattle.off_orders.specs.declared.orders.ImportRow.{ImportRow}
+use Rattle.off_orders.specs.declared.orders.ImportRow.TheVariants as imported
+use Rattle.off_orders.specs.declared.orders.Command.{Command}
+use Rattle.off_orders.specs.declared.orders.Command.TheVariants.{Import}
 use Rattle.off_import_rules.specs.Columns.{columns, number_cell, flag_cell, devices_cell, text_cell, mac_cell}
 use Rattle.off_import_rules.specs.declared.faults.ImportFault.TheVariants.{Header, Width, Field, TooMany}
 use Rattle.off_import_rules.specs.declared.faults.ImportErr.{ImportErr}

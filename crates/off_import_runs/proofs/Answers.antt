@@ -14,26 +14,26 @@ use Rattle.off_defs.specs.declared.tables.Batch.{Batch}
 use Rattle.off_defs.specs.declared.tables.ImportKind.{ImportKind}
 use Rattle.off_defs.specs.declared.tables.ImportKind.TheVariants as import
 use Rattle.off_defs.specs.declared.tables.Row.TheVariants as row
-use Rattle.off_defs.specs.declared.orders.Command.TheVariants.{Import}
-use Rattle.off_defs.specs.declared.orders.ImportRow.{ImportRow}
-use Rattle.off_defs.specs.declared.orders.ImportRow.TheVariants as imported
-use Rattle.off_defs.specs.declared.orders.Kind.TheVariants.{Batches}
-use Rattle.off_defs.specs.declared.orders.Reply.TheVariants.{Rows}
-use Rattle.off_defs.specs.declared.orders.Write.{Write}
-use Rattle.off_defs.specs.declared.orders.Write.TheVariants.{Put}
-use Rattle.off_defs.specs.declared.rules.Rule.{Rule}
-use Rattle.off_defs.specs.declared.rules.Rule.TheVariants as rule
+use Rattle.off_orders.specs.declared.orders.Command.TheVariants.{Import}
+use Rattle.off_orders.specs.declared.orders.ImportRow.{ImportRow}
+use Rattle.off_orders.specs.declared.orders.ImportRow.TheVariants as imported
+use Rattle.off_defs.specs.declared.kinds.Kind.TheVariants.{Batches}
+use Rattle.off_orders.specs.declared.orders.Reply.TheVariants.{Rows}
+use Rattle.off_defs.specs.declared.writes.Write.{Write}
+use Rattle.off_defs.specs.declared.writes.Write.TheVariants.{Put}
+use Rattle.off_orders.specs.declared.rules.Rule.{Rule}
+use Rattle.off_orders.specs.declared.rules.Rule.TheVariants as rule
 use Rattle.off_defs.specs.State.{Tables}
 use Rattle.off_defs.specs.Tables.{row_at, write_all}
 use Rattle.off_defs.proofs.EntryLemmas.{is_equal}
 use Rattle.off_defs.proofs.TableLemmas.{own_key}
 use Rattle.off_account_rules.specs.Rows.{batch_in}
-use Rattle.off_account_rules.specs.Clerk.{Refusal, accepted, by_rule, limit, rows_written, is_kind, batch_row, imported_as, import_decided, stepped_by, clerk_step, row_writes, row_breaks, then_writes, unless_broken}
+use Rattle.off_orders.specs.Clerk.{Refusal, accepted, by_rule, limit, rows_written, is_kind, batch_row, imported_as, import_decided, stepped_by, clerk_step, row_writes, row_breaks, then_writes, unless_broken}
 use Rattle.off_clerk_rules.specs.declared.faults.Fault.TheVariants as fault
 use Rattle.off_clerk_rules.specs.Replies.{reply_text}
 use Rattle.off_table_laws.proofs.Rows as rows
 use Rattle.off_table_laws.proofs.Rows.{all_written}
-use Rattle.off_table_laws.proofs.LostLeases.{rows_append}
+use Rattle.off_order_laws.proofs.LostLeases.{rows_append}
 use Rattle.off_book.specs.Http.{Answered, answer_done, answer_fault, answer_step, answer_command}
 use Rattle.off_laws.proofs.Lines.{other_byte}
 use Rattle.off_import_runs.specs.Puts.{put_of}

@@ -9,18 +9,19 @@ use Rattle.off_defs.specs.declared.keys.Key.TheVariants as key
 use Rattle.off_defs.specs.declared.tables.Row.TheVariants as row
 use Rattle.off_defs.specs.declared.tables.Lease.{Lease}
 use Rattle.off_defs.specs.declared.tables.DeviceLease.{DeviceLease}
-use Rattle.off_defs.specs.declared.orders.Command.{Command}
-use Rattle.off_defs.specs.declared.orders.Command.TheVariants.{PutHub, PutSubscriber, PutAddOn, PutModem, PutClass, PutPool, PutDevicePool, Remove, Show, Import}
-use Rattle.off_defs.specs.declared.orders.ImportRow.{ImportRow}
-use Rattle.off_defs.specs.declared.orders.ImportRow.TheVariants as imported
-use Rattle.off_defs.specs.declared.orders.Write.{Write}
-use Rattle.off_defs.specs.declared.orders.Write.TheVariants.{Put, Drop}
+use Rattle.off_orders.specs.declared.orders.Command.{Command}
+use Rattle.off_orders.specs.declared.orders.Command.TheVariants.{PutHub, PutSubscriber, PutAddOn, PutModem, PutClass, PutPool, PutDevicePool, Remove, Show, Import}
+use Rattle.off_orders.specs.declared.orders.ImportRow.{ImportRow}
+use Rattle.off_orders.specs.declared.orders.ImportRow.TheVariants as imported
+use Rattle.off_defs.specs.declared.writes.Write.{Write}
+use Rattle.off_defs.specs.declared.writes.Write.TheVariants.{Put, Drop}
 use Rattle.off_defs.specs.State.{Tables}
 use Rattle.off_dhcp.specs.declared.faults.DhcpFault.{DhcpFault}
 use Rattle.off_dhcp.specs.Datagram.{Received, message_of}
-use Rattle.off_rows.specs.Sound.{is_sound, is_removable}
+use Rattle.off_orders.specs.Sound.{is_sound, is_removable}
 use Rattle.off_account_rules.specs.Good.{owner_of}
-use Rattle.off_account_rules.specs.Clerk.{held_drop, lease_drops, device_drop, lost_leases, lost_devices, pool_hub_write, removal_writes, writes_of, row_writes}
+use Rattle.off_account_rules.specs.Changes.{held_drop}
+use Rattle.off_orders.specs.Clerk.{lease_drops, device_drop, lost_leases, lost_devices, pool_hub_write, removal_writes, writes_of, row_writes}
 use Rattle.off_table_laws.proofs.Rows.{Rows, row_written, rows_after}
 use Rattle.off_lease_rules.specs.Steps.{step_of, dhcp_step}
 use Rattle.off_lease_laws.proofs.KindLemmas.{is_lease_write, kinds}
@@ -28,7 +29,7 @@ use Rattle.off_account_rules.specs.Rows.{devices}
 use Rattle.off_asking.specs.Asking.{client}
 use Rattle.off_cpe_rules.specs.Behind.{own_among}
 use Rattle.off_cpe_rules.specs.Steps.{own_elsewhere, step_behind}
-use Rattle.off_cpe_rules.specs.Steps.{device_drop as own_drop}
+use Rattle.off_cpe_rules.specs.Steps.{own_drop}
 use Rattle.off_cpe_laws.proofs.WriteLemmas.{nothing, gives, rests, frees, wrote}
 use Rattle.off_import_runs.specs.Puts.{puts_of, puts_in}
 

@@ -5,11 +5,11 @@ use Rattle.off_defs.specs.declared.keys.Key.TheVariants as key
 use Rattle.off_defs.specs.declared.tables.Batch.{Batch}
 use Rattle.off_defs.specs.declared.tables.ImportKind.TheVariants as import
 use Rattle.off_defs.specs.declared.tables.Row.TheVariants as row
-use Rattle.off_defs.specs.declared.orders.Reply.TheVariants.{Rows}
-use Rattle.off_defs.specs.declared.orders.Write.{Write}
-use Rattle.off_defs.specs.declared.orders.Write.TheVariants.{Put, Drop}
-use Rattle.off_defs.specs.declared.rules.Rule.TheVariants as rule
-use Rattle.off_account_rules.specs.Clerk.{accepted, refusal, repeated}
+use Rattle.off_orders.specs.declared.orders.Reply.TheVariants.{Rows}
+use Rattle.off_defs.specs.declared.writes.Write.{Write}
+use Rattle.off_defs.specs.declared.writes.Write.TheVariants.{Put, Drop}
+use Rattle.off_orders.specs.declared.rules.Rule.TheVariants as rule
+use Rattle.off_orders.specs.Clerk.{accepted, refusal, repeated}
 use Rattle.off_import_runs.specs.Puts.{puts_in, PutOnce}
 
 abbrev batch : Batch

@@ -1,8 +1,8 @@
 -- A turn in which a clerk asks for an import, and how it's answered.
 use Rattle.std.specs.Prelude.{◌≡◌, ℕ, false, List, ◌++◌, Ok}
 use Rattle.off_defs.specs.declared.events.What.TheVariants.{Piece}
-use Rattle.off_defs.specs.declared.orders.Command.TheVariants.{Import}
-use Rattle.off_defs.specs.declared.orders.ImportRow.{ImportRow}
+use Rattle.off_orders.specs.declared.orders.Command.TheVariants.{Import}
+use Rattle.off_orders.specs.declared.orders.ImportRow.{ImportRow}
 use Rattle.off_defs.specs.declared.results.Outcome.TheVariants.{Did}
 use Rattle.off_defs.specs.declared.tables.Batch.{Batch}
 use Rattle.off_defs.specs.declared.tables.ImportKind.{ImportKind}

@@ -2,13 +2,13 @@
 -- stands is answered as it was the first time, or refused, and changes nothing.
 use Rattle.std.specs.Prelude.{◌≡◌, ◌≢◌, ◌⊎◌, ℕ, List, [], ◌∷◌, ◌++◌, map, Some, None, codes}
 use Rattle.off_defs.specs.declared.keys.Key.TheVariants as key
-use Rattle.off_defs.specs.declared.orders.Reply.TheVariants.{Rows}
-use Rattle.off_defs.specs.declared.orders.Write.TheVariants.{Put}
-use Rattle.off_defs.specs.declared.rules.Rule.TheVariants as rule
+use Rattle.off_orders.specs.declared.orders.Reply.TheVariants.{Rows}
+use Rattle.off_defs.specs.declared.writes.Write.TheVariants.{Put}
+use Rattle.off_orders.specs.declared.rules.Rule.TheVariants as rule
 use Rattle.off_defs.specs.declared.tables.Batch.{Batch}
 use Rattle.off_defs.specs.State.{State}
 use Rattle.off_account_rules.specs.Rows.{batch_in}
-use Rattle.off_account_rules.specs.Clerk.{batch_row}
+use Rattle.off_orders.specs.Clerk.{batch_row}
 use Rattle.off_clerk_rules.specs.declared.faults.Fault.TheVariants as fault
 use Rattle.off_clerk_rules.specs.Faults.{fault_text}
 use Rattle.off_clerk_rules.specs.Replies.{reply_text}

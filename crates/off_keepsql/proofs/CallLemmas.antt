@@ -3,7 +3,7 @@ use Rattle.std.proofs.Common.{◌≡◌, ℕ, Option, Some, None, List, Ok, Err,
 use Rattle.std.specs.Option.{option_map}
 use Rattle.off_defs.specs.declared.keys.Key.{Key}
 use Rattle.off_defs.specs.declared.tables.Row.{Row}
-use Rattle.off_defs.specs.declared.orders.Write.{Write}
+use Rattle.off_defs.specs.declared.writes.Write.{Write}
 use Rattle.off_defs.specs.Tables.{row_at, next_entry}
 use Rattle.off_defs.specs.Counts.{one_more}
 use Rattle.off_outside.specs.KeeperCalls.{Reads, NotDone, Committed}

@@ -1,6 +1,6 @@
 -- What a call of the cells is as a call of the keeper over them.
 use Rattle.std.proofs.Common.{◌≡◌, ℕ, ◌+◌, ◌≤◌, ◌⊎◌, inl, inr, List, map as each, refl, sym, subst, arith}
-use Rattle.off_defs.specs.declared.orders.Write.{Write}
+use Rattle.off_defs.specs.declared.writes.Write.{Write}
 use Rattle.off_defs.specs.State.{Tables}
 use Rattle.off_defs.specs.Tables.{write_all}
 use Rattle.off_defs.specs.Counts.{Grew, Tallied, one_more, most_count}

@@ -8,7 +8,7 @@ use Rattle.off_outside.specs.declared.keeper.KeepErr.{KeepErr}
 use Rattle.off_outside.specs.declared.keeper.KeepErr.TheVariants.{Memory, Failed}
 use Rattle.off_cells.specs.declared.writes.CellWrite.{CellWrite}
 use Rattle.off_keepsql.specs.OwnCount.{WriteSpelled, WritesSpelled}
-use Rattle.off_defs.specs.declared.orders.Write.{Write}
+use Rattle.off_defs.specs.declared.writes.Write.{Write}
 use Rattle.off_keepsql.specs.Stored.{cell_write}
 use Rattle.off_spelled.proofs.SpellLemmas.{spelled_at}
 

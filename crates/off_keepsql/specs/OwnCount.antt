@@ -3,7 +3,7 @@ use Rattle.std.specs.Prelude.{◌≡◌, ◌≢◌, ℕ, ◌≤◌, ◌⊎◌, O
 use Rattle.std.specs.Option.{option_map}
 use Rattle.off_defs.specs.declared.keys.Key.{Key}
 use Rattle.off_defs.specs.declared.tables.Row.{Row}
-use Rattle.off_defs.specs.declared.orders.Write.{Write}
+use Rattle.off_defs.specs.declared.writes.Write.{Write}
 use Rattle.off_defs.specs.Counts.{Grew, one_more, most_count}
 use Rattle.off_rows.specs.KeyBytes.{key_bytes}
 use Rattle.off_rows.specs.RowBytes.{row_bytes, IsRowOf}

@@ -1,4 +1,4 @@
-ghost use Rattle.off_defs.specs.declared.orders.Write.TheVariants as write;
+ghost use Rattle.off_defs.specs.declared.writes.Write.TheVariants as write;
 ghost use Rattle.off_keepsql.specs.OwnCount.{WriteSpelled, WritesSpelled};
 
 use crate::counts::count_fault;

@@ -1,7 +1,7 @@
 -- Laws of what is kept. They hold of all tables.
 use Rattle.std.specs.Prelude.{◌≡◌, List, Some}
 use Rattle.off_base.specs.declared.macs.Mac.{Mac}
-use Rattle.off_defs.specs.declared.orders.Write.{Write}
+use Rattle.off_defs.specs.declared.writes.Write.{Write}
 use Rattle.off_defs.specs.State.{Tables}
 use Rattle.off_defs.specs.Tables.{write_all}
 use Rattle.off_file_rules.specs.Profile.{profile_in}

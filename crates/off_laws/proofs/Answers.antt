@@ -4,15 +4,15 @@ use Rattle.std.specs.Prelude.{slice_index}
 use Rattle.std.specs.Char.{digit_value}
 use Rattle.std.specs.Str.Parse.{IsNumeral}
 use Rattle.std.proofs.lemmas.Fmt.{decimal_is_IsNumeral}
-use Rattle.off_defs.specs.declared.orders.Command.{Command}
-use Rattle.off_defs.specs.declared.orders.Reply.{Reply}
-use Rattle.off_defs.specs.declared.rules.Rule.{Rule}
-use Rattle.off_defs.specs.declared.rules.Rule.TheVariants as rule
-use Rattle.off_defs.specs.declared.orders.Write.{Write}
+use Rattle.off_orders.specs.declared.orders.Command.{Command}
+use Rattle.off_orders.specs.declared.orders.Reply.{Reply}
+use Rattle.off_orders.specs.declared.rules.Rule.{Rule}
+use Rattle.off_orders.specs.declared.rules.Rule.TheVariants as rule
+use Rattle.off_defs.specs.declared.writes.Write.{Write}
 use Rattle.off_defs.specs.State.{Tables}
 use Rattle.off_defs.specs.Tables.{write_all}
 use Rattle.off_account_rules.specs.Good.{Good}
-use Rattle.off_account_rules.specs.Clerk.{Refusal, Decision, decided, stepped_by, clerk_step}
+use Rattle.off_orders.specs.Clerk.{Refusal, Decision, decided, stepped_by, clerk_step}
 use Rattle.off_http.specs.declared.answers.HttpFault.{HttpFault}
 use Rattle.off_http.specs.declared.answers.HttpFault.TheVariants as http
 use Rattle.off_clerk_rules.specs.declared.faults.ClerkErr.{ClerkErr}
@@ -21,7 +21,7 @@ use Rattle.off_clerk_rules.specs.declared.faults.Fault.{Fault}
 use Rattle.off_clerk_rules.specs.declared.faults.Fault.TheVariants as fault
 use Rattle.off_clerk_rules.specs.Faults.{status_of, clerk_status, http_status, rule_status, word_of}
 use Rattle.off_clerk_rules.specs.Commands.{command_read}
-use Rattle.off_table_laws.proofs.StepLaws.{step_keeps_good}
+use Rattle.off_order_laws.proofs.StepLaws.{step_keeps_good}
 use Rattle.off_book.specs.Http.{Answered, answer_fault, answer_result, answer_command, answer_request}
 use Rattle.off_laws.proofs.Requests.{MayBe, request_may}
 

@@ -14,7 +14,7 @@ use Rattle.off_base.specs.declared.addresses.Ip4.{Ip4}
 use Rattle.off_defs.specs.declared.tables.Site.{Site}
 use Rattle.off_defs.specs.declared.tables.Subscriber.{Subscriber}
 use Rattle.off_defs.specs.declared.tables.Pool.{Pool}
-use Rattle.off_rows.specs.Sound.{is_sound_subscriber, is_sound_pool}
+use Rattle.off_orders.specs.Sound.{is_sound_subscriber, is_sound_pool}
 use Rattle.off_clerk_rules.specs.declared.faults.ClerkErr.{ClerkErr}
 use Rattle.off_clerk_rules.specs.declared.faults.ClerkErr.TheVariants.{Field}
 use Rattle.off_clerk_rules.specs.declared.names.Name.{Name}

@@ -6,8 +6,8 @@ use Rattle.off_defs.specs.declared.keys.Key.{Key}
 use Rattle.off_defs.specs.declared.keys.Key.TheVariants as key
 use Rattle.off_defs.specs.declared.tables.Row.{Row}
 use Rattle.off_defs.specs.declared.tables.Row.TheVariants as row
-use Rattle.off_defs.specs.declared.orders.Write.{Write}
-use Rattle.off_defs.specs.declared.orders.Write.TheVariants.{Put}
+use Rattle.off_defs.specs.declared.writes.Write.{Write}
+use Rattle.off_defs.specs.declared.writes.Write.TheVariants.{Put}
 use Rattle.off_defs.specs.State.{Tables}
 use Rattle.off_defs.specs.Tables.{row_at}
 use Rattle.off_dhcp.specs.declared.faults.DhcpFault.{DhcpFault}
@@ -15,9 +15,9 @@ use Rattle.off_dhcp.specs.Datagram.{Received, message_of}
 use Rattle.off_account_rules.specs.Rows.{possible, as_lease, lease_in, devices}
 use Rattle.off_asking.specs.Asking.{client}
 use Rattle.off_table_laws.proofs.Rows.{Rows, put_row, drop_row, rows_after, all_written}
-use Rattle.off_table_laws.proofs.DevicePools.{is_no_device}
+use Rattle.off_order_laws.proofs.DevicePools.{is_no_device, drop_aside}
 use Rattle.off_cpe_rules.specs.Behind.{own_among, modem_behind}
-use Rattle.off_cpe_rules.specs.Steps.{device_drop, own_elsewhere, step_behind, device_step}
+use Rattle.off_cpe_rules.specs.Steps.{own_drop, own_elsewhere, step_behind, device_step}
 use Rattle.off_cpe_rules.specs.declared.results.DeviceStep.{DeviceStep}
 use Rattle.off_cpe_laws.specs.Laws.{after_step}
 use Rattle.off_cpe_laws.proofs.WriteLemmas.{nothing, gives, rests, frees, wrote}
@@ -62,13 +62,8 @@ unfolding is_no_device
 put_aside rows address held (key.Device other) h = cc
 put_aside rows address held q h = refl
 
-drop_aside : (rows : Rows) (address : Ip4) (q : Key) → is_no_device q ≡ true → drop_row rows (key.Device address) q ≡ rows q
-unfolding is_no_device
-drop_aside rows address (key.Device other) h = cc
-drop_aside rows address q h = refl
-
 given_aside : (rows : Rows) (o : Option Ip4) (address : Ip4) (held : Row) (q : Key) → is_no_device q ≡ true
-    → rows_after rows (device_drop o ++ Put (key.Device address) held ∷ []) q ≡ rows q
+    → rows_after rows (own_drop o ++ Put (key.Device address) held ∷ []) q ≡ rows q
 given_aside rows None address held q h = put_aside rows address held q h
 given_aside rows (Some other) address held q h = put_aside (drop_row rows (key.Device other)) address held q h ∙ drop_aside rows other q h
 

@@ -12,16 +12,16 @@ use Rattle.off_base.specs.Number.{number_read}
 use Rattle.off_base.specs.declared.macs.Mac.{Mac}
 use Rattle.off_defs.specs.declared.tables.ImportKind.{ImportKind}
 use Rattle.off_defs.specs.declared.tables.ImportKind.TheVariants.{Subscribers, Modems}
-use Rattle.off_defs.specs.declared.orders.ImportRow.{ImportRow}
-use Rattle.off_defs.specs.declared.orders.ImportRow.TheVariants as imported
-use Rattle.off_defs.specs.declared.orders.Command.{Command}
-use Rattle.off_defs.specs.declared.orders.Command.TheVariants.{Import}
-use Rattle.off_rows.specs.Sound.{is_sound, is_row_of}
+use Rattle.off_orders.specs.declared.orders.ImportRow.{ImportRow}
+use Rattle.off_orders.specs.declared.orders.ImportRow.TheVariants as imported
+use Rattle.off_orders.specs.declared.orders.Command.{Command}
+use Rattle.off_orders.specs.declared.orders.Command.TheVariants.{Import}
+use Rattle.off_orders.specs.Sound.{is_sound, is_row_of}
 use Rattle.off_import_rules.specs.Columns.{columns, number_cell, flag_cell, devices_cell, text_cell, mac_cell}
 use Rattle.off_import_rules.specs.Reading.{◌>>=◌, cell_in, row_of_record, rows_of_records, table_of_records, import_in}
 use Rattle.off_import_rules.specs.declared.faults.ImportFault.{ImportFault}
 use Rattle.off_import_rules.specs.declared.faults.ImportFault.TheVariants.{Header, Field, TooMany}
-use Rattle.off_table_laws.specs.Laws.{secret_fits}
+use Rattle.off_order_laws.specs.Laws.{secret_fits}
 use Rattle.off_laws.proofs.Paths.{number_within}
 
 both : (a b : Bool) → a ≡ true → b ≡ true → (a && b) ≡ true

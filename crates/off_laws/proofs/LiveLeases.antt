@@ -1,6 +1,6 @@
 -- What a clerk's command leaves of leases: an import keeps them all, and every other command drops
 -- none but those that have ended.
-use Rattle.std.proofs.Common.{◌≡◌, ℕ, ◌+◌, ◌<◌, true, false, cond, Option, Some, None, option_and_then, option_map, Result, Ok, Err, IfOk, List, [], ◌∷◌, ◌++◌, length, ◌⊎◌, inl, inr, leb, refl, sym, ap, subst, ◌∙◌, arith}
+use Rattle.std.proofs.Common.{◌≡◌, ℕ, ◌+◌, ◌<◌, true, false, cond, Option, Some, None, option_and_then, Result, Ok, Err, IfOk, List, [], ◌∷◌, ◌++◌, length, ◌⊎◌, inl, inr, leb, refl, sym, ap, subst, ◌∙◌, arith}
 use Rattle.std.proofs.lemmas.Bool.{leb-true, le-leb, ltb-false}
 use Rattle.std.specs.Prelude.{nat_lt}
 use Rattle.std.specs.List.{flat_map}
@@ -14,31 +14,32 @@ use Rattle.off_defs.specs.declared.tables.Batch.{Batch}
 use Rattle.off_defs.specs.declared.tables.ImportKind.{ImportKind}
 use Rattle.off_defs.specs.declared.tables.Lease.{Lease}
 use Rattle.off_defs.specs.declared.tables.Pool.{Pool}
-use Rattle.off_defs.specs.declared.orders.Command.{Command}
-use Rattle.off_defs.specs.declared.orders.Command.TheVariants.{PutHub, PutSubscriber, PutAddOn, PutModem, PutClass, PutPool, PutDevicePool, Remove, Show, Import}
-use Rattle.off_defs.specs.declared.orders.ImportRow.{ImportRow}
-use Rattle.off_defs.specs.declared.orders.ImportRow.TheVariants as imported
-use Rattle.off_defs.specs.declared.orders.Reply.{Reply}
-use Rattle.off_defs.specs.declared.orders.Reply.TheVariants.{Done, Rows}
-use Rattle.off_defs.specs.declared.orders.Write.{Write}
-use Rattle.off_defs.specs.declared.orders.Write.TheVariants.{Put}
-use Rattle.off_defs.specs.declared.orders.Kind.TheVariants.{Batches}
-use Rattle.off_defs.specs.declared.rules.Rule.{Rule}
+use Rattle.off_orders.specs.declared.orders.Command.{Command}
+use Rattle.off_orders.specs.declared.orders.Command.TheVariants.{PutHub, PutSubscriber, PutAddOn, PutModem, PutClass, PutPool, PutDevicePool, Remove, Show, Import}
+use Rattle.off_orders.specs.declared.orders.ImportRow.{ImportRow}
+use Rattle.off_orders.specs.declared.orders.ImportRow.TheVariants as imported
+use Rattle.off_orders.specs.declared.orders.Reply.{Reply}
+use Rattle.off_orders.specs.declared.orders.Reply.TheVariants.{Done, Rows}
+use Rattle.off_defs.specs.declared.writes.Write.{Write}
+use Rattle.off_defs.specs.declared.writes.Write.TheVariants.{Put}
+use Rattle.off_defs.specs.declared.kinds.Kind.TheVariants.{Batches}
+use Rattle.off_orders.specs.declared.rules.Rule.{Rule}
 use Rattle.off_defs.specs.State.{Tables}
 use Rattle.off_defs.specs.Tables.{row_at, write_all}
-use Rattle.off_rows.specs.Sound.{is_sound, is_removable}
+use Rattle.off_orders.specs.Sound.{is_sound, is_removable}
 use Rattle.off_account_rules.specs.Rows.{possible, seen_at, as_lease, lease_in, pool_in, batch_in, leases}
-use Rattle.off_account_rules.specs.Clerk.{Refusal, Decision, Accepted, accepted, by_rule, shown_as, shown, limit, rules_of, removal_rules, writes_of, removal_writes, gives_up, lost_leases, lost_devices, is_live, lease_drops, pool_has_leases, row_writes, row_breaks, then_writes, unless_broken, rows_written, batch_row, imported_as, import_decided, decided, stepped_by, clerk_step}
+use Rattle.off_account_rules.specs.Changes.{gives_up}
+use Rattle.off_orders.specs.Clerk.{Refusal, Decision, Accepted, accepted, by_rule, shown_as, shown, limit, rules_of, removal_rules, writes_of, removal_writes, lost_leases, lost_devices, is_live, lease_drops, pool_has_leases, row_writes, row_breaks, then_writes, unless_broken, rows_written, batch_row, imported_as, import_decided, decided, stepped_by, clerk_step}
 use Rattle.off_table_laws.proofs.ListLemmas.{none_found, in_kept}
 use Rattle.off_table_laws.proofs.Rows as rows
 use Rattle.off_table_laws.proofs.Rows.{put_row, drop_row, rows_after, all_written}
 use Rattle.off_table_laws.proofs.GoodRows.{GoodRows}
 use Rattle.off_table_laws.proofs.Judging.{good_rows}
 use Rattle.off_table_laws.proofs.PoolLemmas.{set_pool, set_both}
-use Rattle.off_table_laws.proofs.LostLeases.{rows_append, lease_in_all, lost_left}
-use Rattle.off_table_laws.proofs.DevicePools.{drops_aside, is_no_device}
+use Rattle.off_order_laws.proofs.LostLeases.{rows_append, lease_in_all, lost_left}
+use Rattle.off_order_laws.proofs.DevicePools.{drops_aside, is_no_device}
 use Rattle.off_table_laws.proofs.Reading.{lease_row}
-use Rattle.off_table_laws.proofs.ClerkSteps.{hub_written}
+use Rattle.off_order_laws.proofs.ClerkSteps.{hub_written, unbroken, not_mapped}
 use Rattle.off_lease_rules.specs.Free.{has_ended}
 use Rattle.off_laws.specs.Leases.{StaysOrWasOver, CommandsDropEnded, CommandsKeepLive, ImportsKeepLeases}
 
@@ -46,19 +47,6 @@ abbrev lease_read : Ip4 → Option Row → Option Lease
 lease_read address o = option_and_then as_lease (possible (key.Lease address) o)
 
 -- where no rule is broken first, none is
-abbrev NoneBroken : List (Option Rule) → Type 0
-NoneBroken [] = Unit {0}
-NoneBroken (rule ∷ rules) = (rule ≡ None) × NoneBroken rules
-
-none_broken : (rules : List (Option Rule)) → first_there rules ≡ None → NoneBroken rules
-none_broken [] e = tt
-none_broken (None ∷ rules) e = (refl, none_broken rules e)
-none_broken (Some broken ∷ rules) e = cc
-
-not_mapped : {A B : Type 0} (f : A → B) (o : Option A) → option_map f o ≡ None → o ≡ None
-not_mapped f None e = refl
-not_mapped f (Some x) e = cc
-
 module _ (address : Ip4) where
   -- writes that leave the row of the lease, over these rows, or over all
   abbrev Leaves : rows.Rows → List Write → Type 0
@@ -163,7 +151,7 @@ module _ (address : Ip4) where
     removal_fate (key.AddOn n k) sound whole = inl refl
     removal_fate (key.Modem mac) sound whole = inl refl
     removal_fate (key.Class n) sound whole = inl refl
-    removal_fate (key.Pool n) sound whole = pool_fate n None 0 (none_broken (removal_rules t now (key.Pool n)) whole).1.0
+    removal_fate (key.Pool n) sound whole = pool_fate n None 0 (unbroken (removal_rules t now (key.Pool n)) whole).1.0
     removal_fate (key.Hub n) sound whole = inl refl
     removal_fate (key.DevicePool n) sound whole = inl (drops_aside (drop_row (row_at t) (key.DevicePool n)) (lost_devices t n None) (key.Lease address) refl)
     removal_fate removed sound whole = cc
@@ -189,7 +177,7 @@ module _ (address : Ip4) where
         (λ whole.
         subst (λ (all : rows.Rows). Fate (rows_after all (flat_map lease_drops (lost_leases t n (Some pool))) (key.Lease address)))
         (sym (hub_written (set_pool (row_at t) n (Some pool)) n hub))
-        (pool_fate n (Some pool) hub (none_broken (rules_of t now (PutPool n pool hub)) whole).1.1.1.1.1.0))
+        (pool_fate n (Some pool) hub (unbroken (rules_of t now (PutPool n pool hub)) whole).1.1.1.1.1.0))
     command_fate (PutDevicePool n pool) sound =
         ruled_fate (writes_of t (PutDevicePool n pool)) Done (first_there (rules_of t now (PutDevicePool n pool)))
         (λ _. inl (drops_aside (put_row (row_at t) (key.DevicePool n) (row.Pool pool)) (lost_devices t n (Some pool)) (key.Lease address) refl))

@@ -8,9 +8,9 @@ use Rattle.off_defs.specs.declared.events.Service.TheVariants.{Dhcp}
 use Rattle.off_defs.specs.declared.events.What.{What}
 use Rattle.off_defs.specs.declared.events.What.TheVariants.{Datagram}
 use Rattle.off_defs.specs.declared.results.Outcome.{Outcome}
-use Rattle.off_defs.specs.declared.orders.Command.{Command}
-use Rattle.off_defs.specs.declared.orders.Reply.{Reply}
-use Rattle.off_defs.specs.declared.orders.Write.{Write}
+use Rattle.off_orders.specs.declared.orders.Command.{Command}
+use Rattle.off_orders.specs.declared.orders.Reply.{Reply}
+use Rattle.off_defs.specs.declared.writes.Write.{Write}
 use Rattle.off_defs.specs.declared.tables.Lease.{Lease}
 use Rattle.off_defs.specs.State.{Tables, State, Effect, at_moment}
 use Rattle.off_defs.specs.Tables.{write_all}
@@ -18,7 +18,7 @@ use Rattle.off_dhcp.specs.declared.faults.DhcpFault.{DhcpFault}
 use Rattle.off_dhcp.specs.Datagram.{Received, message_of}
 use Rattle.off_account_rules.specs.Rows.{lease_in}
 use Rattle.off_account_rules.specs.Good.{Good, owner_of}
-use Rattle.off_account_rules.specs.Clerk.{Refusal, clerk_step}
+use Rattle.off_orders.specs.Clerk.{Refusal, clerk_step}
 use Rattle.off_clerk_rules.specs.declared.faults.ClerkErr.{ClerkErr}
 use Rattle.off_clerk_rules.specs.Commands.{command_read}
 use Rattle.off_asking.specs.Asking.{client}

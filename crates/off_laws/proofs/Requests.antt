@@ -6,9 +6,9 @@ use Rattle.off_defs.specs.declared.keys.Key.{Key}
 use Rattle.off_defs.specs.declared.keys.Key.TheVariants as key
 use Rattle.off_defs.specs.declared.tables.Pool.{Pool}
 use Rattle.off_defs.specs.declared.tables.ImportKind.{ImportKind}
-use Rattle.off_defs.specs.declared.orders.Command.{Command}
-use Rattle.off_defs.specs.declared.orders.Command.TheVariants.{PutHub, PutSubscriber, PutAddOn, PutModem, PutClass, PutPool, PutDevicePool, Remove, Show}
-use Rattle.off_rows.specs.Sound.{is_sound, is_sound_pool, is_shown, is_removable}
+use Rattle.off_orders.specs.declared.orders.Command.{Command}
+use Rattle.off_orders.specs.declared.orders.Command.TheVariants.{PutHub, PutSubscriber, PutAddOn, PutModem, PutClass, PutPool, PutDevicePool, Remove, Show}
+use Rattle.off_orders.specs.Sound.{is_sound, is_sound_pool, is_shown, is_removable}
 use Rattle.off_import_rules.specs.Reading.{import_in}
 use Rattle.off_import_rules.specs.declared.faults.ImportFault.{ImportFault}
 use Rattle.off_clerk_rules.specs.declared.faults.ClerkErr.{ClerkErr}
@@ -18,7 +18,7 @@ use Rattle.off_clerk_rules.specs.Paths.{path_of, place_at}
 use Rattle.off_clerk_rules.specs.declared.places.Place.{Place}
 use Rattle.off_clerk_rules.specs.declared.places.Place.TheVariants as at
 use Rattle.off_clerk_rules.proofs.PathLemmas.{NamesOne}
-use Rattle.off_table_laws.specs.Laws.{secret_fits}
+use Rattle.off_order_laws.specs.Laws.{secret_fits}
 use Rattle.off_laws.proofs.Paths.{path_named}
 use Rattle.off_laws.proofs.Bodies.{subscriber_sound, pool_sound, site_fits}
 use Rattle.off_laws.proofs.Imports.{import_sound}

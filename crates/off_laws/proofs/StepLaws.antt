@@ -34,7 +34,7 @@ use Rattle.off_cpe_rules.specs.Words as device
 use Rattle.off_cpe_rules.specs.declared.results.DeviceStep.{DeviceStep}
 use Rattle.off_cpe_laws.proofs.GoodLemmas.{step_keeps_good}
 use Rattle.off_query_rules.specs.Asked.{query_of}
-use Rattle.off_defs.specs.declared.orders.Write.{Write}
+use Rattle.off_defs.specs.declared.writes.Write.{Write}
 use Rattle.off_laws.specs.Laws.{OneResult, MomentIsGreatest, TablesByCommit, ChangesItsPart, QueriesChangeNothing}
 use Rattle.off_laws.proofs.Answers.{WritesNothingOrDone, request_writes, request_good}
 use Rattle.off_laws.proofs.Ways.{Way, stays, serves, forgets, hears, answers, messages, devices, way}

@@ -6,9 +6,9 @@ use Rattle.off_base.specs.declared.addresses.Peer.{Peer}
 use Rattle.off_base.specs.declared.macs.Mac.{Mac}
 use Rattle.off_defs.specs.declared.events.Service.TheVariants.{Dhcp}
 use Rattle.off_defs.specs.declared.events.What.TheVariants.{Datagram}
-use Rattle.off_defs.specs.declared.orders.Command.{Command}
-use Rattle.off_defs.specs.declared.orders.Command.TheVariants.{Import}
-use Rattle.off_defs.specs.declared.orders.ImportRow.{ImportRow}
+use Rattle.off_orders.specs.declared.orders.Command.{Command}
+use Rattle.off_orders.specs.declared.orders.Command.TheVariants.{Import}
+use Rattle.off_orders.specs.declared.orders.ImportRow.{ImportRow}
 use Rattle.off_defs.specs.declared.tables.Hold.{Hold}
 use Rattle.off_defs.specs.declared.tables.Hold.TheVariants.{Offered, Bound, Declined}
 use Rattle.off_defs.specs.declared.tables.ImportKind.{ImportKind}
@@ -18,10 +18,10 @@ use Rattle.off_defs.specs.declared.tables.Site.{Site}
 use Rattle.off_defs.specs.Clock.{later_by}
 use Rattle.off_defs.specs.State.{Tables, State}
 use Rattle.off_dhcp.specs.Datagram.{Received, message_of}
-use Rattle.off_rows.specs.Sound.{is_sound}
+use Rattle.off_orders.specs.Sound.{is_sound}
 use Rattle.off_account_rules.specs.Rows.{lease_in}
 use Rattle.off_account_rules.specs.Good.{Good, owner_of}
-use Rattle.off_account_rules.specs.Clerk.{clerk_step}
+use Rattle.off_orders.specs.Clerk.{clerk_step}
 use Rattle.off_table_laws.specs.Laws.{owner_in, LiesInOnePool}
 use Rattle.off_asking.specs.Asking.{client, claimed}
 use Rattle.off_lease_rules.specs.Free.{has_ended, pool_for, site_for}

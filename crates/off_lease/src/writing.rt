@@ -3,9 +3,9 @@
 ghost use Rattle.std.specs.Prelude.{◌≡◌, ◌++◌, [], ◌∷◌, IfOk, OnOk};
 ghost use Rattle.off_defs.specs.declared.keys.Key.TheVariants as key;
 ghost use Rattle.off_defs.specs.declared.tables.Row.TheVariants as row;
-ghost use Rattle.off_defs.specs.declared.orders.Write.TheVariants.{Put};
+ghost use Rattle.off_defs.specs.declared.writes.Write.TheVariants.{Put};
 ghost use Rattle.off_account_rules.specs.Rows.{passes};
-ghost use Rattle.off_account_rules.specs.Clerk.{held_drop};
+ghost use Rattle.off_account_rules.specs.Changes.{held_drop};
 ghost use Rattle.off_lease_rules.specs.Steps.{lease_row, lease_drop, held_elsewhere};
 ghost use Rattle.off_lease_rules.specs.Steps.{former_owner, is_bound, is_live_bound, offered};
 ghost use Rattle.off_lease_rules.specs.Steps.{bound, set_aside, given_up};

@@ -80,7 +80,7 @@ provided_is {A} p (Some y) x e =
       | false ↦ λ t f. cc
     ] refl e
 
-either : (o q : Option Ip4) (address : Ip4) → option_or o q ≡ Some address → (o ≡ Some address) ⊎ (q ≡ Some address)
+pub either : (o q : Option Ip4) (address : Ip4) → option_or o q ≡ Some address → (o ≡ Some address) ⊎ (q ≡ Some address)
 either None q address e = inr e
 either (Some other) q address e = inl e
 

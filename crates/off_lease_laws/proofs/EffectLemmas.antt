@@ -5,7 +5,7 @@ use Rattle.off_base.specs.declared.macs.Mac.{Mac}
 use Rattle.off_defs.specs.declared.tables.Hold.{Hold}
 use Rattle.off_defs.specs.declared.tables.Hold.TheVariants.{Offered, Bound, Declined}
 use Rattle.off_defs.specs.declared.tables.Lease.{Lease}
-use Rattle.off_defs.specs.declared.orders.Write.{Write}
+use Rattle.off_defs.specs.declared.writes.Write.{Write}
 use Rattle.off_defs.specs.Clock.{later_by}
 use Rattle.off_defs.specs.State.{Tables}
 use Rattle.off_defs.specs.Tables.{write_all}
@@ -32,14 +32,14 @@ bound_owner (Offered other) mac b o = cc
 bound_owner (Bound other) mac b o = ap Bound (let same : other ≡ mac = cc in same)
 bound_owner Declined mac b o = cc
 
-live_bound : (now : ℕ) (mac : Mac) (o : Option Lease) → passes (is_live_bound now) o ≡ true → option_and_then (λ (lease : Lease). owner_of lease.hold) o ≡ Some mac
+pub live_bound : (now : ℕ) (mac : Mac) (o : Option Lease) → passes (is_live_bound now) o ≡ true → option_and_then (λ (lease : Lease). owner_of lease.hold) o ≡ Some mac
     → IsLiveBound now mac o
 live_bound now mac None h e = cc
 live_bound now mac (Some lease) h e =
     let parts = and_parts (is_bound lease.hold) (ltb now lease.expiry.0) h in
     record { expiry = lease.expiry.0; bound = ap (λ hold. Some (lease_until hold lease.expiry.0)) (bound_owner lease.hold mac parts.0 e); live = ltb-true now lease.expiry.0 parts.1 }
 
-live_not_ended : (now : ℕ) (o : Option Lease) → passes (is_live_bound now) o ≡ true → has_ended now o ≡ true → ⊥
+pub live_not_ended : (now : ℕ) (o : Option Lease) → passes (is_live_bound now) o ≡ true → has_ended now o ≡ true → ⊥
 live_not_ended now None h e = cc
 live_not_ended now (Some lease) h e =
     let live = ltb-true now lease.expiry.0 (and_parts (is_bound lease.hold) (ltb now lease.expiry.0) h).1 in

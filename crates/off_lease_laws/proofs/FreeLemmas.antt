@@ -19,7 +19,7 @@ use Rattle.off_lease_laws.specs.Laws.{LeastIsLeast, ChoiceFits, FreeStandsFree, 
 use Rattle.off_lease_laws.proofs.ChoiceLemmas.{least_found, neither, chosen_fits}
 
 -- a number of a range is in it
-in_range : (first count k : ℕ) → first ≤ k → k < first + count → In (ip k) (map ip (range_with_len first count))
+pub in_range : (first count k : ℕ) → first ≤ k → k < first + count → In (ip k) (map ip (range_with_len first count))
 in_range first zero k a b = absurd (omega (arith, a, b))
 in_range first (suc count) k a b =
     elim (leb k first) as (λ t. leb k first ≡ t → In (ip k) (ip first ∷ map ip (range_with_len (first + 1) count))) [

@@ -17,7 +17,7 @@ use Rattle.off_account_rules.specs.Good.{owner_of, Good}
 use Rattle.off_table_laws.proofs.GoodRows.{Has, hub_there, HubThere, hub_in_row, hub_at, OnePool, OwnedBy, DevicesStand, GoodRows}
 use Rattle.off_table_laws.proofs.Judging.{good_rows, good_tables}
 use Rattle.off_table_laws.proofs.Reading.{seen_row, lease_row, held_row, pool_row, row_lease, row_held, row_pool, has_read}
-use Rattle.off_table_laws.proofs.TableLaws.{owners_hold, pools_are_apart}
+use Rattle.off_table_laws.proofs.TableLaws.{owners_hold, pools_are_apart, owned}
 use Rattle.off_asking.specs.Asking.{client}
 use Rattle.off_lease_rules.specs.Steps.{lease_step}
 use Rattle.off_lease_laws.specs.Moves.{HoldersAgree, LiesInAPool, Moved}
@@ -27,10 +27,6 @@ use Rattle.off_lease_laws.proofs.KindLemmas.{others_stay, stays_possible}
 
 pub good_agree : (t : Tables) → Good t → HoldersAgree t
 good_agree t good mac address = owners_hold t good mac address
-
-owned : (o : Option Lease) (mac : Mac) → option_and_then (λ (lease : Lease). owner_of lease.hold) o ≡ Some mac → (lease : Lease) × (o ≡ Some lease) × (owner_of lease.hold ≡ Some mac)
-owned None mac e = cc
-owned (Some lease) mac e = (lease, refl, e)
 
 not_none : {A : Type 0} (o : Option A) → is_some o ≡ true → is_none o ≡ false
 not_none None e = cc

@@ -10,10 +10,10 @@ use Rattle.off_defs.specs.declared.keys.Key.{Key}
 use Rattle.off_defs.specs.declared.keys.Key.TheVariants as key
 use Rattle.off_defs.specs.declared.tables.Row.TheVariants as row
 use Rattle.off_defs.specs.declared.tables.Lease.{Lease}
-use Rattle.off_defs.specs.declared.orders.Kind.{Kind}
-use Rattle.off_defs.specs.declared.orders.Kind.TheVariants.{Subscribers, AddOns, Modems, Classes, Pools, Batches, Hubs, DevicePools}
-use Rattle.off_defs.specs.declared.orders.Write.{Write}
-use Rattle.off_defs.specs.declared.orders.Write.TheVariants.{Put, Drop}
+use Rattle.off_defs.specs.declared.kinds.Kind.{Kind}
+use Rattle.off_defs.specs.declared.kinds.Kind.TheVariants.{Subscribers, AddOns, Modems, Classes, Pools, Batches, Hubs, DevicePools}
+use Rattle.off_defs.specs.declared.writes.Write.{Write}
+use Rattle.off_defs.specs.declared.writes.Write.TheVariants.{Put, Drop}
 use Rattle.off_defs.specs.Keys.{key_cmp}
 use Rattle.off_defs.specs.Kinds.{kind_of}
 use Rattle.off_defs.specs.State.{Tables}

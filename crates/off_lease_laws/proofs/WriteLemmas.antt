@@ -7,14 +7,14 @@ use Rattle.off_base.specs.declared.macs.Mac.{Mac}
 use Rattle.off_defs.specs.declared.keys.Key.TheVariants as key
 use Rattle.off_defs.specs.declared.tables.Row.{Row}
 use Rattle.off_defs.specs.declared.tables.Lease.{Lease}
-use Rattle.off_defs.specs.declared.orders.Write.{Write}
-use Rattle.off_defs.specs.declared.orders.Write.TheVariants.{Put}
+use Rattle.off_defs.specs.declared.writes.Write.{Write}
+use Rattle.off_defs.specs.declared.writes.Write.TheVariants.{Put}
 use Rattle.off_defs.specs.Keys.{key_cmp}
 use Rattle.off_defs.specs.State.{Tables}
 use Rattle.off_defs.specs.Tables.{row_at, write_all}
 use Rattle.off_defs.proofs.TableLemmas.{same_key}
 use Rattle.off_account_rules.specs.Rows.{possible, as_lease, as_held, lease_in, held_in}
-use Rattle.off_account_rules.specs.Clerk.{held_drop}
+use Rattle.off_account_rules.specs.Changes.{held_drop}
 use Rattle.off_table_laws.proofs.Rows.{Rows, rows_after, all_written}
 use Rattle.off_lease_rules.specs.Steps.{lease_drop}
 

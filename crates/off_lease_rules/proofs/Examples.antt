@@ -16,7 +16,7 @@ use Rattle.off_defs.specs.declared.tables.Modem.{Modem}
 use Rattle.off_defs.specs.declared.tables.Hold.{Hold}
 use Rattle.off_defs.specs.declared.tables.Hold.TheVariants.{Offered, Bound, Declined}
 use Rattle.off_defs.specs.declared.tables.Lease.{Lease}
-use Rattle.off_defs.specs.declared.orders.Write.TheVariants.{Put, Drop}
+use Rattle.off_defs.specs.declared.writes.Write.TheVariants.{Put, Drop}
 use Rattle.off_defs.specs.declared.results.Sent.{Sent}
 use Rattle.off_defs.specs.declared.results.Sent.TheVariants as sent
 use Rattle.off_dhcp.specs.Datagram.{Received}

@@ -11,8 +11,8 @@ use Rattle.off_defs.specs.declared.tables.Pool.{Pool}
 use Rattle.off_defs.specs.declared.tables.Hold.{Hold}
 use Rattle.off_defs.specs.declared.tables.Hold.TheVariants.{Offered, Bound, Declined}
 use Rattle.off_defs.specs.declared.tables.Lease.{Lease}
-use Rattle.off_defs.specs.declared.orders.Write.{Write}
-use Rattle.off_defs.specs.declared.orders.Write.TheVariants.{Put, Drop}
+use Rattle.off_defs.specs.declared.writes.Write.{Write}
+use Rattle.off_defs.specs.declared.writes.Write.TheVariants.{Put, Drop}
 use Rattle.off_defs.specs.declared.results.Sent.{Sent}
 use Rattle.off_defs.specs.Clock.{later_by}
 use Rattle.off_defs.specs.State.{Tables}
@@ -22,7 +22,7 @@ use Rattle.off_dhcp.specs.declared.offers.Offer.{Offer}
 use Rattle.off_dhcp.specs.Datagram.{Received, message_of}
 use Rattle.off_account_rules.specs.Rows.{passes, lease_in}
 use Rattle.off_account_rules.specs.Good.{owner_of, is_address}
-use Rattle.off_account_rules.specs.Clerk.{held_drop}
+use Rattle.off_account_rules.specs.Changes.{held_drop}
 use Rattle.off_file_rules.specs.Name.{name_of}
 use Rattle.off_asking.specs.Asking.{client, is_discover, is_request, is_decline}
 use Rattle.off_asking.specs.Choice.{provided}

@@ -1,22 +1,18 @@
 -- What a disk in memory holds behind one more call.
 use Rattle.std.proofs.Common.{◌≡◌, ℕ, ◌+◌, ◌<◌, ◌≤◌, max, Option, Some, None, List, [], ◌∷◌, ◌++◌, length, take, drop, refl, sym, ap, subst, ◌∙◌, arith, length-append, length-take, length-drop, append-nil, ◌-◌}
 use Rattle.std.proofs.Math.Seq.{take-length}
-use Rattle.std.proofs.lemmas.List.{take-append-le, drop-append-le, take_all}
+use Rattle.std.proofs.lemmas.List.{take-append-le, drop-append-le, take_all, nil_from_length}
 use Rattle.off_memdisk.specs.MemDisks.{calls_of, total_of, room_of, written_in, reads_after, IsSound, DiskHeld, MemDiskHeld, used, most_bytes}
 use Rattle.off_outside.specs.InMemory.{CallsHeld, one_called}
 use Rattle.off_memdisk.specs.MemDiskLaws.{reads_push, reads_sync, fit_push, fit_sync}
 use Rattle.off_memdisk.specs.declared.mem_disk.Mark.{Mark}
 use Rattle.off_memdisk.specs.declared.mem_disk.Mark.TheVariants.{Wrote, Synced}
 
-none_of : (xs : List ℕ) → length xs ≡ 0 → xs ≡ []
-none_of [] e = refl
-none_of (x ∷ xs) e = absurd (omega arith)
-
 -- one write more, and one sync more
 pub calls_wrote : (marks : List Mark) (at len : ℕ) (pieces piece : List ℕ) → length pieces ≡ total_of marks → length piece ≡ len
     → calls_of (marks ++ Wrote at len ∷ []) (pieces ++ piece) ≡ calls_of marks pieces ++ Some (at, piece) ∷ []
 calls_wrote [] at len pieces piece joined long =
-    ap (λ (p : List ℕ). Some (at, take len (p ++ piece)) ∷ []) (none_of pieces joined)
+    ap (λ (p : List ℕ). Some (at, take len (p ++ piece)) ∷ []) (nil_from_length pieces joined)
     ∙ (ap (λ (n : ℕ). Some (at, take n piece) ∷ []) (sym long) ∙ ap (λ (p : List ℕ). Some (at, p) ∷ []) (take-length piece))
 calls_wrote (Wrote a n ∷ marks) at len pieces piece joined long =
     let front : take n (pieces ++ piece) ≡ take n pieces = take-append-le n pieces piece (omega (arith, joined)) in
@@ -139,6 +135,6 @@ synced_of now base marks more pieces room faults failing after is is_more is_aft
 pub end_written : (pieces piece : List ℕ) (at : ℕ) → at ≡ length pieces → written_in pieces at piece ≡ pieces ++ piece
 end_written pieces piece at end =
     let front : take at pieces ≡ pieces = take_all at pieces (omega (arith, end)) in
-    let behind : drop (at + length piece) pieces ≡ [] = none_of (drop (at + length piece) pieces) (omega (arith, end, length-drop (at + length piece) pieces)) in
+    let behind : drop (at + length piece) pieces ≡ [] = nil_from_length (drop (at + length piece) pieces) (omega (arith, end, length-drop (at + length piece) pieces)) in
     ap (λ (l : List ℕ). l ++ (piece ++ drop (at + length piece) pieces)) front
     ∙ (ap (λ (l : List ℕ). pieces ++ (piece ++ l)) behind ∙ ap (λ (l : List ℕ). pieces ++ l) (append-nil piece))

@@ -7,7 +7,7 @@ use Rattle.std.proofs.lemmas.List.{take-replicate, length-replicate}
 use Rattle.std.proofs.lemmas.List.Elements.{filter-append}
 use Rattle.md5.specs.Md5.{md5}
 use Rattle.md5.proofs.StandardFacts.{length-md5}
-use Rattle.off_base.specs.Tree.{Tree, leaf, code_of, spelling}
+use Rattle.off_base.specs.Tree.{Tree, leaf, code_of, spelling, trees_length}
 use Rattle.off_tlv.specs.Grammar.{end_byte, pad_byte, in_file, is_code, is_group, Stands, AllStand, FileOf}
 use Rattle.off_tlv.specs.Fault.{IsFirstFault}
 use Rattle.off_tlv.specs.Told.{WhyNotRead}
@@ -214,3 +214,19 @@ seal_first file secret (Err (Read other)) s fault is =
 seal_first file secret (Err Memory) s fault is =
     let clash : Ok s.0 ≡ Err fault = one_reading file (Ok s.0) (Err fault) s.1 is in
     cc
+
+-- ---- how long the settings are with both digests
+
+pub length_join : (ts us : List Tree) → trees_length (ts ++ us) ≡ trees_length ts + trees_length us
+length_join [] us = omega arith
+length_join (t ∷ ts) us = omega (arith, length_join ts us)
+
+pub length_both : (secret : List ℕ) (ts : List Tree) → trees_length (with_both secret ts) ≡ trees_length ts + 36
+length_both secret ts =
+    omega (
+      arith,
+      length_join (with_cm ts) (leaf 7 (cmts_mic_of secret (with_cm ts)) ∷ []),
+      length_join ts (leaf 6 (cm_mic_of ts) ∷ []),
+      length-hmac secret (digest_text (with_cm ts)),
+      length-md5 (spelling (without_mics ts)),
+    )

@@ -1,11 +1,11 @@
 -- From a command to what its clerk is told.
 use Rattle.std.proofs.Common.{◌≡◌, ℕ, Result, Ok, Err, OnOk, MatchResult, is_err, false, [], codes, arith, refl, sym, ap, ◌∙◌, subst}
 use Rattle.off_base.specs.declared.octets.NoMemory.{NoMemory}
-use Rattle.off_defs.specs.declared.orders.Command.{Command}
-use Rattle.off_defs.specs.declared.rules.Rule.{Rule}
+use Rattle.off_orders.specs.declared.orders.Command.{Command}
+use Rattle.off_orders.specs.declared.rules.Rule.{Rule}
 use Rattle.off_defs.specs.State.{Tables, Said}
 use Rattle.off_defs.specs.Tables.{write_all}
-use Rattle.off_account_rules.specs.Clerk.{Stepped, clerk_step, step_refused}
+use Rattle.off_orders.specs.Clerk.{Stepped, clerk_step, step_refused}
 use Rattle.off_defs.specs.declared.events.What.TheVariants.{Piece}
 use Rattle.off_defs.specs.declared.results.Outcome.TheVariants.{Did}
 use Rattle.off_clerk_rules.specs.declared.faults.Fault.{Fault}

@@ -1,20 +1,20 @@
 -- A command: what was decided, and what its writes leave.
 use Rattle.std.proofs.Common.{◌≡◌, ℕ, ◌+◌, ◌≤◌, List, [], ◌∷◌, Option, Some, None, option_map, arith, Result, Ok, Err, MatchResult, length, refl, sym, ap, ◌∙◌, subst}
 use Rattle.std.specs.Prelude.{IsTrue}
-use Rattle.off_defs.specs.declared.orders.Command.{Command}
-use Rattle.off_defs.specs.declared.orders.Command.TheVariants.{PutHub, PutSubscriber, PutAddOn, PutModem, PutClass, PutPool, PutDevicePool, Remove, Show, Import}
-use Rattle.off_defs.specs.declared.orders.Write.{Write}
+use Rattle.off_orders.specs.declared.orders.Command.{Command}
+use Rattle.off_orders.specs.declared.orders.Command.TheVariants.{PutHub, PutSubscriber, PutAddOn, PutModem, PutClass, PutPool, PutDevicePool, Remove, Show, Import}
+use Rattle.off_defs.specs.declared.writes.Write.{Write}
 use Rattle.off_defs.specs.State.{Tables, Held}
 use Rattle.off_defs.specs.Tables.{write_all}
 use Rattle.off_defs.specs.Told.{Told}
 use Rattle.off_defs.proofs.ToldLemmas.{told_weaker}
-use Rattle.off_defs.specs.declared.orders.Reply.{Reply}
-use Rattle.off_rows.specs.Sound.{is_sound}
+use Rattle.off_orders.specs.declared.orders.Reply.{Reply}
+use Rattle.off_orders.specs.Sound.{is_sound}
 use Rattle.off_account_rules.specs.Good.{Good}
-use Rattle.off_table_laws.specs.Laws.{secret_fits}
-use Rattle.off_table_laws.proofs.StepLaws.{step_keeps_good}
+use Rattle.off_order_laws.specs.Laws.{secret_fits}
+use Rattle.off_order_laws.proofs.StepLaws.{step_keeps_good}
 use Rattle.off_account_rules.specs.Rows.{counts_of}
-use Rattle.off_account_rules.specs.Clerk.{Accepted, Refusal, accepted, refusal, decided, Stepped, stepped_by, clerk_step, step_done, step_refused}
+use Rattle.off_orders.specs.Clerk.{Accepted, Refusal, accepted, refusal, decided, Stepped, stepped_by, clerk_step, step_done, step_refused}
 use Rattle.off_outside.specs.declared.keeper.KeepErr.{KeepErr}
 use Rattle.off_outside.specs.declared.keeper.KeepErr.TheVariants as keep
 use Rattle.off_outside.specs.KeeperSeen.{KeeperSeen, Rests}

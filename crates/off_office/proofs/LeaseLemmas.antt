@@ -1,12 +1,12 @@
 -- A datagram to the DHCP port, from what its message does to the step of the book.
-use Rattle.std.proofs.Common.{◌≡◌, ◌≤◌, ℕ, ◌+◌, arith, length, is_some, inl, inr, true, false, cond, List, [], ◌∷◌, ◌++◌, codes, Option, Some, None, Result, Ok, Err, OnOk, MatchResult, refl, sym, ap, ◌∙◌, subst, append-nil}
+use Rattle.std.proofs.Common.{◌≡◌, ◌≤◌, ℕ, ◌+◌, arith, length, is_some, inl, inr, true, false, cond, List, [], ◌∷◌, ◌++◌, codes, Option, Some, None, IfSome, Result, Ok, Err, IfOk, OnOk, MatchResult, refl, sym, ap, ◌∙◌, subst, append-nil}
 use Rattle.off_base.specs.declared.addresses.Peer.{Peer}
 use Rattle.off_dhcp.specs.Datagram.{Received, message_of}
 use Rattle.off_dhcp.specs.declared.faults.DhcpFault.{DhcpFault}
 use Rattle.off_defs.specs.declared.events.Service.TheVariants.{Dhcp}
 use Rattle.off_defs.specs.declared.events.What.{What}
 use Rattle.off_defs.specs.declared.events.What.TheVariants.{Datagram}
-use Rattle.off_defs.specs.declared.orders.Write.{Write}
+use Rattle.off_defs.specs.declared.writes.Write.{Write}
 use Rattle.off_defs.specs.declared.results.Outcome.{Outcome}
 use Rattle.off_defs.specs.declared.results.Outcome.TheVariants.{Did, Memory, Keeper}
 use Rattle.off_defs.specs.State.{Tables, State, Said, Held, Effect, state_of}
@@ -30,10 +30,12 @@ use Rattle.off_outside.specs.KeeperCalls.{Reads, Settled, NotCommitted, NotDone,
 use Rattle.off_outside.proofs.KeeperLemmas.{settled_none, settled_then, not_begun, not_begun_then, not_committed_as, spent_none, spent_then, spent_within}
 use Rattle.off_lease.specs.Calls.{row_calls, message_calls}
 use Rattle.off_lease.specs.Stages.{own_rules}
-use Rattle.off_cpe.specs.Calls.{is_own, LooksOnce, FindsNone}
+use Rattle.off_cpe.specs.Calls.{is_own, LooksOnce, FindsNone, most_deciding, most_elsewhere}
+use Rattle.off_cpe.specs.declared.answering.DeviceAnswer.{DeviceAnswer}
+use Rattle.off_behind.specs.Neighbours.{elsewhere}
 use Rattle.off_cpe_rules.specs.declared.results.DeviceStep.{DeviceStep}
 use Rattle.off_cpe_rules.specs.Behind.{own_among, modem_behind}
-use Rattle.off_cpe_rules.specs.Steps.{device_step, device_drop, own_elsewhere}
+use Rattle.off_cpe_rules.specs.Steps.{device_step, own_drop, own_elsewhere}
 use Rattle.off_cpe_laws.proofs.WriteLemmas.{Wrote, nothing, gives, rests as aside, frees, wrote}
 use Rattle.off_asking.specs.Asking.{client, asks, is_discover}
 use Rattle.off_asking.specs.Claims.{refused_by}
@@ -45,7 +47,7 @@ use Rattle.off_defs.specs.declared.tables.Pool.{Pool}
 use Rattle.off_defs.specs.declared.tables.Row.{Row}
 use Rattle.off_defs.specs.declared.tables.Row.TheVariants as row
 use Rattle.off_defs.specs.declared.keys.Key.TheVariants as key
-use Rattle.off_defs.specs.declared.orders.Write.TheVariants.{Put}
+use Rattle.off_defs.specs.declared.writes.Write.TheVariants.{Put}
 use Rattle.off_office.specs.Desk.{Desk}
 use Rattle.off_office.specs.Conditions.{Mirrors, Follows, any_tables}
 use Rattle.off_office.proofs.MirrorLemmas.{follows_mirrors, follows_told, follows_before}
@@ -195,7 +197,7 @@ carried_step (Err err) step before after said a b is follows not = not
 abbrev On : List ℕ → Peer → What
 On bytes from = Datagram Dhcp from bytes
 
-given_counts : (t : Tables) (o : Option Ip4) (address : Ip4) (held : Row) → counts_of (write_all t (device_drop o ++ Put (key.Device address) held ∷ [])) ≡ counts_of t
+given_counts : (t : Tables) (o : Option Ip4) (address : Ip4) (held : Row) → counts_of (write_all t (own_drop o ++ Put (key.Device address) held ∷ [])) ≡ counts_of t
 given_counts t None address held = counts_with_other (key.Device address) held t (λ kind. refl)
 given_counts t (Some other) address held =
     counts_with_other (key.Device address) held (without t (key.Device other)) (λ kind. refl) ∙ counts_without_other (key.Device other) t (λ kind. refl)
@@ -371,16 +373,24 @@ step_spent m writes a b c decided committed = spent_within (spent_then decided c
 pub not_spent : (m : Received) (a b : KeeperSeen) → Spent (message_calls m) a b → Spent (message_calls m + 1) a b
 not_spent m a b decided = spent_within decided (omega arith)
 
+-- a DISCOVER is decided by a call less, and may have one more read
+both_of_message : (m : Received) → most_deciding m + most_elsewhere m ≤ 6
+both_of_message m = elim (is_discover m) as (λ b. cond b 5 6 + cond b 1 0 ≤ 6) [ true ↦ omega arith | false ↦ omega arith ]
+
+deciding_of_message : (m : Received) → most_deciding m ≤ 6
+deciding_of_message m = omega (arith, both_of_message m)
+
 -- a message that is a device's says so not by itself, and the tables say so
-pub device_spent : (q : Result (Option DeviceStep) KeepErr) (m : Received) (step : DeviceStep) (a b c : KeeperSeen) → q ≡ Ok (Some step) → (is_own m ≡ true → q ≡ Ok None)
-    → FindsNone q m a → Spent 7 a b → length step.writes ≤ 2 → Spent (length step.writes + 1) b c → MessageAsks m a c
-device_spent q m step a b c is own none few writes spent =
-    subst (λ (r : Result (Option DeviceStep) KeepErr). (is_own m ≡ true → r ≡ Ok None) → FindsNone r m a → MessageAsks m a c) (sym is)
-    (λ other found. record {
-      own = λ says. absurd (let e : Ok (Some step) ≡ Ok None = other says in cc);
-      others = λ t told behind. absurd (let e : Some step ≡ None = found t told behind in cc);
-      any = spent_within (spent_then few spent) (omega (arith, writes));
-    }) own none
+pub device_spent : (q : Result (Option DeviceAnswer) KeepErr) (m : Received) (answer : DeviceAnswer) (a b c : KeeperSeen) → q ≡ Ok (Some answer) → (is_own m ≡ true → q ≡ Ok None)
+    → FindsNone q m a → Spent (most_deciding m) a b → IfOk q (λ found. IfSome found (λ x. length (elsewhere x.own x.step.writes) ≤ most_elsewhere m))
+    → Spent (length (elsewhere answer.own answer.step.writes) + 1) b c → MessageAsks m a c
+device_spent q m answer a b c is own none few at_most spent =
+    subst (λ (r : Result (Option DeviceAnswer) KeepErr). (is_own m ≡ true → r ≡ Ok None) → FindsNone r m a → IfOk r (λ found. IfSome found (λ x. length (elsewhere x.own x.step.writes) ≤ most_elsewhere m)) → MessageAsks m a c) (sym is)
+    (λ other found writes. record {
+      own = λ says. absurd (let e : Ok (Some answer) ≡ Ok None = other says in cc);
+      others = λ t told behind. absurd (let e : Some answer ≡ None = found t told behind in cc);
+      any = spent_within (spent_then few spent) (omega (arith, writes, both_of_message m));
+    }) own none at_most
 
 few_of_message : (m : Received) → message_calls m ≤ 4
 few_of_message m =
@@ -393,7 +403,7 @@ few_of_message m =
           ]
     ]
 
-pub modem_spent : (q : Result (Option DeviceStep) KeepErr) (m : Received) (a b c : KeeperSeen) → q ≡ Ok None → (is_own m ≡ true → Spent 0 a b) → (q ≡ Ok None → Spent 1 a b) → Spent (message_calls m + 1) b c → MessageAsks m a c
+pub modem_spent : (q : Result (Option DeviceAnswer) KeepErr) (m : Received) (a b c : KeeperSeen) → q ≡ Ok None → (is_own m ≡ true → Spent 0 a b) → (q ≡ Ok None → Spent 1 a b) → Spent (message_calls m + 1) b c → MessageAsks m a c
 modem_spent q m a b c is own once spent = record {
   own = λ says. spent_within (spent_then (own says) spent) (omega arith);
   others = λ t told none. spent_within (spent_then (once is) spent) (omega arith);
@@ -401,11 +411,11 @@ modem_spent q m a b c is own once spent = record {
 }
 
 -- a message that couldn't be told whose it is
-pub untold_spent : (q : Result (Option DeviceStep) KeepErr) (err : KeepErr) (m : Received) (a b : KeeperSeen) → q ≡ Err err → (is_own m ≡ true → q ≡ Ok None) → LooksOnce m a b → Spent 7 a b → MessageAsks m a b
+pub untold_spent : (q : Result (Option DeviceAnswer) KeepErr) (err : KeepErr) (m : Received) (a b : KeeperSeen) → q ≡ Err err → (is_own m ≡ true → q ≡ Ok None) → LooksOnce m a b → Spent (most_deciding m) a b → MessageAsks m a b
 untold_spent q err m a b is own once few = record {
   own = λ says. absurd (let e : q ≡ Ok None = own says in let f : q ≡ Err err = is in cc);
   others = λ t told none. spent_within (once t told none) (omega arith);
-  any = spent_within few (omega arith);
+  any = spent_within few (omega (arith, deciding_of_message m));
 }
 
 pub fault_spent : (read : Result Received DhcpFault) (fault : DhcpFault) (k : KeeperSeen) → read ≡ Err fault → ReadAsks read k k

@@ -7,8 +7,8 @@ use Rattle.off_defs.specs.declared.keys.Key.{Key}
 use Rattle.off_defs.specs.declared.keys.Key.TheVariants as key
 use Rattle.off_defs.specs.declared.tables.Row.{Row}
 use Rattle.off_defs.specs.Keys.{key_cmp}
-use Rattle.off_defs.specs.declared.orders.Write.{Write}
-use Rattle.off_defs.specs.declared.orders.Kind.TheVariants.{Hubs}
+use Rattle.off_defs.specs.declared.writes.Write.{Write}
+use Rattle.off_defs.specs.declared.kinds.Kind.TheVariants.{Hubs}
 use Rattle.off_defs.specs.State.{Tables, Held, state_of, start, held_at_start}
 use Rattle.off_defs.proofs.TableLemmas.{own_key, row_without, row_with}
 use Rattle.off_defs.specs.Tables.{row_at, write_all, with_row, doubt_behind}

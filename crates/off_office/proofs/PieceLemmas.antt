@@ -11,7 +11,7 @@ use Rattle.off_http.specs.Heard.{IsAsked}
 use Rattle.off_http.proofs.Meanings.{one_meaning}
 use Rattle.off_clerk_rules.specs.declared.faults.Fault.TheVariants as fault
 use Rattle.off_defs.specs.declared.events.What.TheVariants.{Piece}
-use Rattle.off_defs.specs.declared.orders.Write.{Write}
+use Rattle.off_defs.specs.declared.writes.Write.{Write}
 use Rattle.off_defs.specs.State.{Tables, Held, Said, Effect, state_of}
 use Rattle.off_defs.specs.Tables.{write_all}
 use Rattle.off_defs.proofs.ToldLemmas.{told_self, told_weaker}

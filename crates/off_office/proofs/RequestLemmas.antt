@@ -1,6 +1,6 @@
 -- A request that was read, and its answer.
 use Rattle.std.proofs.Common.{◌≡◌, ℕ, List, [], Result, Ok, Err, refl, sym, ap, ◌∙◌, subst}
-use Rattle.off_defs.specs.declared.orders.Command.{Command}
+use Rattle.off_orders.specs.declared.orders.Command.{Command}
 use Rattle.off_defs.specs.State.{Said}
 use Rattle.off_clerk_rules.specs.declared.faults.ClerkErr.{ClerkErr}
 use Rattle.off_clerk_rules.specs.declared.faults.Fault.TheVariants as fault

@@ -1,6 +1,6 @@
 -- The leases of devices behind writes.
 use Rattle.std.proofs.Common.{◌≡◌, List, sym, subst}
-use Rattle.off_defs.specs.declared.orders.Write.{Write}
+use Rattle.off_defs.specs.declared.writes.Write.{Write}
 use Rattle.off_defs.specs.State.{Tables}
 use Rattle.off_defs.specs.Tables.{write_all}
 use Rattle.off_account_rules.specs.Rows.{devices}

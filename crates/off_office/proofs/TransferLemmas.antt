@@ -1,5 +1,5 @@
 -- A datagram to the TFTP port, and a Tick, to the step of the book.
-use Rattle.std.proofs.Common.{◌≡◌, ℕ, inl, true, false, Option, option_map, List, [], codes, Result, Ok, Err, IfOk, IfErr, MatchResult, refl, sym, ap, ◌∙◌, subst, append-nil}
+use Rattle.std.proofs.Common.{◌≡◌, ℕ, inl, true, false, Option, option_map, List, [], codes, Result, Ok, Err, IfOk, IfErr, OnOk, OnErr, MatchResult, refl, sym, ap, ◌∙◌, subst, append-nil}
 use Rattle.std.specs.List.{find}
 use Rattle.off_base.specs.declared.addresses.Ip4.{Ip4}
 use Rattle.off_base.specs.declared.addresses.Peer.{Peer}
@@ -13,10 +13,7 @@ use Rattle.off_defs.proofs.CountLemmas.{tallied_none}
 use Rattle.off_account_rules.specs.Rows.{hub_of}
 use Rattle.off_account_rules.specs.declared.counts.Counts.{Counts}
 use Rattle.off_transfer_rules.specs.Transfers.{Transfers}
-use Rattle.off_transfer_rules.specs.Steps.{gives}
-use Rattle.off_transfer_rules.specs.Words.{tftp_line, tick_line}
-use Rattle.off_transfer_rules.specs.declared.words.TftpWord.{TftpWord}
-use Rattle.off_transfer_rules.specs.declared.ticks.Ticked.{Ticked}
+use Rattle.off_transfer_rules.specs.Steps.{TftpStep}
 use Rattle.off_book.specs.Tftp.{tftp_said, tick_said}
 use Rattle.off_outside.specs.declared.keeper.KeepErr.{KeepErr}
 use Rattle.off_outside.specs.declared.keeper.KeepErr.TheVariants as keep
@@ -25,10 +22,13 @@ use Rattle.off_outside.specs.KeeperCalls.{Reads, NotDone, Looks, Spent}
 use Rattle.off_outside.proofs.KeeperLemmas.{reads_as, reads_told, reads_forgotten, not_begun, still_crash, spent_none}
 use Rattle.off_laws.proofs.Lines.{packet_tells}
 use Rattle.off_tftp.specs.Calls.{datagram_calls}
-use Rattle.off_tftp.specs.Saying.{Ticks, says_more}
-use Rattle.off_tftp.specs.Keeping.{AnswersKeeping}
+use Rattle.off_tftp.specs.Ticking.{Ticks}
+use Rattle.off_tftp.specs.Deciding.{Answers, after_change, kept_behind, given_by}
+use Rattle.off_tftp.specs.Keeping.{FewWhereKept, FewWhereBegun, kept_after}
+use Rattle.off_tftp.specs.declared.requests.Datagram.{Datagram as Received}
+use Rattle.off_tftp.specs.declared.deciding.Decision.{Decision}
+use Rattle.off_tftp.specs.declared.ticking.TickDone.{TickDone}
 use Rattle.off_office.specs.Asking.{FewCalls}
-use Rattle.off_kept.specs.Entries.{Entries}
 use Rattle.off_kept.specs.Right.{AllRight}
 use Rattle.off_kept.proofs.RightLemmas.{none_right}
 use Rattle.off_runs.specs.Runs.{in_pool}
@@ -43,7 +43,7 @@ use Rattle.off_office.specs.Desk.{Desk}
 use Rattle.off_office.specs.Conditions.{Mirrors, Begun, KnowsDevices}
 use Rattle.off_office.specs.Acting.{Handled, DoesOn, NotStarted, effect_of}
 use Rattle.off_office.specs.Answering.{failed_said}
-use Rattle.off_office.specs.Transferring.{moved, moved_with, MovesTransfers, DidPacket, SaysPacket, FailsPacket, DidTick, MissedTick, TakesTick}
+use Rattle.off_office.specs.Transferring.{moved, moved_with, MovesTransfers, CarriesPacket, DidPacket, SaysPacket, FailsPacket, DidTick, MissedTick, TakesTick}
 use Rattle.off_office.specs.declared.office.StartErr.{StartErr}
 use Rattle.off_office.specs.declared.office.StartErr.TheVariants as start
 use Rattle.off_office.proofs.StepLemmas.{DoesQuietly, did_says, handled_quietly, memory_leaves, keeper_leaves}
@@ -74,56 +74,85 @@ started_empty (Err err) counts users pools device_pools held is = tt
 
 -- ---- a datagram
 
--- what is said where nothing was said before, with its line
-said_whole : (clear said whole : Said) (items : List _) (line : List ℕ) → clear ≡ says_nothing → said ≡ says_more clear items
-    → whole ≡ record said { line = line } → whole ≡ record { items = items; line = line }
-said_whole clear said whole items line none more is =
-    is
-    ∙ (ap (λ (s : Said). record s { line = line }) more
-    ∙ ap (λ (s : Said). record (says_more s items) { line = line }) none)
-
 -- the hub of an address is the one of the pool that has it among those that are kept
 abbrev pub IsHubAround : Desk → Ip4 → Option ℕ → Type 0
 IsHubAround desk ip hub = (g : Ground) → KeepsPools desk.pools g → hub ≡ option_map (λ e. g.hub e.0) (find (λ e. in_pool e.1 ip.0) g.pools)
 
-pub packet_did : (from : Peer) (bytes : List ℕ) (before after : Desk) (new : Transfers) (keeps : Entries) (clear said whole : Said) (word : TftpWord) (hub : Option ℕ)
-    (a b : KeeperSeen) → IsHubAround before from.ip hub
-    → Reads (λ t. hub ≡ hub_of t from.ip → AllRight t before.kept → AnswersKeeping t before.held.now before.held.transfers new from bytes clear said before.kept keeps word) a b
-    → clear ≡ says_nothing → whole ≡ record said { line = tftp_line word } → after ≡ moved_with before new keeps
-    → Reads (λ t. Mirrors before t → DidPacket from bytes before after whole t) a b
-packet_did from bytes before after new keeps clear said whole word hub a b around reads none is moves =
+pub packet_did : (datagram : Received) (before after : Desk) (said : Said) (d : Decision) (a b : KeeperSeen) → datagram.at.0 ≡ before.held.now → IsHubAround before datagram.from.ip datagram.hub
+    → Reads (λ t. datagram.hub ≡ hub_of t datagram.from.ip → AllRight t before.kept → Answers t datagram before.held.transfers before.kept d) a b
+    → CarriesPacket datagram.from d before after said
+    → Reads (λ t. Mirrors before t → DidPacket datagram.from datagram.bytes.now before after said t) a b
+packet_did datagram before after said d a b at around reads carried =
     reads_as reads (λ t answers mirrors.
     let did = answers (around (ground t) mirrors.pools) mirrors.kept in
-    let kept_is : after.kept ≡ keeps = ap (λ (d : Desk). d.kept) moves in
+    let kept_is : after.kept ≡ kept_behind d.change before.kept = ap (λ (k : Desk). k.kept) carried.moves in
     record {
-      given = gives new did.answers.items word;
-      step = did.answers.step;
-      moves = moves ∙ ap (moved_with before new) (sym kept_is);
-      says = said_whole clear said whole did.answers.items (tftp_line word) none did.answers.says is;
-      keeps = kept_is ∙ did.keeps_is;
+      given = given_by d before.held.now before.held.transfers datagram.from;
+      step = subst (λ n. TftpStep t n before.held.transfers datagram.from datagram.bytes.now (given_by d n before.held.transfers datagram.from)) at did.step;
+      moves = carried.moves ∙ ap (moved_with before (after_change d.change before.held.now before.held.transfers datagram.from)) (sym kept_is);
+      says = carried.says;
+      keeps = kept_is ∙ (did.keeps ∙ ap (λ n. kept_after t n before.held.transfers datagram.from datagram.bytes.now before.kept) at);
       right = subst (AllRight t) (sym kept_is) did.right;
     })
 
-pub packet_told : (q : Result (Unit {0}) KeepErr) (r : Result TftpWord KeepErr) (word : TftpWord) (from : Peer) (bytes : List ℕ) (inside before : Desk) (new : Transfers) (keeps : Entries)
-    (clear said whole : Said) (hub : Option ℕ) (a b : KeeperSeen)
-    → q ≡ Ok tt → r ≡ Ok word → IsHubAround inside from.ip hub
-    → Looks r a b (λ w t. hub ≡ hub_of t from.ip → AllRight t inside.kept → AnswersKeeping t inside.held.now inside.held.transfers new from bytes clear said inside.kept keeps w)
-    → inside ≡ before → clear ≡ says_nothing → whole ≡ record said { line = tftp_line word }
-    → Looks q a b (λ _ t. Mirrors before t → DidPacket from bytes before (moved_with inside new keeps) whole t)
-packet_told q r word from bytes inside before new keeps clear said whole hub a b done read around told seen none is =
-    subst (λ (d : Desk). Looks q a b (λ _ t. Mirrors d t → DidPacket from bytes d (moved_with inside new keeps) whole t)) seen
-    (subst (λ (x : Result (Unit {0}) KeepErr). Looks x a b (λ _ t. Mirrors inside t → DidPacket from bytes inside (moved_with inside new keeps) whole t)) (sym done)
-    (packet_did from bytes inside (moved_with inside new keeps) new keeps clear said whole word hub a b around
-    (subst
-    (λ (x : Result TftpWord KeepErr). Looks x a b (λ w t. hub ≡ hub_of t from.ip → AllRight t inside.kept → AnswersKeeping t inside.held.now inside.held.transfers new from bytes clear said inside.kept keeps w))
-    read told)
-    none is refl))
+abbrev Carries : Peer → Decision → Desk → Desk → Said → Result (Unit {0}) KeepErr → Type 0
+Carries from d before after said q = MatchResult q (λ _. CarriesPacket from d before after said) (λ err. (err ≡ keep.Memory) × (after ≡ before))
 
-pub packet_not_told : (q : Result (Unit {0}) KeepErr) (r : Result TftpWord KeepErr) (err : KeepErr) (P : TftpWord → Tables → Type 0) (Q : Unit {0} → Tables → Type 0)
-    (a b : KeeperSeen) → q ≡ Err err → r ≡ Err err → Looks r a b P → Looks q a b Q
-packet_not_told q r err P Q a b failed read told =
-    subst (λ (x : Result (Unit {0}) KeepErr). Looks x a b Q) (sym failed)
-    (subst (λ (x : Result TftpWord KeepErr). Looks x a b P) read told)
+told_by : (q : Result (Unit {0}) KeepErr) (datagram : Received) (before after : Desk) (said : Said) (d : Decision) (a b : KeeperSeen) → datagram.at.0 ≡ before.held.now
+    → IsHubAround before datagram.from.ip datagram.hub
+    → Reads (λ t. datagram.hub ≡ hub_of t datagram.from.ip → AllRight t before.kept → Answers t datagram before.held.transfers before.kept d) a b
+    → Carries datagram.from d before after said q
+    → Looks q a b (λ _ t. Mirrors before t → DidPacket datagram.from datagram.bytes.now before after said t)
+told_by (Ok done) datagram before after said d a b at around reads carried = packet_did datagram before after said d a b at around reads carried
+told_by (Err err) datagram before after said d a b at around reads not = subst (λ (e : KeepErr). NotDone e a b) (sym not.0) (reads_forgotten reads)
+
+pub packet_told : (q : Result (Unit {0}) KeepErr) (datagram : Received) (inside before after : Desk) (said : Said) (d : Decision) (a b : KeeperSeen) → inside ≡ before → datagram.at.0 ≡ inside.held.now
+    → IsHubAround inside datagram.from.ip datagram.hub
+    → Reads (λ t. datagram.hub ≡ hub_of t datagram.from.ip → AllRight t inside.kept → Answers t datagram inside.held.transfers inside.kept d) a b
+    → Carries datagram.from d before after said q
+    → Looks q a b (λ _ t. Mirrors before t → DidPacket datagram.from datagram.bytes.now before after said t)
+packet_told q datagram inside before after said d a b seen at around reads carried =
+    told_by q datagram before after said d a b (at ∙ ap (λ (k : Desk). k.held.now) seen) (subst (λ (k : Desk). IsHubAround k datagram.from.ip datagram.hub) seen around)
+    (subst (λ (k : Desk). Reads (λ t. datagram.hub ≡ hub_of t datagram.from.ip → AllRight t k.kept → Answers t datagram k.held.transfers k.kept d) a b) seen reads) carried
+
+pub packet_moves : (q : Result (Unit {0}) KeepErr) (from : Peer) (before after : Desk) (said : Said) (d : Decision) → Carries from d before after said q → MovesTransfers before after
+packet_moves (Ok done) from before after said d carried =
+    carried.moves ∙ ap (λ (k : Desk). moved_with before k.held.transfers k.kept) (sym carried.moves)
+packet_moves (Err err) from before after said d not = not.1 ∙ ap (λ (k : Desk). moved_with before k.held.transfers k.kept) (sym not.1)
+
+pub packet_says : (q : Result (Unit {0}) KeepErr) (from : Peer) (before after : Desk) (said : Said) (d : Decision) → Carries from d before after said q → OnOk q (SaysPacket said)
+packet_says (Ok done) from before after said d carried = record { word = d.word; says = ap (λ (s : Said). s.line) carried.says }
+packet_says (Err err) from before after said d not = tt
+
+pub packet_stays : (q : Result (Unit {0}) KeepErr) (from : Peer) (before after : Desk) (said : Said) (d : Decision) → Carries from d before after said q → OnErr q (after ≡ before)
+packet_stays (Ok done) from before after said d carried = tt
+packet_stays (Err err) from before after said d not = not.1
+
+few_by : (q : Result (Unit {0}) KeepErr) (datagram : Received) (before after : Desk) (said : Said) (d : Decision) (a b : KeeperSeen) → datagram.at.0 ≡ before.held.now
+    → Carries datagram.from d before after said q → FewWhereKept datagram.from.ip before.kept a b
+    → FewWhereBegun datagram.from datagram.bytes.now before.held.transfers before.kept a b
+    → FewWhereBegun datagram.from datagram.bytes.now (after_change d.change datagram.at.0 before.held.transfers datagram.from) before.kept a b
+    → FewCalls datagram.from datagram.bytes.now before after a b
+few_by (Ok done) datagram before after said d a b at carried owner same begun = record {
+  owner = owner;
+  begun = subst (λ (m : Transfers). FewWhereBegun datagram.from datagram.bytes.now m before.kept a b)
+      (ap (λ n. after_change d.change n before.held.transfers datagram.from) at ∙ sym (ap (λ (k : Desk). k.held.transfers) carried.moves)) begun;
+}
+few_by (Err err) datagram before after said d a b at not owner same begun = record {
+  owner = owner;
+  begun = subst (λ (m : Transfers). FewWhereBegun datagram.from datagram.bytes.now m before.kept a b) (sym (ap (λ (k : Desk). k.held.transfers) not.1)) same;
+}
+
+pub packet_few : (q : Result (Unit {0}) KeepErr) (datagram : Received) (inside before after : Desk) (said : Said) (d : Decision) (a b : KeeperSeen) → inside ≡ before → datagram.at.0 ≡ inside.held.now
+    → Carries datagram.from d before after said q → FewWhereKept datagram.from.ip inside.kept a b
+    → FewWhereBegun datagram.from datagram.bytes.now inside.held.transfers inside.kept a b
+    → FewWhereBegun datagram.from datagram.bytes.now (after_change d.change datagram.at.0 inside.held.transfers datagram.from) inside.kept a b
+    → FewCalls datagram.from datagram.bytes.now before after a b
+packet_few q datagram inside before after said d a b seen at carried owner same begun =
+    few_by q datagram before after said d a b (at ∙ ap (λ (k : Desk). k.held.now) seen) carried
+    (subst (λ (k : Desk). FewWhereKept datagram.from.ip k.kept a b) seen owner)
+    (subst (λ (k : Desk). FewWhereBegun datagram.from datagram.bytes.now k.held.transfers k.kept a b) seen same)
+    (subst (λ (k : Desk). FewWhereBegun datagram.from datagram.bytes.now (after_change d.change datagram.at.0 k.held.transfers datagram.from) k.kept a b) seen begun)
 
 -- what a datagram did, as one effect
 packet_does : (from : Peer) (bytes : List ℕ) (before after : Desk) (said : Said) (t : Tables) → DidPacket from bytes before after said t
@@ -190,22 +219,16 @@ packet_failed from bytes err outcome said before after a b rests not spent few s
 
 -- ---- a Tick
 
-pub tick_did : (before after : Desk) (new : Transfers) (clear said whole : Said) (ticked : Ticked)
-    → Ticks before.held.now before.held.transfers new clear said ticked → clear ≡ says_nothing → whole ≡ record said { line = tick_line ticked }
-    → after ≡ moved before new → DidTick before after whole
-tick_did before after new clear said whole ticked ticks none is moves = record {
+tick_did : (before after : Desk) (new : Transfers) (said : Said) (done : TickDone) → Ticks before.held.now before.held.transfers new done
+    → said ≡ tick_said done.packets.items done.ticked → after ≡ moved before new → DidTick before after said
+tick_did before after new said done ticks says moves = record {
   transfers = new;
-  items = ticks.items;
-  ticked = ticked;
+  items = done.packets.items;
+  ticked = done.ticked;
   step = ticks.step;
   moves = moves;
-  says = said_whole clear said whole ticks.items (tick_line ticked) none ticks.says is;
+  says = says;
 }
-
--- nothing was said before the line is set
-pub tick_clear : (before : Desk) (new : Transfers) (clear said : Said) (ticked : Ticked)
-    → Ticks before.held.now before.held.transfers new clear said ticked → clear ≡ says_nothing → said.line ≡ []
-tick_clear before new clear said ticked ticks none = ap (λ (s : Said). s.line) ticks.says ∙ ap (λ (s : Said). s.line) none
 
 tick_does : (before after : Desk) (said : Said) → DidTick before after said → DoesQuietly Tick before after Did said
 tick_does before after said did t = record {
@@ -224,22 +247,22 @@ missed_does before after said missed t =
     ap (λ (s : Said). effect_of Tick Memory s [] (state_of t after.held)) missed.says
     ∙ ap (λ (d : Desk). effect_of Tick Memory (failed_said (codes "tick memory")) [] (state_of t d.held)) missed.stays
 
-pub tick_done : (outcome : Outcome) (r : Result Ticked NoMemory) (ticked : Ticked) (inside before : Desk) (new : Transfers) (clear said whole : Said)
-    → outcome ≡ Did → r ≡ Ok ticked → IfOk r (Ticks inside.held.now inside.held.transfers new clear said) → inside ≡ before → clear ≡ says_nothing
-    → whole ≡ record said { line = tick_line ticked } → TakesTick outcome before (moved inside new) whole
-tick_done outcome r ticked inside before new clear said whole is read told seen none line =
+pub tick_done : (outcome : Outcome) (r : Result TickDone NoMemory) (done : TickDone) (inside before : Desk) (new : Transfers) (whole : Said)
+    → outcome ≡ Did → r ≡ Ok done → IfOk r (Ticks inside.held.now inside.held.transfers new) → inside ≡ before
+    → whole ≡ tick_said done.packets.items done.ticked → TakesTick outcome before (moved inside new) whole
+tick_done outcome r done inside before new whole is read told seen says =
     subst (λ (o : Outcome). TakesTick o before (moved inside new) whole) (sym is)
     (subst (λ (d : Desk). DidTick d (moved inside new) whole) seen
-    (tick_did inside (moved inside new) new clear said whole ticked
-    (subst (λ (x : Result Ticked NoMemory). IfOk x (Ticks inside.held.now inside.held.transfers new clear said)) read told) none line refl))
+    (tick_did inside (moved inside new) new whole done
+    (subst (λ (x : Result TickDone NoMemory). IfOk x (Ticks inside.held.now inside.held.transfers new)) read told) says refl))
 
-pub tick_missed : (outcome : Outcome) (inside before : Desk) (new : Transfers) (clear said whole : Said) → outcome ≡ Memory → inside ≡ before
-    → new ≡ inside.held.transfers → said ≡ clear → clear ≡ says_nothing → whole ≡ record said { line = codes "tick memory" }
+pub tick_missed : (outcome : Outcome) (inside before : Desk) (new : Transfers) (clear whole : Said) → outcome ≡ Memory → inside ≡ before
+    → new ≡ inside.held.transfers → clear ≡ says_nothing → whole ≡ record clear { line = codes "tick memory" }
     → TakesTick outcome before (moved inside new) whole
-tick_missed outcome inside before new clear said whole is seen kept same none line =
+tick_missed outcome inside before new clear whole is seen kept none line =
     subst (λ (o : Outcome). TakesTick o before (moved inside new) whole) (sym is) (record {
       stays = ap (moved inside) kept ∙ seen;
-      says = line ∙ ap (λ (s : Said). record s { line = codes "tick memory" }) (same ∙ none);
+      says = line ∙ ap (λ (s : Said). record s { line = codes "tick memory" }) none;
     })
 
 pub tick_handled : (outcome : Outcome) (said : Said) (before after : Desk) (k : KeeperSeen) → TakesTick outcome before after said

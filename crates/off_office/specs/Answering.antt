@@ -3,11 +3,11 @@ use Rattle.std.specs.Prelude.{◌≡◌, ℕ, List, [], ◌∷◌, ◌++◌, cod
 use Rattle.off_http.specs.Reply.{reply}
 use Rattle.off_http.specs.Request.{Meaning}
 use Rattle.off_http.specs.Heard.{asked_method, asked_target, asked_body}
-use Rattle.off_defs.specs.declared.orders.Command.{Command}
-use Rattle.off_defs.specs.declared.orders.Command.TheVariants.{PutHub, PutSubscriber, PutAddOn, PutModem, PutClass, PutPool, PutDevicePool, Remove, Show, Import}
-use Rattle.off_defs.specs.declared.orders.Write.{Write}
-use Rattle.off_defs.specs.declared.orders.Reply.{Reply}
-use Rattle.off_defs.specs.declared.orders.Reply.TheVariants.{Rows}
+use Rattle.off_orders.specs.declared.orders.Command.{Command}
+use Rattle.off_orders.specs.declared.orders.Command.TheVariants.{PutHub, PutSubscriber, PutAddOn, PutModem, PutClass, PutPool, PutDevicePool, Remove, Show, Import}
+use Rattle.off_defs.specs.declared.writes.Write.{Write}
+use Rattle.off_orders.specs.declared.orders.Reply.{Reply}
+use Rattle.off_orders.specs.declared.orders.Reply.TheVariants.{Rows}
 use Rattle.off_defs.specs.declared.results.Sent.TheVariants.{Close}
 use Rattle.off_defs.specs.declared.results.Outcome.{Outcome}
 use Rattle.off_defs.specs.declared.results.Outcome.TheVariants as end
@@ -16,7 +16,7 @@ use Rattle.off_defs.specs.Told.{Told}
 use Rattle.off_defs.specs.State.{Tables, Said, state_of}
 use Rattle.off_defs.specs.Tables.{write_all}
 use Rattle.off_account_rules.specs.Rows.{counts_of}
-use Rattle.off_account_rules.specs.Clerk.{clerk_step, step_done, step_refused}
+use Rattle.off_orders.specs.Clerk.{clerk_step, step_done, step_refused}
 use Rattle.off_clerk_rules.specs.declared.faults.Fault.{Fault}
 use Rattle.off_clerk_rules.specs.declared.faults.Fault.TheVariants as fault
 use Rattle.off_clerk_rules.specs.Faults.{word_of, status_of, fault_text}

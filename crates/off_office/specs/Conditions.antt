@@ -1,7 +1,7 @@
 -- What holds between two calls of what an office keeps and the tables. Whatever else an office
 -- comes to keep of the tables is one more field of `Mirrors`.
 use Rattle.std.specs.Prelude.{◌≡◌, List}
-use Rattle.off_defs.specs.declared.orders.Write.{Write}
+use Rattle.off_defs.specs.declared.writes.Write.{Write}
 use Rattle.off_defs.specs.State.{Tables}
 use Rattle.off_defs.specs.Tables.{write_all}
 use Rattle.off_account_rules.specs.Good.{Opens, Good}

@@ -2,7 +2,7 @@
 use Rattle.std.specs.Prelude.{◌≡◌, ◌⊎◌, ℕ, List, codes, Option, Some, None, Result, MatchResult}
 use Rattle.off_dhcp.specs.Datagram.{Received}
 use Rattle.off_dhcp.specs.declared.faults.DhcpFault.{DhcpFault}
-use Rattle.off_defs.specs.declared.orders.Write.{Write}
+use Rattle.off_defs.specs.declared.writes.Write.{Write}
 use Rattle.off_defs.specs.Told.{Told}
 use Rattle.off_defs.specs.State.{Tables, Said}
 use Rattle.off_defs.specs.Tables.{write_all}

@@ -16,7 +16,9 @@ use Rattle.off_outside.specs.declared.keeper.KeepErr.{KeepErr}
 use Rattle.off_outside.specs.declared.keeper.KeepErr.TheVariants as keep
 use Rattle.off_kept.specs.Entries.{Entries}
 use Rattle.off_kept.specs.Right.{AllRight}
+use Rattle.off_tftp.specs.Deciding.{after_change, kept_behind, items_of}
 use Rattle.off_tftp.specs.Keeping.{kept_after}
+use Rattle.off_tftp.specs.declared.deciding.Decision.{Decision}
 use Rattle.off_office.specs.Desk.{Desk}
 use Rattle.off_office.specs.Answering.{failed_said}
 
@@ -42,6 +44,15 @@ pub record DidPacket (from : Peer) (bytes : List ℕ) (before after : Desk) (sai
   pub keeps : after.kept
       ≡ kept_after tables before.held.now before.held.transfers from bytes before.kept
   pub right : AllRight tables after.kept
+
+-- what was decided of a datagram is said, and its change made
+pub record CarriesPacket (from : Peer) (decision : Decision) (before after : Desk) (said : Said)
+    : Type 0 where
+  pub moves : after
+      ≡ moved_with before
+      (after_change decision.change before.held.now before.held.transfers from)
+      (kept_behind decision.change before.kept)
+  pub says : said ≡ record { items = items_of decision.sent; line = tftp_line decision.word }
 
 -- the line of a datagram that was acted on has a word of the service, whatever the tables
 pub record SaysPacket (said : Said) : Type 0 where

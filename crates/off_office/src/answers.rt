@@ -7,8 +7,8 @@ ghost use Rattle.off_office.specs.Answering.{busy_said, IsSaid, Fails};
 use arrayvec::ArrayVec;
 use itoa::Buffer;
 use off_clerk::{Fault, fault_json, fault_status, fault_word, reply_json};
-use off_defs::Reply;
 use off_http::reply_bytes;
+use off_orders::Reply;
 use off_outside::{KeepErr, Outcome, Replies, Sent};
 use std::alloc::Global;
 

@@ -1,8 +1,8 @@
 ghost use Rattle.std.specs.Prelude.{◌≡◌, ◌≤◌, IsTrue, MatchResult, IfOk, OnOk, OnErr};
 ghost use Rattle.off_defs.specs.State.{held_at};
 ghost use Rattle.off_defs.specs.Told.{Told};
-ghost use Rattle.off_rows.specs.Sound.{is_sound};
-ghost use Rattle.off_table_laws.specs.Laws.{secret_fits};
+ghost use Rattle.off_orders.specs.Sound.{is_sound};
+ghost use Rattle.off_order_laws.specs.Laws.{secret_fits};
 ghost use Rattle.off_accounts.specs.Deciding.{most_calls};
 ghost use Rattle.off_accounts.specs.Walking.{WalksWithin};
 ghost use Rattle.off_outside.specs.KeeperCalls.{Reads, Settled, NotCommitted, IsWritten, Spent};
@@ -16,7 +16,8 @@ use crate::office::Office;
 use off_account_rules::Counts;
 use off_accounts::{AccountErr, Planned, decide};
 use off_base::Moment;
-use off_defs::{Command, Reply, Writes};
+use off_defs::Writes;
+use off_orders::{Command, Reply};
 use off_outside::{KeepErr, Keeper};
 use std::alloc::Global;
 

@@ -1,12 +1,13 @@
 ghost use Rattle.std.specs.Prelude.{◌≡◌, ◌≤◌, ◌+◌, ◌++◌, codes, length, OnOk, OnErr, Ok};
 ghost use Rattle.std.specs.Prelude.{MatchResult};
-ghost use Rattle.off_defs.specs.State.{says_nothing};
+ghost use Rattle.off_defs.specs.State.{Tables, says_nothing};
 ghost use Rattle.off_dhcp.specs.Datagram.{message_of};
 ghost use Rattle.off_lease_rules.specs.Words.{unread};
 ghost use Rattle.off_query_rules.specs.Asked.{query_of};
 ghost use Rattle.off_book.specs.Dhcp.{dhcp_line, device_line, replies_of};
 ghost use Rattle.off_outside.specs.KeeperCalls.{IsWritten, NotCommitted, Settled, Spent};
-ghost use Rattle.off_office.specs.Conditions.{Follows};
+ghost use Rattle.off_behind.specs.Neighbours.{StandsIn, elsewhere};
+ghost use Rattle.off_office.specs.Conditions.{Follows, KnowsDevices};
 ghost use Rattle.off_lease.specs.Calls.{message_calls};
 ghost use Rattle.off_office.specs.Acting.{Handled};
 ghost use Rattle.off_office.specs.Asking.{DhcpAsks, ReadAsks, MessageAsks, commit_calls};
@@ -15,10 +16,10 @@ ghost use Rattle.off_office.specs.Leasing.{ServesDatagram, ServesMessage, Serves
 use crate::commanding::commit_all;
 use crate::office::Office;
 use arrayvec::ArrayVec;
-use off_base::{NoMemory, Peer};
+use off_base::{Ip4, NoMemory, Peer};
 use off_behind::read_olds;
-use off_cpe::{DeviceStep, DeviceWord, answer_by};
-use off_defs::Writes;
+use off_cpe::{DeviceAnswer, DeviceStep, DeviceWord, answer_by};
+use off_defs::{DeviceLease, Writes};
 use off_dhcp::{DhcpFault, Message};
 use off_lease::{DhcpWord, LeaseStep, answer};
 use off_outside::{KeepErr, Keeper, Outcome, Replies, Sent, Service, What};
@@ -108,7 +109,7 @@ impl Office {
             self.now,
             m,
         ) {
-            Ok(Some(step)) => self.carry_device(keeper, step, out),
+            Ok(Some(answer)) => self.carry_device(keeper, answer, out),
             Ok(None) => self.serve_modem(keeper, m, out),
             Err(err) => Err(err),
         }
@@ -137,24 +138,28 @@ impl Office {
     fn carry_device<K: Keeper>(
         &mut self,
         keeper: &mut K,
-        step: DeviceStep,
+        answer: DeviceAnswer,
         out: &mut Replies,
     ) -> Result<(), KeepErr>
-        requires { out.old ≡ says_nothing }
+        requires silent { out.old ≡ says_nothing }
+        requires stands { (t : Tables) → KnowsDevices self.old.devices t → StandsIn answer.own t }
         ensures told { MatchResult result
-            (λ _. DidDevice step self.old self.new out.new (K.seen keeper.old) (K.seen keeper.new))
-            (λ err. NotCommitted (IsWritten step.writes) err
+            (λ _. DidDevice answer.step self.old self.new out.new
+            (K.seen keeper.old) (K.seen keeper.new))
+            (λ err. NotCommitted (IsWritten answer.step.writes) err
             (K.seen keeper.old) (K.seen keeper.new)) }
         ensures same { OnErr result (self.new ≡ self.old) }
-        ensures spent { Spent (length step.writes + 1) (K.seen keeper.old) (K.seen keeper.new) }
+        ensures spent { Spent (length (elsewhere answer.own answer.step.writes) + 1)
+            (K.seen keeper.old) (K.seen keeper.new) }
     {
+        let DeviceAnswer { step, own } = answer;
         let DeviceStep {
             writes,
             reply,
             word,
         } = step;
         say_device(reply, word, out)?;
-        self.settle_device(keeper, &writes)
+        self.settle_device(keeper, &writes, own)
     }
 
     // Puts in hand what a step says, and then commits what it writes.
@@ -183,13 +188,16 @@ impl Office {
         self.settle(keeper, &writes, &counts)
     }
 
-    // Does what a device's message writes, as `settle` does. The leases that its addresses have are
-    // read first, so that what is kept of them is found without a search.
+    // Does what a device's message writes, as `settle` does, where the lease that the device had is
+    // known. The leases that other addresses have are read first, so that what is kept of them is
+    // found without a search.
     pub(crate) fn settle_device<K: Keeper>(
         &mut self,
         keeper: &mut K,
         writes: &Writes,
+        known: Option<(Ip4, DeviceLease)>,
     ) -> Result<(), KeepErr>
+        requires { (t : Tables) → KnowsDevices self.old.devices t → StandsIn known t }
         ensures told { MatchResult result
             (λ _. Settled writes.now (K.seen keeper.old) (K.seen keeper.new))
             (λ err. NotCommitted (IsWritten writes.now) err
@@ -197,9 +205,10 @@ impl Office {
         ensures ok { OnOk result (Follows (K.seen keeper.old).tables self.old self.new
             self.old.counts writes.now) }
         ensures err { OnErr result (self.new ≡ self.old) }
-        ensures spent { Spent (length writes.now + 1) (K.seen keeper.old) (K.seen keeper.new) }
+        ensures spent { Spent (length (elsewhere known writes.now) + 1)
+            (K.seen keeper.old) (K.seen keeper.new) }
     {
-        let olds = read_olds(self.alloc, keeper, writes)?;
+        let olds = read_olds(self.alloc, keeper, writes, known)?;
         self.runs.ready(writes)?;
         let of_devices = self.device_runs.ready(self.alloc, writes)?;
         self.users.ready(writes)?;

@@ -2,7 +2,7 @@ ghost use Rattle.std.specs.Prelude.{◌≡◌, IsTrue, MatchResult};
 ghost use Rattle.off_defs.specs.State.{says_nothing};
 ghost use Rattle.off_http.specs.Heard.{IsAsked};
 ghost use Rattle.off_http.specs.Request.{Waits};
-ghost use Rattle.off_rows.specs.Sound.{is_sound};
+ghost use Rattle.off_orders.specs.Sound.{is_sound};
 ghost use Rattle.off_book.specs.Http.{is_full, heard_of};
 ghost use Rattle.off_office.specs.Answering.{answer_asked, answer_to, IsAnswered};
 ghost use Rattle.off_office.specs.Answering.{CarriedOut, NotCarriedOut, HeardPiece, NotHeard};
@@ -16,8 +16,8 @@ use crate::answers::{answer_fault, answer_reply, close_busy, fail};
 use crate::office::Office;
 use off_accounts::{AccountErr, Planned};
 use off_clerk::{CommandErr, Fault, command_of};
-use off_defs::Command;
 use off_http::{Fed, Session};
+use off_orders::Command;
 use off_outside::{KeepErr, Keeper, Outcome, Replies, What};
 
 impl Office {

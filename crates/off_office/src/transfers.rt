@@ -1,20 +1,25 @@
-ghost use Rattle.std.specs.Prelude.{◌≡◌, [], ◌++◌, codes, decimal, OnOk, OnErr};
+ghost use Rattle.std.specs.Prelude.{◌≡◌, ◌++◌, codes, decimal, OnOk, OnErr, MatchResult};
 ghost use Rattle.off_defs.specs.State.{says_nothing};
-ghost use Rattle.off_transfer_rules.specs.Words.{tftp_line, tick_line};
+ghost use Rattle.off_transfer_rules.specs.Words.{tftp_line};
 ghost use Rattle.off_transfer_rules.specs.declared.words.TftpWord.TheVariants as word;
 ghost use Rattle.off_outside.specs.KeeperCalls.{Looks, Spent};
+ghost use Rattle.off_outside.specs.declared.keeper.KeepErr.TheVariants.{Memory};
+ghost use Rattle.off_book.specs.Tftp.{tick_said};
 ghost use Rattle.off_tftp.specs.Calls.{datagram_calls};
+ghost use Rattle.off_tftp.specs.Deciding.{CanBe, items_of};
+ghost use Rattle.off_tftp.specs.Ticking.{says_items};
 ghost use Rattle.off_office.specs.Acting.{Handled};
 ghost use Rattle.off_office.specs.Asking.{FewCalls};
 ghost use Rattle.off_office.specs.Conditions.{Mirrors};
 ghost use Rattle.off_office.specs.Transferring.{MovesTransfers, DidPacket, SaysPacket};
-ghost use Rattle.off_office.specs.Transferring.{FailsPacket, TakesTick};
+ghost use Rattle.off_office.specs.Transferring.{CarriesPacket, FailsPacket, TakesTick};
 
 use crate::office::Office;
 use arrayvec::ArrayVec;
 use itoa::Buffer;
 use off_base::{NoMemory, Peer};
-use off_outside::{KeepErr, Keeper, Outcome, Replies, Service, What};
+use off_outside::{KeepErr, Keeper, Outcome, Replies, Sent, Service, What};
+use off_tftp::{Datagram, Decision, TickDone};
 use off_transfer_rules::{TftpWord, Ticked};
 
 impl Office {
@@ -56,23 +61,39 @@ impl Office {
         ensures few { FewCalls from bytes.now self.old self.new
             (K.seen keeper.old) (K.seen keeper.new) }
     {
-        let hub = self.runs.hub_around(from.ip);
-        match self.transfers.on_datagram(
-            self.alloc,
-            keeper,
-            &mut self.kept,
-            hub,
-            self.now,
+        let datagram = Datagram {
             from,
+            hub: self.runs.hub_around(from.ip),
+            at: self.now,
             bytes,
-            out,
-        ) {
-            Ok(word) => {
-                say_word(word, out);
-                Ok(())
-            }
+        };
+        match self
+            .transfers
+            .on_datagram(self.alloc, keeper, &self.kept, &datagram)
+        {
+            Ok(decision) => self.carry_packet(from, decision, out),
             Err(err) => Err(err),
         }
+    }
+
+    // Says what was decided of a datagram, and makes its change.
+    fn carry_packet(
+        &mut self,
+        from: Peer,
+        decision: Decision,
+        out: &mut Replies,
+    ) -> Result<(), KeepErr>
+        requires silent { out.old ≡ says_nothing }
+        requires able { CanBe decision.change self.old.held.transfers from }
+        ensures carried { MatchResult result
+            (λ _. CarriesPacket from decision self.old self.new out.new)
+            (λ err. (err ≡ Memory) × (self.new ≡ self.old)) }
+    {
+        let Decision { word, sent, change } = decision;
+        say_packet(sent, word, out)?;
+        self.transfers
+            .carry_out(&mut self.kept, self.now, from, change)?;
+        Ok(())
     }
 
     // Takes a Tick.
@@ -80,9 +101,9 @@ impl Office {
         requires { out.old ≡ says_nothing }
         ensures { TakesTick result self.old self.new out.new }
     {
-        match self.transfers.on_tick(self.alloc, self.now, out) {
-            Ok(ticked) => {
-                say_ticked(ticked, out);
+        match self.transfers.on_tick(self.alloc, self.now) {
+            Ok(done) => {
+                say_tick(done, out);
                 Outcome::Did
             }
             Err(NoMemory) => {
@@ -108,6 +129,18 @@ fn fail_packet(err: KeepErr, out: &mut Replies) -> Outcome
             Outcome::Keeper
         }
     }
+}
+
+// Says what was decided of a datagram.
+fn say_packet(sent: Option<Sent>, word: TftpWord, out: &mut Replies) -> Result<(), NoMemory>
+    requires { out.old ≡ says_nothing }
+    ensures { OnOk result (out.new ≡ record { items = items_of sent; line = tftp_line word }) }
+{
+    if let Some(packet) = sent {
+        out.push(packet)?;
+    }
+    say_word(word, out);
+    Ok(())
 }
 
 // Sets the line: the service and the word.
@@ -144,11 +177,13 @@ fn block_line(number: u16) -> ArrayVec<u8, 80>
     line
 }
 
-// Sets the line of a Tick, where it has one.
-fn say_ticked(ticked: Ticked, out: &mut Replies)
-    requires { out.old.line ≡ [] }
-    ensures { out.new ≡ record out.old { line = tick_line ticked } }
+// Says what a Tick did. One that did nothing has no line.
+fn say_tick(done: TickDone, out: &mut Replies)
+    requires { done.packets ≡ says_items done.packets.items }
+    ensures { out.new ≡ tick_said done.packets.items done.ticked }
 {
+    let TickDone { packets, ticked } = done;
+    *out = packets;
     if ticked.again == 0 && ticked.closed == 0 {
         return;
     }

@@ -25,7 +25,8 @@ use Rattle.off_defs.specs.declared.tables.DeviceLease.{DeviceLease}
 use Rattle.off_defs.specs.Keys.{key_cmp}
 use Rattle.off_defs.specs.State.{Tables}
 use Rattle.off_defs.proofs.EntryLemmas.{is_less, is_equal, holds, first, second}
-use Rattle.off_account_rules.specs.Good.{is_mac, is_same_owner, is_owned_apart, device_owner, raw_device_of}
+use Rattle.off_account_rules.specs.Rows.{device_of}
+use Rattle.off_account_rules.specs.Good.{is_mac, is_same_owner, is_owned_apart, device_owner}
 use Rattle.off_opening.specs.declared.marks.Mark.{Mark}
 use Rattle.off_opening.specs.declared.owners.Owners.{Owners}
 use Rattle.off_opening.specs.Marks.{tie_of, mark_of, marks_of, tied_owner, marked_owner}
@@ -178,7 +179,7 @@ when_ok (Err e) p f = tt
 
 -- ---- by marks and by tables
 
-owner_given : (k : Key) (r : Row) → tied_owner k (tie_of r) ≡ option_and_then (λ (d : Ip4 × DeviceLease). device_owner d.1.hold) (raw_device_of (k, r))
+owner_given : (k : Key) (r : Row) → tied_owner k (tie_of r) ≡ option_and_then (λ (d : Ip4 × DeviceLease). device_owner d.1.hold) (device_of (k, r))
 owner_given (key.Device a) (row.Site site) = refl
 owner_given (key.Device a) (row.Subscriber subscriber) = refl
 owner_given (key.Device a) (row.AddOn settings) = refl
@@ -204,12 +205,12 @@ module _ (q : Mac × Mac) where
   given_counts None n ds is = let none : 0 + n ≡ n = omega arith in none ∙ is
   given_counts (Some d) n ds is = ap (λ k. cond (has_it d) 1 0 + k) is ∙ sym (first_has d ds)
 
-  marks_count : (es : List (Key × Row)) → count_marked_owner q (map mark_of es) ≡ count_by has_it (filter_map raw_device_of es)
+  marks_count : (es : List (Key × Row)) → count_marked_owner q (map mark_of es) ≡ count_by has_it (filter_map device_of es)
   marks_count [] = refl
   marks_count (e ∷ es) =
       first_counted q (mark_of e) (map mark_of es)
       ∙ ap (λ (o : Option (Mac × Mac)). cond (is_owner q o) 1 0 + count_marked_owner q (map mark_of es)) (owner_given e.0 e.1)
-      ∙ given_counts (raw_device_of e) (count_marked_owner q (map mark_of es)) (filter_map raw_device_of es) (marks_count es)
+      ∙ given_counts (device_of e) (count_marked_owner q (map mark_of es)) (filter_map device_of es) (marks_count es)
 
 pub several_are : (t : Tables) (marks : List Mark) (several : BTreeSet (Mac × Mac)) → marks ≡ marks_of t → HaveSeveral marks several → (q : Mac × Mac) → has_owner several q ≡ nat_lt 1 (count_owner q t)
 several_are t marks several are have q =
@@ -237,7 +238,7 @@ less_then a b less = false_from_ne_true (b == a) (λ e.
     let wrong : Equal ≡ Less = tied ∙ less in
     cc)
 
-device_entry : (e : Key × Row) (d : Ip4 × DeviceLease) → raw_device_of e ≡ Some d → (key.Device d.0, row.Device d.1) ≡ e
+device_entry : (e : Key × Row) (d : Ip4 × DeviceLease) → device_of e ≡ Some d → (key.Device d.0, row.Device d.1) ≡ e
 device_entry (key.Device a, row.Device lease) d is = cc
 device_entry (_, _) d is = cc
 
@@ -256,10 +257,10 @@ module _ (a : Ip4) (o : Mac × Mac) where
       ] (first_has o d ds)
 
   -- entries behind a device's have other addresses
-  behind_differ : (es : List (Key × Row)) → T (list.below_all key_cmp (key.Device a) es) → (d : Ip4 × DeviceLease) → Among d (filter_map raw_device_of es) → (d.0.0 == a.0) ≡ false
+  behind_differ : (es : List (Key × Row)) → T (list.below_all key_cmp (key.Device a) es) → (d : Ip4 × DeviceLease) → Among d (filter_map device_of es) → (d.0.0 == a.0) ≡ false
   behind_differ [] h d among = absurd among
   behind_differ (e ∷ es) h d among =
-      elim (raw_device_of e) as (λ (g : Option (Ip4 × DeviceLease)). raw_device_of e ≡ g → Among d (cons_option g (filter_map raw_device_of es)) → (d.0.0 == a.0) ≡ false) [
+      elim (device_of e) as (λ (g : Option (Ip4 × DeviceLease)). device_of e ≡ g → Among d (cons_option g (filter_map device_of es)) → (d.0.0 == a.0) ≡ false) [
         | None ↦ λ is later. behind_differ es (second _ _ h) d later
         | Some x ↦ λ is found. elim found [
           | inl same ↦
@@ -274,19 +275,19 @@ module _ (a : Ip4) (o : Mac × Mac) where
     own_counts : has_it o (a, lease) ≡ true
     own_counts = ap (is_owner o) own ∙ owner_itself o
 
-    counted_in : (es : List (Key × Row)) → Among (key.Device a, row.Device lease) es → 1 ≤ count_by (has_it o) (filter_map raw_device_of es)
+    counted_in : (es : List (Key × Row)) → Among (key.Device a, row.Device lease) es → 1 ≤ count_by (has_it o) (filter_map device_of es)
     counted_in [] among = absurd among
     counted_in (e ∷ es) among =
         elim among [
-          | inl same ↦ subst (λ (x : Key × Row). 1 ≤ count_by (has_it o) (cons_option (raw_device_of x) (filter_map raw_device_of es))) same
-              (let size = first_has o (a, lease) (filter_map raw_device_of es) in
+          | inl same ↦ subst (λ (x : Key × Row). 1 ≤ count_by (has_it o) (cons_option (device_of x) (filter_map device_of es))) same
+              (let size = first_has o (a, lease) (filter_map device_of es) in
               let one : ◌≡◌ {A = ℕ} (cond (has_it o (a, lease)) 1 0) 1 = ap (λ b. cond b 1 0) own_counts in
               omega (arith, size, one))
           | inr later ↦
               let rest = counted_in es later in
-              elim (raw_device_of e) as (λ (g : Option (Ip4 × DeviceLease)). 1 ≤ count_by (has_it o) (cons_option g (filter_map raw_device_of es))) [
+              elim (device_of e) as (λ (g : Option (Ip4 × DeviceLease)). 1 ≤ count_by (has_it o) (cons_option g (filter_map device_of es))) [
                 | None ↦ rest
-                | Some x ↦ let size = first_has o x (filter_map raw_device_of es) in omega (arith, size, rest)
+                | Some x ↦ let size = first_has o x (filter_map device_of es) in omega (arith, size, rest)
               ]
         ]
 
@@ -306,19 +307,19 @@ module _ (a : Ip4) (o : Mac × Mac) where
         ] (first_has o x ds)
 
     pub sole_in : (es : List (Key × Row)) → T (list.is_sorted key_cmp es) → Among (key.Device a, row.Device lease) es
-        → list_all apart (filter_map raw_device_of es) ≡ not (nat_lt 1 (count_by (has_it o) (filter_map raw_device_of es)))
+        → list_all apart (filter_map device_of es) ≡ not (nat_lt 1 (count_by (has_it o) (filter_map device_of es)))
     sole_in [] h among = absurd among
     sole_in (e ∷ es) h among =
         elim among [
-          | inl same ↦ subst (λ (x : Key × Row). T (list.below_all key_cmp x.0 es) → list_all apart (cons_option (raw_device_of x) (filter_map raw_device_of es)) ≡ not (nat_lt 1 (count_by (has_it o) (cons_option (raw_device_of x) (filter_map raw_device_of es))))) same
-              (λ below. at_own (filter_map raw_device_of es) (behind_differ es below)) (first _ _ h)
+          | inl same ↦ subst (λ (x : Key × Row). T (list.below_all key_cmp x.0 es) → list_all apart (cons_option (device_of x) (filter_map device_of es)) ≡ not (nat_lt 1 (count_by (has_it o) (cons_option (device_of x) (filter_map device_of es))))) same
+              (λ below. at_own (filter_map device_of es) (behind_differ es below)) (first _ _ h)
           | inr later ↦
               let rest = sole_in es (second _ _ h) later in
               let less : key_cmp e.0 (key.Device a) ≡ Less = below_among key_cmp e.0 es (key.Device a, row.Device lease) (first _ _ h) later in
-              elim (raw_device_of e) as (λ (g : Option (Ip4 × DeviceLease)). raw_device_of e ≡ g → list_all apart (cons_option g (filter_map raw_device_of es)) ≡ not (nat_lt 1 (count_by (has_it o) (cons_option g (filter_map raw_device_of es))))) [
+              elim (device_of e) as (λ (g : Option (Ip4 × DeviceLease)). device_of e ≡ g → list_all apart (cons_option g (filter_map device_of es)) ≡ not (nat_lt 1 (count_by (has_it o) (cons_option g (filter_map device_of es))))) [
                 | None ↦ λ is. rest
                 | Some x ↦ λ is.
                     let below : nat_cmp x.0.0 a.0 ≡ Less = subst (λ (y : Key × Row). key_cmp y.0 (key.Device a) ≡ Less) (sym (device_entry e x is)) less in
-                    at_other x (filter_map raw_device_of es) (apart_below x.0.0 a.0 below) (counted_in es later) rest
+                    at_other x (filter_map device_of es) (apart_below x.0.0 a.0 below) (counted_in es later) rest
               ] refl
         ]

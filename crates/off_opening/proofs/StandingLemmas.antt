@@ -15,15 +15,15 @@ use Rattle.off_defs.specs.declared.tables.Row.{Row}
 use Rattle.off_defs.specs.declared.tables.Row.TheVariants as row
 use Rattle.off_defs.specs.declared.tables.Pool.{Pool}
 use Rattle.off_defs.specs.declared.tables.DeviceLease.{DeviceLease}
-use Rattle.off_defs.specs.declared.orders.Kind.{Kind}
-use Rattle.off_defs.specs.declared.orders.Kind.TheVariants.{Subscribers, AddOns, Modems, Classes, Pools, Batches, Hubs, DevicePools}
+use Rattle.off_defs.specs.declared.kinds.Kind.{Kind}
+use Rattle.off_defs.specs.declared.kinds.Kind.TheVariants.{Subscribers, AddOns, Modems, Classes, Pools, Batches, Hubs, DevicePools}
 use Rattle.off_defs.specs.Keys.{key_cmp}
 use Rattle.off_defs.specs.State.{Tables}
 use Rattle.off_defs.specs.Tables.{row_at}
 use Rattle.off_defs.proofs.KeyLemmas.{key_total, key_exact}
 use Rattle.off_account_rules.specs.declared.counts.Counts.{Counts}
-use Rattle.off_account_rules.specs.Rows.{is_possible, count_of, counts_of, has_address, passes}
-use Rattle.off_account_rules.specs.Good.{raw_pool_of, raw_pools, raw_device_pool_of, raw_device_pools, raw_devices, device_pools_around, device_owner, is_owned_apart, stands_right, keeps, Judged, is_of_hubs, names_hubs, stored_hub, stored_hub_of, is_hub_there}
+use Rattle.off_account_rules.specs.Rows.{is_possible, count_of, counts_of, has_address, passes, devices}
+use Rattle.off_account_rules.specs.Good.{raw_pool_of, raw_pools, raw_device_pool_of, raw_device_pools, device_pools_around, device_owner, is_owned_apart, stands_right, keeps, Judged, is_of_hubs, names_hubs, stored_hub, stored_hub_of, is_hub_there}
 use Rattle.off_outside.specs.declared.keeper.KeepErr.{KeepErr}
 use Rattle.off_outside.specs.declared.keeper.KeepErr.TheVariants as keep
 use Rattle.off_outside.specs.KeeperSeen.{KeeperSeen}
@@ -137,11 +137,11 @@ all_pass [] = refl
 all_pass (d ∷ ds) = all_pass ds
 
 -- a device has no other lease where it hasn't several
-sole_by : (t : Tables) (a : Ip4) (lease : DeviceLease) (owner : Option (Mac × Mac)) → device_owner lease.hold ≡ owner → Among (key.Device a, row.Device lease) (map_of.entries t) → is_sole t owner ≡ list_all (is_owned_apart a owner) (raw_devices t)
-sole_by t a lease None is among = sym (all_pass (raw_devices t))
+sole_by : (t : Tables) (a : Ip4) (lease : DeviceLease) (owner : Option (Mac × Mac)) → device_owner lease.hold ≡ owner → Among (key.Device a, row.Device lease) (map_of.entries t) → is_sole t owner ≡ list_all (is_owned_apart a owner) (devices t)
+sole_by t a lease None is among = sym (all_pass (devices t))
 sole_by t a lease (Some owner) is among = sym (sole_in a owner lease is (map_of.entries t) (map_of.entries_sorted t) among)
 
-sole : (t : Tables) (a : Ip4) (lease : DeviceLease) → Among (key.Device a, row.Device lease) (map_of.entries t) → is_sole t (device_owner lease.hold) ≡ list_all (is_owned_apart a (device_owner lease.hold)) (raw_devices t)
+sole : (t : Tables) (a : Ip4) (lease : DeviceLease) → Among (key.Device a, row.Device lease) (map_of.entries t) → is_sole t (device_owner lease.hold) ≡ list_all (is_owned_apart a (device_owner lease.hold)) (devices t)
 sole t a lease among = sole_by t a lease (device_owner lease.hold) refl among
 
 stands : (t : Tables) (k : Key) (r : Row) → Among (k, r) (map_of.entries t) → tie_stands t k (tie_of r) ≡ stands_right t k r

@@ -7,7 +7,7 @@ use Rattle.off_defs.specs.declared.keys.Key.TheVariants as key
 use Rattle.off_defs.specs.declared.tables.Row.{Row}
 use Rattle.off_defs.specs.declared.tables.Row.TheVariants as row
 use Rattle.off_defs.specs.declared.tables.Pool.{Pool}
-use Rattle.off_defs.specs.declared.orders.Kind.{Kind}
+use Rattle.off_defs.specs.declared.kinds.Kind.{Kind}
 use Rattle.off_defs.specs.State.{Tables}
 use Rattle.off_account_rules.specs.Rows.{is_possible, is_of_kind}
 use Rattle.off_account_rules.specs.Good.{owner_of, device_owner}

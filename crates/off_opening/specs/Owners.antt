@@ -6,8 +6,8 @@ use Rattle.std.specs.declared.cmp.Ordering.{Ordering}
 use Rattle.std.specs.BTreeSet.{BTreeSet, contains}
 use Rattle.off_base.specs.declared.macs.Mac.{Mac}
 use Rattle.off_defs.specs.State.{Tables}
-use Rattle.off_account_rules.specs.Rows.{passes}
-use Rattle.off_account_rules.specs.Good.{is_same_owner, device_owner, raw_devices}
+use Rattle.off_account_rules.specs.Rows.{passes, devices}
+use Rattle.off_account_rules.specs.Good.{is_same_owner, device_owner}
 use Rattle.off_opening.specs.declared.marks.Mark.{Mark}
 use Rattle.off_opening.specs.declared.owners.Owners.{Owners}
 use Rattle.off_opening.specs.Marks.{marked_owner}
@@ -30,7 +30,7 @@ count_marked_owner q marks = count_by (λ mark. is_owner q (marked_owner mark)) 
 
 abbrev pub count_owner : Mac × Mac → Tables → ℕ
 count_owner q tables =
-    count_by (λ entry. is_owner q (device_owner entry.1.hold)) (raw_devices tables)
+    count_by (λ entry. is_owner q (device_owner entry.1.hold)) (devices tables)
 
 -- one more is among them
 abbrev pub IsAdded : Mac × Mac → BTreeSet (Mac × Mac) → BTreeSet (Mac × Mac) → Type 0

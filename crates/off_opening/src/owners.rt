@@ -68,7 +68,6 @@ fn note_owner(owners: &mut Owners, owner: Option<(Mac, Mac)>) -> Result<(), NoMe
 }
 
 /// Whether the device is one of them.
-
 pub(crate) fn has_owner(owners: &BTreeSet<(Mac, Mac)>, owner: (Mac, Mac)) -> bool
     ensures { result ≡ has_owner owners.now owner }
 {

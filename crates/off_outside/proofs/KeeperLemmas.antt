@@ -1,13 +1,14 @@
 -- Calls of a keeper in a row.
-use Rattle.std.proofs.Common.{◌≡◌, ℕ, ◌+◌, ◌<◌, ◌≤◌, ◌⊎◌, List, [], ◌∷◌, length, refl, ap, ◌∙◌, subst, inl, inr, arith}
+use Rattle.std.proofs.Common.{◌≡◌, ℕ, ◌+◌, ◌<◌, ◌≤◌, ◌⊎◌, List, [], ◌∷◌, length, refl, sym, ap, ◌∙◌, subst, inl, inr, arith}
+use mathlib.Core.Logic.{⊎_map}
 use Rattle.std.proofs.lemmas.Bool.{cases_lt}
-use Rattle.off_defs.specs.declared.orders.Write.{Write}
+use Rattle.off_defs.specs.declared.writes.Write.{Write}
 use Rattle.off_defs.specs.State.{Tables}
-use Rattle.off_defs.specs.Tables.{doubt_behind}
 use Rattle.off_defs.specs.Told.{Told, Stays}
 use Rattle.off_defs.specs.Counts.{Grew, Tallied, commits_after}
 use Rattle.off_defs.proofs.CountLemmas.{tallied_none}
 use Rattle.off_defs.proofs.ToldLemmas.{told_self}
+use Rattle.off_defs.proofs.TableLemmas.{doubt_more}
 use Rattle.off_outside.specs.declared.keeper.KeepErr.{KeepErr}
 use Rattle.off_outside.specs.declared.keeper.KeepErr.TheVariants.{Memory, Failed}
 use Rattle.off_outside.specs.KeeperSeen.{KeeperSeen, Rests}
@@ -164,56 +165,38 @@ unasked_stays p = record { each = λ t told. record { value = t; told = p.tables
 pub unasked_self : (a : KeeperSeen) → Unasked a a
 unasked_self a = record { tables = λ t told. told; quiet = quiet_self a; calls = refl }
 
--- what is open where nothing was begun is open where something may have been
-open_more : (P : Tables → Tables → Type 0) (t u : Tables) {old : Type 0} → (u ≡ t) ⊎ old → (u ≡ t) ⊎ (old ⊎ P t u)
-open_more P t u (inl same) = inl same
-open_more P t u (inr doubt) = inr (inl doubt)
-
 pub still_crash : {P : Tables → Tables → Type 0} {a b : KeeperSeen} → Rests a → Still a b → Crash P a b
 still_crash {P} {a} {b} rests still = record {
   later = still.later;
   past = still.past;
-  within = λ t told m u behind before opened. open_more P t u (rests t told u (still.within m u (omega arith) before opened));
+  within = λ t told m u behind before opened. ⊎_map (λ same. same) inl (rests t told u (still.within m u (omega arith) before opened));
   doubts = λ t told u doubt. inl (still.doubts u doubt);
 }
 
 -- a commit that may have been begun, as one of those that are allowed
-doubt_through : {old p q : Type 0} → (q → p) → old ⊎ q → old ⊎ p
-doubt_through more (inl doubt) = inl doubt
-doubt_through more (inr begun) = inr (more begun)
-
 pub crash_weaker : {P Q : Tables → Tables → Type 0} {a b : KeeperSeen} → Crash Q a b → ((t : Tables) → a.tables t → (u : Tables) → Q t u → P t u) → Crash P a b
 crash_weaker c more = record {
   later = c.later;
   past = c.past;
-  within = λ t told m u behind before opened. doubt_through (doubt_through (more t told u)) (c.within t told m u behind before opened);
-  doubts = λ t told u doubt. doubt_through (more t told u) (c.doubts t told u doubt);
+  within = λ t told m u behind before opened. ⊎_map (λ same. same) (⊎_map (λ doubt. doubt) (more t told u)) (c.within t told m u behind before opened);
+  doubts = λ t told u doubt. ⊎_map (λ doubt. doubt) (more t told u) (c.doubts t told u doubt);
 }
-
--- what was in doubt behind a reading was so before
-early_doubt : (P : Tables → Tables → Type 0) (t u : Tables) {old new : Type 0} → (new → old) → new ⊎ P t u → old ⊎ P t u
-early_doubt P t u before (inl doubt) = inl (before doubt)
-early_doubt P t u before (inr begun) = inr begun
-
-doubt_early : (writes : List Write) {old new : Type 0} → (new → old) → doubt_behind writes new → doubt_behind writes old
-doubt_early [] before doubt = before doubt
-doubt_early (write ∷ writes) before doubt = doubt
 
 -- a reading, then calls that may have begun something
 read_within : {P : Tables → Tables → Type 0} {Q : Tables → Type 0} {a b c : KeeperSeen} → Rests a → Reads Q a b → Crash P b c
     → (t : Tables) → a.tables t → (m : ℕ) (u : Tables) → a.moment < m → m ≤ c.moment → c.opened m u → (b.moment < m) ⊎ (m ≤ b.moment)
     → (u ≡ t) ⊎ (a.doubt u ⊎ P t u)
 read_within {P} rests reads crash t told m u behind before opened (inl second) =
-    doubt_through (early_doubt P t u (reads.quiet.still.doubts u)) (crash.within t (reads.tables t told).0 m u second before opened)
+    ⊎_map (λ same. same) (⊎_map (reads.quiet.still.doubts u) (λ begun. begun)) (crash.within t (reads.tables t told).0 m u second before opened)
 read_within {P} rests reads crash t told m u behind before opened (inr first) =
-    open_more P t u (rests t told u (reads.quiet.still.within m u (omega arith) first (crash.past m u first opened)))
+    ⊎_map (λ same. same) inl (rests t told u (reads.quiet.still.within m u (omega arith) first (crash.past m u first opened)))
 
 pub read_crash : {P : Tables → Tables → Type 0} {Q : Tables → Type 0} {a b c : KeeperSeen} → Rests a → Reads Q a b → Crash P b c → Crash P a c
 read_crash {P} {Q} {a} {b} {c} rests reads crash = record {
   later = omega (arith, reads.quiet.still.later, crash.later);
   past = λ m u before opened. reads.quiet.still.past m u before (crash.past m u (omega (arith, reads.quiet.still.later)) opened);
   within = λ t told m u behind before opened. read_within rests reads crash t told m u behind before opened (cases_lt b.moment m);
-  doubts = λ t told u doubt. early_doubt P t u (reads.quiet.still.doubts u) (crash.doubts t (reads.tables t told).0 u doubt);
+  doubts = λ t told u doubt. ⊎_map (reads.quiet.still.doubts u) (λ begun. begun) (crash.doubts t (reads.tables t told).0 u doubt);
 }
 
 -- a call that wasn't done, as one that may have begun something
@@ -231,9 +214,9 @@ not_begun_then {P} {Q} {err} {a} {b} {c} rests p q = record {
 }
 
 -- what an error has begun, as what is allowed
-begun_weaker : (err : KeepErr) (P Q : Tables → Tables → Type 0) (t u : Tables) → (P t u → Q t u) → begun_by err P t u → begun_by err Q t u
-begun_weaker Memory P Q t u more begun = begun
-begun_weaker Failed P Q t u more begun = more begun
+pub begun_weaker : (err : KeepErr) (P Q : Tables → Tables → Type 0) (v t u : Tables) → (P v u → Q t u) → begun_by err P v u → begun_by err Q t u
+begun_weaker Memory P Q v t u more begun = begun
+begun_weaker Failed P Q v t u more begun = more begun
 
 pub not_committed_as : {P Q : Tables → Tables → Type 0} {err : KeepErr} {a b : KeeperSeen} → NotCommitted P err a b
     → ((t : Tables) → a.tables t → (u : Tables) → P t u → Q t u) → NotCommitted Q err a b
@@ -242,7 +225,7 @@ not_committed_as {P} {Q} {err} p more = record {
   up = p.up;
   faults = p.faults;
   commits = p.commits;
-  crash = crash_weaker p.crash (λ t told u begun. begun_weaker err P Q t u (more t told u) begun);
+  crash = crash_weaker p.crash (λ t told u begun. begun_weaker err P Q t t u (more t told u) begun);
 }
 
 -- what was done behind a reading
@@ -253,5 +236,66 @@ settled_then {Q} {writes} {a} {b} {c} rests p q = record {
   faults = q.faults ∙ p.quiet.faults;
   commits = q.commits ∙ ap (commits_after writes) p.quiet.commits;
   crash = read_crash rests p q.crash;
-  doubts = λ t told u doubt. doubt_early writes (p.quiet.still.doubts u) (q.doubts t (p.tables t told).0 u doubt);
+  doubts = λ t told u doubt. doubt_more writes (p.quiet.still.doubts u) (q.doubts t (p.tables t told).0 u doubt);
+}
+
+-- a commit, and then calls that only read
+at_commit : {P : Tables → Tables → Type 0} {a b : KeeperSeen} → Rests a → Crash P a b → (t : Tables) → a.tables t → (u : Tables) → b.opened b.moment u
+    → (a.moment < b.moment) ⊎ (b.moment ≤ a.moment) → (u ≡ t) ⊎ (a.doubt u ⊎ P t u)
+at_commit {P} {a} {b} rests crash t told u opened (inl behind) = crash.within t told b.moment u behind (omega arith) opened
+at_commit {P} {a} {b} rests crash t told u opened (inr before) =
+    ⊎_map (λ same. same) inl (rests t told u (at_same a b.moment a.moment u (omega (arith, before, crash.later)) (crash.past b.moment u before opened)))
+
+within_still : {P : Tables → Tables → Type 0} {a b c : KeeperSeen} → Rests a → Crash P a b → Still b c → (t : Tables) → a.tables t → (m : ℕ) (u : Tables)
+    → a.moment < m → m ≤ c.moment → c.opened m u → (b.moment < m) ⊎ (m ≤ b.moment) → (u ≡ t) ⊎ (a.doubt u ⊎ P t u)
+within_still {P} {a} {b} rests crash still t told m u behind upto opened (inl second) =
+    at_commit rests crash t told u (still.within m u (omega arith) upto opened) (cases_lt a.moment b.moment)
+within_still rests crash still t told m u behind upto opened (inr first) = crash.within t told m u behind first (still.past m u first opened)
+
+pub crash_still : {P : Tables → Tables → Type 0} {a b c : KeeperSeen} → Rests a → Crash P a b → Still b c → Crash P a c
+crash_still {P} {a} {b} rests crash still = record {
+  later = omega (arith, crash.later, still.later);
+  past = λ m u before opened. crash.past m u before (still.past m u (omega (arith, before, crash.later)) opened);
+  within = λ t told m u behind upto opened. within_still rests crash still t told m u behind upto opened (cases_lt b.moment m);
+  doubts = λ t told u doubt. crash.doubts t told u (still.doubts u doubt);
+}
+
+-- what was done, and then a reading
+pub settled_read : {Q : Tables → Type 0} {writes : List Write} {a b c : KeeperSeen} → Rests a → Settled writes a b → Reads Q b c → Settled writes a c
+settled_read {Q} {writes} rests p q = record {
+  tables = record { each = λ t told. let g = p.tables.each t told in record { value = g.value; told = (q.tables g.value g.told).0; fits = g.fits } };
+  up = λ up. q.quiet.up (p.up up);
+  faults = q.quiet.faults ∙ p.faults;
+  commits = q.quiet.commits ∙ p.commits;
+  crash = crash_still rests p.crash q.quiet.still;
+  doubts = λ t told u doubt. p.doubts t told u (q.quiet.still.doubts u doubt);
+}
+
+-- Two commits: what the first leaves, and what the second would make of that.
+abbrev pub Between : (Tables → Tables → Type 0) → (Tables → Tables → Type 0) → (Tables → Tables → Type 0) → Tables → Tables → Type 0
+Between P Q R t v = P t v × ((u : Tables) → Q v u → R t u)
+
+doubt_both : {early doubt p q r : Type 0} → (doubt → early ⊎ p) → (q → r) → doubt ⊎ q → early ⊎ (p ⊎ r)
+doubt_both before more (inl doubt) = ⊎_map (λ early. early) inl (before doubt)
+doubt_both before more (inr begun) = inr (inr (more begun))
+
+second_or : (t v u : Tables) {early doubt p q r : Type 0} → ((u ≡ v) → p) → (doubt → early ⊎ p) → (q → r) → (u ≡ v) ⊎ (doubt ⊎ q) → (u ≡ t) ⊎ (early ⊎ (p ⊎ r))
+second_or t v u is before more (inl same) = inr (inr (inl (is same)))
+second_or t v u is before more (inr rest) = inr (doubt_both before more rest)
+
+both_within : {P Q R : Tables → Tables → Type 0} {a b c : KeeperSeen} → Crash P a b → Crash Q b c → Told a.tables b.tables (Between P Q R) → (t : Tables) → a.tables t
+    → (m : ℕ) (u : Tables) → a.moment < m → m ≤ c.moment → c.opened m u → (b.moment < m) ⊎ (m ≤ b.moment) → (u ≡ t) ⊎ (a.doubt u ⊎ (P t u ⊎ R t u))
+both_within {P} {Q} {R} p q mid t told m u behind upto opened (inl second) =
+    let g = mid.each t told in
+    second_or t g.value u (λ same. subst (λ (w : Tables). P t w) (sym same) g.fits.0) (p.doubts t told u) (g.fits.1 u) (q.within g.value g.told m u second upto opened)
+both_within p q mid t told m u behind upto opened (inr first) =
+    ⊎_map (λ same. same) (⊎_map (λ doubt. doubt) inl) (p.within t told m u behind first (q.past m u first opened))
+
+pub crash_both : {P Q R : Tables → Tables → Type 0} {a b c : KeeperSeen} → Crash P a b → Crash Q b c → Told a.tables b.tables (Between P Q R)
+    → Crash (λ t u. P t u ⊎ R t u) a c
+crash_both {P} {Q} {R} {a} {b} {c} p q mid = record {
+  later = omega (arith, p.later, q.later);
+  past = λ m u before opened. p.past m u before (q.past m u (omega (arith, before, p.later)) opened);
+  within = λ t told m u behind upto opened. both_within p q mid t told m u behind upto opened (cases_lt b.moment m);
+  doubts = λ t told u doubt. let g = mid.each t told in doubt_both (p.doubts t told u) (g.fits.1 u) (q.doubts g.value g.told u doubt);
 }

@@ -1,7 +1,7 @@
 -- What each call of a keeper does to each of its meanings.
 use Rattle.std.specs.Prelude.{◌≡◌, ℕ, ◌+◌, ◌<◌, ◌≤◌, ◌⊎◌, List, Result, MatchResult}
 use Rattle.std.specs.FinMap as map
-use Rattle.off_defs.specs.declared.orders.Write.{Write}
+use Rattle.off_defs.specs.declared.writes.Write.{Write}
 use Rattle.off_defs.specs.State.{Tables}
 use Rattle.off_defs.specs.Tables.{write_all, doubt_behind}
 use Rattle.off_defs.specs.Told.{Told}

@@ -8,13 +8,13 @@ use Rattle.off_packets.specs.Replies.{oack_packet, error_packet}
 use Rattle.off_packets.specs.declared.packets.Options.{Options}
 use Rattle.off_packets.specs.declared.faults.PacketFault.TheVariants as fault
 
-abbrev file_name : List ℕ
+abbrev pub file_name : List ℕ
 file_name = codes "02aabbccddee-82d91cd0f5ff2dc7.cm"
 
-abbrev plain : List ℕ
+abbrev pub plain : List ℕ
 plain = 0 ∷ 1 ∷ (file_name ++ 0 ∷ (codes "octet" ++ 0 ∷ []))
 
-abbrev asking : List ℕ → List ℕ
+abbrev pub asking : List ℕ → List ℕ
 asking size = plain ++ codes "blksize" ++ 0 ∷ (size ++ 0 ∷ [])
 
 request : packet_of (asking (codes "44")) ≡ Ok (Reads file_name (only_size 44))

@@ -1,2 +1,2 @@
 pub mod PacketLemmas
-mod Examples
+pub mod Examples

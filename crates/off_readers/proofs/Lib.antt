@@ -6,3 +6,4 @@ pub mod KindLemmas
 pub mod StepLemmas
 pub mod WalkLemmas
 pub mod ReadRules
+pub mod LooksLemmas

@@ -1,15 +1,13 @@
 -- Worked examples, evaluated: the definitions say what was meant.
-use Rattle.std.proofs.Common.{◌≡◌, [], ◌∷◌, refl, codes, negsuc, true, false}
+use Rattle.std.proofs.Common.{◌≡◌, [], ◌∷◌, refl, codes, negsuc}
 use Rattle.std.specs.Fmt.{digits}
 use Rattle.off_base.specs.Tree.{leaf}
 use Rattle.off_defs.specs.declared.keys.Key.TheVariants as key
 use Rattle.off_defs.specs.declared.tables.Row.TheVariants as row
 use Rattle.off_defs.specs.declared.tables.Hold.TheVariants.{Declined}
-use Rattle.off_defs.specs.declared.orders.Command.TheVariants.{Remove, Show}
 use Rattle.off_rows.specs.KeyBytes.{key_bytes}
 use Rattle.off_rows.specs.KeyText.{key_text_of}
 use Rattle.off_rows.specs.RowBytes.{row_bytes}
-use Rattle.off_rows.specs.Sound.{is_sound}
 
 -- the modem 02:aa:bb:cc:dd:ee holds 10.64.0.10
 held_key : key_bytes (key.Held (record { 0 = 2 ∷ 0xaa ∷ 0xbb ∷ 0xcc ∷ 0xdd ∷ 0xee ∷ [] })) ≡ 8 ∷ 2 ∷ 0xaa ∷ 0xbb ∷ 0xcc ∷ 0xdd ∷ 0xee ∷ []
@@ -32,15 +30,3 @@ add_on_row = refl
 add_on_text : key_text_of (key.AddOn 7 0) ≡ codes "add-on 7 0"
 unfolding digits
 add_on_text = refl
-
-lease_stays : is_sound (Remove (key.Lease (record { 0 = 1 }))) ≡ false
-lease_stays = refl
-
-hub_goes : is_sound (Remove (key.Hub 1)) ≡ true
-hub_goes = refl
-
-earlier_site_hidden : is_sound (Show key.Site) ≡ false
-earlier_site_hidden = refl
-
-lease_shown : is_sound (Show (key.Lease (record { 0 = 1 }))) ≡ true
-lease_shown = refl

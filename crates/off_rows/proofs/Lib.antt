@@ -2,6 +2,5 @@ pub mod BadLemmas
 mod Examples
 pub mod FieldLemmas
 pub mod KeyOrder
-pub mod RowLemmas
 pub mod RowFields
 pub mod Rows

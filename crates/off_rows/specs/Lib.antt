@@ -6,4 +6,3 @@ pub mod Laws
 pub mod Left
 pub mod Reading
 pub mod RowBytes
-pub mod Sound

@@ -1,11 +1,9 @@
-//! The one spelling of what the tables hold: keys, rows, and commands.
+//! The one spelling of what the tables hold: keys and rows.
 //!
 //! A key and a row have one list of bytes each, which a keeper stores. `decode` names the place of
-//! the first byte that can't be read. `key_text` is what the log says of a key, and `sound` tells
-//! whether a command may come from a clerk at all.
+//! the first byte that can't be read. `key_text` is what the log says of a key.
 #![tactic(auto)]
 
-mod bounds;
 mod devices;
 mod faults;
 mod fields;
@@ -14,7 +12,6 @@ mod laws;
 mod reading;
 mod writing;
 
-pub use bounds::sound;
 pub use faults::RowErr;
 pub use keys::{KeyBytes, decode_key, encode_key};
 pub use laws::{
@@ -23,9 +20,8 @@ pub use laws::{
 };
 pub use off_base::Secret;
 pub use off_defs::{
-    Batch, Class, Command, DeviceHold, DeviceLease, Hold, ImportKind, ImportRow, ImportRows, Key,
-    KeyText, Kind, Lease, Modem, Pool, Reply, Row, Rule, Site, Subscriber, Write, Writes, copy_row,
-    key_text,
+    Batch, Class, DeviceHold, DeviceLease, Hold, ImportKind, Key, KeyText, Lease, Modem, Pool, Row,
+    Site, Subscriber, Write, Writes, copy_row, key_text,
 };
 pub use reading::decode;
 pub use writing::encode;

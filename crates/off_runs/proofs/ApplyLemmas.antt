@@ -6,7 +6,7 @@ use Rattle.std.specs.List.{All, list_any}
 use Rattle.std.specs.FinMap.{nat_cmp-IsAntisymmetric}
 use Rattle.std.specs.FinMap.Entries as list
 use Rattle.std.specs.Ordering.{nat_cmp}
-use Rattle.off_defs.specs.declared.orders.Write.{Write}
+use Rattle.off_defs.specs.declared.writes.Write.{Write}
 use Rattle.off_defs.specs.declared.tables.Pool.{Pool}
 use Rattle.off_runs.specs.Runs.{in_pool}
 use Rattle.off_runs.specs.Held.{Ground, PoolHeld, heads, HasLeases, HasHub, KeepsPools}

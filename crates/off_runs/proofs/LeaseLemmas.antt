@@ -1,7 +1,7 @@
 -- What writes make of pools, of expiries and of hubs, one after another.
 use Rattle.std.proofs.Common.{◌≡◌, ℕ, zero, suc, ◌+◌, ◌==◌, Bool, true, false, cond, List, [], ◌∷◌, take, drop, Option, Some, None, refl, sym, ap, subst, ◌∙◌, arith}
 use Rattle.std.specs.List.{All, slice_get}
-use Rattle.off_defs.specs.declared.orders.Write.{Write}
+use Rattle.off_defs.specs.declared.writes.Write.{Write}
 use Rattle.off_defs.specs.declared.tables.Pool.{Pool}
 use Rattle.off_runs.specs.Runs.{in_pool}
 use Rattle.off_runs.specs.Held.{PoolHeld, head, expiry_at, HasLeases, HasHub}

@@ -12,3 +12,4 @@ pub mod SeenLemmas
 pub mod ReadLemmas
 pub mod LeastLemmas
 pub mod WalkLemmas
+pub mod OpenLemmas

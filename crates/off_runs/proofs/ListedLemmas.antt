@@ -1,12 +1,13 @@
 -- Pools in a list by number: what goes and what comes, by the place where the code looks.
-use Rattle.std.proofs.Common.{◌≡◌, ℕ, suc, ◌+◌, Bool, true, false, cond, not, ◌&&◌, ◌||◌, T, List, [], ◌∷◌, ◌++◌, take, drop, get_or, Some, None, refl, sym, ap, subst, ◌∙◌, arith}
+use Rattle.std.proofs.Common.{◌≡◌, ℕ, suc, ◌+◌, Bool, true, false, cond, not, ◌||◌, T, List, [], ◌∷◌, ◌++◌, take, drop, get_or, Some, None, refl, sym, ap, subst, ◌∙◌, arith}
 use Rattle.std.specs.List.{prefix_len, AllByRecursion, insert, remove, list_any}
-use Rattle.std.specs.Ordering.{nat_cmp, is_lt, is_gt, is_eq, eq_by_cmp}
-use Rattle.std.specs.declared.cmp.Ordering.{Ordering}
+use Rattle.std.specs.Ordering.{nat_cmp, is_gt, is_eq, eq_by_cmp}
 use Rattle.std.specs.declared.cmp.Ordering.TheVariants.{Less, Equal, Greater}
 use Rattle.std.specs.FinMap.Entries as list
 use Rattle.std.proofs.lemmas.Cmp.{nat_cmp_total}
 use Rattle.off_defs.specs.declared.tables.Pool.{Pool}
+use Rattle.off_defs.proofs.EntryLemmas.{first, second}
+use Rattle.off_defs.proofs.PlaceLemmas.{all_above}
 use Rattle.off_runs.specs.Held.{PoolHeld, head, heads}
 use Rattle.off_runs.specs.Shelf.{left_of, gone_of, is_first, placed}
 
@@ -123,40 +124,14 @@ placed_more t f (p ∷ ps) =
 
 -- ---- the heads are a map by number
 
-front : (a b : Bool) → T (a && b) → T a
-front true b p = tt
-front false b p = p
-
-rest : (a b : Bool) → T (a && b) → T b
-rest true b p = p
-rest false b p = absurd p
-
-less : (o : Ordering) → T (is_lt o) → o ≡ Less
-less Less p = refl
-less Equal p = absurd p
-less Greater p = absurd p
-
-lower : (k key : ℕ) (r : Ordering) → nat_cmp k key ≡ r → is_gt r ≡ false → (other : ℕ) → nat_cmp key other ≡ Less → nat_cmp k other ≡ Less
-lower k key Less is low other p = nat_cmp_total.trans k key other is p
-lower k key Equal is low other p = nat_cmp_total.congr k key other is ∙ p
-lower k key Greater is low other p = cc
-
-all_above : (k key : ℕ) (r : Ordering) → nat_cmp k key ≡ r → is_gt r ≡ false → (es : List (ℕ × Pool)) → T (list.below_all nat_cmp key es)
-    → list.where_key nat_cmp (λ x. not (eq_by_cmp nat_cmp k x)) es ≡ es
-all_above k key r is low [] h = refl
-all_above k key r is low (e ∷ es) h =
-    ap (λ o. cond (not (is_eq o)) (e ∷ list.where_key nat_cmp (λ x. not (eq_by_cmp nat_cmp k x)) es) (list.where_key nat_cmp (λ x. not (eq_by_cmp nat_cmp k x)) es))
-    (lower k key r is low e.0 (less (nat_cmp key e.0) (front (is_lt (nat_cmp key e.0)) (list.below_all nat_cmp key es) h)))
-    ∙ ap (λ (x : List (ℕ × Pool)). e ∷ x) (all_above k key r is low es (rest (is_lt (nat_cmp key e.0)) (list.below_all nat_cmp key es) h))
-
 pub heads_left : (n : ℕ) (ps : List PoolHeld) → T (list.is_sorted nat_cmp (heads ps)) → heads (left_of n ps) ≡ list.where_key nat_cmp (λ x. not (eq_by_cmp nat_cmp n x)) (heads ps)
 heads_left n [] s = refl
 heads_left n (p ∷ ps) s =
     elim (nat_cmp n p.number) as (λ r. nat_cmp n p.number ≡ r → heads (list.by_order r (p ∷ ps) ps (p ∷ left_of n ps))
     ≡ cond (not (is_eq r)) (head p ∷ list.where_key nat_cmp (λ x. not (eq_by_cmp nat_cmp n x)) (heads ps)) (list.where_key nat_cmp (λ x. not (eq_by_cmp nat_cmp n x)) (heads ps))) [
-      | Less ↦ λ r. ap (λ (x : List (ℕ × Pool)). head p ∷ x) (sym (all_above n p.number Less r refl (heads ps) (front (list.below_all nat_cmp p.number (heads ps)) (list.is_sorted nat_cmp (heads ps)) s)))
-      | Equal ↦ λ r. sym (all_above n p.number Equal r refl (heads ps) (front (list.below_all nat_cmp p.number (heads ps)) (list.is_sorted nat_cmp (heads ps)) s))
-      | Greater ↦ λ r. ap (λ (x : List (ℕ × Pool)). head p ∷ x) (heads_left n ps (rest (list.below_all nat_cmp p.number (heads ps)) (list.is_sorted nat_cmp (heads ps)) s))
+      | Less ↦ λ r. ap (λ (x : List (ℕ × Pool)). head p ∷ x) (sym (all_above nat_cmp n nat_cmp_total p.number Less r refl (heads ps) (first _ _ s)))
+      | Equal ↦ λ r. sym (all_above nat_cmp n nat_cmp_total p.number Equal r refl (heads ps) (first _ _ s))
+      | Greater ↦ λ r. ap (λ (x : List (ℕ × Pool)). head p ∷ x) (heads_left n ps (second _ _ s))
     ] refl
 
 pub heads_placed : (f : PoolHeld) (ps : List PoolHeld) → list.find nat_cmp f.number (heads ps) ≡ None → heads (placed f ps) ≡ list.put nat_cmp f.number f.pool (heads ps)

@@ -1,10 +1,10 @@
 -- The pools of the tables are a map by number, and it's the one that is read.
-use Rattle.std.proofs.Common.{◌≡◌, ℕ, ◌<◌, ◌==◌, Bool, true, false, cond, ◌&&◌, T, List, [], ◌∷◌, Option, Some, None, is_some, option_and_then, refl, sym, ap, subst, ◌∙◌, arith}
-use Rattle.std.specs.List.{filter_map, cons_option, list_any}
+use Rattle.std.proofs.Common.{◌≡◌, ℕ, ◌<◌, ◌==◌, true, false, cond, T, Option, Some, None, is_some, option_and_then, refl, sym, ap, ◌∙◌, arith}
+use Rattle.std.specs.List.{list_any}
 use Rattle.std.specs.FinMap as map
 use Rattle.std.specs.FinMap.Entries as list
-use Rattle.std.specs.Ordering.{nat_cmp, is_lt}
-use Rattle.off_defs.proofs.EntryLemmas.{first, second}
+use Rattle.std.specs.Ordering.{nat_cmp}
+use Rattle.off_defs.proofs.ListingLemmas.{listed_sorted}
 use Rattle.off_defs.specs.declared.keys.Key.{Key}
 use Rattle.off_defs.specs.declared.keys.Key.TheVariants as key
 use Rattle.off_defs.specs.declared.tables.Row.{Row}
@@ -27,10 +27,6 @@ use Rattle.off_runs.specs.Runs.{address, in_pool}
 use Rattle.off_runs.specs.Leases.{expiry_of, LeasesMove}
 use Rattle.off_runs.proofs.WriteLemmas.{read_hub, pools_written, expiries_written, hubs_written}
 
-and_both : (a b : Bool) → T a → T b → T (a && b)
-and_both true b p q = q
-and_both false b p q = absurd p
-
 abbrev number_or : ℕ → Option (ℕ × Pool) → ℕ
 number_or d None = d
 number_or d (Some e) = e.0
@@ -45,31 +41,8 @@ number_of (key.Pool m) (row.Pool p) n pool e =
     elim (pool_fits p) as (λ b. fitting_pool b m p ≡ Some (n, pool) → key.Pool m ≡ key.Pool n) [ true ↦ λ f. let same : m ≡ n = ap (number_or m) f in ap key.Pool same | false ↦ λ f. cc ] e
 number_of k held n pool e = cc
 
-below_made : (n : ℕ) (es : List (Key × Row)) → T (list.below_all key_cmp (key.Pool n) es) → T (list.below_all nat_cmp n (filter_map pool_of es))
-below_made n [] h = tt
-below_made n (e ∷ es) h =
-    let after = below_made n es (second _ _ h) in
-    elim (pool_of e) as (λ o. pool_of e ≡ o → T (list.below_all nat_cmp n (cons_option o (filter_map pool_of es)))) [
-      | None ↦ λ f. after
-      | Some p ↦ λ f.
-          let is : e.0 ≡ key.Pool p.0 = number_of e.0 e.1 p.0 p.1 f in
-          and_both (is_lt (nat_cmp n p.0)) (list.below_all nat_cmp n (filter_map pool_of es)) (subst (λ (k : Key). T (is_lt (key_cmp (key.Pool n) k))) is (first _ _ h)) after
-    ] refl
-
-sorted_made : (es : List (Key × Row)) → T (list.is_sorted key_cmp es) → T (list.is_sorted nat_cmp (filter_map pool_of es))
-sorted_made [] h = tt
-sorted_made (e ∷ es) h =
-    let after = sorted_made es (second _ _ h) in
-    elim (pool_of e) as (λ o. pool_of e ≡ o → T (list.is_sorted nat_cmp (cons_option o (filter_map pool_of es)))) [
-      | None ↦ λ f. after
-      | Some p ↦ λ f.
-          let is : e.0 ≡ key.Pool p.0 = number_of e.0 e.1 p.0 p.1 f in
-          and_both (list.below_all nat_cmp p.0 (filter_map pool_of es)) (list.is_sorted nat_cmp (filter_map pool_of es))
-          (below_made p.0 es (subst (λ (k : Key). T (list.below_all key_cmp k es)) is (first _ _ h))) after
-    ] refl
-
 pub pools_sorted : (t : Tables) → T (list.is_sorted nat_cmp (pools t))
-pools_sorted t = sorted_made (map.entries t) (map.entries_sorted t)
+pools_sorted t = listed_sorted key_cmp pool_of key.Pool (λ e n pool is. number_of e.0 e.1 n pool is) (map.entries t) (map.entries_sorted t)
 
 abbrev read_pool : ℕ → Option Row → Option Pool
 read_pool n o = option_and_then as_pool (possible (key.Pool n) o)

@@ -74,8 +74,8 @@ impl FreeRuns {
     /// The pools of a keeper's tables, each with its hub and with the leases of its addresses, at
     /// moment 0. A row that no pool, lease or pool's hub may have is passed over.
     ///
-    /// It walks over the pools, over the leases and over the pools' hubs, and commits nothing. After an error there is
-    /// nothing; `Failed` comes only where the keeper counted a fault.
+    /// It walks over the pools, over the leases and over the pools' hubs, and commits nothing. After
+    /// an error there is nothing; `Failed` comes only where the keeper counted a fault.
     pub fn of<K: Keeper>(alloc: Global, keeper: &mut K) -> Result<FreeRuns, KeepErr>
         ensures told { Looks result (K.seen keeper.old) (K.seen keeper.new)
             (λ runs t. StandsFor runs (ground t) 0) }
@@ -137,8 +137,8 @@ impl FreeRuns {
         self.moment = now;
     }
 
-    /// Takes writes that were done: pools first, then leases, and then pools' hubs. There is room in
-    /// hand for each pool that is put.
+    /// Takes writes that were done: pools first, then leases, and then pools' hubs. There is room
+    /// in hand for each pool that is put.
     pub fn apply(&mut self, writes: &Writes)
         requires { pool_puts writes.now ≤ self.old.spare }
         ensures keeps { (g : Ground) (h : Ground) (by : ℕ → Option Pool) → Moves writes.now by g h
@@ -264,8 +264,8 @@ impl FreeRuns {
         self.least_at(place_numbered(&self.pools, number))
     }
 
-    /// The least free address of the pool behind a relay, or `None` where it has none, or there's no
-    /// such pool.
+    /// The least free address of the pool behind a relay, or `None` where it has none, or there's
+    /// no such pool.
     pub fn least_behind(&self, relay: Ip4) -> Option<Ip4>
         ensures { (g : Ground) (pool : Pool) → KeepsPools self.now.pools g
             → option_map (λ e. e.1) (find (λ e. e.1.relay.0 == relay.0) g.pools) ≡ Some pool

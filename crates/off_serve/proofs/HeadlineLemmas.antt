@@ -1,7 +1,7 @@
 -- From the loop and the run's own line to the headline.
 use Rattle.std.proofs.Common.{◌≡◌, ◌≢◌, ℕ, ◌<◌, ◌⊎◌, List, [], All, Option, Some, MatchOption, refl, ap, ◌∙◌, subst, inl, inr, arith}
 use Rattle.off_defs.specs.Told.{Told}
-use Rattle.off_defs.specs.declared.orders.Write.{Write}
+use Rattle.off_defs.specs.declared.writes.Write.{Write}
 use Rattle.off_defs.specs.State.{Tables, State, Held, held_at_start, start, state_of}
 use Rattle.off_book.specs.Crashes.{Lasts}
 use Rattle.off_book.proofs.CrashLemmas.{lasts_run, lasts_doubt}

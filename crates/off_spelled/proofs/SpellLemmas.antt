@@ -8,7 +8,7 @@ use Rattle.off_defs.specs.declared.keys.Key.{Key}
 use Rattle.off_defs.specs.declared.keys.Key.TheVariants as key
 use Rattle.off_defs.specs.declared.tables.Row.{Row}
 use Rattle.off_defs.specs.declared.tables.Row.TheVariants.{Site, Subscriber, AddOn, Modem, Class, Pool, Lease, Held, Batch, PoolHub, Device}
-use Rattle.off_defs.specs.declared.orders.Write.{Write}
+use Rattle.off_defs.specs.declared.writes.Write.{Write}
 use Rattle.off_rows.specs.RowBytes.{IsOfKind}
 use Rattle.off_spelled.specs.RowKinds.{kind_at, row_kind}
 use Rattle.off_spelled.specs.Storable.{IsSpelled, AllSpelled}

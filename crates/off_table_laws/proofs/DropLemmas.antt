@@ -12,9 +12,9 @@ use Rattle.off_defs.specs.declared.keys.Key.TheVariants as key
 use Rattle.off_defs.specs.declared.tables.Row.{Row}
 use Rattle.off_defs.specs.declared.tables.Row.TheVariants as row
 use Rattle.off_defs.specs.declared.tables.Modem.{Modem}
-use Rattle.off_defs.specs.declared.orders.Write.TheVariants.{Drop}
+use Rattle.off_defs.specs.declared.writes.Write.TheVariants.{Drop}
 use Rattle.off_account_rules.specs.Rows.{is_possible, add_on_is_good}
-use Rattle.off_account_rules.specs.Clerk.{add_on_keys}
+use Rattle.off_account_rules.specs.Changes.{add_on_keys}
 use Rattle.off_table_laws.proofs.ListLemmas.{In}
 use Rattle.off_table_laws.proofs.Rows.{Rows, drop_row, rows_after}
 use Rattle.off_table_laws.proofs.GoodRows.{hub_there, hub_in_row, hub_at, GoodRows}

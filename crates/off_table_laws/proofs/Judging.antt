@@ -16,8 +16,8 @@ use Rattle.off_defs.specs.declared.tables.DeviceLease.{DeviceLease}
 use Rattle.off_defs.specs.State.{Tables}
 use Rattle.off_defs.specs.Tables.{row_at}
 use Rattle.off_defs.proofs.TableLemmas.{same_key, own_key}
-use Rattle.off_account_rules.specs.Rows.{passes, is_possible, has_address, overlaps, as_lease, as_held}
-use Rattle.off_account_rules.specs.Good.{is_address, is_there, raw_pool_of, raw_pools, raw_device_pool_of, raw_device_pools, raw_device_of, raw_devices, is_apart, is_disjoint, pools_around, device_pools_around, owner_of, device_owner, is_same_owner, is_owned_apart, pool_stands, device_pool_stands, is_mac, holds, owner_holds, owns, is_of_hubs, names_hubs, is_hub_there, stored_hub, stored_hub_of, stands_right, Opens}
+use Rattle.off_account_rules.specs.Rows.{passes, is_possible, has_address, overlaps, as_lease, as_held, device_of, devices}
+use Rattle.off_account_rules.specs.Good.{is_address, is_there, raw_pool_of, raw_pools, raw_device_pool_of, raw_device_pools, is_apart, is_disjoint, pools_around, device_pools_around, owner_of, device_owner, is_same_owner, is_owned_apart, pool_stands, device_pool_stands, is_mac, holds, owner_holds, owns, is_of_hubs, names_hubs, is_hub_there, stored_hub, stored_hub_of, stands_right, Opens}
 use Rattle.off_table_laws.proofs.ListLemmas.{In, Distinct, all_in, in_all, none_in, any_none, some_found, one_counted, counted_one, in_made, made_in, distinct_made}
 use Rattle.off_table_laws.proofs.EntryRows.{row_in, in_row, distinct_entries}
 use Rattle.off_table_laws.proofs.GoodRows.{OnePool, OnePoolOf, OwnedBy, DevicesStand, hub_at, GoodRows}
@@ -53,7 +53,7 @@ raw_device_pool_made (key.DevicePool m) (row.Pool other) n pool e =
     (ap (λ (p : ℕ × Pool). key.DevicePool p.0) pair, ap (λ (p : ℕ × Pool). row.Pool p.1) pair)
 raw_device_pool_made q held n pool e = cc
 
-raw_device_made : (q : Key) (held : Row) (address : Ip4) (lease : DeviceLease) → raw_device_of (q, held) ≡ Some (address, lease) → (q ≡ key.Device address) × (held ≡ row.Device lease)
+raw_device_made : (q : Key) (held : Row) (address : Ip4) (lease : DeviceLease) → device_of (q, held) ≡ Some (address, lease) → (q ≡ key.Device address) × (held ≡ row.Device lease)
 raw_device_made (key.Device other) (row.Device own) address lease e =
     let pair : (other, own) ≡ (address, lease) = cc in
     (ap (λ (p : Ip4 × DeviceLease). key.Device p.0) pair, ap (λ (p : Ip4 × DeviceLease). row.Device p.1) pair)
@@ -71,11 +71,11 @@ device_pool_in_raw t = row_listed raw_device_pool_of key.DevicePool row.Pool (λ
 pub raw_in_device_pool : (t : Tables) (n : ℕ) (pool : Pool) → In (n, pool) (raw_device_pools t) → row_at t (key.DevicePool n) ≡ Some (row.Pool pool)
 raw_in_device_pool t = listed_row raw_device_pool_of key.DevicePool row.Pool (λ n pool. refl) raw_device_pool_made t
 
-pub device_in_raw : (t : Tables) (address : Ip4) (lease : DeviceLease) → row_at t (key.Device address) ≡ Some (row.Device lease) → In (address, lease) (raw_devices t)
-device_in_raw t = row_listed raw_device_of key.Device row.Device (λ address lease. refl) raw_device_made t
+pub device_in_raw : (t : Tables) (address : Ip4) (lease : DeviceLease) → row_at t (key.Device address) ≡ Some (row.Device lease) → In (address, lease) (devices t)
+device_in_raw t = row_listed device_of key.Device row.Device (λ address lease. refl) raw_device_made t
 
-pub raw_in_device : (t : Tables) (address : Ip4) (lease : DeviceLease) → In (address, lease) (raw_devices t) → row_at t (key.Device address) ≡ Some (row.Device lease)
-raw_in_device t = listed_row raw_device_of key.Device row.Device (λ address lease. refl) raw_device_made t
+pub raw_in_device : (t : Tables) (address : Ip4) (lease : DeviceLease) → In (address, lease) (devices t) → row_at t (key.Device address) ≡ Some (row.Device lease)
+raw_in_device t = listed_row device_of key.Device row.Device (λ address lease. refl) raw_device_made t
 
 -- one pool is around an address
 module _ (give : Key × Row → Option (ℕ × Pool)) (place : ℕ → Key) (gives : (n : ℕ) (pool : Pool) → give (place n, row.Pool pool) ≡ Some (n, pool))
@@ -238,9 +238,9 @@ device_pool_line t g n pool e =
     (and_parts (is_possible (key.DevicePool n) (row.Pool pool)) (device_pool_stands t n pool) (g (key.DevicePool n) (row.Pool pool) e)).1).0
 
 device_line : (t : Tables) → Opens t → (address : Ip4) (lease : DeviceLease) → row_at t (key.Device address) ≡ Some (row.Device lease)
-    → (device_pools_around t address ≡ 1) × (list_all (is_owned_apart address (device_owner lease.hold)) (raw_devices t) ≡ true)
+    → (device_pools_around t address ≡ 1) × (list_all (is_owned_apart address (device_owner lease.hold)) (devices t) ≡ true)
 device_line t g address lease e =
-    let all = and_parts (eqb (device_pools_around t address) 1) (list_all (is_owned_apart address (device_owner lease.hold)) (raw_devices t)) (g (key.Device address) (row.Device lease) e) in
+    let all = and_parts (eqb (device_pools_around t address) 1) (list_all (is_owned_apart address (device_owner lease.hold)) (devices t)) (g (key.Device address) (row.Device lease) e) in
     (eqb-true (device_pools_around t address) 1 all.0, all.1)
 
 devices_stand : (t : Tables) → Opens t → DevicesStand (row_at t)
@@ -249,7 +249,7 @@ devices_stand t g = record {
   apart = λ n pool m other e f. all_in (is_apart n pool) (raw_device_pools t) (device_pool_line t g n pool e) (m, other) (device_pool_in_raw t m other f);
   one_pool = λ address lease e. devices_around_one t address (device_line t g address lease e).0;
   one_address = λ one other lease left owner e f own also.
-      let said = all_in (is_owned_apart one (device_owner lease.hold)) (raw_devices t) (device_line t g one lease e).1 (other, left) (device_in_raw t other left f) in
+      let said = all_in (is_owned_apart one (device_owner lease.hold)) (devices t) (device_line t g one lease e).1 (other, left) (device_in_raw t other left f) in
       one_apart one (other, left) owner (ap (λ o. is_owned_apart one o (other, left)) (sym own) ∙ said) also;
 }
 
@@ -293,7 +293,7 @@ good_tables t g q held e = and_from (is_possible q held) (stands_right t q held)
         (in_all (is_disjoint pool) (raw_pools t) (λ x i. not_from_false (overlaps pool x.1) (turned x.1 pool (g.devices.disjoint x.0 x.1 n pool (raw_in_pool t x.0 x.1 i) e))))
     right (key.Device address) (row.Device lease) e =
         and_from _ _ (eq-eqb _ _ (one_around_devices t address (g.devices.one_pool address lease e)))
-        (in_all (is_owned_apart address (device_owner lease.hold)) (raw_devices t) (λ x i. apart_one address (device_owner lease.hold) x
+        (in_all (is_owned_apart address (device_owner lease.hold)) (devices t) (λ x i. apart_one address (device_owner lease.hold) x
         (λ owner own also. g.devices.one_address address x.0 lease x.1 owner e (raw_in_device t x.0 x.1 i) own also)))
     right (key.Lease address) (row.Lease lease) e =
         let one = g.one_pool address lease e in

@@ -7,12 +7,7 @@ pub mod RowChanges
 pub mod PutLemmas
 pub mod DropLemmas
 pub mod PoolLemmas
-pub mod LostLeases
-pub mod DevicePools
 pub mod Reading
-pub mod ClerkSteps
-pub mod StepLaws
 pub mod MadeLemmas
 pub mod MigrationLemmas
 pub mod TableLaws
-pub mod Examples

@@ -12,7 +12,7 @@ use Rattle.off_defs.specs.Keys.{key_cmp}
 use Rattle.off_defs.proofs.TableLemmas.{same_key, own_key}
 use Rattle.off_account_rules.specs.Rows.{is_possible, has_address, overlaps, pool_fits}
 use Rattle.off_account_rules.specs.Good.{is_apart}
-use Rattle.off_account_rules.specs.Clerk.{gives_up}
+use Rattle.off_account_rules.specs.Changes.{gives_up}
 use Rattle.off_table_laws.proofs.Rows.{Rows}
 use Rattle.off_table_laws.proofs.GoodRows.{Has, OnePoolOf, hub_there, HubThere, hub_in_row, hub_at, GoodRows}
 

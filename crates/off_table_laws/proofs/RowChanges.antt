@@ -3,7 +3,7 @@ use Rattle.std.proofs.Common.{◌≡◌, true, false, cond, Some, None, is_some,
 use Rattle.std.specs.Ordering.{eq_by_cmp}
 use Rattle.off_defs.specs.declared.keys.Key.{Key}
 use Rattle.off_defs.specs.declared.tables.Row.{Row}
-use Rattle.off_defs.specs.declared.orders.Write.TheVariants.{Drop}
+use Rattle.off_defs.specs.declared.writes.Write.TheVariants.{Drop}
 use Rattle.off_defs.specs.Keys.{key_cmp}
 use Rattle.off_defs.proofs.TableLemmas.{same_key, own_key}
 use Rattle.off_account_rules.specs.Rows.{is_possible}

@@ -26,7 +26,7 @@ use Rattle.off_table_laws.proofs.PoolLemmas.{share}
 use Rattle.off_table_laws.proofs.Reading.{seen_row, modem_row, lease_row, held_row, pool_row, device_row, device_pool_row, row_lease, row_held, row_pool, row_device_pool, pools_raw, device_pools_raw}
 
 -- who owns a lease
-owned : (o : Option Lease) (mac : Mac) → option_and_then (λ (lease : Lease). owner_of lease.hold) o ≡ Some mac → (lease : Lease) × (o ≡ Some lease) × (owner_of lease.hold ≡ Some mac)
+pub owned : (o : Option Lease) (mac : Mac) → option_and_then (λ (lease : Lease). owner_of lease.hold) o ≡ Some mac → (lease : Lease) × (o ≡ Some lease) × (owner_of lease.hold ≡ Some mac)
 owned None mac e = cc
 owned (Some lease) mac e = (lease, refl, e)
 

@@ -1,5 +1,5 @@
--- Laws of good tables, and of what a clerk's command makes of them.
-use Rattle.std.specs.Prelude.{◌≡◌, ℕ, Bool, true, IsTrue, nat_le, List, length, Option, Some, IsSome, None, option_and_then, Err, ◌↔◌}
+-- Laws of good tables.
+use Rattle.std.specs.Prelude.{◌≡◌, ℕ, IsTrue, List, Option, Some, IsSome, None, option_and_then, ◌↔◌}
 use Rattle.off_base.specs.declared.addresses.Ip4.{Ip4}
 use Rattle.off_base.specs.declared.macs.Mac.{Mac}
 use Rattle.off_base.specs.Tree.{Tree}
@@ -8,35 +8,11 @@ use Rattle.off_defs.specs.declared.tables.Modem.{Modem}
 use Rattle.off_defs.specs.declared.tables.Pool.{Pool}
 use Rattle.off_defs.specs.declared.tables.Lease.{Lease}
 use Rattle.off_defs.specs.declared.tables.DeviceLease.{DeviceLease}
-use Rattle.off_defs.specs.declared.orders.Command.{Command}
-use Rattle.off_defs.specs.declared.orders.Command.TheVariants.{PutHub}
 use Rattle.off_defs.specs.State.{Tables}
 use Rattle.off_defs.specs.Tables.{row_at}
-use Rattle.off_rows.specs.Sound.{is_sound}
 use Rattle.off_account_rules.specs.Rows.{has_address, seen_at, hub_of, site_of, pool_hub_in, subscriber_in, add_on_in, modem_in, class_in, pool_in, lease_in, held_in, pools, device_pool_in, device_in, device_pools, devices}
 use Rattle.off_account_rules.specs.Good.{owner_of, device_owner, raw_pools, raw_device_pools, Opens, Good, IsLeastBad, Judged}
 use Rattle.off_account_rules.specs.Migration.{migrated}
-use Rattle.off_account_rules.specs.Clerk.{Refusal, clerk_step}
-
--- A site's secret has at most 64 bytes, by its type. But a law ranges over lists of any length, and
--- no rule of a command refuses a longer one, so the law of steps has this as a premise.
-abbrev pub secret_fits : Command → Bool
-secret_fits (PutHub n site) = nat_le (length site.secret) 64
-secret_fits command = true
-
--- what a command leaves of good tables is good
-abbrev pub StepKeepsGood : Type 0
-StepKeepsGood =
-    (tables : Tables) (now : ℕ) (command : Command) → IsTrue (is_sound command) →
-    IsTrue (secret_fits command) → Good tables
-    → Good (clerk_step tables now command).tables
-
--- a command that is refused changes no table
-abbrev pub RefusedChangesNothing : Type 0
-RefusedChangesNothing =
-    (tables : Tables) (now : ℕ) (command : Command) (refused : Refusal) →
-    (clerk_step tables now command).answer ≡ Err refused
-    → (clerk_step tables now command).tables ≡ tables
 
 -- the modem that owns the lease of an address
 abbrev pub owner_in : Tables → Ip4 → Option Mac

@@ -1,25 +1,13 @@
-//! Laws of good tables and of what a clerk's command makes of them, over the definitions alone.
+//! Laws of good tables, over the definitions alone.
 //! Each function here does nothing: its contract is the law.
 #![tactic(auto)]
 
-ghost use Rattle.off_table_laws.specs.Laws.{StepKeepsGood, RefusedChangesNothing, OneLeaseAModem};
+ghost use Rattle.off_table_laws.specs.Laws.{OneLeaseAModem};
 ghost use Rattle.off_table_laws.specs.Laws.{OwnersHold, PoolsAreApart, ModemsStand, AddOnsStand};
 ghost use Rattle.off_table_laws.specs.Laws.{LeasesStand, OpeningHaveNoBadKey, OneJudgement};
 ghost use Rattle.off_table_laws.specs.Laws.{SeenAsTheyStand, HubOfPool, MigratedAreGood, GoodStay};
 ghost use Rattle.off_table_laws.specs.Laws.{MigrationKeepsLeases, OneAddressADevice};
 ghost use Rattle.off_table_laws.specs.Laws.{DevicesLieInAPool, PoolsHaveNoDevices};
-
-/// What a clerk's command leaves of good tables is good, for each command that is sound, an import
-/// too. The premise that a new site's secret has at most 64 bytes holds of each site that a program
-/// has, by the secret's type.
-pub fn a_step_keeps_good_tables()
-    ensures { StepKeepsGood }
-{}
-
-/// A command that is refused changes no table.
-pub fn a_refused_command_changes_nothing()
-    ensures { RefusedChangesNothing }
-{}
 
 /// In good tables a modem owns the lease of one address at most.
 pub fn a_modem_owns_one_lease()
@@ -51,8 +39,8 @@ pub fn an_address_has_its_pools_hub()
     ensures { HubOfPool }
 {}
 
-/// In good tables the hub of a lease's address has its site, and the address lies in one pool, in no
-/// other.
+/// In good tables the hub of a lease's address has its site, and the address lies in one pool, in
+/// no other.
 pub fn a_lease_lies_in_one_pool()
     ensures { LeasesStand }
 {}
@@ -82,8 +70,8 @@ pub fn good_tables_stay()
     ensures { GoodStay }
 {}
 
-/// Pools, their hubs' numbers, leases and who holds them are the same after the migration as before,
-/// and so are the pools for devices and the leases of devices.
+/// Pools, their hubs' numbers, leases and who holds them are the same after the migration as
+/// before, and so are the pools for devices and the leases of devices.
 pub fn the_migration_keeps_leases()
     ensures { MigrationKeepsLeases }
 {}
@@ -98,7 +86,8 @@ pub fn tables_have_one_judgement()
     ensures { OneJudgement }
 {}
 
-/// In good tables each row is read as it stands, and the pools of either kind that are read are all.
+/// In good tables each row is read as it stands, and the pools of either kind that are read are
+/// all.
 pub fn good_tables_are_seen_as_they_stand()
     ensures { SeenAsTheyStand }
 {}

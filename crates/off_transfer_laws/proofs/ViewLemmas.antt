@@ -3,7 +3,6 @@ use Rattle.std.proofs.Common.{◌≡◌, ℕ, ◌<◌, Bool, true, false, cond, 
 use Rattle.std.proofs.lemmas.Bool.{leb-false, lt-leb, eqb-true, eq-eqb, and_parts, and_from}
 use Rattle.std.proofs.lemmas.Slice.Eq.{bytes_eq-Decides}
 use Rattle.off_defs.specs.declared.keys.Key.TheVariants as key
-use Rattle.off_defs.proofs.TableLemmas.{same_key, own_key}
 use Rattle.off_table_laws.proofs.TableLaws.{modems_stand}
 use Rattle.off_transfer_rules.specs.Steps.{has_file}
 use Rattle.off_base.specs.Tree.{Tree}
@@ -28,6 +27,7 @@ use Rattle.off_file_laws.proofs.LawLemmas.{file_is_there}
 use Rattle.off_lease_rules.specs.Free.{has_ended}
 use Rattle.off_transfer_rules.specs.View.{View, owner_by, view, bound_to, holder, agrees, is_own_name, is_of_subscriber, IsBuiltBy}
 use Rattle.off_transfer_laws.specs.Agreement.{Agreement}
+use Rattle.off_table_laws.proofs.Judging.{mac_same, mac_own}
 
 -- what is built of one view is one file
 pub built_is_one : (v : View) (now : ℕ) (ip : Ip4) (file other : List ℕ) → IsBuiltBy v now ip file → IsBuiltBy v now ip other → file ≡ other
@@ -68,12 +68,6 @@ pub held_of : (v : View) (now : ℕ) (mac : Mac) → holder now v ≡ Some mac �
 held_of v now mac e = held_at_lease now v.lease mac e
 
 -- ---- a view's rows are those of the tables
-
-mac_same : (mac other : Mac) → is_mac mac other ≡ true → mac ≡ other
-mac_same mac other e = let k : key.Modem mac ≡ key.Modem other = same_key (key.Modem mac) (key.Modem other) e in cc
-
-mac_own : (mac : Mac) → is_mac mac mac ≡ true
-mac_own mac = own_key (key.Modem mac)
 
 pub passes_some : {X : Type 0} (test : X → Bool) (o : Option X) → passes test o ≡ true → (x : X) × (o ≡ Some x) × (test x ≡ true)
 passes_some test None e = cc

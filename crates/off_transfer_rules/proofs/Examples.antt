@@ -21,17 +21,9 @@ use Rattle.off_transfer_rules.specs.Steps.{Denies, Repeats, Accepts, Ignores, Fi
 use Rattle.off_transfer_rules.specs.Ticks.{tick_of, is_resent}
 use Rattle.off_transfer_rules.specs.Words.{tftp_line, tick_line}
 use Rattle.off_transfer_rules.specs.declared.words.TftpWord.TheVariants as word
+use Rattle.off_packets.proofs.Examples.{file_name, plain, asking}
 
 -- ---- a request, and how large its blocks are
-
-abbrev file_name : List ℕ
-file_name = codes "02aabbccddee-82d91cd0f5ff2dc7.cm"
-
-abbrev plain : List ℕ
-plain = 0 ∷ 1 ∷ (file_name ++ 0 ∷ (codes "octet" ++ 0 ∷ []))
-
-abbrev asking : List ℕ → List ℕ
-asking size = plain ++ codes "blksize" ++ 0 ∷ (size ++ 0 ∷ [])
 
 largest_served : size_for (only_size 65464) ≡ 1428
 largest_served = refl

@@ -1,13 +1,12 @@
 -- What a Tick does to a peer's transfer: its last packet goes again, or it is closed.
-use Rattle.std.proofs.Common.{◌≡◌, ℕ, Bool, true, false, cond, ◌&&◌, T, List, [], ◌∷◌, ◌++◌, Option, Some, None, MatchOption, refl, sym, ap, subst, ◌∙◌}
+use Rattle.std.proofs.Common.{◌≡◌, ℕ, Bool, true, false, cond, T, List, [], ◌∷◌, ◌++◌, Option, Some, None, MatchOption, refl, sym, ap, subst, ◌∙◌}
 use Rattle.std.proofs.lemmas.List.Elements.{filter_map-append}
 use Rattle.std.specs.List.{AllByRecursion, flat_map, cons_option}
 use Rattle.std.specs.FinMap as map
 use Rattle.std.specs.FinMap.Entries.{find, below_all, is_sorted}
-use Rattle.std.specs.Ordering.{eq_by_cmp, is_lt, is_eq}
-use Rattle.std.specs.declared.cmp.Ordering.{Ordering}
-use Rattle.std.specs.declared.cmp.Ordering.TheVariants.{Less, Equal, Greater}
+use Rattle.std.specs.Ordering.{eq_by_cmp}
 use Rattle.off_base.specs.declared.addresses.Peer.{Peer}
+use Rattle.off_defs.proofs.EntryLemmas.{none_below, first, second}
 use Rattle.off_defs.specs.declared.results.Sent.{Sent}
 use Rattle.off_defs.specs.State.{Transfer, peer_cmp}
 use Rattle.off_transfer_rules.specs.Transfers.{Transfers, last_packet, sent_again, packet_to}
@@ -23,27 +22,8 @@ use Rattle.off_transfer_runs.proofs.Turned.{IsAt, Stands, gone, stands, last_aga
 
 -- ---- an entry that stands below others is the only one of its peer
 
-front : (a b : Bool) → T (a && b) → T a
-front true b p = tt
-front false b p = absurd p
-
-behind : (a b : Bool) → T (a && b) → T b
-behind true b p = p
-behind false b p = absurd p
-
-less : (o : Ordering) → T (is_lt o) → is_eq o ≡ false
-less Less p = refl
-less Equal p = absurd p
-less Greater p = absurd p
-
 abbrev Lives : Type 0
 Lives = List (Peer × Transfer)
-
-none_below : (peer : Peer) (lives : Lives) → T (below_all peer_cmp peer lives) → find peer_cmp peer lives ≡ None
-none_below peer [] below = refl
-none_below peer (live ∷ lives) below =
-    ap (λ b. cond b (Some live.1) (find peer_cmp peer lives)) (less (peer_cmp peer live.0) (front (is_lt (peer_cmp peer live.0)) (below_all peer_cmp peer lives) below))
-    ∙ none_below peer lives (behind (is_lt (peer_cmp peer live.0)) (below_all peer_cmp peer lives) below)
 
 -- ---- what goes to a peer
 
@@ -93,7 +73,7 @@ module _ (peer : Peer) (now : ℕ) where
   lone_at x live lives true e is below rest =
       let here : live.1 ≡ x = cc in
       let tie : peer ≡ live.0 = same_peer peer live.0 e in
-      let none = none_below peer lives (subst (λ p. T (below_all peer_cmp p lives)) (sym tie) below) in
+      let none = none_below peer_cmp peer lives (subst (λ p. T (below_all peer_cmp p lives)) (sym tie) below) in
       subst (λ y. SendsLast y (packets_to peer (flat_map (tick_items now) (live ∷ lives)))) here (
         is_resent now live.1,
         parted live lives
@@ -111,8 +91,8 @@ module _ (peer : Peer) (now : ℕ) where
       → SendsLast x (packets_to peer (flat_map (tick_items now) lives))
   last_for [] x sorted is = cc
   last_for (live ∷ lives) x sorted is =
-      lone_at x live lives (eq_by_cmp peer_cmp peer live.0) refl is (front (below_all peer_cmp live.0 lives) (is_sorted peer_cmp lives) sorted)
-      (last_for lives x (behind (below_all peer_cmp live.0 lives) (is_sorted peer_cmp lives) sorted))
+      lone_at x live lives (eq_by_cmp peer_cmp peer live.0) refl is (first _ _ sorted)
+      (last_for lives x (second _ _ sorted))
 
   -- ---- what becomes of its transfer
 

@@ -3,10 +3,10 @@ ghost use Rattle.off_accounts.specs.Deciding.{is_import};
 
 use off_accounts::{AccountErr, Counts, Planned, decide, read_users};
 use off_base::Moment;
-use off_defs::{Command, Key, Reply, Row, Rule, Write, Writes};
+use off_defs::{Key, Row, Write, Writes};
 use off_keepmem::MemKeeper;
+use off_orders::{Command, Reply, Rule, sound};
 use off_outside::{Calls, Keeper};
-use off_rows::sound;
 use script_words::{Line, Unread, read_write};
 use std::alloc::Global;
 use std::test::Fail;

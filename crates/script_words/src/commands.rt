@@ -1,7 +1,8 @@
 use crate::entries::read_write;
 use crate::line::{Line, Unread};
 use crate::rows::read_key;
-use off_defs::{Command, Key, Row, Write};
+use off_defs::{Key, Row, Write};
+use off_orders::Command;
 use std::alloc::Global;
 
 /// Reads what a clerk wants done: `put ROW`, `remove KEY` or `show KEY`. Behind the row of a pool

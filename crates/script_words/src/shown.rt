@@ -2,9 +2,10 @@ use crate::page::Page;
 use crate::trees::show_settings;
 use off_base::NoMemory;
 use off_defs::{
-    Batch, Class, DeviceHold, DeviceLease, Hold, ImportKind, Key, Lease, Modem, Pool, Row,
-    ShownRow, Site, Subscriber, key_text,
+    Batch, Class, DeviceHold, DeviceLease, Hold, ImportKind, Key, Lease, Modem, Pool, Row, Site,
+    Subscriber, key_text,
 };
+use off_orders::ShownRow;
 
 /// Prints a key: its kind, and then its numbers or its address.
 pub fn show_key(page: &mut Page, key: &Key) -> Result<(), NoMemory> {

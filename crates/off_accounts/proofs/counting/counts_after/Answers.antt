@@ -1,7 +1,7 @@
 use Rattle.std.proofs.Common.{sym, ap, ◌∙◌}
 use Rattle.off_outside.proofs.KeeperLemmas.{reads_none}
-use Rattle.off_defs.specs.declared.orders.Command.TheVariants.{PutHub, PutSubscriber, PutAddOn, PutModem, PutClass, PutPool, PutDevicePool}
-use Rattle.off_rows.specs.Sound.{is_sound}
+use Rattle.off_orders.specs.declared.orders.Command.TheVariants.{PutHub, PutSubscriber, PutAddOn, PutModem, PutClass, PutPool, PutDevicePool}
+use Rattle.off_orders.specs.Sound.{is_sound}
 use Rattle.off_accounts.proofs.AfterLemmas.{counted_as, hub_put, subscriber_put, add_on_put, modem_put, class_put, pool_put, device_pool_put}
 use Rattle.off_accounts.proofs.counting.counts_after.Goals as goal
 

@@ -1,6 +1,6 @@
 use Rattle.std.proofs.Common.{subst, ap, ◌++◌, ◌∷◌, [], ◌∙◌}
 use Rattle.off_defs.specs.declared.keys.Key.{Key}
-use Rattle.off_defs.specs.declared.orders.Write.{Write}
+use Rattle.off_defs.specs.declared.writes.Write.{Write}
 use Rattle.off_accounts.specs.Imports.{Marked}
 use Rattle.off_accounts.proofs.ProgressLemmas.{is_put}
 use Rattle.off_accounts.proofs.progress.put_row.Goals as goal

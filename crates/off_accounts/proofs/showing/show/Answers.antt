@@ -1,6 +1,6 @@
 use Rattle.std.proofs.Common.{◌∙◌, sym, subst}
 use Rattle.off_defs.specs.declared.keys.Key.{Key}
-use Rattle.off_defs.specs.declared.orders.Command.TheVariants.{Show}
+use Rattle.off_orders.specs.declared.orders.Command.TheVariants.{Show}
 use Rattle.off_outside.specs.KeeperCalls.{Looks}
 use Rattle.off_accounts.specs.Deciding.{IsRuling}
 use Rattle.off_accounts.proofs.ShowLemmas.{is_pool}

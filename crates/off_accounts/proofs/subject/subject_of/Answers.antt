@@ -1,5 +1,5 @@
 use Rattle.std.proofs.Common.{sym, subst}
-use Rattle.off_defs.specs.declared.orders.Command.{Command}
+use Rattle.off_orders.specs.declared.orders.Command.{Command}
 use Rattle.off_outside.specs.KeeperCalls.{Looks}
 use Rattle.off_users.specs.Users.{StandsFor}
 use Rattle.off_accounts.specs.Tests.{IsSubject}

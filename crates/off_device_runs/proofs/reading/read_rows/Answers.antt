@@ -1,5 +1,5 @@
 use Rattle.std.proofs.Common.{◌++◌, List, ap, ◌∙◌}
-use Rattle.off_defs.specs.declared.orders.Write.{Write}
+use Rattle.off_defs.specs.declared.writes.Write.{Write}
 use Rattle.off_outside.proofs.KeeperLemmas.{reads_then}
 use Rattle.off_runs.proofs.WalkLemmas.{walks_once, walks_twice}
 use Rattle.off_device_runs.specs.Reading.{pools_put, leases_put}

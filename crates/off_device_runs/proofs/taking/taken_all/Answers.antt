@@ -2,7 +2,7 @@ use Rattle.std.proofs.Common.{[], ◌∷◌, ◌++◌, List, take, sym, ap, ◌�
 use Rattle.std.proofs.lemmas.List.Elements.{filter_map-append}
 use Rattle.std.specs.List.{cons_option}
 use Rattle.off_base.proofs.TreeLemmas.{taken}
-use Rattle.off_defs.specs.declared.orders.Write.{Write}
+use Rattle.off_defs.specs.declared.writes.Write.{Write}
 use Rattle.off_device_runs.specs.Ground.{taken_for, taken_all}
 use Rattle.off_device_runs.proofs.taking.taken_all.Goals as goal
 

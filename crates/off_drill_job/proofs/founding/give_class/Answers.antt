@@ -1,7 +1,7 @@
 use Rattle.std.proofs.Common.{ap, ◌∙◌, ◌∷◌, []}
 use Rattle.std.proofs.lemmas.Result.{err_from_is_err_and}
-use Rattle.off_defs.specs.declared.orders.Command.{Command}
-use Rattle.off_account_rules.specs.Clerk.{clerk_step}
+use Rattle.off_orders.specs.declared.orders.Command.{Command}
+use Rattle.off_orders.specs.Clerk.{clerk_step}
 use Rattle.off_drill_rules.specs.Rows.{begins_at, with_site, with_class}
 use Rattle.off_drill_job.specs.Founding.{put_class}
 use Rattle.off_drill_job.proofs.CommandLemmas.{class_step}

@@ -1,7 +1,7 @@
 use Rattle.std.proofs.Common.{◌≡◌, ◌∙◌, ◌+◌, ◌∷◌, [], true, List, length, ap, subst, sym, arith, length-append}
 use Rattle.std.specs.List.{list_all}
-use Rattle.off_defs.specs.declared.orders.ImportRow.{ImportRow}
-use Rattle.off_rows.specs.Sound.{is_row_of}
+use Rattle.off_orders.specs.declared.orders.ImportRow.{ImportRow}
+use Rattle.off_orders.specs.Sound.{is_row_of}
 use Rattle.off_import_rules.specs.Reading.{rows_of_records}
 use Rattle.off_import.specs.Records.{records_left}
 use Rattle.off_import.proofs.RecordLemmas.{on_found}

@@ -1,6 +1,6 @@
 use Rattle.std.proofs.Common.{◌≡◌, ◌+◌, true, length}
 use Rattle.std.specs.List.{list_all}
-use Rattle.off_rows.specs.Sound.{is_row_of}
+use Rattle.off_orders.specs.Sound.{is_row_of}
 use Rattle.off_import.specs.Records.{StandsBetween, records_left}
 use Rattle.off_import_rules.specs.Reading.{rows_of_records}
 use Rattle.off_import.proofs.RowLemmas.{rows_after}

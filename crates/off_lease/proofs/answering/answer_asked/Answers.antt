@@ -1,5 +1,5 @@
 use Rattle.std.proofs.Common.{List, None, sym, ap, ◌∙◌}
-use Rattle.off_defs.specs.declared.orders.Write.{Write}
+use Rattle.off_defs.specs.declared.writes.Write.{Write}
 use Rattle.off_outside.proofs.KeeperLemmas.{reads_none}
 use Rattle.off_lease_rules.specs.Steps.{lease_step_by}
 use Rattle.off_lease.proofs.CaseLemmas.{own_step, none_are_enough, rows_are_enough}

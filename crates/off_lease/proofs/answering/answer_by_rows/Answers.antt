@@ -8,7 +8,7 @@ use Rattle.off_lease_rules.specs.Steps.{lease_step, settled_in, refuses}
 use Rattle.off_lease_rules.specs.declared.results.LeaseStep.{LeaseStep}
 use Rattle.off_lease.specs.Stages.{knowing}
 use Rattle.off_lease.proofs.CaseLemmas.{rows_refuse, rows_accept, asked_pool, gathered_enough, both_enough}
-use Rattle.off_lease.proofs.StageLemmas.{looks_settled, looks_then}
+use Rattle.off_readers.proofs.LooksLemmas.{looks_settled, looks_then}
 use Rattle.off_lease.proofs.answering.answer_by_rows.Goals as goal
 
 pub returns-in-Some-clause-told : goal.returns-in-Some-clause-told

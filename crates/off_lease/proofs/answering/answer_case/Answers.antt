@@ -7,7 +7,7 @@ use Rattle.off_lease_rules.specs.Free.{chosen_in, pool_for}
 use Rattle.off_lease_rules.specs.Steps.{settled, settled_in}
 use Rattle.off_lease_rules.specs.declared.results.LeaseStep.{LeaseStep}
 use Rattle.off_lease.proofs.CaseLemmas.{case_answered}
-use Rattle.off_lease.proofs.StageLemmas.{looks_settled}
+use Rattle.off_readers.proofs.LooksLemmas.{looks_settled}
 use Rattle.off_lease.proofs.answering.answer_case.Goals as goal
 
 pub returns-clause-told : goal.returns-clause-told

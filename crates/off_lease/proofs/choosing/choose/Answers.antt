@@ -6,7 +6,7 @@ use Rattle.off_defs.specs.declared.tables.Pool.{Pool}
 use Rattle.off_asking.specs.Asking.{is_discover, at_address, named_address, claimed}
 use Rattle.off_lease_rules.specs.Free.{choice}
 use Rattle.off_lease.specs.Stages.{IsBehind}
-use Rattle.off_lease.proofs.PoolLemmas.{discovered}
+use Rattle.off_asking.proofs.PoolLemmas.{discovered}
 use Rattle.off_lease.proofs.choosing.choose.Goals as goal
 
 pub returns-in-Some-clause-is : goal.returns-in-Some-clause-is
@@ -19,7 +19,7 @@ returns-in-Some-clause-is c = λ t keeps served.
     let behind : IsBehind c.args.runs.now.pools c.giaddr.result pool t = record {
       keeps = keeps;
       found = ap (λ (n : ℕ). option_map (λ (e : ℕ × Pool). e.1) (find (λ (e : ℕ × Pool). e.1.relay.0 == n) (pools t))) c.giaddr.ensures
-          ∙ discovered m t pool d (sym c.in-Some.is ∙ served d);
+          ∙ discovered m (pools t) pool d (sym c.in-Some.is ∙ served d);
     } in
     c.choice.ensures t behind
     ∙ ap (λ (asked : Option Ip4). choice t now pool case.held asked) (c.at_address.ensures ∙ ap at_address c.address.ensures)

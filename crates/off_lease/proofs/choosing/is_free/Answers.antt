@@ -4,7 +4,7 @@ use Rattle.off_account_rules.specs.Rows.{has_address, pools}
 use Rattle.off_runs.specs.Runs.{is_open}
 use Rattle.off_runs.specs.Leases.{ground, expiry_in}
 use Rattle.off_lease.proofs.ChoiceLemmas.{open_is_free}
-use Rattle.off_lease.proofs.PoolLemmas.{free_there}
+use Rattle.off_runs.proofs.OpenLemmas.{free_there}
 use Rattle.off_lease.proofs.choosing.is_free.Goals as goal
 
 pub returns-then-has_address : goal.returns-then-has_address

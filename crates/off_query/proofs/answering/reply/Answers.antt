@@ -2,7 +2,8 @@ use Rattle.std.proofs.Common.{◌≡◌}
 use Rattle.off_defs.specs.State.{Tables}
 use Rattle.off_query_rules.specs.Answers.{settled, query_step}
 use Rattle.off_query_rules.specs.declared.results.QueryStep.{QueryStep}
-use Rattle.off_query.proofs.StageLemmas.{looks_settled, step_of_case}
+use Rattle.off_readers.proofs.LooksLemmas.{looks_settled}
+use Rattle.off_query.proofs.StageLemmas.{step_of_case}
 use Rattle.off_query.proofs.answering.reply.Goals as goal
 
 pub returns : goal.returns

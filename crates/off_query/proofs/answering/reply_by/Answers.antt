@@ -4,7 +4,8 @@ use Rattle.off_runs.specs.Held.{KeepsPools}
 use Rattle.off_runs.specs.Leases.{ground}
 use Rattle.off_query_rules.specs.Answers.{settled, query_step}
 use Rattle.off_query_rules.specs.declared.results.QueryStep.{QueryStep}
-use Rattle.off_query.proofs.StageLemmas.{looks_settled, step_of_case}
+use Rattle.off_readers.proofs.LooksLemmas.{looks_settled}
+use Rattle.off_query.proofs.StageLemmas.{step_of_case}
 use Rattle.off_query.proofs.answering.reply_by.Goals as goal
 
 pub returns-clause-told : goal.returns-clause-told

@@ -10,7 +10,8 @@ use Rattle.off_query_rules.specs.Answers.{case_at, query_case}
 use Rattle.off_query_rules.specs.declared.cases.QueryCase.{QueryCase}
 use Rattle.off_query_rules.specs.declared.questions.Question.{Question}
 use Rattle.off_query_rules.specs.declared.wanted.Wanted.TheVariants.{Relay}
-use Rattle.off_query.proofs.StageLemmas.{looks_as, case_by_hub}
+use Rattle.off_readers.proofs.LooksLemmas.{looks_as}
+use Rattle.off_query.proofs.StageLemmas.{case_by_hub}
 use Rattle.off_query.proofs.keeping.gather.Goals as goal
 
 pub returns-in-Some-clause-told : goal.returns-in-Some-clause-told

@@ -1,7 +1,7 @@
 use Rattle.std.proofs.Common.{ℕ, List, Option, sym, subst, arith}
 use Rattle.std.proofs.lemmas.List.{take_all}
 use Rattle.off_defs.specs.declared.tables.Pool.{Pool}
-use Rattle.off_defs.specs.declared.orders.Write.{Write}
+use Rattle.off_defs.specs.declared.writes.Write.{Write}
 use Rattle.off_runs.specs.Leases.{pools_after}
 use Rattle.off_runs.specs.Shelf.{Shelved}
 use Rattle.off_runs.proofs.LeaseLemmas.{pools_more, puts_left}

@@ -1,5 +1,5 @@
 use Rattle.std.proofs.Common.{List, None, sym, subst, ◌∙◌}
-use Rattle.off_defs.specs.declared.orders.Write.{Write}
+use Rattle.off_defs.specs.declared.writes.Write.{Write}
 use Rattle.off_outside.proofs.KeeperLemmas.{reads_as}
 use Rattle.off_runs.specs.Leases.{Moves}
 use Rattle.off_runs.specs.Reading.{no_ground}

@@ -1,25 +1,26 @@
-use Rattle.std.proofs.Common.{◌∙◌, Result, OnOk, ap, subst, sym}
-use Rattle.off_defs.specs.State.{Said}
-use Rattle.off_outside.specs.declared.keeper.KeepErr.{KeepErr}
-use Rattle.off_office.specs.Transferring.{SaysPacket}
+use Rattle.std.proofs.Common.{refl}
 use Rattle.off_office.specs.contracts.office.Office.{the_view}
-use Rattle.off_office.proofs.TransferLemmas.{packet_told, packet_not_told}
-use Rattle.off_office.proofs.office.Office.serve_packet.Goals.{in-Ok, in-Err}
+use Rattle.off_office.proofs.TransferLemmas.{packet_told, packet_moves, packet_says, packet_stays, packet_few}
 use Rattle.off_office.proofs.office.Office.serve_packet.Goals as goal
 
-pub returns-clause-told : goal.returns-clause-told
-returns-clause-told g c = elim c.match-on_datagram.branch [
-  | in-Ok w ↦
-      packet_told _ c.on_datagram.result w.in-Ok.word c.args.from c.args.bytes.now (the_view c.self.inside) c.args.self.now c.on_datagram.new.self c.on_datagram.new.kept
-      c.args.out.now c.on_datagram.new.out c.match-on_datagram.out c.hub_around-hub.result _ _ w.result-is w.in-Ok.is c.hub_around-hub.ensures c.on_datagram.ensures.told c.self.view_is c.requires
-      (w.out-is ∙ w.say_word.ensures)
-  | in-Err w ↦ packet_not_told _ c.on_datagram.result w.in-Err.err _ _ _ _ w.result-is w.in-Err.is c.on_datagram.ensures.told
-]
+pub returns-in-Ok-clause-told : goal.returns-in-Ok-clause-told
+returns-in-Ok-clause-told g c =
+    packet_told c.carry_packet.result _ (the_view c.self.inside) c.args.self.now c.carry_packet.new.self c.carry_packet.new.out c.in-Ok.decision _ _ c.self.view_is refl
+    c.hub_around.ensures c.in-Ok.ensures.told c.carry_packet.ensures.carried
 
-pub returns-clause-says : goal.returns-clause-says
-returns-clause-says g c = elim c.match-on_datagram.branch [
-  | in-Ok w ↦
-      subst (λ (r : Result (Unit {0}) KeepErr). OnOk r (SaysPacket c.match-on_datagram.out)) (sym w.result-is)
-      (record { word = w.in-Ok.word; says = ap (λ (s : Said). s.line) (w.out-is ∙ w.say_word.ensures) })
-  | in-Err w ↦ subst (λ (r : Result (Unit {0}) KeepErr). OnOk r (SaysPacket c.match-on_datagram.out)) (sym w.result-is) tt
-]
+pub returns-in-Ok-clause-moves : goal.returns-in-Ok-clause-moves
+returns-in-Ok-clause-moves g c =
+    packet_moves c.carry_packet.result c.args.from c.args.self.now c.carry_packet.new.self c.carry_packet.new.out c.in-Ok.decision c.carry_packet.ensures.carried
+
+pub returns-in-Ok-clause-says : goal.returns-in-Ok-clause-says
+returns-in-Ok-clause-says g c =
+    packet_says c.carry_packet.result c.args.from c.args.self.now c.carry_packet.new.self c.carry_packet.new.out c.in-Ok.decision c.carry_packet.ensures.carried
+
+pub returns-in-Ok-clause-kept : goal.returns-in-Ok-clause-kept
+returns-in-Ok-clause-kept g c =
+    packet_stays c.carry_packet.result c.args.from c.args.self.now c.carry_packet.new.self c.carry_packet.new.out c.in-Ok.decision c.carry_packet.ensures.carried
+
+pub returns-in-Ok-clause-few : goal.returns-in-Ok-clause-few
+returns-in-Ok-clause-few g c =
+    packet_few c.carry_packet.result (record { from = c.args.from; hub = c.hub_around.result; at = c.self.inside.now; bytes = c.args.bytes }) (the_view c.self.inside) c.args.self.now c.carry_packet.new.self c.carry_packet.new.out c.in-Ok.decision _ _ c.self.view_is refl
+    c.carry_packet.ensures.carried c.on_datagram.ensures.few c.on_datagram.ensures.few_before c.in-Ok.ensures.few_begun

@@ -1,5 +1,0 @@
-use Rattle.off_table_laws.proofs.StepLaws.{refused_changes_nothing}
-use Rattle.off_table_laws.proofs.a_refused_command_changes_nothing.Goals as goal
-
-pub returns : goal.returns
-returns c = refused_changes_nothing

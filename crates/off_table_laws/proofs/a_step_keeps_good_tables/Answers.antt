@@ -1,5 +1,0 @@
-use Rattle.off_table_laws.proofs.StepLaws.{step_keeps_good}
-use Rattle.off_table_laws.proofs.a_step_keeps_good_tables.Goals as goal
-
-pub returns : goal.returns
-returns c = step_keeps_good
