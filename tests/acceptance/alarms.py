@@ -12,7 +12,7 @@ import subprocess
 import sys
 import tempfile
 
-from harness import ROOT, check, failures, text_of
+from harness import ROOT, check, script, text_of
 from every_word import FAULTS, sections
 
 RULES = os.path.join(ROOT, "packaging", "prometheus-rules.yml")
@@ -84,9 +84,7 @@ def main():
     else:
         print("promtool: skipped, since it isn't here")
     print(f"{len(names)} alarms")
-    print(f"acceptance: {len(failures)} failed")
-    return 1 if failures else 0
 
 
 if __name__ == "__main__":
-    sys.exit(main())
+    sys.exit(script(main, needs_program=False))

@@ -10,8 +10,6 @@ That the office ends a connection whose peer doesn't end it 10 seconds behind it
 """
 import json
 import os
-import re
-import signal
 import socket
 import statistics
 import struct
@@ -19,7 +17,7 @@ import sys
 import tempfile
 import time
 
-from harness import PROGRAM, check, failures, free_ports, start
+from harness import check, free_ports, numbers_of, script, serving, written
 from harness.clerks import (ANN, DONE, ask, connect, is_open, read_to_end, reply, request,
                             wait_until_answering)
 from harness.told import SECRET
@@ -245,13 +243,7 @@ def is_live(peer):
 
 
 def judge(lines):
-    numbers = []
-    for line in lines:
-        form = re.fullmatch(rf"([0-9]+) http ({WORDS})", line)
-        check(form is not None, f"a line has its form: {line!r}")
-        if form:
-            numbers.append(int(form.group(1)))
-    check(numbers == sorted(set(numbers)), "the numbers of the lines rise")
+    numbers = numbers_of(lines, rf"http (?:{WORDS})")
     words = [line.split(" ", 2)[2] for line in lines if line.count(" ") > 1]
     check(words.count("wait") >= 100, "each piece of a request has a line")
     check(words.count("busy") == 0, "no connection is turned away")
@@ -269,26 +261,15 @@ def try_all(port):
 
 
 def main():
-    if not os.path.exists(PROGRAM):
-        print("officed isn't built: run bin/officed once")
-        return 1
     ports = free_ports()
     port = ports[3]
     with tempfile.TemporaryFile() as log:
-        program = start(ports, 10**9, log)
-        try:
+        with serving(ports, log) as program:
             check(wait_until_answering(port), "the office answers clerks")
             try_all(port)
             check(program.poll() is None, "the program goes on")
-        finally:
-            program.send_signal(signal.SIGTERM)
-            program.wait(timeout=10)
-        log.seek(0)
-        lines = log.read().decode().splitlines()
-        judge(lines)
-    print(f"acceptance: {len(failures)} failed")
-    return 1 if failures else 0
+        judge(written(log).decode().splitlines())
 
 
 if __name__ == "__main__":
-    sys.exit(main())
+    sys.exit(script(main))

@@ -18,15 +18,14 @@ import os
 import re
 import select
 import shutil
-import socket
 import subprocess
 import sys
 import tempfile
 import time
 import urllib.parse
 
-from harness import (PROGRAM, ROOT, check, failures, free_ports, loaded, start, stop, text_of,
-                     wait_for)
+from harness import ROOT, check, free_ports, is_built, loaded, script, serving, stop, text_of
+from harness.clerks import Clerk, is_heard, wait_until_answering
 from harness.told import SECRET
 from clerk_examples import people
 from store_reader import DEVICE_POOL, DEVICES, ROWS, made
@@ -82,24 +81,9 @@ class Browser:
         return (html.unescape(told[1]) if told else ""), text
 
 
-def is_heard(port):
-    end = time.monotonic() + 20
-    while time.monotonic() < end:
-        try:
-            socket.create_connection(("127.0.0.1", port), timeout=2).close()
-            return
-        except OSError:
-            time.sleep(0.05)
-
-
 def row(port, path):
     """A row as the office has it; None where it has none."""
-    held = http.client.HTTPConnection("127.0.0.1", port, timeout=10)
-    held.request("GET", path)
-    answer = held.getresponse()
-    text = answer.read()
-    held.close()
-    return json.loads(text) if answer.status == 200 else None
+    return Clerk(port, patience=10).row(path)
 
 
 def rows(browser, port):
@@ -461,12 +445,28 @@ def filled(page, port, folder):
         browser.end()
 
 
+def tried(desk, port, folder):
+    """The desk at one port, over the office at another."""
+    wait_until_answering(port)
+    is_heard(desk, seconds=20)
+    browser = Browser(desk)
+    rows(browser, port)
+    refused(browser)
+    others(browser)
+    imports(browser, port)
+    time.sleep(1)
+    lists(browser)
+    if CHROMIUM:
+        filled(desk, port, folder)
+    else:
+        print("a browser: skipped, since there is no chromium here")
+
+
 def main():
     settings()
     copies_and_counts()
     devices()
-    if not os.path.exists(PROGRAM):
-        print("officed isn't built: run bin/officed once")
+    if not is_built():
         return 1
     ports, desk = free_ports(), free_ports()[3]
     with tempfile.TemporaryDirectory() as folder:
@@ -474,29 +474,14 @@ def main():
         made(copy, [*ROWS, DEVICE_POOL, *DEVICES]).close()
         words = [DESK, "--office", f"http://127.0.0.1:{ports[3]}", "--copy", copy, "--lines", log,
                  "--port", str(desk)]
-        with open(log, "wb") as lines:
-            program = start(ports, 10**6, lines)
-        page = subprocess.Popen(words, stdout=subprocess.DEVNULL)
-        try:
-            wait_for(ports[3])
-            is_heard(desk)
-            browser = Browser(desk)
-            rows(browser, ports[3])
-            refused(browser)
-            others(browser)
-            imports(browser, ports[3])
-            time.sleep(1)
-            lists(browser)
-            if CHROMIUM:
-                filled(desk, ports[3], folder)
-            else:
-                print("a browser: skipped, since there is no chromium here")
-        finally:
-            stop(page)
-            stop(program)
-    print(f"acceptance: {len(failures)} failed")
-    return 1 if failures else 0
+        with open(log, "wb") as lines, serving(ports, lines):
+            page = subprocess.Popen(words, stdout=subprocess.DEVNULL)
+            try:
+                tried(desk, ports[3], folder)
+            finally:
+                stop(page)
+    return None
 
 
 if __name__ == "__main__":
-    sys.exit(main())
+    sys.exit(script(main, needs_program=False))

@@ -5,6 +5,7 @@ bin/modem boots three devices where two may be, and says who has which address, 
 end of a cable whose relay names the modem: it gets an address, renews it without the relay and gives it back. Where `unshare -rn` isn't allowed it says so and
 skips. It ends what it started, and takes some seconds.
 """
+import contextlib
 import os
 import re
 import select
@@ -16,10 +17,11 @@ import tempfile
 import threading
 import time
 
-from harness import PROGRAM, ROOT, check, failures, only_alone, start, stop
+from harness import ROOT, check, only_alone, said, script
 from harness import modems
-from harness.behind import CABLE, ROWS, Talk, addresses_of_lo, body_of, furnish, lines_of, mac_of
-from harness.modems import PORTS, RELAY, SERVER, clerk, ip, leases, port_of
+from harness.behind import CABLE, ROWS, Talk, addresses_of_lo, body_of, furnish, mac_of
+from harness.modems import PORTS, RELAY, SERVER, clerk, ip, leases, running
+from harness.network import port_of
 from real_clients import HOOK, found, told
 
 sys.dont_write_bytecode = True
@@ -53,24 +55,20 @@ def in_words():
     expected = [*has, f"device 3  {mac_of(LIMITED, 3).hex(':')}: no answer to its DISCOVER", *renewed, *gone, f"RELEASE   {ip(modems.FIRST)} is given back",
                 "FAILED    of 3 devices 2 have addresses"]
     for devices, more, wanted in ((3, ["--release"], (1, expected)), (2, [], (0, [*has, *renewed]))):
-        said = modem_boots(devices, *more)
-        check(said == wanted, f"bin/modem --devices {devices}: {said}, and not {wanted}")
+        found = modem_boots(devices, *more)
+        check(found == wanted, f"bin/modem --devices {devices}: {found}, and not {wanted}")
 
 
 def helper():
     with tempfile.TemporaryFile() as log:
-        program = start(PORTS, 10**9, log, {"OFFICED_UDP": SERVER})
-        try:
-            check(modems.is_ready(), "the program answers within some seconds")
+        with running(log):
             in_words()
-            clerk("GET", "/site")
-        finally:
-            stop(program)
+            clerk.ask("GET", "/site")
         are_of_the_form(log, f"{BOOTED}( cpe-limit){{3}}{RENEWED}( cpe-released){{2}} released{BOOTED}{RENEWED}", "bin/modem")
 
 
 def are_of_the_form(log, form, what):
-    words = "".join(f" {line.split(' ')[1]}" for line in lines_of(log))
+    words = "".join(f" {line.split(' ')[1]}" for line in said(log, "dhcp"))
     check(re.fullmatch(form, words), f"{what}: the office's words are{words}")
 
 
@@ -145,12 +143,10 @@ def udhcpc_lives(cable, folder):
 
 def real_client():
     with tempfile.TemporaryFile() as log, tempfile.TemporaryDirectory() as folder:
-        program = start(PORTS, 10**9, log, {"OFFICED_UDP": SERVER})
         talk = Talk(ROWS)
-        try:
-            check(modems.is_ready(), "the program answers within some seconds")
+        with running(log), contextlib.closing(talk):
             furnish()
-            check(clerk("PUT", "/device-pools/10", body_of(CABLE, "10.130.0.10", "10.130.0.19", 24))[0] == [b"200"], "the cable's pool for devices")
+            clerk.puts("/device-pools/10", body_of(CABLE, "10.130.0.10", "10.130.0.19", 24))
             talk.hears(talk.say(leases.discover(**modems.modem(10))), "the modem is offered an address")
             talk.hears(talk.say(leases.selects(ip(modems.FIRST), server=SERVER, **modems.modem(10))), "the modem boots")
             cable = Cable(10)
@@ -158,10 +154,7 @@ def real_client():
                 udhcpc_lives(cable, folder)
             finally:
                 cable.end()
-            clerk("GET", "/site")
-        finally:
-            stop(program)
-            talk.close()
+            clerk.ask("GET", "/site")
         are_of_the_form(log, " offer ack( cpe-offer)+( cpe-ack){2,} cpe-released", "udhcpc")
         print("udhcpc: an address, renewed and given back")
 
@@ -175,17 +168,11 @@ def asking():
         real_client()
     else:
         print("udhcpc: skipped, since it, or ip and nsenter, isn't here")
-    return 1 if failures else 0
 
 
 def main():
-    if not os.path.exists(PROGRAM):
-        print("officed isn't built: run bin/officed once")
-        return 1
-    if sys.argv[1:] == ["asking"]:
-        return asking()
-    return only_alone(__file__, "asking", 120, "clients of devices are served")
+    return only_alone(asking, 120, "clients of devices are served")
 
 
 if __name__ == "__main__":
-    sys.exit(main())
+    sys.exit(script(main, asking))

@@ -11,7 +11,7 @@ script reads the file; then the office starts again, and the model goes on from 
 least key that breaks its line. Where `unshare -rn` isn't allowed it says so and skips. It ends what it started, and takes under a minute.
 """
 import collections
-import json
+import contextlib
 import os
 import random
 import select
@@ -24,11 +24,12 @@ import time
 # Before the modems, whose models have a module of the name of one that it takes.
 import store
 import journal_kills
-from harness import PROGRAM, check, failures, only_alone, start, stop
+from harness import check, have_their_lines, kill, only_alone, said, script, start
 from harness import modems
-from harness.behind import (CABLE, FAR, MAY_HAVE, NARROW, POOLS, ROWS, Talk, addresses_of_lo, are_the_words, body_of, discovers, furnish, lines_of, mac_of,
-                            may_have, pool_row, relay_of, releases, renews, says, selects, subscriber_of, subscriber_row, with_way)
-from harness.modems import AT_ONCE, MODEMS, PORTS, RELAY, SERVER, clerk, ip, leases, port_of
+from harness.behind import (CABLE, FAR, MAY_HAVE, NARROW, POOLS, ROWS, Talk, addresses_of_lo, body_of, discovers, furnish, mac_of, may_have,
+                            pool_row, relay_of, releases, renews, says, selects, subscriber_of, subscriber_row, with_way)
+from harness.modems import AT_ONCE, MODEMS, PORTS, RELAY, SERVER, clerk, ip, leases, running
+from harness.network import port_of, took
 from harness.told import SECRET
 
 sys.dont_write_bytecode = True
@@ -74,8 +75,8 @@ def refusals():
 
 
 def is_refused(method, path, body, status, answer):
-    found = clerk(method, path, body)
-    check((found[0], json.loads(found[1] or b"{}")) == ([b"%d" % status], answer), f"{method} {path} {body}: {found}, and not {status} {answer}")
+    found = clerk.ask(method, path, body)
+    check((found.status, found.row()) == (status, answer), f"{method} {path} {body}: {found}, and not {status} {answer}")
 
 
 def are_refused():
@@ -83,18 +84,19 @@ def are_refused():
     for refusal in refusals():
         is_refused(*refusal)
     for number, pool in POOLS.items():
-        check(json.loads(clerk("GET", f"/device-pools/{number}")[1]) == body_of(*pool), f"the pool for devices {number} is as it was put")
+        clerk.shows(f"/device-pools/{number}", body_of(*pool), "a refused change leaves it")
 
 
 def as_many_as_may_be():
     """64 pools for devices, and no other; but one of them is put again."""
     free = range(10, 10 + 64 - len(POOLS))
     for number in free:
-        check(clerk("PUT", f"/device-pools/{number}", body_of(f"10.131.1.{number}", SPARE + str(number), SPARE + str(number)))[0] == [b"200"], f"the pool {number}")
+        clerk.puts(f"/device-pools/{number}", body_of(f"10.131.1.{number}", SPARE + str(number), SPARE + str(number)))
     is_refused("PUT", "/device-pools/99", body_of("10.131.1.9", SPARE + "9", SPARE + "9"), 422, {"at": "64", "fault": "limit"})
-    check(clerk("PUT", "/device-pools/10", body_of("10.131.1.10", SPARE + "9", SPARE + "10"))[0] == [b"200"], "a pool is put again where there are 64")
+    # One of them is put again where there are 64.
+    clerk.puts("/device-pools/10", body_of("10.131.1.10", SPARE + "9", SPARE + "10"))
     for number in free:
-        check(clerk("DELETE", f"/device-pools/{number}")[0] == [b"200"], f"the pool {number} is removed")
+        clerk.removes(f"/device-pools/{number}")
 
 
 # ---- devices boot, and live
@@ -238,7 +240,8 @@ def gone(talk, held):
     (one, its), (other, others) = [each for each in held.items() if each[0][0] == number]
     path, row = f"/modems/{leases.mac(number).hex()}", next(row for row in ROWS if row.startswith(f"modem {leases.mac(number).hex()}"))
     talk.settles()
-    check(clerk("DELETE", path)[0] == [b"200"] and talk.model.clerk(int(time.time()), path, None)[0] == 200, "a modem is removed")
+    clerk.removes(path)
+    check(talk.model.clerk(int(time.time()), path, None)[0] == 200, "the model removes the modem")
     is_unanswered(talk, discovers(*one), "relay-mismatch")
     is_unanswered(talk, renews(its, *one), "cpe-suspended")
     is_unanswered(talk, releases(others, *other), "cpe-released")
@@ -269,7 +272,7 @@ def other_services(talk, held):
     with port_of(its, 5000) as client:
         for name in (b"x", leases.name_of(SECRET, mac_of(*one), leases.address(its)), leases.name_of(SECRET, leases.mac(one[0]), leases.address(its))):
             client.sendto(tftp.request(name), (SERVER, PORTS[2]))
-            check((modems.took(client) or (b"",))[0] == tftp.error(2, "no lease"), "a device's read request is refused")
+            check((took(client) or (b"",))[0] == tftp.error(2, "no lease"), "a device's read request is refused")
 
 
 def wanderers(talk):
@@ -441,7 +444,7 @@ def drained(talk):
     """Takes what is left at the sockets."""
     for each in talk.sockets():
         each.setblocking(False)
-        while modems.took(each) is not None:
+        while took(each) is not None:
             pass
         each.settimeout(5)
 
@@ -451,7 +454,7 @@ def starts(path):
         program = start(PORTS, 10**9, log, {"OFFICED_UDP": SERVER}, store=path)
     check(modems.is_ready(), "the office starts")
     # Who connects is answered once the tables are open.
-    clerk("GET", "/site")
+    clerk.ask("GET", "/site")
     return program
 
 
@@ -466,8 +469,7 @@ def storm(talk, program, path, rows, kind):
         booting.start()
         booting.goes_on(chance.randrange(20, 150))
         time.sleep(chance.uniform(0, 0.02))
-        program.send_signal(signal.SIGKILL)
-        program.wait(timeout=store.PATIENCE)
+        kill(program)
         booting.over.set()
         booting.join(timeout=store.PATIENCE)
         drained(talk)
@@ -481,10 +483,8 @@ def storm(talk, program, path, rows, kind):
 def over(kind, act, rows=ROWS, path="memory", is_new=True):
     """An office over a store, which is furnished where it's new; does what is to be done, and compares the words; gives what was said."""
     talk = Talk(rows)
-    with tempfile.TemporaryFile() as log:
-        program = start(PORTS, 10**9, log, {"OFFICED_UDP": SERVER}, store=path)
-        try:
-            check(modems.is_ready(), "the program answers within some seconds")
+    with contextlib.closing(talk), tempfile.TemporaryFile() as log:
+        with running(log, store=path) as program:
             if is_new:
                 furnish()
                 for number in POOLS:
@@ -494,14 +494,10 @@ def over(kind, act, rows=ROWS, path="memory", is_new=True):
             if program.poll() is None:
                 # Whoever asks behind the last datagram finds its line written.
                 talk.settles()
-                clerk("GET", "/site")
-        finally:
-            if program.poll() is None:
-                stop(program)
+                clerk.ask("GET", "/site")
         # What devices said while they were heard by nobody else has its lines behind those of the model.
-        lines = lines_of(log)
-        are_the_words(lines if program.returncode == -signal.SIGTERM else lines[:len(talk.words)], talk.words, kind)
-    talk.close()
+        lines = said(log, "dhcp")
+        have_their_lines(lines if program.returncode == -signal.SIGTERM else lines[:len(talk.words)], [f"dhcp {word}" for word in talk.words], f"{kind}: ")
     return talk
 
 
@@ -538,18 +534,12 @@ def booting():
     over("memory", in_memory)
     for kind in STORES:
         on_disk(kind)
-    return 1 if failures else 0
 
 
 def main():
-    if not os.path.exists(PROGRAM):
-        print("officed isn't built: run bin/officed once")
-        return 1
-    if sys.argv[1:] == ["booting"]:
-        return booting()
     stored()
-    return only_alone(__file__, "booting", 300, "devices have leases")
+    return only_alone(booting, 300, "devices have leases")
 
 
 if __name__ == "__main__":
-    sys.exit(main())
+    sys.exit(script(main, booting))

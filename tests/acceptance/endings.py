@@ -11,7 +11,8 @@ import subprocess
 import sys
 import tempfile
 
-from harness import PROGRAM, check, failures, free_ports, start, stop, wait_for
+from harness import PROGRAM, check, free_ports, script, serve, serving, stop
+from harness.clerks import wait_until_answering
 
 ENDING = (signal.SIGHUP, signal.SIGINT, signal.SIGQUIT, signal.SIGTERM, signal.SIGUSR1,
           signal.SIGKILL)
@@ -35,32 +36,27 @@ def as_usual():
 def by_signals():
     for sent in (*ENDING, signal.SIGPIPE):
         ports = free_ports()
-        with tempfile.TemporaryFile() as log:
-            program = start(ports, 10**6, log, limits=as_usual)
-            try:
-                wait_for(ports[3])
-                program.send_signal(sent)
-                status = ended(program, 20 if sent in ENDING else 0.3)
-                check(status == (-sent if sent in ENDING else None), f"{sent.name}: {status}")
-            finally:
-                stop(program)
+        with tempfile.TemporaryFile() as log, serving(ports, log, limits=as_usual) as program:
+            wait_until_answering(ports[3])
+            program.send_signal(sent)
+            status = ended(program, 20 if sent in ENDING else 0.3)
+            check(status == (-sent if sent in ENDING else None), f"{sent.name}: {status}")
 
 
 def tried(ports, store="memory", turns="0", more=()):
-    words = [PROGRAM, "serve", "--store", store, "--ports", ports, "--turns", turns, *more]
-    done = subprocess.run(words, stdout=subprocess.PIPE, timeout=60)
+    done = subprocess.run([*serve(store, turns, ports), *more], stdout=subprocess.PIPE, timeout=60)
     return done.returncode, done.stdout.decode()
 
 
 def without_turns(folder):
-    ports = ",".join(map(str, free_ports()))
+    ports = free_ports()
     nowhere = os.path.join(folder, "none", "office.db")
     check(tried(ports) == (0, ""), "where an office could run")
     check(tried(ports, more=["now"]) == (1, "words refused\n"), "a word too many")
     check(tried(ports, turns="1000000000000001") == (1, "words refused\n"), "too many turns")
     check(tried(ports, store=nowhere) == (11, ""), "a store in no folder")
     with socket.socket(socket.AF_INET, socket.SOCK_DGRAM) as other:
-        other.bind(("0.0.0.0", int(ports.split(",")[2])))
+        other.bind(("0.0.0.0", ports[2]))
         check(tried(ports) == (10, ""), "a port that another has")
     check(tried(ports, turns="1")[0] == 0, "one turn, which is a tick where nothing comes")
 
@@ -86,14 +82,13 @@ def without_standard_streams(folder):
     """A standard descriptor that is closed at the start is the null device then, and none of the office's own files or sockets."""
     for closed in ((0,), (1,), (2,), (0, 1), (1, 2), (0, 1, 2)):
         ports = free_ports()
-        words = [PROGRAM, "serve", "--store", os.path.join(folder, f"{len(closed)}{closed[0]}.db"), "--ports",
-                 ",".join(map(str, ports)), "--turns", "1000000"]
+        words = serve(os.path.join(folder, f"{len(closed)}{closed[0]}.db"), 10**6, ports)
         shut = " ".join(f"{descriptor}>&-" for descriptor in closed)
         with open(os.path.join(folder, "log"), "wb") as log:
             program = subprocess.Popen(["sh", "-c", f'exec "$@" {shut}', "sh", *words], stdin=subprocess.DEVNULL,
                                        stdout=log, stderr=log)
         try:
-            wait_for(ports[3])
+            wait_until_answering(ports[3])
             found = {descriptor: at(program.pid, descriptor) for descriptor in closed}
             check(set(found.values()) == {"/dev/null"}, f"{closed} closed: {found}")
         finally:
@@ -103,17 +98,12 @@ def without_standard_streams(folder):
 
 
 def main():
-    if not os.path.exists(PROGRAM):
-        print("officed isn't built: run bin/officed once")
-        return 1
     by_signals()
     with tempfile.TemporaryDirectory() as folder:
         without_turns(folder)
         by_what_it_reads(folder)
         without_standard_streams(folder)
-    print(f"acceptance: {len(failures)} failed")
-    return 1 if failures else 0
 
 
 if __name__ == "__main__":
-    sys.exit(main())
+    sys.exit(script(main))

@@ -17,7 +17,7 @@ ASIDE = {"office_script", "store_script", "format_script", "clerk_script", "offi
 # What the standard library names as an error.
 FOREIGN = {"Error"}
 # Errors that no crate hands out: words within one crate for what the answers above tell.
-WITHIN = {"Fail", "Refused", "PayloadErr"}
+WITHIN = {"Fail", "Refused", "Refusal", "PayloadErr"}
 
 
 def sources():

@@ -10,7 +10,6 @@ takes under a minute.
 import collections
 import hashlib
 import hmac
-import os
 import re
 import selectors
 import socket
@@ -19,10 +18,10 @@ import sys
 import tempfile
 import time
 
-from harness import PROGRAM, SECONDS_BEFORE_1970, check, failures, only_alone, start, stop, written
+from harness import SECONDS_BEFORE_1970, check, have_their_lines, only_alone, said, script
 from harness import modems as office
+from harness.network import forge
 from harness.told import SECRET
-from listening import forge_from
 
 sys.dont_write_bytecode = True
 import leases  # noqa: E402
@@ -153,8 +152,7 @@ class Talk(office.Conversation):
         self.answer(("10.64.200.9", 1024), tftp.acknowledgement(65535))
 
     def clerk_puts(self, row):
-        path, body = put(row)
-        check(office.clerk("PUT", path, body)[0] == [b"200"], f"PUT {path}")
+        office.clerk.puts(*put(row))
         self.model.put(row)
 
 
@@ -276,8 +274,7 @@ class Modem:
 def furnish():
     for row in ROWS:
         if not row.startswith("modem") or int(row.split(" ")[1][-2:], 16) < MODEMS:
-            path, body = put(row)
-            check(office.clerk("PUT", path, body)[0] == [b"200"], f"PUT {path}")
+            office.clerk.puts(*put(row))
 
 
 def leased(talk):
@@ -396,31 +393,23 @@ def no_loops():
     for source in (office.PORTS[0], office.PORTS[1], office.PORTS[2]):
         for target in (office.PORTS[1], office.PORTS[2]):
             for question in questions:
-                forge_from(office.SERVER, source, office.SERVER, target, question)
+                forge(office.SERVER, source, office.SERVER, target, question)
     return 6 * len(questions)
-
-
-def lines_of(log):
-    return [line.split(" ", 1)[1] for line in written(log).decode().splitlines()]
 
 
 def lines_behind(log, before, count):
     """The lines behind so many, once there are as many as are wanted, and no more come for two seconds."""
     end = time.time() + 10
-    while len(lines_of(log)) < before + count and time.time() < end:
+    while len(said(log)) < before + count and time.time() < end:
         time.sleep(0.1)
     time.sleep(2)
-    return lines_of(log)[before:]
+    return said(log)[before:]
 
 
 def judge(talk, lines, closed):
     """Each packet has its line, and what Ticks say is what came twice."""
     words = [line.split(" ", 1)[1] for line in lines if line.startswith("tftp ")]
-    for place, (word, said) in enumerate(zip(words, talk.said)):
-        if word != said:
-            check(False, f"line {place} of tftp: {word}, and not {said}")
-            break
-    check(len(words) == len(talk.said), f"each packet has its line: {len(words)} of {len(talk.said)}")
+    have_their_lines(words, talk.said, "tftp: ")
     ticks = [list(map(int, re.fullmatch(r"tick again ([0-9]+) closed ([0-9]+)", line).groups())) for line in lines if line.startswith("tick ")]
     again, ended = (sum(column) for column in zip(*ticks)) if ticks else (0, 0)
     check(again == talk.came - talk.expected, f"Ticks sent {again} packets again, and {talk.came - talk.expected} came that nothing asked for")
@@ -431,13 +420,9 @@ def judge(talk, lines, closed):
 
 def booting():
     """Runs in a network of its own, where nobody has these ports and all addresses may be this machine's."""
-    office.address_of_lo(b"lo", "127.0.0.1", "255.0.0.0")
-    office.address_of_lo(b"lo:1", office.SERVER, "255.255.255.255")
-    office.address_of_lo(b"lo:2", office.RELAY, "255.255.0.0")
+    office.addresses_of_lo()
     with tempfile.TemporaryFile() as log:
-        program = start(office.PORTS, 10**9, log, {"OFFICED_UDP": office.SERVER})
-        try:
-            check(office.is_ready(), "the program answers within some seconds")
+        with office.running(log):
             furnish()
             talk = Talk()
             modems = leased(talk)
@@ -452,24 +437,16 @@ def booting():
             lines = lines_behind(log, 0, 0)
             count = no_loops()
             # What TFTP says to itself is an ERROR, which isn't answered; the time's port and that of DHCP are heard by no other.
-            said = ["tftp form"] * 2 + ["tftp no-lease"] + ["tftp peer-error"] * 5 + ["tftp unknown"]
-            behind = lines_behind(log, len(lines), len(said))
+            wanted = ["tftp form"] * 2 + ["tftp no-lease"] + ["tftp peer-error"] * 5 + ["tftp unknown"]
+            behind = lines_behind(log, len(lines), len(wanted))
             print(f"  forged between the office's own ports: {len(behind)} lines in 2 s of {count} datagrams")
-            check(sorted(behind) == said, f"no two services answer each other: {dict(collections.Counter(behind))}")
-        finally:
-            stop(program)
+            check(sorted(behind) == wanted, f"no two services answer each other: {dict(collections.Counter(behind))}")
         judge(talk, lines, closed)
-    return 1 if failures else 0
 
 
 def main():
-    if not os.path.exists(PROGRAM):
-        print("officed isn't built: run bin/officed once")
-        return 1
-    if sys.argv[1:] == ["booting"]:
-        return booting()
-    return only_alone(__file__, "booting", 240, "modems have their files")
+    return only_alone(booting, 240, "modems have their files")
 
 
 if __name__ == "__main__":
-    sys.exit(main())
+    sys.exit(script(main, booting))

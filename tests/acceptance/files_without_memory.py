@@ -8,19 +8,17 @@ packet that opens a transfer or goes on with one, each refusal that is told to t
 `unshare -rn`, ends what it started, and takes under a minute.
 """
 import collections
-import mmap
 import os
 import shutil
 import socket
-import struct
-import subprocess
 import sys
 import tempfile
 import time
 
 import files_over_sockets as files
-from harness import PROGRAM, check, failures, only_alone, start, stop
+from harness import check, failures, only_alone, script
 from harness import modems as office
+from harness.machine import Preloaded
 
 sys.dont_write_bytecode = True
 import leases  # noqa: E402
@@ -54,28 +52,18 @@ int posix_memalign(void **to, size_t align, size_t size) { return (*to = aligned
 MOST_GROWTHS = 2000
 
 
-class Refuser:
+class Refuser(Preloaded):
     """Which growth of the program is refused."""
 
     def __init__(self, folder):
-        self.path, source, self.library = (os.path.join(folder, name) for name in ("left", "refuser.c", "refuser.so"))
-        with open(source, "w") as file:
-            file.write(REFUSER)
-        subprocess.run(["cc", "-O2", "-shared", "-fPIC", "-o", self.library, source], check=True)
-        with open(self.path, "wb") as file:
-            file.write(bytes(8))
-        with open(self.path, "r+b") as file:
-            self.shared = mmap.mmap(file.fileno(), 8)
+        super().__init__(folder, "refuser", REFUSER, "REFUSED")
 
-    def environment(self):
-        return {"LD_PRELOAD": self.library, "REFUSED": self.path, "OFFICED_UDP": office.SERVER}
-
-    def refuses(self, number):
-        self.shared[:8] = struct.pack("=q", number)
+    def refuses(self, growth):
+        self.number = growth
 
     def is_done(self):
         """The growth was refused."""
-        return struct.unpack("=q", self.shared[:8])[0] == 0
+        return self.number == 0
 
 
 class Trial:
@@ -174,15 +162,10 @@ def trials(talk, trial, modem):
 
 
 def refusing():
-    office.address_of_lo(b"lo", "127.0.0.1", "255.0.0.0")
-    office.address_of_lo(b"lo:1", office.SERVER, "255.255.255.255")
-    office.address_of_lo(b"lo:2", office.RELAY, "255.255.0.0")
+    office.addresses_of_lo()
     with tempfile.TemporaryDirectory() as folder:
         refuser, path = Refuser(folder), os.path.join(folder, "log")
-        with open(path, "wb") as log:
-            program = start(office.PORTS, 10**9, log, refuser.environment())
-        try:
-            check(office.is_ready(), "the program answers within some seconds")
+        with open(path, "wb") as log, office.running(log, refuser.environment()) as program:
             files.furnish()
             talk = files.Talk()
             number = 2
@@ -191,22 +174,14 @@ def refusing():
             talk.asks(leases.selects(given, server=office.SERVER, **office.modem(number)), "ACK")
             trials(talk, Trial(talk, refuser, path), files.Modem(number, given))
             check(program.poll() is None, "the office goes on")
-        finally:
-            stop(program)
-    return 1 if failures else 0
 
 
 def main():
-    if not os.path.exists(PROGRAM):
-        print("officed isn't built: run bin/officed once")
-        return 1
-    if sys.argv[1:] == ["refusing"]:
-        return refusing()
     if not shutil.which("cc"):
         print("skipped, since there is no C compiler here")
         return 0
-    return only_alone(__file__, "refusing", 240, "a packet is done, or nothing is")
+    return only_alone(refusing, 240, "a packet is done, or nothing is")
 
 
 if __name__ == "__main__":
-    sys.exit(main())
+    sys.exit(script(main, refusing))

@@ -17,7 +17,8 @@ import subprocess
 import sys
 import threading
 
-from harness import PROGRAM, ROOT, check, failures, free_ports, loaded, may_be_alone
+from harness import (PROGRAM, ROOT, check, free_ports, is_built, listed, loaded, may_be_alone,
+                     script, text_of)
 
 sys.dont_write_bytecode = True
 sys.path.insert(0, os.path.join(ROOT, "tests", "examples"))
@@ -39,7 +40,7 @@ def may_relay():
 def run(words=(), ports=None, before=(), store="memory"):
     """The example's status and its lines."""
     known = {**os.environ, "OFFICED": PROGRAM, "STORE": store,
-             "PORTS": ports or ",".join(map(str, free_ports()))}
+             "PORTS": ports or listed(free_ports())}
     done = subprocess.run([*before, RUN, *words], env=known, stdout=subprocess.PIPE, timeout=60)
     return done.returncode, done.stdout.decode().splitlines()
 
@@ -59,9 +60,7 @@ def alike(line):
 
 def screen():
     """The README's screen of the example."""
-    with open(os.path.join(ROOT, "README.md"), encoding="utf-8") as held:
-        text = held.read()
-    behind = text.partition("\n    examples/first-office/run\n")[2]
+    behind = text_of("README.md").partition("\n    examples/first-office/run\n")[2]
     block = re.search(r"\n\n((?:    .*\n)+)", behind)
     check(block is not None, "the README has the example's screen")
     return [line[4:] for line in block.group(1).splitlines()] if block else []
@@ -189,16 +188,14 @@ def main():
     modem.PATIENCE = (0.1,) * 30
     words_of_settings()
     reads_from_afar()
-    if not os.path.exists(PROGRAM):
-        print("officed isn't built: run bin/officed once")
+    if not is_built():
         return 1
     if may_relay() or may_be_alone():
         boots()
     else:
         print("boots: skipped, since neither port 67 nor a network of its own can be had here")
-    print(f"acceptance: {len(failures)} failed")
-    return 1 if failures else 0
+    return None
 
 
 if __name__ == "__main__":
-    sys.exit(main())
+    sys.exit(script(main, needs_program=False))

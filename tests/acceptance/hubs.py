@@ -11,7 +11,6 @@ among them, and do likewise. It ends what it started, and takes about a minute.
 import contextlib
 import os
 import random
-import re
 import shutil
 import socket
 import sqlite3
@@ -25,8 +24,9 @@ from imports import table
 import journal_kills
 from store import Serving, ended, folder, made_with, rows_of
 from store_reader import BOUND, big, hub, ip, leased, modem, text
-from harness import PROGRAM, alone, check, failures, free_ports, may_be_alone, start, stop, written
+from harness import PROGRAM, alone, check, have_their_lines, may_be_alone, said, script, serve, serving
 from harness import modems as office
+from harness.network import loopback, port_of, took
 from harness.told import SECRET
 from files_without_memory import Refuser
 
@@ -61,16 +61,16 @@ def pool_of(number, at):
 
 def furnish():
     """The rows of the model, by a clerk; a pool needs its hub first."""
-    check(office.clerk("PUT", "/pools/1", pool_of(1, 1)) == ([b"422"], b'{"fault":"no-hub"}'), "a pool without its hub")
+    clerk = office.clerk
+    check(clerk.ask("PUT", "/pools/1", pool_of(1, 1)) == (422, b'{"fault":"no-hub"}'), "a pool without its hub")
     rows = [("/site", site_of(0)), ("/hubs/1", site_of(1)), ("/classes/1", {"name": "gold", "settings": tftp.tree_json(tftp.tree_in(GOLD))}),
             ("/subscribers/7", {"active": True, "cpes": 2, "name": "Ann"}), ("/pools/0", pool_of(0, 0)), ("/pools/1", pool_of(1, 1)),
             ("/modems/02aabbccddee", {"subscriber": 7, "class": 1, "serial": ""})]
-    for path, body in rows:
-        check(office.clerk("PUT", path, body)[0] == [b"200"], f"PUT {path}")
-    check(office.clerk("GET", "/site") == office.clerk("GET", "/hubs/0"), "the site is the hub 0")
-    check(b'"hub":1' in office.clerk("GET", "/pools/1")[1], "a pool is shown with its hub")
-    check(office.clerk("DELETE", "/hubs/1") == ([b"409"], b'{"at":"1","fault":"hub-in-use"}'), "a hub in use")
-    check(office.clerk("DELETE", "/hubs/9") == ([b"404"], b'{"fault":"no-row"}'), "no such hub")
+    clerk.furnishes(rows)
+    check(clerk.ask("GET", "/site") == clerk.ask("GET", "/hubs/0"), "the site is the hub 0")
+    check(b'"hub":1' in clerk.ask("GET", "/pools/1").text, "a pool is shown with its hub")
+    check(clerk.ask("DELETE", "/hubs/1") == (409, b'{"at":"1","fault":"hub-in-use"}'), "a hub in use")
+    check(clerk.ask("DELETE", "/hubs/9") == (404, b'{"fault":"no-row"}'), "no such hub")
 
 
 # ---- modems at two hubs
@@ -81,7 +81,7 @@ class Talk:
     def __init__(self):
         self.model = leases.Office(ROWS)
         self.transfers, self.said = tftp.Transfers(self.model), []
-        self.relays = {relay: office.port_of(relay, 67) for _, relay, _, _, _ in HUBS}
+        self.relays = {relay: port_of(relay, 67) for _, relay, _, _, _ in HUBS}
         self.sockets = {}
 
     def relayed(self, number, data):
@@ -92,7 +92,7 @@ class Talk:
         self.relays[relay].sendto(data, (server, PORTS[0]))
         if reply is None:
             return None
-        came = office.took(self.relays[relay])
+        came = took(self.relays[relay])
         check(came is not None and came[0] == reply[1], f"{word} by {relay}: the reply of {len(reply[1])} bytes")
         return reply_in(reply[1])
 
@@ -140,7 +140,7 @@ class Talk:
 
     def clerk(self, path, body, row):
         """A row that is put, in the office and in the model."""
-        check(office.clerk("PUT", path, body)[0] == [b"200"], f"PUT {path}")
+        office.clerk.puts(path, body)
         status, _, _ = self.model.clerk(int(time.time()), path, row)
         check(status == 200, f"the model's {path}")
 
@@ -148,7 +148,7 @@ class Talk:
 def lines_of(log, count):
     """The log's lines on datagrams, when so many are there; the last packet of a file isn't answered."""
     for _ in range(100):
-        lines = [line.split(" ", 1)[1] for line in written(log).decode().splitlines() if re.match(r"[0-9]+ (dhcp|tftp) ", line)]
+        lines = said(log, "dhcp", "tftp")
         if len(lines) >= count:
             break
         time.sleep(0.05)
@@ -157,16 +157,15 @@ def lines_of(log, count):
 
 def booting():
     office.PORTS[:] = PORTS
-    office.address_of_lo(b"lo", "127.0.0.1", "255.0.0.0")
+    loopback()
     with tempfile.TemporaryFile() as log:
-        program = start(PORTS, 10**9, log)
-        try:
+        with serving(PORTS, log):
             check(office.is_ready(), "the program answers within some seconds")
             furnish()
             talk = Talk()
             first = talk.boots(0)
             second = talk.boots(1)
-            check(office.clerk("GET", f"/leases/{first}")[0] == [b"404"], "it gave up its address at the first hub")
+            check(office.clerk.ask("GET", f"/leases/{first}").status == 404, "it gave up its address at the first hub")
             talk.begins(1, second)
             # The second pool goes to the first hub, and then back.
             _, relay, _, low, high = HUBS[1]
@@ -181,13 +180,9 @@ def booting():
             talk.reads(1, second)
             check(talk.boots(0) == first, "and back")
             lines = lines_of(log, len(talk.said))
-        finally:
-            stop(program)
     # What comes to two ports at once is taken in either order.
     for service in ("dhcp ", "tftp "):
-        found, said = ([line for line in each if line.startswith(service)] for each in (lines, talk.said))
-        check(found == said, f"each datagram has its line: {[pair for pair in zip(found, said) if pair[0] != pair[1]][:3]}")
-    return 1 if failures else 0
+        have_their_lines(*([line for line in each if line.startswith(service)] for each in (lines, talk.said)))
 
 
 # ---- stores of earlier days
@@ -232,7 +227,7 @@ def starts(kind):
             for path in ("/site", "/hubs/0"):
                 served.shows(path, SHOWN, "after the start")
             served.shows("/leases/10.64.0.10", {"expiry": 2**62, "owner": "02aabbccddee", "state": "bound"}, "a lease")
-            check(served.ask("GET", "/pools/1")[1].startswith(b'{"first":"10.64.0.10","hub":0,'), "the pool has the hub 0")
+            check(served.ask("GET", "/pools/1").text.startswith(b'{"first":"10.64.0.10","hub":0,'), "the pool has the hub 0")
             served.puts("/hubs/1", {**SHOWN, "secret": SECRET.hex(), "server": "10.0.0.3"})
             served.kill()
         check(rows().pop(hub(1, "10.0.0.3", 3600, 86400)[0], None) is not None, "after a kill the new hub is there")
@@ -253,11 +248,10 @@ def kills(kind):
         began = time.perf_counter()
         check(ended(store) == (0, ""), f"{kind} a start")
         whole = time.perf_counter() - began
-    words = ["--ports", ",".join(map(str, free_ports())), "--turns", "0"]
     moved, unlike = 0, []
     for _ in range(KILLS):
         with store_of(kind, EARLIER) as (_, store, rows):
-            with subprocess.Popen([PROGRAM, "serve", "--store", store, *words], stdout=subprocess.DEVNULL, stderr=subprocess.DEVNULL) as program:
+            with subprocess.Popen(serve(store), stdout=subprocess.DEVNULL, stderr=subprocess.DEVNULL) as program:
                 time.sleep(random.uniform(0.2 * whole, whole))
                 program.kill()
             found = rows()
@@ -270,9 +264,9 @@ def kills(kind):
 
 
 PEOPLE, PERSON = table("subscribers", [["8", "no", "1", ""]]), {b"\x02" + big(8, 4): b"\x00\x01" + text(b"")}
-# Jobs over a store of earlier days: the words behind its name, the input, the rows that are there when all is done, and the statuses with which want of memory may end it.
-JOBS = {"start": (lambda: ("serve", "--ports", ",".join(map(str, free_ports())), "--turns", "0"), b"", MOVED, (6, 10, 11)),
-        "import": (lambda: ("import", "subscribers", "9"), PEOPLE, {**MOVED, **PERSON}, (6,))}
+# Jobs over a store of earlier days: their words, the input, the rows that are there when all is done, and the statuses with which want of memory may end it.
+JOBS = {"start": (serve, b"", MOVED, (6, 10, 11)),
+        "import": (lambda store: [PROGRAM, "import", "--store", store, "subscribers", "9"], PEOPLE, {**MOVED, **PERSON}, (6,))}
 
 
 def without_batches(rows):
@@ -282,12 +276,11 @@ def without_batches(rows):
 def without_memory(kind, refuser, job):
     """A start, or an import, whose next growth of memory is refused ends with a status that says so, and leaves the store as it was or moved; the next one does all."""
     words_of, data, whole, statuses = JOBS[job]
-    environment = {**os.environ, "LD_PRELOAD": refuser.library, "REFUSED": refuser.path}
+    environment = {**os.environ, **refuser.environment()}
 
     def ends(store, growth):
-        first, *words = words_of()
         refuser.refuses(growth)
-        done = subprocess.run([PROGRAM, first, "--store", store, *words], input=data, stdout=subprocess.PIPE, stderr=subprocess.DEVNULL, env=environment, timeout=60)
+        done = subprocess.run(words_of(store), input=data, stdout=subprocess.PIPE, stderr=subprocess.DEVNULL, env=environment, timeout=60)
         refused = refuser.is_done()
         refuser.refuses(0)
         return done.returncode, refused
@@ -351,13 +344,8 @@ def imports(kind):
 
 
 def main():
-    if not os.path.exists(PROGRAM):
-        print("officed isn't built: run bin/officed once")
-        return 1
-    if sys.argv[1:] == ["booting"]:
-        return booting()
     if may_be_alone():
-        alone(__file__, "booting", 60, "modems boot at two hubs")
+        alone(booting, 60, "modems boot at two hubs")
     else:
         print("modems at two hubs: skipped, since `unshare -rn` gives no network of its own here")
     for kind in KINDS:
@@ -372,9 +360,7 @@ def main():
                     without_memory(kind, refuser, job)
     else:
         print("starts and imports without memory: skipped, since there is no cc here")
-    print(f"acceptance: {len(failures)} failed")
-    return 1 if failures else 0
 
 
 if __name__ == "__main__":
-    sys.exit(main())
+    sys.exit(script(main, booting))

@@ -4,19 +4,16 @@
 What is expected is said here by hand, from the rules in docs/CLERK_API.md and docs/OPERATING.md; an import's rows are made by Python's csv.
 """
 import csv
-import http.client
 import io
-import json
 import os
-import socket
 import subprocess
 import sys
 import tempfile
 
 sys.path.insert(0, os.path.dirname(os.path.abspath(__file__)))
-from harness import PROGRAM, check, failures, free_ports, start, stop, wait_until_ready
+from harness import PROGRAM, check, free_ports, script, serving
+from harness.clerks import GOLD, Clerk, wait_until_answering
 
-PORTS = free_ports()
 MOST = 1_048_576
 
 
@@ -57,53 +54,34 @@ def from_standard_input():
         check((done.returncode, done.stdout) == (1, b"words refused\n"), f"the words {words}")
 
 
-def ask(method, path, body=b""):
-    connection = http.client.HTTPConnection("127.0.0.1", PORTS[3], timeout=10)
-    connection.request(method, path, body)
-    reply = connection.getresponse()
-    text = reply.read()
-    connection.close()
-    return reply.status, json.loads(text)
-
-
 def by_clerks():
-    with tempfile.TemporaryFile() as log:
-        program = start(PORTS, 10**6, log)
-        try:
-            with socket.socket(socket.AF_INET, socket.SOCK_DGRAM) as client:
-                check(wait_until_ready(client, PORTS[1]), "the office answers")
-            settings = [{"code": 24, "parts": [{"code": 1, "hex": "0001"}, {"code": 6, "hex": "07"}]},
-                        {"code": 25, "parts": [{"code": 1, "hex": "0002"}, {"code": 6, "hex": "07"}]}]
-            put = ask("PUT", "/classes/1", json.dumps({"name": "gold", "settings": settings}).encode())
-            check(put[0] == 200, f"the class: {put}")
-            people = table("subscribers", [[str(number), "yes", "2", f"N {number}"] for number in range(1, 1001)])
-            modems = table("modems", [[f"02:00:00:00:{number >> 8:02x}:{number & 255:02x}", str(number), "1", ""] for number in range(1, 1001)])
-            wrong = table("modems", [["02:00:00:00:ff:01", "1", "1", ""], ["02:00:00:00:ff:02", "1", "2", ""]])
-            for what, given, expected in (
-                    ("subscribers", ("/imports/subscribers/1", people), (200, {"rows": 1000})),
-                    ("modems", ("/imports/modems/2", modems), (200, {"rows": 1000})),
-                    ("again", ("/imports/modems/2", modems), (200, {"rows": 1000})),
-                    ("another one of the number", ("/imports/modems/2", wrong), (409, {"fault": "batch-differs", "at": "2"})),
-                    ("a row that breaks a rule", ("/imports/modems/3", wrong), (422, {"fault": "no-class", "at": "2"})),
-                    ("a row that can't be read", ("/imports/modems/3", modems + b"x,1,1,\n"), (422, {"fault": "import-field", "at": "1001,1"})),
-                    ("a short row", ("/imports/modems/3", modems + b"x,1,1\n"), (422, {"fault": "width", "at": "1001"}))):
-                found = ask("PUT", *given)
-                check(found == expected, f"{what}: {found}, not {expected}")
-            check(ask("GET", "/modems/020000000005")[1].get("subscriber") == 5, "a row that was put is shown")
-            check(ask("GET", "/modems/02000000ff01")[0] == 404, "a good row before a bad one isn't put")
-            check(ask("GET", "/imports/modems/2")[0] == 405, "an import isn't shown")
-        finally:
-            stop(program)
+    ports = free_ports()
+    clerk = Clerk(ports[3], patience=10)
+    with tempfile.TemporaryFile() as log, serving(ports, log):
+        check(wait_until_answering(ports[3]), "the office answers")
+        clerk.puts("/classes/1", {"name": "gold", "settings": GOLD})
+        people = table("subscribers", [[str(number), "yes", "2", f"N {number}"] for number in range(1, 1001)])
+        modems = table("modems", [[f"02:00:00:00:{number >> 8:02x}:{number & 255:02x}", str(number), "1", ""] for number in range(1, 1001)])
+        wrong = table("modems", [["02:00:00:00:ff:01", "1", "1", ""], ["02:00:00:00:ff:02", "1", "2", ""]])
+        for what, given, expected in (
+                ("subscribers", ("/imports/subscribers/1", people), (200, {"rows": 1000})),
+                ("modems", ("/imports/modems/2", modems), (200, {"rows": 1000})),
+                ("again", ("/imports/modems/2", modems), (200, {"rows": 1000})),
+                ("another one of the number", ("/imports/modems/2", wrong), (409, {"fault": "batch-differs", "at": "2"})),
+                ("a row that breaks a rule", ("/imports/modems/3", wrong), (422, {"fault": "no-class", "at": "2"})),
+                ("a row that can't be read", ("/imports/modems/3", modems + b"x,1,1,\n"), (422, {"fault": "import-field", "at": "1001,1"})),
+                ("a short row", ("/imports/modems/3", modems + b"x,1,1\n"), (422, {"fault": "width", "at": "1001"}))):
+            found = clerk.ask("PUT", *given)
+            check((found.status, found.row()) == expected, f"{what}: {found}, not {expected}")
+        check((clerk.row("/modems/020000000005") or {}).get("subscriber") == 5, "a row that was put is shown")
+        check(clerk.ask("GET", "/modems/02000000ff01").status == 404, "a good row before a bad one isn't put")
+        check(clerk.ask("GET", "/imports/modems/2").status == 405, "an import isn't shown")
 
 
 def main():
-    if not os.path.exists(PROGRAM):
-        raise SystemExit("build the program first: bin/officed build-only")
     from_standard_input()
     by_clerks()
-    print(f"acceptance: {len(failures)} failed")
-    return 1 if failures else 0
 
 
 if __name__ == "__main__":
-    sys.exit(main())
+    sys.exit(script(main))

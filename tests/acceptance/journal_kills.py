@@ -21,7 +21,7 @@ import time
 from imports import table
 import store
 from store import CHANGES, Serving, Stream, ended, folder
-from harness import PROGRAM, ROOT, check, failures
+from harness import ROOT, check, script
 
 sys.dont_write_bytecode = True
 KIND, READER = "journal:", os.path.join(ROOT, "bin", "office-sql")
@@ -38,6 +38,14 @@ def record_of(writes):
 
 def journal_of(*commits):
     return b"".join(b"\1" + record_of(writes) for writes in commits) + b"\0"
+
+
+def end_of(data):
+    """Where a journal's last gate is, which is closed. What is behind it is room for more."""
+    at = 0
+    while data[at] == 1:
+        at += 5 + int.from_bytes(data[at + 1:at + 5], "big")
+    return at
 
 
 def writes_in(payload):
@@ -102,10 +110,10 @@ def new_file():
         with Serving(KIND + link) as office:
             for change in CHANGES:
                 office.shows(*change, "behind a stop, by a link")
-            check(office.ask("DELETE", "/modems/02aabbccddee")[0] == 200, "a row is removed")
+            office.removes("/modems/02aabbccddee")
             office.kill()
         with Serving(KIND + path) as office:
-            check(office.ask("GET", "/modems/02aabbccddee")[0] == 404, "behind a kill a row that was removed isn't there")
+            check(office.ask("GET", "/modems/02aabbccddee").status == 404, "behind a kill a row that was removed isn't there")
             office.shows(*CHANGES[0], "behind a kill")
         check(len(rows_of(path)) == len(CHANGES) - 1, "and the journal has the others")
 
@@ -145,7 +153,10 @@ def reader():
             check(told(path, "pools")[0] == 0, "the journal of a running office is read")
             check(told(path, "compact", path + "-2")[0] == 3, "and isn't written anew")
             check(told(path, "end-leases")[0] == 3, "nor changed")
-        made(path, read(path)[:-1] + b"\1" + record_of(lease) + b"\0")
+        data = read(path)
+        end = end_of(data)
+        check(len(data) > end + 1 and not any(data[end:]), "zeros are behind the last gate")
+        made(path, data[:end] + b"\1" + record_of(lease) + bytes(1000))
         rows = rows_of(path)
         store.made_with(path + ".db", rows.items())
         for words in lists:
@@ -228,20 +239,20 @@ def hungry():
     check((6, "memory refused\n") in found.values(), f"memory is refused where there is little: {found}")
 
 
+def booting():
+    store.booting(KIND, rows_of)
+
+
+def full_disk():
+    store.full_disk(KIND, "256k")
+
+
 def main():
-    if not os.path.exists(PROGRAM):
-        print("officed isn't built: run bin/officed once")
-        return 1
-    alone = {"booting": functools.partial(store.booting, KIND, rows_of), "full_disk": functools.partial(store.full_disk, KIND, "256k")}
-    if sys.argv[1:]:
-        return alone[sys.argv[1]]()
     for each in (new_file, functools.partial(store.kills, KIND, rows_of), copies, reader, refusals, cuts, functools.partial(store.imports, KIND, rows_of), hungry):
         each()
-    store.in_its_own("booting", "-rn", script=__file__)
-    store.in_its_own("full_disk", "-rm", script=__file__)
-    print(f"acceptance: {len(failures)} failed")
-    return 1 if failures else 0
+    store.in_its_own(booting, "-rn")
+    store.in_its_own(full_disk, "-rm")
 
 
 if __name__ == "__main__":
-    sys.exit(main())
+    sys.exit(script(main, booting, full_disk))

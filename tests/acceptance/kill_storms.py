@@ -11,36 +11,26 @@ its own isn't allowed. It ends what it started.
 """
 import os
 import random
-import signal
-import socket
 import struct
 import sys
 import tempfile
 import threading
 import time
 
-# Before the modems, whose models have a module of this name too.
-from imports import table  # noqa: F401
+# Before the modems, whose models have a module of a name that it takes.
 import store
 from store import Stream
-from harness import PROGRAM, check, failures, start
+from harness import check, failures, kill, may_be_alone, run_alone, script, start
 from harness import modems
-from harness.modems import AT_ONCE, FIRST, MODEMS, PORTS, RELAY, SERVER, ip, leases, modem
+from harness.clerks import Clerk
+from harness.modems import AT_ONCE, MODEMS, PORTS, RELAY, SERVER, ip, leases, modem
 from journal_kills import rows_of as journal_rows
 from messages import ACK, OFFER, reply_in
 
 sys.dont_write_bytecode = True
 ROUNDS, A_FILE = 10, 50
+clerk = Clerk(PORTS[3], store.PATIENCE)
 KINDS = {"journal:": ("journal:", journal_rows), "sqlite:": ("", store.rows_of)}
-
-
-class Office:
-    """What a stream of changes asks."""
-
-    def __init__(self):
-        self.ports = PORTS
-
-    ask, shows = store.Serving.ask, store.Serving.shows
 
 
 class Booting(threading.Thread):
@@ -96,18 +86,17 @@ class Storm:
         return program
 
     def round(self, path, turn):
-        program, office = self.starts(path), Office()
+        program = self.starts(path)
         if turn == 0:
             modems.furnish()
-        found = [number for number in (self.done, self.done + 1) if (office.ask("GET", f"/subscribers/{number + 1000}") or [0])[0] == 200]
+        found = [number for number in (self.done, self.done + 1) if clerk.row(f"/subscribers/{number + 1000}") is not None]
         check(found in ([], [self.done]), f"one change more than was acknowledged, or none: {found}")
         self.done, self.more = self.done + len(found), self.more + len(found)
-        changes, booting = Stream(office, self.done + 1000), Booting(self.relay, random.randrange(MODEMS))
+        changes, booting = Stream(clerk, self.done + 1000), Booting(self.relay, random.randrange(MODEMS))
         changes.start()
         booting.start()
         time.sleep(random.uniform(0.02, 0.6))
-        program.send_signal(signal.SIGKILL)
-        program.wait(timeout=store.PATIENCE)
+        kill(program)
         booting.over.set()
         for each in (changes, booting):
             each.join(timeout=store.PATIENCE)
@@ -119,13 +108,12 @@ class Storm:
 
     def is_there(self, path, last, changed):
         """Asks the office, which starts again, for what the last round changed."""
-        program, office = self.starts(path), Office()
+        program = self.starts(path)
         for number in range(max(0, self.done - last), self.done):
-            office.shows(f"/subscribers/{number + 1000}", store.subscriber(number + 1000), "behind a kill")
+            clerk.shows(f"/subscribers/{number + 1000}", store.subscriber(number + 1000), "behind a kill")
         for number, (given, _) in changed.items():
-            check(office.ask("GET", f"/leases/{ip(given)}")[0] == 200, f"modem {number} has its address behind a kill")
-        program.kill()
-        program.wait(timeout=store.PATIENCE)
+            check(clerk.row(f"/leases/{ip(given)}") is not None, f"modem {number} has its address behind a kill")
+        kill(program)
 
     def all_there(self, path):
         rows = self.rows_of(path)
@@ -165,33 +153,24 @@ def storms(kind, rounds):
                   f"took {slowest:.2f} s; {len(failures)} failed, {time.perf_counter() - began:.0f} s", flush=True)
 
 
-def alone(rounds, kinds):
-    modems.address_of_lo(b"lo", "127.0.0.1", "255.0.0.0")
-    modems.address_of_lo(b"lo:1", SERVER, "255.255.255.255")
-    modems.address_of_lo(b"lo:2", RELAY, "255.255.0.0")
+def in_its_own(rounds, *kinds):
+    modems.addresses_of_lo()
     for kind in kinds:
         if kind == "sqlite:" and store.sqlite3 is None:
             print("skipped sqlite:, since this Python's sqlite3 is missing")
         else:
-            storms(kind, rounds)
-    return 1 if failures else 0
+            storms(kind, int(rounds))
 
 
 def main():
-    if not os.path.exists(PROGRAM):
-        print("officed isn't built: run bin/officed once")
-        return 1
-    if sys.argv[1:2] == ["alone"]:
-        return alone(int(sys.argv[2]), sys.argv[3:])
     rounds, kinds = sys.argv[1:2] or [str(ROUNDS)], sys.argv[2:] or list(KINDS)
-    words = ["unshare", "-rn", sys.executable, os.path.abspath(__file__), "alone", *rounds, *kinds]
-    if os.system("unshare -rn true 2>/dev/null") != 0:
+    if not may_be_alone():
         print("skipped kill_storms, since `unshare -rn` isn't allowed here")
         return 0
-    status = os.spawnvp(os.P_WAIT, "unshare", words)
-    print(f"acceptance: {'all held' if status == 0 else 'it failed'}")
-    return status
+    ended = run_alone(in_its_own.__name__, *rounds, *kinds)
+    print(f"acceptance: {'all held' if ended == 0 else 'it failed'}")
+    return ended
 
 
 if __name__ == "__main__":
-    sys.exit(main())
+    sys.exit(script(main, in_its_own))

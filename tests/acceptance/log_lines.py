@@ -5,14 +5,13 @@ The log is a socket that keeps apart what was written apart. It also checks that
 cut, that the last ones go out where the office ends, and how it ends where they can't. It ends what it
 started, and takes some seconds.
 """
-import os
 import re
 import signal
 import socket
 import sys
 import time
 
-from harness import PROGRAM, check, failures, free_ports, start, stop, wait_until_ready
+from harness import check, free_ports, script, serving, start, stop, wait_until_ready
 
 BURST = 200
 # So many events are taken at most before the system is asked again, and a tick may come between.
@@ -68,17 +67,14 @@ def in_a_burst(program, client, clock, log):
 def while_it_runs():
     ports = free_ports()
     log, end = socket.socketpair(socket.AF_UNIX, socket.SOCK_SEQPACKET)
-    program = start(ports, 10**9, end)
-    end.close()
-    try:
+    with log, serving(ports, end) as program:
+        end.close()
         with socket.socket(socket.AF_INET, socket.SOCK_DGRAM) as client:
-            check(wait_until_ready(client, ports[1]), "the office answers")
+            client.settimeout(5)
+            check(wait_until_ready(ports[1]), "the office answers")
             list(all_taken(log, 1))
             beside_nothing(client, ports[1], log)
             in_a_burst(program, client, ports[1], log)
-    finally:
-        stop(program)
-        log.close()
 
 
 def asked_to_its_end(output, turns):
@@ -127,14 +123,9 @@ def at_its_end():
 
 
 def main():
-    if not os.path.exists(PROGRAM):
-        print("officed isn't built: run bin/officed once")
-        return 1
     while_it_runs()
     at_its_end()
-    print(f"acceptance: {len(failures)} failed")
-    return 1 if failures else 0
 
 
 if __name__ == "__main__":
-    sys.exit(main())
+    sys.exit(script(main))

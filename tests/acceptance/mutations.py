@@ -7,7 +7,6 @@ removed. The program goes on, and of a million inputs its resident memory grows 
 as if nothing had been. The site's secret is in no line, answer, or word on standard error, as text or in hexadecimal; `seal`, `check` and `import` over
 changed files say it as little. Where `unshare -rn` isn't allowed it says so and skips. It ends what it started, and takes half a minute.
 """
-import json
 import os
 import random
 import socket
@@ -17,17 +16,19 @@ import tempfile
 import time
 
 import files_over_sockets as files
-from harness import PROGRAM, SECONDS_BEFORE_1970, check, failures, only_alone, stop, written
+from harness import PROGRAM, SECONDS_BEFORE_1970, check, failures, only_alone, script, serve, stop, written
 from harness import modems as office
-from harness.clerks import connect, read_to_end, request
+from harness.clerks import answer_in, connect, read_to_end, request, spelled
+from harness.machine import resident
 from harness.mutating import fits_request, mutated, mutated_request, words_of_message, words_of_packet
+from harness.network import port_of, took
 from harness.told import SECRET
 
 sys.dont_write_bytecode = True
 import devices  # noqa: E402
 import leases  # noqa: E402
 import tftp  # noqa: E402
-from examples import compact, ip, sealed  # noqa: E402
+from examples import ip, sealed  # noqa: E402
 from messages import RELAYED_DISCOVER, option  # noqa: E402
 
 COUNT = int(os.environ.get("OFFICE_MUTATIONS", "10000"))
@@ -100,7 +101,7 @@ def request_seeds():
               ("PUT", "/site", {**office.SITE, "secret": SECRET.hex()}), ("PUT", "/hubs/1", {**office.SITE, "secret": SECRET.hex()}),
               ("PUT", "/pools/1", {**office.POOL, "hub": 1}), ("PUT", "/device-pools/1", DEVICES)]
     rows = "subscriber,active,cpes,name\n7,yes,2,Ann\n7,no,254,\"A, \"\"B\"\"\"\n"
-    seeds = [request(method, path, compact(body).encode()) for method, path, body in bodies]
+    seeds = [request(method, path, spelled(body)) for method, path, body in bodies]
     seeds += [request("PUT", "/imports/subscribers/9", rows.encode())]
     return seeds + [request("GET", path) for path in ("/site", "/hubs/0", "/hubs/1", "/subscribers/7", modem, "/classes/1", "/pools/1", "/device-pools/1", f"/leases/{ip(office.FIRST)}", "/nowhere")]
 
@@ -108,8 +109,8 @@ def request_seeds():
 class Fuzzing:
     def __init__(self, chance, log, heard):
         self.chance, self.lines, self.heard, self.tried = chance, Lines(log), heard, {}
-        self.relay, self.asker = office.port_of(office.RELAY, 67), office.port_of(AT, files.CLIENT)
-        self.clients = office.port_of("0.0.0.0", 68)
+        self.relay, self.asker = port_of(office.RELAY, 67), port_of(AT, files.CLIENT)
+        self.clients = port_of("0.0.0.0", 68)
         self.messages = message_seeds()
         self.packets = packet_seeds(leases.name_of(SECRET, leases.mac(READER), leases.address(AT)))
         self.requests = request_seeds()
@@ -122,7 +123,7 @@ class Fuzzing:
         _, asks, selects, *_ = device_seeds()
         for message in (leases.discover(**own, asked=AT), leases.selects(AT, server=office.SERVER, **own), asks, selects):
             self.relay.sendto(message, (office.SERVER, office.PORTS[0]))
-            check(office.took(self.relay) is not None, "the reader and its device boot")
+            check(took(self.relay) is not None, "the reader and its device boot")
         check(self.told("dhcp", 4) == ["offer", "ack", "cpe-offer", "cpe-ack"], "the reader and its device have their addresses")
         for each in (self.relay, self.asker, self.clients):
             each.setblocking(False)
@@ -190,9 +191,8 @@ class Fuzzing:
         self.tried[f"http {words}"] = self.tried.get(f"http {words}", 0) + 1
         check(fits_request(data, words), f"http: {words}, of {data[:300]!r}")
         if answer is not None and words[:3].isdigit():
-            head, _, text = answer.partition(b"\r\n\r\n")
-            fault = json.loads(text).get("fault", "") if text else ""
-            check(head.split(b" ")[1].decode() == words[:3] and fault == words[4:], f"http: {words} is answered by {answer[:200]!r}")
+            found = answer_in(answer)
+            check(str(found.status) == words[:3] and found.row().get("fault", "") == words[4:], f"http: {words} is answered by {answer[:200]!r}")
         if words in ("200", "link") and data.startswith(b"PUT"):
             self.restore(data.split(b" ")[1].partition(b"?")[0].decode())
 
@@ -212,8 +212,8 @@ class Fuzzing:
         if path not in [known for known, _ in rows()] and not path.startswith("/imports"):
             asked.insert(0, ("DELETE", path, None))
         for method, where, body in asked:
-            found = office.clerk(method, where, body)
-            check(found[0] == [b"200"] or method == "DELETE" or found[0] == [b"409"], f"{method} {where}: {found}")
+            found = office.clerk.ask(method, where, body)
+            check(found.status in (200, 409) or method == "DELETE", f"{method} {where}: {found}")
         self.ends_of(len(asked))
 
     def some(self, count):
@@ -253,14 +253,7 @@ def rows():
 
 
 def furnish():
-    for path, body in rows():
-        found = office.clerk("PUT", path, body)
-        check(found[0] == [b"200"], f"PUT {path}: {found}")
-
-
-def resident(pid):
-    with open(f"/proc/{pid}/status") as file:
-        return next(int(line.split()[1]) * 1024 for line in file if line.startswith("VmRSS:"))
+    office.clerk.furnishes(rows())
 
 
 def streams(chance, heard):
@@ -278,13 +271,10 @@ def files_front():
 
 
 def fuzzing():
-    office.address_of_lo(b"lo", "127.0.0.1", "255.0.0.0")
-    office.address_of_lo(b"lo:1", office.SERVER, "255.255.255.255")
-    office.address_of_lo(b"lo:2", office.RELAY, "255.255.0.0")
+    office.addresses_of_lo()
     chance, heard = random.Random(SEED), Heard()
     with tempfile.TemporaryFile() as log, tempfile.TemporaryFile() as errors:
-        words = ["serve", "--store", "memory", "--ports", ",".join(map(str, office.PORTS)), "--turns", str(10**9)]
-        program = subprocess.Popen([PROGRAM, *words], stdout=log, stderr=errors, env={**os.environ, "OFFICED_UDP": office.SERVER})
+        program = subprocess.Popen(serve(turns=10**9, ports=office.PORTS), stdout=log, stderr=errors, env={**os.environ, "OFFICED_UDP": office.SERVER})
         try:
             check(office.is_ready(), "the program answers within some seconds")
             fuzz = Fuzzing(chance, log, heard)
@@ -306,7 +296,6 @@ def fuzzing():
         heard.hear(written(errors))
     streams(chance, heard)
     check(not heard.told, f"the secret is told nowhere in {heard.count} bytes")
-    return 1 if failures else 0
 
 
 def ends_well(fuzz):
@@ -318,31 +307,26 @@ def ends_well(fuzz):
     talk = office.Conversation()
     talk.relay.sendto(leases.releases(ip(office.FIRST), **own), (office.SERVER, office.PORTS[0]))
     talk.relay.sendto(leases.discover(**own), (office.SERVER, office.PORTS[0]))
-    offer = office.took(talk.relay)
+    offer = took(talk.relay)
     check(offer is not None, "a modem is offered an address")
     held = ip(int.from_bytes(offer[0][16:20], "big")) if offer else ip(office.FIRST)
     talk.relay.sendto(leases.selects(held, server=office.SERVER, **own), (office.SERVER, office.PORTS[0]))
-    check(office.took(talk.relay) is not None, "its address is acknowledged")
-    with office.port_of(held, 6000) as client:
+    check(took(talk.relay) is not None, "its address is acknowledged")
+    with port_of(held, 6000) as client:
         name = leases.name_of(SECRET, leases.mac(MODEM), leases.address(held))
         client.sendto(tftp.request(name, (b"blksize", b"1428")), (office.SERVER, files.PORT))
-        check((office.took(client) or (b"",))[0] == tftp.options(1428), "its read request is accepted")
+        check((took(client) or (b"",))[0] == tftp.options(1428), "its read request is accepted")
         client.sendto(tftp.acknowledgement(0), (office.SERVER, files.PORT))
-        packet = (office.took(client) or (b"",))[0]
+        packet = (took(client) or (b"",))[0]
         client.sendto(tftp.acknowledgement(1), (office.SERVER, files.PORT))
     check(packet[:4] == tftp.data(1, b"") and packet[4:] == sealed(packet[4:], SECRET), "its file is signed under the secret")
 
 
 def main():
-    if not os.path.exists(PROGRAM):
-        print("officed isn't built: run bin/officed once")
-        return 1
-    if sys.argv[1:] == ["fuzzing"]:
-        return fuzzing()
     if sys.argv[1:]:
         os.environ["OFFICE_MUTATIONS"] = sys.argv[1]
-    return only_alone(__file__, "fuzzing", 300 + int(os.environ.get("OFFICE_MUTATIONS", COUNT)) // 100, "no input stops the office")
+    return only_alone(fuzzing, 300 + int(os.environ.get("OFFICE_MUTATIONS", COUNT)) // 100, "no input stops the office")
 
 
 if __name__ == "__main__":
-    sys.exit(main())
+    sys.exit(script(main, fuzzing))

@@ -13,7 +13,7 @@ import subprocess
 import sys
 import tempfile
 
-from harness import PROGRAM, ROOT, check, failures, free_ports, text_of
+from harness import PROGRAM, ROOT, check, free_ports, listed, script, text_of
 
 DOC = "share/doc/officed"
 HELPERS = ["office-all", "office-clerk", "office-copy", "office-counts", "office-desk",
@@ -74,8 +74,7 @@ def unit_words():
     check(names.get("--turns") == "1000000000000000", "as long as can be")
     check(names.get("--ports", "").startswith("67,37,69,"), "at the standard ports")
     check(names.get("--store", "").startswith("%S/officed/"), "from its own folder")
-    names.update({"--store": "memory", "--turns": "0",
-                  "--ports": ",".join(map(str, free_ports()))})
+    names.update({"--store": "memory", "--turns": "0", "--ports": listed(free_ports())})
     tried = [PROGRAM, "serve", *(word for pair in names.items() for word in pair)]
     check(subprocess.run(tried, timeout=30).returncode == 0, "the program takes such words")
 
@@ -116,17 +115,12 @@ def manual():
 
 
 def main():
-    if not os.path.exists(PROGRAM):
-        print("officed isn't built: run bin/officed once")
-        return 1
     with tempfile.TemporaryDirectory() as folder:
         installs(folder)
         systemd(folder)
     unit_words()
     manual()
-    print(f"acceptance: {len(failures)} failed")
-    return 1 if failures else 0
 
 
 if __name__ == "__main__":
-    sys.exit(main())
+    sys.exit(script(main))

@@ -17,7 +17,7 @@ import time
 
 import store
 from store import Serving, Stream, ended, subscriber
-from harness import PROGRAM, check, failures
+from harness import check, failures, may_be_alone, run_alone, script, status
 from harness.cut_disk import FSYNC, WRITE, CutDisk
 
 sys.dont_write_bytecode = True
@@ -51,8 +51,7 @@ def disk_itself():
 
 
 def is_there(office, number):
-    found = office.ask("GET", f"/subscribers/{number}")
-    return found is not None and found[0] == 200
+    return office.row(f"/subscribers/{number}") is not None
 
 
 def over_a_lie(kind):
@@ -84,7 +83,7 @@ def refused():
         def changes(office, expected, what):
             number = len(done)
             found = office.ask("PUT", f"/subscribers/{number}", subscriber(number))
-            check(found is not None and found[0] == expected, f"{what}: {found}, not {expected}")
+            check(found.status == expected, f"{what}: {found}, not {expected}")
             if expected == 200:
                 done.append(number)
             else:
@@ -160,7 +159,7 @@ def cuts(kind, count):
               f"{len(failures)} failed", flush=True)
 
 
-def alone(count, kinds):
+def in_its_own(count, *kinds):
     try:
         disk_itself()
     except OSError as error:
@@ -169,23 +168,18 @@ def alone(count, kinds):
     refused()
     for kind in kinds:
         over_a_lie(kind.removeprefix("sqlite:"))
-        cuts(kind, count)
+        cuts(kind, int(count))
     print(f"acceptance: {len(failures)} failed")
-    return 1 if failures else 0
+    return status()
 
 
 def main():
-    if not os.path.exists(PROGRAM):
-        print("officed isn't built: run bin/officed once")
-        return 1
-    if sys.argv[1:2] == ["alone"]:
-        return alone(int(sys.argv[2]), sys.argv[3:])
-    if os.system("unshare -rm true 2>/dev/null") != 0:
+    if not may_be_alone("-rm"):
         print("skipped power_cuts, since `unshare -rm` isn't allowed here")
         return 0
-    words = sys.argv[1:2] or [str(CUTS)], sys.argv[2:] or ["journal:", "sqlite:"]
-    return os.spawnvp(os.P_WAIT, "unshare", ["unshare", "-rm", sys.executable, os.path.abspath(__file__), "alone", *words[0], *words[1]])
+    count, kinds = sys.argv[1:2] or [str(CUTS)], sys.argv[2:] or ["journal:", "sqlite:"]
+    return run_alone(in_its_own.__name__, *count, *kinds, flags="-rm")
 
 
 if __name__ == "__main__":
-    sys.exit(main())
+    sys.exit(script(main, in_its_own))

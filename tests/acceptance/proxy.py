@@ -14,7 +14,8 @@ import sys
 import tempfile
 import time
 
-from harness import PROGRAM, ROOT, check, failures, free_ports, start, stop, wait_for
+from harness import ROOT, check, free_ports, script, serving, stop
+from harness.clerks import wait_until_answering
 from clerk_examples import CLERK
 
 ANN = {"active": True, "cpes": 2, "name": "Ann"}
@@ -123,20 +124,12 @@ def behind_nginx(folder, office):
 
 
 def main():
-    if not os.path.exists(PROGRAM):
-        print("officed isn't built: run bin/officed once")
-        return 1
     ports = free_ports()
     with tempfile.TemporaryDirectory() as folder, open(os.devnull, "wb") as log:
-        program = start(ports, 10**6, log)
-        try:
-            wait_for(ports[3])
+        with serving(ports, log):
+            wait_until_answering(ports[3])
             behind_nginx(folder, ports[3])
-        finally:
-            stop(program)
-    print(f"acceptance: {len(failures)} failed")
-    return 1 if failures else 0
 
 
 if __name__ == "__main__":
-    sys.exit(main())
+    sys.exit(script(main))

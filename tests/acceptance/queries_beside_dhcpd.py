@@ -14,7 +14,7 @@ import sys
 import tempfile
 import time
 
-from harness import HERE, ROOT, check, failures, only_alone
+from harness import HERE, ROOT, check, only_alone, script
 from harness.told import SECRET
 
 sys.path.insert(0, os.path.join(ROOT, "tests", "examples"))
@@ -126,12 +126,11 @@ def asking():
     time.sleep(0.5)
     both.agree(leases.who_has(HELD), UNASSIGNED, "an address that was given back")
     both.differ(leases.has_which(), UNASSIGNED, UNKNOWN, "a modem that gave its address back")
-    return 1 if failures else 0
 
 
-def beside(folder):
+def beside():
     """dhcpd in this network, and the relay in another one."""
-    with subprocess.Popen(["unshare", "-n", "sleep", "300"]) as other:
+    with tempfile.TemporaryDirectory() as folder, subprocess.Popen(["unshare", "-n", "sleep", "300"]) as other:
         time.sleep(0.3)
         subprocess.run(["sh", "-ec", NETWORK.format(other.pid)], check=True)
         for name, text in (("dhcpd.conf", CONFIGURED), ("dhcpd.leases", "")):
@@ -148,13 +147,8 @@ def beside(folder):
 
 
 def main():
-    if sys.argv[1:] == ["asking"]:
-        return asking()
-    if sys.argv[1:] == ["beside"]:
-        with tempfile.TemporaryDirectory() as folder:
-            return beside(folder)
-    return only_alone(__file__, "beside", 300, "both answer alike")
+    return only_alone(beside, 300, "both answer alike")
 
 
 if __name__ == "__main__":
-    sys.exit(main())
+    sys.exit(script(main, asking, beside, needs_program=False))

@@ -15,8 +15,9 @@ import sys
 import tempfile
 import time
 
-from harness import PROGRAM, ROOT, check, failures, only_alone, start, stop
-from harness.modems import FIRST, MODEMS, PORTS, RELAY, SERVER, Conversation, address_of_lo, boot, clerk, furnish, ip, is_ready, leases, modem, port_of, took
+from harness import ROOT, check, failures, have_their_lines, only_alone, said, script
+from harness.modems import FIRST, MODEMS, RELAY, SERVER, Conversation, addresses_of_lo, boot, clerk, furnish, ip, leases, modem, running
+from harness.network import address_of_lo, port_of, took
 
 QUERIES, AT_ONCE = 10_000, 32
 FAR = "10.65.0.1"
@@ -27,7 +28,7 @@ LATE = 3
 def second_pool(talk):
     """A pool behind another relay, without a modem."""
     body = {"first": "10.65.0.10", "last": "10.65.0.20", "prefix": 24, "router": FAR, "relay": FAR}
-    check(clerk("PUT", "/pools/2", body)[0] == [b"200"], "a second pool")
+    clerk.puts("/pools/2", body)
     talk.model.put(f"pool 2 10.65.0.10 10.65.0.20 24 {FAR} {FAR}")
 
 
@@ -100,13 +101,10 @@ def asks_in_words(talk):
 
 def asking():
     """Runs in a network of its own, where nobody has these ports and all addresses may be this machine's."""
-    address_of_lo(b"lo", "127.0.0.1", "255.0.0.0")
-    for name, address, mask in ((b"lo:1", SERVER, "255.255.255.255"), (b"lo:2", RELAY, "255.255.0.0"), (b"lo:3", FAR, "255.255.255.255")):
-        address_of_lo(name, address, mask)
+    addresses_of_lo()
+    address_of_lo(b"lo:3", FAR, "255.255.255.255")
     with tempfile.TemporaryFile() as log:
-        program = start(PORTS, 10**9, log, {"OFFICED_UDP": SERVER})
-        try:
-            check(is_ready(), "the program answers within some seconds")
+        with running(log):
             furnish()
             talk = Conversation()
             second_pool(talk)
@@ -119,26 +117,12 @@ def asking():
             check(talk.model.rows() == before, "a query changes nothing")
             asks_in_words(talk)
             print(f"{QUERIES} queries in {took_seconds:.2f} s, {answered} of them answered")
-        finally:
-            stop(program)
-        log.seek(0)
-        lines = [line.split(" ", 1)[1] for line in log.read().decode().splitlines() if re.match(r"[0-9]+ dhcp ", line)]
-    check(lines == [f"dhcp {word}" for word in talk.words], "each datagram has its line")
-    for place, (line, word) in enumerate(zip(lines, talk.words)):
-        if line != f"dhcp {word}":
-            print(f"line {place}: {line}, and not {word}")
-            break
-    return 1 if failures else 0
+        have_their_lines(said(log, "dhcp"), [f"dhcp {word}" for word in talk.words])
 
 
 def main():
-    if not os.path.exists(PROGRAM):
-        print("officed isn't built: run bin/officed once")
-        return 1
-    if sys.argv[1:] == ["asking"]:
-        return asking()
-    return only_alone(__file__, "asking", 120, "relays are answered")
+    return only_alone(asking, 120, "relays are answered")
 
 
 if __name__ == "__main__":
-    sys.exit(main())
+    sys.exit(script(main, asking))

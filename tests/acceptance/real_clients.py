@@ -19,13 +19,12 @@ import sys
 import tempfile
 import time
 
-from harness import PROGRAM, alone, check, failures, loaded, may_be_alone, start, stop
+from harness import alone, check, loaded, may_be_alone, script
 from harness import modems
 from harness.told import SECRET
 
 OFFICE, ROUTER, RELAY = "10.0.0.2", "10.0.0.1", "10.64.0.1"
 MAC, SERIAL = "02:aa:bb:cc:dd:ee", "SN01"
-PORTS = [67, 37, 69, 8080]
 # What a modem says of itself: option 43, its parts 2 (a modem) and 4 (its serial number).
 ABOUT = b"\x02\x03ECM\x04\x04" + SERIAL.encode()
 # Both clients tell what they were given by this script, which sets the address.
@@ -128,11 +127,10 @@ def furnish():
     site = {**modems.SITE, "server": OFFICE, "secret": SECRET.hex(), "log": "0.0.0.0"}
     pool = {"first": "10.64.0.10", "last": "10.64.0.19", "prefix": 24, "router": RELAY,
             "relay": RELAY}
-    for path, body in (("/site", site), ("/classes/1", class_), ("/pools/1", pool),
-                       ("/subscribers/7", {"active": True, "cpes": 2, "name": "Ann"}),
-                       ("/modems/" + MAC.replace(":", ""),
-                        {"subscriber": 7, "class": 1, "serial": SERIAL})):
-        check(modems.clerk("PUT", path, body)[0] == [b"200"], f"PUT {path}")
+    modem = {"subscriber": 7, "class": 1, "serial": SERIAL}
+    modems.clerk.furnishes([("/site", site), ("/classes/1", class_), ("/pools/1", pool),
+                            ("/subscribers/7", {"active": True, "cpes": 2, "name": "Ann"}),
+                            ("/modems/" + MAC.replace(":", ""), modem)])
 
 
 # ---- relays and clients
@@ -297,8 +295,8 @@ def boots(network, folder, log, kind, relay):
     with_options = sum(asks for _, asks in fetched)
     check((lines.count("tftp done"), lines.count("tftp oack")) == (len(fetched), with_options),
           f"{what}: {lines}")
-    status, text = modems.clerk("GET", f"/leases/{address}")
-    check(status == [b"404"], f"{what}: the address is given back: {text}")
+    held = modems.clerk.ask("GET", f"/leases/{address}")
+    check(held.status == 404, f"{what}: the address is given back: {held.text}")
     print(f"{what}: {address}, {len(fetched)} fetches, renewed and given back")
 
 
@@ -306,30 +304,19 @@ def all_of_them():
     network = Network()
     try:
         with tempfile.TemporaryDirectory() as folder:
-            with open(os.path.join(folder, "log"), "wb") as log:
-                program = start(PORTS, 10**9, log, {"OFFICED_UDP": OFFICE})
-                try:
-                    check(modems.is_ready(), "the program answers within some seconds")
-                    furnish()
-                    for relay, words in relays().items():
-                        with network.running(network.relay, *words):
-                            for kind in clients():
-                                boots(network, folder, log, kind, relay)
-                                with contextlib.suppress(FileNotFoundError):
-                                    os.remove(os.path.join(folder, "leases"))
-                finally:
-                    stop(program)
+            with open(os.path.join(folder, "log"), "wb") as log, modems.running(log):
+                furnish()
+                for relay, words in relays().items():
+                    with network.running(network.relay, *words):
+                        for kind in clients():
+                            boots(network, folder, log, kind, relay)
+                            with contextlib.suppress(FileNotFoundError):
+                                os.remove(os.path.join(folder, "leases"))
     finally:
         network.end()
-    return 1 if failures else 0
 
 
 def main():
-    if sys.argv[1:] == ["alone"]:
-        return all_of_them()
-    if not os.path.exists(PROGRAM):
-        print("officed isn't built: run bin/officed once")
-        return 1
     lacking = [name for name in ("dhcrelay", "dnsmasq", "udhcpc", "dhclient", "tftp", "atftp",
                                  "busybox", "rdate") if not found(name)]
     if lacking:
@@ -337,10 +324,8 @@ def main():
     if not relays() or not clients() or not may_be_alone():
         print("skipped, since there is no relay, no client or no network of its own here")
         return 0
-    alone(__file__, "alone", 300, "real clients boot")
-    print(f"acceptance: {len(failures)} failed")
-    return 1 if failures else 0
+    return alone(all_of_them, 300, "real clients boot")
 
 
 if __name__ == "__main__":
-    sys.exit(main())
+    sys.exit(script(main, all_of_them))

@@ -9,13 +9,10 @@ started, and takes about a minute.
 """
 import contextlib
 import functools
-import json
 import os
 import random
 import resource
 import shutil
-import signal
-import socket
 import struct
 import subprocess
 import sys
@@ -25,8 +22,8 @@ import time
 
 # Before the modems, whose models have a module of this name too.
 from imports import table
-from harness import PROGRAM, ROOT, check, failures, free_ports, start, stop
-from harness.clerks import read_to_end, request
+from harness import PROGRAM, ROOT, alone, check, free_ports, kill, may_be_alone, script, serve, start, stop
+from harness.clerks import GOLD, Clerk, is_heard
 from harness import modems
 from harness.told import SECRET
 
@@ -50,61 +47,30 @@ def folder():
 
 def ended(store, *words, data=b"", limits=None):
     """The status and the lines of a run that ends by itself: of `import`, or of an office that takes no events."""
-    words = words or ("serve", "--ports", ",".join(map(str, free_ports())), "--turns", "0")
-    words = [PROGRAM, words[0], "--store", store, *words[1:]]
+    words = [PROGRAM, words[0], "--store", store, *words[1:]] if words else serve(store)
     done = subprocess.run(words, input=data, stdout=subprocess.PIPE, stderr=subprocess.DEVNULL, timeout=PATIENCE, preexec_fn=limits)
     return done.returncode, done.stdout.decode()
 
 
-class Serving:
+class Serving(Clerk):
     """An office over a file, and a clerk of it."""
 
     def __init__(self, store):
-        self.store, self.ports, self.log = store, free_ports(), tempfile.TemporaryFile()
-        self.program = start(self.ports, 10**9, self.log, store=store)
+        ports, self.store, self.log = free_ports(), store, tempfile.TemporaryFile()
+        super().__init__(ports[3], PATIENCE)
+        self.program = start(ports, 10**9, self.log, store=store)
         self.began = time.perf_counter()
 
     def __enter__(self):
-        while time.perf_counter() - self.began < PATIENCE and self.program.poll() is None:
-            with contextlib.suppress(OSError):
-                socket.create_connection(("127.0.0.1", self.ports[3]), timeout=1).close()
-                return self
-            time.sleep(0.02)
-        check(False, f"the office answers: {self.program.poll()}")
+        check(is_heard(self.port, seconds=PATIENCE, program=self.program), f"the office answers: {self.program.poll()}")
         return self
 
     def __exit__(self, *_):
-        if self.program.poll() is None:
-            stop(self.program)
+        stop(self.program)
         self.log.close()
 
     def kill(self):
-        self.program.kill()
-        self.program.wait(timeout=PATIENCE)
-
-    def ask(self, method, path, body=None):
-        """The status and the body of an answer; None where no whole answer came."""
-        try:
-            with socket.create_connection(("127.0.0.1", self.ports[3]), timeout=PATIENCE) as peer:
-                peer.sendall(request(method, path, json.dumps(body).encode() if body is not None else b""))
-                answer = read_to_end(peer)
-        except OSError:
-            return None
-        if not answer or b"\r\n\r\n" not in answer:
-            return None
-        head, _, text = answer.partition(b"\r\n\r\n")
-        return int(head.split(b" ")[1]), text
-
-    def puts(self, path, body):
-        found = self.ask("PUT", path, body)
-        check(found is not None and found[0] == 200, f"PUT {path}: {found}")
-
-    def shows(self, path, body, what):
-        """A row is shown as it was put, but for a hub's secret."""
-        body = {name: value for name, value in body.items() if name != "secret"}
-        found = self.ask("GET", path)
-        shown = json.loads(found[1]) if found and found[0] == 200 else found
-        check(shown == body, f"{what}: {path} is {shown}, and not {body}")
+        kill(self.program)
 
 
 def subscriber(number):
@@ -144,17 +110,16 @@ def new_file():
         with Serving(store) as office:
             for path, body in CHANGES:
                 office.shows(path, body, "behind a stop")
-            check(office.ask("DELETE", "/modems/02aabbccddee")[0] == 200, "a row is removed")
+            office.removes("/modems/02aabbccddee")
             office.kill()
         with Serving(store) as office:
-            check(office.ask("GET", "/modems/02aabbccddee")[0] == 404, "behind a kill a row that was removed isn't there")
+            check(office.ask("GET", "/modems/02aabbccddee").status == 404, "behind a kill a row that was removed isn't there")
             office.shows(*CHANGES[0], "behind a kill")
         check(len(rows_of(store)) == len(CHANGES) - 1, "and the file has the others")
 
 
-SETTINGS = [{"code": code, "parts": [{"code": 1, "hex": reference}, {"code": 6, "hex": "07"}]} for code, reference in ((24, "0001"), (25, "0002"))]
 CHANGES = [("/site", {"server": "10.0.0.2", "secret": SECRET.hex(), "offset": -18000, "lease": 3600, "log": "0.0.0.0"}),
-           ("/classes/1", {"name": "gold", "settings": SETTINGS}), ("/subscribers/7", subscriber(7)),
+           ("/classes/1", {"name": "gold", "settings": GOLD}), ("/subscribers/7", subscriber(7)),
            ("/pools/1", {"first": "10.64.0.10", "last": "10.64.0.99", "prefix": 24, "router": "10.64.0.1", "relay": "10.64.0.1", "hub": 0}),
            ("/modems/02aabbccddee", {"subscriber": 7, "class": 1, "serial": "SN01"})]
 
@@ -193,9 +158,9 @@ class Stream(threading.Thread):
     def run(self):
         while True:
             found = self.office.ask("PUT", f"/subscribers/{self.number}", subscriber(self.number))
-            if found is None:
+            if found.status is None:
                 return
-            check(found[0] == 200, f"a change of the stream: {found}")
+            check(found.status == 200, f"a change of the stream: {found}")
             self.done.append(self.number)
             self.number += 1
 
@@ -214,7 +179,7 @@ def kills(kind="", rows=rows_of):
                 stream.join(timeout=PATIENCE)
                 done += len(stream.done)
             with Serving(kind + store) as office:
-                found = [number for number in (done, done + 1) if office.ask("GET", f"/subscribers/{number}")[0] == 200]
+                found = [number for number in (done, done + 1) if office.ask("GET", f"/subscribers/{number}").status == 200]
                 check(found in ([], [done]), f"behind kill {turn} one change more than was acknowledged, or none: {found}")
                 for number in range(max(0, done - 20), done):
                     office.shows(f"/subscribers/{number}", subscriber(number), f"behind kill {turn}")
@@ -379,7 +344,6 @@ def full_disk(kind="", size="2m"):
             print(f"a disk of {size} took {taken} changes")
         finally:
             subprocess.run(["umount", "-l", name], check=True)
-    return 1 if failures else 0
 
 
 def fills(name, kind):
@@ -387,16 +351,16 @@ def fills(name, kind):
     with Serving(kind + os.path.join(name, "office.db")) as office:
         for number in range(20_000):
             found = office.ask("PUT", f"/subscribers/{number}", body)
-            if found is None or found[0] != 200:
+            if found.status != 200:
                 break
             done.append(number)
-        check(found is not None and found[0] == 500, f"a change that finds no room: {found}")
+        check(found.status == 500, f"a change that finds no room: {found}")
         check(office.program.poll() is None, "the office goes on")
         check(len(done) > 10, f"the disk took {len(done)} changes")
         office.shows("/subscribers/0", body, "on a full disk")
         subprocess.run(["mount", "-o", "remount,size=16m", name], check=True)
         found = office.ask("PUT", f"/subscribers/{len(done)}", body)
-        check(found is not None and found[0] == 200, f"a change behind more room: {found}")
+        check(found.status == 200, f"a change behind more room: {found}")
         done.append(len(done))
         office.kill()
     with tempfile.TemporaryDirectory() as other:
@@ -404,69 +368,59 @@ def fills(name, kind):
             shutil.copy(os.path.join(name, each), other)
         with Serving(kind + os.path.join(other, "office.db")) as office:
             for number in done[:1] + done[len(done) // 2:][:1] + done[-1:]:
-                found = office.ask("GET", f"/subscribers/{number}")
-                check(found is not None and found[0] == 200, f"behind a full disk subscriber {number} is there")
+                check(office.row(f"/subscribers/{number}") is not None, f"behind a full disk subscriber {number} is there")
     return len(done)
 
 
 def booting(kind="", rows=rows_of):
-    """Modems boot, the office is killed and starts again, and they renew: in a network of its own."""
-    modems.address_of_lo(b"lo", "127.0.0.1", "255.0.0.0")
-    modems.address_of_lo(b"lo:1", modems.SERVER, "255.255.255.255")
-    modems.address_of_lo(b"lo:2", modems.RELAY, "255.255.0.0")
+    """Modems boot, the office is killed, and then stopped, and starts again each time, and they renew: in a network of its own."""
+    modems.addresses_of_lo()
     with folder() as (_, store), tempfile.TemporaryFile() as log:
-        program = start(modems.PORTS, 10**9, log, {"OFFICED_UDP": modems.SERVER}, store=kind + store)
-        try:
-            check(modems.is_ready(), "the program answers within some seconds")
+        with modems.running(log, store=kind + store) as program:
             modems.furnish()
             talk = modems.Conversation()
             modems.boot(talk)
-            for end in (signal.SIGKILL, signal.SIGTERM):
-                program.send_signal(end)
-                program.wait(timeout=PATIENCE)
-                program = start(modems.PORTS, 10**9, log, {"OFFICED_UDP": modems.SERVER}, store=kind + store)
-                check(modems.is_ready(), "it starts again")
-                modems.read_back(talk)
-                for number in range(modems.MODEMS):
-                    held = modems.ip(modems.FIRST + number)
-                    renewed = talk.asks(modems.leases.renews(held, **modems.modem(number)), f"renewal {number}")
-                    check(renewed is not None, f"modem {number} renews")
+            kill(program)
+        with modems.running(log, store=kind + store):
+            all_renew(talk)
+        with modems.running(log, store=kind + store):
+            all_renew(talk)
             modems.live(talk)
             modems.read_back(talk)
-        finally:
-            stop(program)
         kinds = [ident[0] for ident in rows(store)]
         leased = len(talk.model.leases)
         check((kinds.count(4), kinds.count(7)) == (modems.MODEMS + 1, leased), f"the file has {leased} leases: {kinds.count(7)}")
-    return 1 if failures else 0
 
 
-def in_its_own(what, *flags, script=__file__):
-    if not shutil.which("unshare") or subprocess.run(["unshare", *flags, "true"], stderr=subprocess.DEVNULL).returncode != 0:
-        print(f"skipped {what}, since `unshare {' '.join(flags)}` isn't allowed here")
-        return
-    done = subprocess.run(["unshare", *flags, sys.executable, os.path.abspath(script), what], timeout=20 * PATIENCE)
-    check(done.returncode == 0, what)
+def all_renew(talk):
+    """Each modem has its address still, and renews it."""
+    modems.read_back(talk)
+    for number in range(modems.MODEMS):
+        held = modems.ip(modems.FIRST + number)
+        renewed = talk.asks(modems.leases.renews(held, **modems.modem(number)), f"renewal {number}")
+        check(renewed is not None, f"modem {number} renews")
+
+
+def in_its_own(part, flags):
+    """Runs a part of a script where `unshare` gives it what it needs."""
+    what = part.__name__
+    if may_be_alone(flags):
+        alone(part, 20 * PATIENCE, what, flags)
+    else:
+        print(f"skipped {what}, since `unshare {flags}` isn't allowed here")
 
 
 def main():
-    if not os.path.exists(PROGRAM):
-        print("officed isn't built: run bin/officed once")
-        return 1
     # A table that is STRICT came with SQLite 3.37.
     if sqlite3 is None or sqlite3.sqlite_version_info < (3, 37):
         print("skipped, since this Python's sqlite3 is missing or too old")
         return 0
-    alone = {"booting": booting, "full_disk": full_disk}
-    if sys.argv[1:]:
-        return alone[sys.argv[1]]()
     for each in (new_file, private, kills, refusals, journal, imports, hungry, guide):
         each()
-    in_its_own("booting", "-rn")
-    in_its_own("full_disk", "-rm")
-    print(f"acceptance: {len(failures)} failed")
-    return 1 if failures else 0
+    in_its_own(booting, "-rn")
+    in_its_own(full_disk, "-rm")
+    return None
 
 
 if __name__ == "__main__":
-    sys.exit(main())
+    sys.exit(script(main, booting, full_disk))

@@ -18,7 +18,8 @@ import sys
 import tempfile
 import time
 
-from harness import PROGRAM, ROOT, check, failures, free_ports, may_be_alone, stop, wait_for
+from harness import PROGRAM, ROOT, check, free_ports, may_be_alone, script, serve, serving
+from harness.clerks import wait_until_answering
 from harness.told import SECRET
 from first_office import may_relay, run
 
@@ -353,18 +354,15 @@ def to_no_reader(path):
     return done.returncode, done.stderr
 
 
-def serving(path, turns):
-    """The program over a store, and its clerks' port."""
-    ports = free_ports()
-    words = [PROGRAM, "serve", "--store", path, "--ports", ",".join(map(str, ports)), "--turns",
-             str(turns)]
-    return subprocess.Popen(words, stdout=subprocess.DEVNULL), ports[3]
+def opened(path):
+    """The status of an office over a store, which takes no events."""
+    return subprocess.run(serve(path), stdout=subprocess.DEVNULL, timeout=60).returncode
 
 
 def by_the_program(folder):
     """The store of an office that booted a modem."""
     path = os.path.join(folder, "first.db")
-    if not os.path.exists(PROGRAM) or serving(path, 0)[0].wait(timeout=60) == 11:
+    if not os.path.exists(PROGRAM) or opened(path) == 11:
         print("a store of the program: skipped, since it keeps none on disk")
         return
     if not may_relay() and not may_be_alone():
@@ -378,12 +376,10 @@ def by_the_program(folder):
         found = list(csv.reader(io.StringIO(came)))[1:]
         check(status == 0 and [line[:len(expected)] for line in found] == [expected],
               f"{words} of the program: {status} {found} {said}")
-    program, port = serving(path, 10**6)
-    try:
-        wait_for(port)
+    ports = free_ports()
+    with serving(ports, subprocess.DEVNULL, store=path):
+        wait_until_answering(ports[3])
         check(asked(path, "modems", "7")[0] == 3, "while the office has it open it isn't read")
-    finally:
-        stop(program)
     check(asked(path, "modems", "7")[0] == 0, "and behind it it is")
     # By its own clock: `asked` is of another moment.
     for words in (("--later-than", "now+60"), ("127.64.0.10",)):
@@ -391,7 +387,7 @@ def by_the_program(folder):
                               stdout=subprocess.PIPE, stderr=subprocess.DEVNULL)
         lines = list(csv.reader(io.StringIO(done.stdout.decode())))
         check([line[:2] for line in lines[1:]] == [["127.64.0.10", "02aabbccddee"]], f"{lines}")
-        check(serving(path, 0)[0].wait(timeout=60) == 0, f"{words}: the office opens the file")
+        check(opened(path) == 0, f"{words}: the office opens the file")
 
 
 def main():
@@ -408,9 +404,7 @@ def main():
         check((status, came.splitlines()) == (0, lines), f"as text: {came}")
         found = to_no_reader(os.path.join(folder, "office.db"))
         check(found == (-signal.SIGPIPE, b""), f"a reader that has gone: {found}")
-    print(f"acceptance: {len(failures)} failed")
-    return 1 if failures else 0
 
 
 if __name__ == "__main__":
-    sys.exit(main())
+    sys.exit(script(main, needs_program=False))

@@ -5,20 +5,20 @@ At 1, 16 and 64 clients, and again while 64 clerks' connections are idle, office
 log on /dev/null, since inetd writes none; with its log in a file the figures are printed. So are the system calls of an answer, where the
 machine has strace, and the delays while another port is flooded. It ends what it started, and takes about 35 seconds. It wants `inetd` (openbsd-inetd), `cc` and `unshare`.
 """
-import fcntl
 import os
 import re
 import shutil
 import signal
 import socket
 import statistics
-import struct
 import subprocess
 import sys
 import tempfile
 import time
 
-from harness import PROGRAM, check, failures, start, stop, wait_until_ready
+from harness import check, only_alone, script, serving, wait_until_ready
+from harness.machine import compiled
+from harness.network import address_of_lo, loopback
 
 HERE = os.path.dirname(os.path.abspath(__file__))
 CLIENTS = os.path.join(HERE, "..", "bench", "time_clients.c")
@@ -29,12 +29,6 @@ LOGGED = [6768, 3738, 6970, 8081]
 ROUNDS = 5
 TRIES = 4
 MILLISECONDS = 250
-
-
-def network():
-    with socket.socket() as any_socket:
-        fcntl.ioctl(any_socket, 0x8914, struct.pack("16sh14x", b"lo", 1))  # SIOCSIFFLAGS, IFF_UP
-        fcntl.ioctl(any_socket, 0x8916, struct.pack("16sHH4s8x", b"lo:1", socket.AF_INET, 0, socket.inet_aton(ADDRESS)))  # SIOCSIFADDR
 
 
 def answers(clients, port, count):
@@ -120,57 +114,45 @@ def under_a_flood():
         flood.wait()
 
 
-def compare(folder):
-    network()
-    clients = os.path.join(folder, "time_clients")
-    subprocess.run(["cc", "-O2", "-o", clients, CLIENTS], check=True)
-    configuration = os.path.join(folder, "inetd.conf")
-    with open(configuration, "w") as file:
-        for name in ("time", "echo"):
-            file.write(f"{ADDRESS}:{name} dgram udp wait root internal\n")
-    inetd = subprocess.Popen(["inetd", "-i", "-R", "0", configuration])
-    with open(os.path.join(folder, "log"), "wb") as log:
-        program, logged = start(PORTS, 10**12, subprocess.DEVNULL), start(LOGGED, 10**12, log)
+def compare():
+    loopback()
+    address_of_lo(b"lo:1", ADDRESS, "255.0.0.0")
+    with tempfile.TemporaryDirectory() as folder:
+        configuration = os.path.join(folder, "inetd.conf")
+        with open(configuration, "w") as file:
+            for name in ("time", "echo"):
+                file.write(f"{ADDRESS}:{name} dgram udp wait root internal\n")
+        inetd = subprocess.Popen(["inetd", "-i", "-R", "0", configuration])
         try:
-            for ports in (PORTS, LOGGED):
-                with socket.socket(socket.AF_INET, socket.SOCK_DGRAM) as client:
-                    check(wait_until_ready(client, ports[1]), "the office answers")
-            beside(clients, "")
-            idle = [socket.create_connection(("127.0.0.1", ports[3])) for ports in (PORTS, LOGGED) for _ in range(64)]
-            beside(clients, ", 64 idle connections")
-            for peer in idle:
-                peer.close()
-            system_calls(clients, program)
-            under_a_flood()
-            check(program.poll() is None and logged.poll() is None, "the programs go on")
+            both(compiled(CLIENTS, folder), os.path.join(folder, "log"))
         finally:
-            stop(program)
-            stop(logged)
             inetd.terminate()
             inetd.wait()
-    return 1 if failures else 0
+
+
+def both(clients, path):
+    """The office without a log, and with one in a file, beside inetd."""
+    with open(path, "wb") as log, serving(PORTS, subprocess.DEVNULL) as program, serving(LOGGED, log) as logged:
+        for ports in (PORTS, LOGGED):
+            check(wait_until_ready(ports[1]), "the office answers")
+        beside(clients, "")
+        idle = [socket.create_connection(("127.0.0.1", ports[3])) for ports in (PORTS, LOGGED) for _ in range(64)]
+        beside(clients, ", 64 idle connections")
+        for peer in idle:
+            peer.close()
+        system_calls(clients, program)
+        under_a_flood()
+        check(program.poll() is None and logged.poll() is None, "the programs go on")
 
 
 def main():
-    if not os.path.exists(PROGRAM):
-        print("officed isn't built: run bin/officed once")
-        return 1
-    if sys.argv[1:2] == ["compare"]:
-        return compare(sys.argv[2])
     os.environ["PATH"] += ":/usr/sbin:/sbin"
     for tool, package in (("inetd", "openbsd-inetd"), ("cc", "gcc"), ("unshare", "util-linux")):
         if not shutil.which(tool):
             print(f"skipped, since this machine has no `{tool}` ({package})")
             return 0
-    if subprocess.run(["unshare", "-rn", "true"], stderr=subprocess.DEVNULL).returncode != 0:
-        print("skipped, since `unshare -rn` gives no network of its own here")
-        return 0
-    with tempfile.TemporaryDirectory() as folder:
-        done = subprocess.run(["unshare", "-rn", sys.executable, os.path.abspath(__file__), "compare", folder], timeout=120)
-    check(done.returncode == 0, "beside inetd")
-    print(f"acceptance: {len(failures)} failed")
-    return 1 if failures else 0
+    return only_alone(compare, 120, "beside inetd")
 
 
 if __name__ == "__main__":
-    sys.exit(main())
+    sys.exit(script(main, compare))

@@ -6,8 +6,6 @@ figures for an idle program and for an answer's delay are printed and not judged
 started, and takes under a minute.
 """
 import os
-import re
-import signal
 import socket
 import statistics
 import struct
@@ -16,8 +14,10 @@ import sys
 import tempfile
 import time
 
-from harness import (BUILT, PROGRAM, ROOT, SECONDS_BEFORE_1970, check, failures, free_ports,
-                     processor_seconds, start, wait_until_ready)
+from harness import (BUILT, PROGRAM, ROOT, SECONDS_BEFORE_1970, check, free_ports, numbers_of,
+                     script, serve, serving, wait_until_ready, written)
+from harness import clerks
+from harness.machine import processor_seconds
 
 
 def ask(client, port, payload=b""):
@@ -40,7 +40,7 @@ def ask(client, port, payload=b""):
 
 
 def status_of(words):
-    done = subprocess.run([PROGRAM, *words], stdout=subprocess.PIPE, stderr=subprocess.DEVNULL, timeout=30)
+    done = subprocess.run(words, stdout=subprocess.PIPE, stderr=subprocess.DEVNULL, timeout=60)
     return done.returncode, done.stdout
 
 
@@ -48,15 +48,14 @@ def serve_and_ask():
     ports = free_ports()
     dhcp, clock, tftp, http = ports
     with tempfile.TemporaryFile() as log:
-        program = start(ports, 10**9, log)
-        try:
+        with serving(ports, log) as program:
             clients = []
             for _ in range(5):
                 client = socket.socket(socket.AF_INET, socket.SOCK_DGRAM)
                 client.bind(("127.0.0.1", 0))
                 client.settimeout(5.0)
                 clients.append(client)
-            check(wait_until_ready(clients[0], clock), "the program answers within some seconds")
+            check(wait_until_ready(clock), "the program answers within some seconds")
             for round_ in range(60):
                 for client in clients:
                     payload = b"" if round_ % 2 == 0 else b"\x2a" * 1400
@@ -65,10 +64,7 @@ def serve_and_ask():
             clients[0].sendto(b"", ("127.0.0.1", dhcp))
             clients[0].sendto(b"\x00\x01name\x00octet\x00", ("127.0.0.1", tftp))
             check(clients[0].recv(2048) == b"\x00\x05\x00\x02no lease\x00", "who has no lease is told so")
-            with socket.create_connection(("127.0.0.1", http), timeout=5) as clerk:
-                clerk.sendall(b"GET /site HTTP/1.1\r\n\r\n")
-                while clerk.recv(4096):
-                    pass
+            clerks.ask(http, b"GET /site HTTP/1.1\r\n\r\n")
             # A question from a port that answers by itself is dropped (where this machine lets us have one).
             reflected = None
             try:
@@ -96,21 +92,11 @@ def serve_and_ask():
                   f"greatest {max(delays) * 1000:.2f} ms; reflected: {'not tried' if reflected is None else reflected}")
             # A signal may take the lines of the last 32 events with it.
             time.sleep(1)
-        finally:
-            program.send_signal(signal.SIGTERM)
-            program.wait(timeout=10)
-        log.seek(0)
-        return log.read().decode().splitlines()
+        return written(log).decode().splitlines()
 
 
 def judge(lines):
-    numbers = []
-    for line in lines:
-        form = re.fullmatch(r"([0-9]+) (time sent|dhcp dhcp-short|tftp no-lease|http wait|http closed|http 404 no-row)", line)
-        check(form is not None, f"a line has its form: {line!r}")
-        if form:
-            numbers.append(int(form.group(1)))
-    check(numbers == sorted(set(numbers)), "the numbers of the lines rise")
+    numbers = numbers_of(lines, "time sent|dhcp dhcp-short|tftp no-lease|http wait|http closed|http 404 no-row")
     words = [line.split(" ", 1)[1] for line in lines if " " in line]
     check(words.count("time sent") >= 500, "each answer has a line")
     check(words.count("dhcp dhcp-short") == 1, "the DHCP datagram has a line")
@@ -120,14 +106,13 @@ def judge(lines):
 
 
 def statuses():
-    check(status_of(["serve"]) == (1, b"words refused\n"), "words that fit no form: status 1")
+    check(status_of([PROGRAM, "serve"]) == (1, b"words refused\n"), "words that fit no form: status 1")
     ports = free_ports()
-    text = ",".join(map(str, ports))
-    check(status_of(["serve", "--store", "/nowhere/office.db", "--ports", text, "--turns", "0"]) == (11, b""), "a store in no folder: status 11")
-    check(status_of(["serve", "--store", "memory", "--ports", text, "--turns", "0"]) == (0, b""), "no turns: status 0")
+    check(status_of(serve("/nowhere/office.db", ports=ports)) == (11, b""), "a store in no folder: status 11")
+    check(status_of(serve(ports=ports)) == (0, b""), "no turns: status 0")
     taken = socket.socket(socket.AF_INET, socket.SOCK_DGRAM)
     taken.bind(("0.0.0.0", ports[1]))
-    check(status_of(["serve", "--store", "memory", "--ports", text, "--turns", "0"]) == (10, b""), "a port that is taken: status 10")
+    check(status_of(serve(ports=ports)) == (10, b""), "a port that is taken: status 10")
     taken.close()
     if PROGRAM != BUILT:
         print("bin/officed: skipped, since it would build a program of its own")
@@ -135,19 +120,13 @@ def statuses():
     with tempfile.TemporaryDirectory() as folder:
         link = os.path.join(folder, "officed")
         os.symlink(os.path.join(ROOT, "bin", "officed"), link)
-        done = subprocess.run([link, "serve"], stdout=subprocess.PIPE, stderr=subprocess.DEVNULL, timeout=60)
-        check((done.returncode, done.stdout) == (1, b"words refused\n"), "a symbolic link to bin/officed runs it")
+        check(status_of([link, "serve"]) == (1, b"words refused\n"), "a symbolic link to bin/officed runs it")
 
 
 def main():
-    if not os.path.exists(PROGRAM):
-        print("officed isn't built: run bin/officed once")
-        return 1
     statuses()
     judge(serve_and_ask())
-    print(f"acceptance: {len(failures)} failed")
-    return 1 if failures else 0
 
 
 if __name__ == "__main__":
-    sys.exit(main())
+    sys.exit(script(main))

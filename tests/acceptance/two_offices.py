@@ -11,14 +11,14 @@ seconds.
 """
 import os
 import re
-import socket
 import subprocess
 import sys
 import tempfile
 import time
 
-from harness import PROGRAM, ROOT, check, failures, only_alone, start, stop
-from harness import modems
+from harness import ROOT, check, kill, only_alone, script, start, stop
+from harness.clerks import is_heard
+from harness.network import address_of_lo, loopback
 from harness.told import SECRET
 
 ALL, COPY, MODEM, SQL = (os.path.join(ROOT, "bin", name)
@@ -59,16 +59,9 @@ def begun(office, store, log):
 
 
 def answers(office, program):
-    """Waits until clerks are heard; the seconds that it took."""
-    before = time.perf_counter()
-    while time.perf_counter() - before < PATIENCE and program.poll() is None:
-        try:
-            socket.create_connection((office, HTTP), timeout=1).close()
-            return time.perf_counter() - before
-        except OSError:
-            time.sleep(0.01)
-    check(False, f"the office at {office} answers: {program.poll()}")
-    return 0.0
+    """Waits until clerks are heard."""
+    heard = is_heard(HTTP, office, PATIENCE, program)
+    check(heard, f"the office at {office} answers: {program.poll()}")
 
 
 def boot(number, office, relay):
@@ -120,8 +113,7 @@ def take_over(folder, store, program, log):
         status = begun(FIRST, held, log).wait(timeout=PATIENCE)
         check(status == expected, f"a second office of {what}: {status}")
     began = time.perf_counter()
-    program.kill()
-    program.wait()
+    kill(program)
     other = begun(FIRST, copy, log)
     answers(FIRST, other)
     print(f"the standby answers {time.perf_counter() - began:.2f} s after the kill")
@@ -132,10 +124,10 @@ def take_over(folder, store, program, log):
 
 
 def in_its_own():
-    modems.address_of_lo(b"lo", "127.0.0.1", "255.0.0.0")
+    loopback()
     for count, (office, relay) in enumerate(RELAYS.items()):
-        modems.address_of_lo(b"lo:%d" % (2 * count + 1), office, "255.255.255.255")
-        modems.address_of_lo(b"lo:%d" % (2 * count + 2), relay, "255.255.255.0")
+        address_of_lo(b"lo:%d" % (2 * count + 1), office, "255.255.255.255")
+        address_of_lo(b"lo:%d" % (2 * count + 2), relay, "255.255.255.0")
     with tempfile.TemporaryDirectory() as folder, tempfile.TemporaryFile() as log:
         store = os.path.join(folder, "office.db")
         held = {FIRST: begun(FIRST, store, log), SECOND: begun(SECOND, "memory", log)}
@@ -147,19 +139,12 @@ def in_its_own():
             held[FIRST] = take_over(folder, store, held[FIRST], log)
         finally:
             for program in held.values():
-                if program.poll() is None:
-                    stop(program)
-    return 1 if failures else 0
+                stop(program)
 
 
 def main():
-    if not os.path.exists(PROGRAM):
-        print("officed isn't built: run bin/officed once")
-        return 1
-    if sys.argv[1:] == ["alone"]:
-        return in_its_own()
-    return only_alone(__file__, "alone", 3 * PATIENCE, "two offices")
+    return only_alone(in_its_own, 3 * PATIENCE, "two offices")
 
 
 if __name__ == "__main__":
-    sys.exit(main())
+    sys.exit(script(main, in_its_own))

@@ -15,7 +15,7 @@ import sys
 import tempfile
 import time
 
-from harness import PROGRAM, ROOT, check, failures, free_ports
+from harness import PROGRAM, ROOT, check, script, serve
 
 SYSTEMD = "/lib/systemd/systemd"
 # Makes a root of its own: this machine's files below, and what is written in memory above.
@@ -74,8 +74,7 @@ systemctl exit 0 || systemctl poweroff -f
 
 
 def keeps_a_store(folder):
-    words = [PROGRAM, "serve", "--store", os.path.join(folder, "tried.db"), "--ports",
-             ",".join(map(str, free_ports())), "--turns", "0"]
+    words = serve(os.path.join(folder, "tried.db"))
     return subprocess.run(words, stdout=subprocess.DEVNULL, timeout=60).returncode == 0
 
 
@@ -155,9 +154,8 @@ def main():
     with tempfile.TemporaryDirectory() as folder:
         has_store = keeps_a_store(folder)
         judge(tried(folder, has_store), has_store)
-    print(f"acceptance: {len(failures)} failed")
-    return 1 if failures else 0
+    return None
 
 
 if __name__ == "__main__":
-    sys.exit(main())
+    sys.exit(script(main, needs_program=False))

@@ -20,7 +20,7 @@ import tempfile
 import threading
 import time
 
-from harness import PROGRAM, ROOT, alone, check, failures, loaded, may_be_alone, start, stop
+from harness import ROOT, alone, check, is_built, loaded, may_be_alone, script, stop
 from harness import modems
 from store_reader import DEVICE_POOL, DEVICES, device, made
 
@@ -117,10 +117,8 @@ def boots(folder):
     words = f"tee {log} | {WATCH} --live --ports {PORTS} >{live}"
     reader = subprocess.Popen(["sh", "-c", words], stdin=subprocess.PIPE)
     time.sleep(1)
-    program = start(modems.PORTS, 10**9, reader.stdin, {"OFFICED_UDP": modems.SERVER})
-    reader.stdin.close()
-    try:
-        check(modems.is_ready(), "the program answers within some seconds")
+    with modems.running(reader.stdin):
+        reader.stdin.close()
         modems.furnish()
         talk = Telling()
         modems.boot(talk)
@@ -131,16 +129,12 @@ def boots(folder):
                                  mac, "--serial", serial], stdout=subprocess.DEVNULL, timeout=60)
         check(booted.returncode == 0, "a modem boots")
         time.sleep(0.5)
-    finally:
-        stop(program)
-        reader.wait(timeout=20)
+    reader.wait(timeout=20)
     return talk.senders
 
 
 def watched():
-    modems.address_of_lo(b"lo", "127.0.0.1", "255.0.0.0")
-    modems.address_of_lo(b"lo:1", modems.SERVER, "255.255.255.255")
-    modems.address_of_lo(b"lo:2", modems.RELAY, "255.255.0.0")
+    modems.addresses_of_lo()
     with tempfile.TemporaryDirectory() as folder:
         own = Capture(os.path.join(folder, "own.pcap"))
         own.start()
@@ -160,7 +154,6 @@ def watched():
         with open(os.path.join(folder, "live"), encoding="utf-8") as held:
             judge(told(held.read()), senders, "live")
         chosen(captures["a capture"], os.path.join(folder, "log"))
-    return 1 if failures else 0
 
 
 def chosen(capture, log):
@@ -307,23 +300,19 @@ def refused():
 
 
 def main():
-    if sys.argv[1:] == ["watched"]:
-        return watched()
     frames()
     behind({})
     behind({"0200000000a3": "02aabbccdd77"})
     finds()
     refused()
-    if not os.path.exists(PROGRAM):
-        print("officed isn't built: run bin/officed once")
+    if not is_built():
         return 1
     if may_be_alone():
-        alone(__file__, "watched", 200, "each line has its modem")
+        alone(watched, 200, "each line has its modem")
     else:
         print("an office: skipped, since `unshare -rn` gives no network of its own here")
-    print(f"acceptance: {len(failures)} failed")
-    return 1 if failures else 0
+    return None
 
 
 if __name__ == "__main__":
-    sys.exit(main())
+    sys.exit(script(main, watched, needs_program=False))

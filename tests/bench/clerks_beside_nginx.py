@@ -6,7 +6,6 @@ It prints figures and judges nothing. bin/officed has to be built; it wants ngin
 import os
 import re
 import shutil
-import signal
 import subprocess
 import sys
 import tempfile
@@ -14,8 +13,8 @@ import time
 
 HERE = os.path.dirname(os.path.abspath(__file__))
 sys.path.insert(0, os.path.join(HERE, "..", "acceptance"))
-from clerk_connections import ANN, wait_until_answering  # noqa: E402
-from time_service import free_ports, start  # noqa: E402
+from harness import free_ports, script, serving, stop  # noqa: E402
+from harness.clerks import ANN, wait_until_answering  # noqa: E402
 
 CONFIGURATION = """
 daemon off;
@@ -43,10 +42,10 @@ def by_ab(port, file, clients):
 
 
 def by_wrk(port, file, clients):
-    script = file + ".lua"
-    with open(script, "w") as lua:
+    table = file + ".lua"
+    with open(table, "w") as lua:
         lua.write(f'wrk.method = "PUT"\nlocal f = io.open("{file}")\nwrk.body = f:read("*a")\nf:close()\n')
-    words = ["wrk", "-t", "1", "-c", str(clients), "-d", "1s", "-s", script, f"http://127.0.0.1:{port}/subscribers/7"]
+    words = ["wrk", "-t", "1", "-c", str(clients), "-d", "1s", "-s", table, f"http://127.0.0.1:{port}/subscribers/7"]
     text = subprocess.run(words, stdout=subprocess.PIPE, stderr=subprocess.STDOUT, timeout=120).stdout.decode()
     rate = re.search(r"Requests/sec:\s+([0-9.]+)", text)
     errors = re.search(r"Socket errors: .*|Non-2xx.*", text)
@@ -65,34 +64,36 @@ def main():
         with open(os.path.join(folder, "nginx.conf"), "w") as file:
             file.write(CONFIGURATION.format(folder=folder, port=other[3]))
         nginx = subprocess.Popen(["nginx", "-c", os.path.join(folder, "nginx.conf")], stderr=subprocess.DEVNULL)
-        program = start(ports, 10**12, log)
         try:
-            wait_until_answering(ports[3])
-            time.sleep(0.5)
-            small, large = os.path.join(folder, "small"), os.path.join(folder, "large")
-            with open(small, "wb") as file:
-                file.write(ANN)
-            head, tail = b'{"active":true,"cpes":2,"name":"Ann","note":"', b'"}'
-            with open(large, "wb") as file:
-                file.write(head + b"x" * (9597 - len(head) - len(tail)) + tail)
-            for tool, by in (("ab", by_ab), ("wrk", by_wrk)):
-                if not shutil.which(tool):
-                    print(f"{tool}: skipped, since this machine has no `{tool}`")
-                    continue
-                for name, file in (("small bodies", small), ("bodies of 9,597 bytes", large)):
-                    for clients in (1, 8, 64):
-                        # by turns, since others may disturb this machine
-                        tries = [(by(ports[3], file, clients), by(other[3], file, clients)) for _ in range(3)]
-                        (rate, failed), (constant, other_failed) = (max(column) for column in zip(*tries))
-                        print(f"{tool}, {clients} clients, {name}: {rate:.0f} PUTs a second (failed: {failed}), nginx {constant:.0f} "
-                              f"(failed: {other_failed}): {rate / constant if constant else 0:.2f}")
+            with serving(ports, log):
+                wait_until_answering(ports[3])
+                time.sleep(0.5)
+                by_turns(ports[3], other[3], folder)
         finally:
-            program.send_signal(signal.SIGTERM)
-            program.wait(timeout=10)
-            nginx.terminate()
-            nginx.wait()
+            stop(nginx)
     return 0
 
 
+def by_turns(office, other, folder):
+    """Each tool that is here, with each body and each number of clients, at the one port and at the other."""
+    small, large = os.path.join(folder, "small"), os.path.join(folder, "large")
+    with open(small, "wb") as file:
+        file.write(ANN)
+    head, tail = b'{"active":true,"cpes":2,"name":"Ann","note":"', b'"}'
+    with open(large, "wb") as file:
+        file.write(head + b"x" * (9597 - len(head) - len(tail)) + tail)
+    for tool, by in (("ab", by_ab), ("wrk", by_wrk)):
+        if not shutil.which(tool):
+            print(f"{tool}: skipped, since this machine has no `{tool}`")
+            continue
+        for name, file in (("small bodies", small), ("bodies of 9,597 bytes", large)):
+            for clients in (1, 8, 64):
+                # by turns, since others may disturb this machine
+                tries = [(by(office, file, clients), by(other, file, clients)) for _ in range(3)]
+                (rate, failed), (constant, other_failed) = (max(column) for column in zip(*tries))
+                print(f"{tool}, {clients} clients, {name}: {rate:.0f} PUTs a second (failed: {failed}), nginx {constant:.0f} "
+                      f"(failed: {other_failed}): {rate / constant if constant else 0:.2f}")
+
+
 if __name__ == "__main__":
-    sys.exit(main())
+    sys.exit(script(main))

@@ -20,18 +20,18 @@ It prints figures, of the best of some rounds, beside goals, with the machine's 
 import contextlib
 import os
 import random
-import signal
 import socket
 import struct
-import subprocess
 import sys
 import tempfile
 
 import dora
 import journals
 import starts
-from dora import AT_ONCE, JOURNAL, MILLISECONDS, STORES, exchanges, office, processor_seconds, resident, start
-from first_boots import ManyRows, load
+from dora import AT_ONCE, JOURNAL, MILLISECONDS, STORES, exchanges, office
+from first_boots import ManyRows
+from harness import alone_with, script
+from harness.machine import load, processor_seconds, resident, syncs
 
 RELAYS, IN_POOL, EACH, DEVICES_AT, ROUNDS = 64, 4096, 2, 0x0A500000, 5
 MODEMS, DEVICES = 131_072, (1_000, 250_000, 262_144)
@@ -159,18 +159,11 @@ class Measured(dora.Measured):
 
 @contextlib.contextmanager
 def office_over(store):
-    with open(os.devnull, "wb") as log:
-        officed = start(office.PORTS, 10**12, log, {"OFFICED_UDP": office.SERVER}, store=store)
-        try:
-            if not office.is_ready():
-                raise SystemExit("officed doesn't answer")
-            # Who connects is accepted once the tables are open.
-            office.clerk("GET", "/site")
-            yield officed
-            print(f"  memory {resident(officed.pid) / 1e6:.1f} MB, {processor_seconds(officed.pid):.1f} s of processor; {load()}", flush=True)
-        finally:
-            officed.send_signal(signal.SIGTERM)
-            officed.wait(timeout=60)
+    with open(os.devnull, "wb") as log, dora.office_over(store, log) as officed:
+        # Who connects is accepted once the tables are open.
+        office.clerk.ask("GET", "/site")
+        yield officed
+        print(f"  memory {resident(officed.pid) / 1e6:.1f} MB, {processor_seconds(officed.pid):.1f} s of processor; {load()}", flush=True)
 
 
 def in_memory(program, modems, numbers):
@@ -199,7 +192,7 @@ def on_disk(program, modems, numbers):
         with tempfile.TemporaryDirectory(dir=STORES.removeprefix(JOURNAL)) as folder:
             rows = ManyRows(modems, RELAYS)
             store = made(folder, [*modem_rows(rows), *device_rows(devices)], STORES.startswith(JOURNAL))
-            print(f"  a file of its own takes {dora.syncs(folder):.0f} syncs of 16 kB a second")
+            print(f"  a file of its own takes {syncs(folder):.0f} syncs of 16 kB a second")
             with office_over(store) as officed:
                 measured = Measured(program, officed, rows, devices)
                 found[devices] = measured.figures()
@@ -207,18 +200,14 @@ def on_disk(program, modems, numbers):
     return found
 
 
-def rows_of(modems, numbers):
-    office.address_of_lo(b"lo", "127.0.0.1", "255.0.0.0")
-    office.address_of_lo(b"lo:1", office.SERVER, "255.255.255.255")
-    office.address_of_lo(b"lo:2", office.RELAY, "255.192.0.0")
+def within(*words):
+    modems, *numbers = map(int, words)
     most = min(EACH * modems, IN_POOL * RELAYS)
     if max(numbers) > most:
         raise SystemExit(f"{modems} modems have at most {most} devices in these pools")
     kind = "memory" if not STORES else "a journal" if STORES.startswith(JOURNAL) else "a file"
     print(f"{modems} modems behind {RELAYS} relays, in {kind}; {load()}", flush=True)
-    with tempfile.TemporaryDirectory() as folder:
-        program = os.path.join(folder, "dora_clients")
-        subprocess.run(["cc", "-O2", "-o", program, dora.CLIENTS], check=True)
+    with dora.among_relays() as program:
         found = (on_disk if STORES else in_memory)(program, modems, numbers)
     few, many = found[numbers[0]], found[numbers[-1]]
     for mode, name in {**KINDS, "renew": "DORA of modems"}.items():
@@ -246,21 +235,16 @@ def starts_of(modems, devices):
 
 
 def main():
-    words = sys.argv[1:] or ["rows"]
-    numbers = [int(each) for each in words[1:] if each.isdecimal()]
-    if words[0] == "within":
-        return rows_of(numbers[0], numbers[1:])
-    if words[0] not in ("rows", "starts"):
+    word, *words = sys.argv[1:] or ["rows"]
+    numbers = [int(each) for each in words if each.isdecimal()]
+    if word == "starts":
+        return starts_of(*(numbers or START))
+    if word != "rows":
         print(__doc__.strip())
         return 2
-    if not os.path.exists(dora.PROGRAM):
-        print("officed isn't built: run bin/officed once")
-        return 1
-    if words[0] == "starts":
-        return starts_of(*(numbers or START))
-    wanted = [str(each) for each in (*numbers[:1], *(numbers[1:] or DEVICES))] if numbers else list(map(str, (MODEMS, *DEVICES)))
-    return subprocess.run(["unshare", "-rn", sys.executable, os.path.abspath(__file__), "within", *wanted]).returncode
+    modems, *devices = numbers or [MODEMS]
+    return alone_with(within, *map(str, (modems, *(devices or DEVICES))))
 
 
 if __name__ == "__main__":
-    sys.exit(main())
+    sys.exit(script(main, within))

@@ -18,8 +18,6 @@ import collections
 import contextlib
 import os
 import re
-import shutil
-import signal
 import subprocess
 import sys
 import tempfile
@@ -27,7 +25,8 @@ import time
 
 HERE = os.path.dirname(os.path.abspath(__file__))
 sys.path.insert(0, os.path.join(HERE, "..", "acceptance"))
-from harness import PROGRAM, modems as office, processor_seconds, start  # noqa: E402
+from harness import alone_with, modems as office, script, start, stop  # noqa: E402
+from harness.machine import compiled, processor_seconds, resident, syncs  # noqa: E402
 
 CLIENTS = os.path.join(HERE, "dora_clients.c")
 RELAYS_AT, RELAYS_APART, MOST_IN_POOL = 0x0A400001, 8192, 4096
@@ -100,17 +99,6 @@ def store():
         print(f"  a file of its own takes {syncs(folder):.0f} syncs of 16 kB a second")
 
 
-def syncs(folder):
-    """How many writes of 16 kB, each with its sync, a file takes in a second."""
-    count, began = 0, time.perf_counter()
-    with open(os.path.join(folder, "syncs"), "wb", buffering=0) as each:
-        while time.perf_counter() - began < 1:
-            each.write(bytes(16_384))
-            os.fdatasync(each.fileno())
-            count += 1
-    return count / (time.perf_counter() - began)
-
-
 def start_again(path):
     """How long a start over a filled file takes, and its memory."""
     with open(os.devnull, "wb") as log:
@@ -119,25 +107,37 @@ def start_again(path):
         while not office.is_ready() and officed.poll() is None:
             pass
         # Who connects is accepted once the tables are open.
-        office.clerk("GET", "/site")
+        office.clerk.ask("GET", "/site")
         print(f"  a start over the file: {time.perf_counter() - began:.2f} s, {resident(officed.pid) / 1e6:.1f} MB, "
               f"{os.path.getsize(path.removeprefix(JOURNAL)) / 1e6:.1f} MB of file, {processor_seconds(officed.pid):.1f} s of processor")
-        officed.send_signal(signal.SIGTERM)
-        officed.wait(timeout=30)
+        stop(officed, seconds=30)
 
 
 def put_row(path, body):
     """How long the PUT took."""
     began = time.perf_counter()
-    status, text = office.clerk("PUT", path, body)
-    if status != [b"200"]:
-        raise SystemExit(f"PUT {path}: {status} {text}")
+    office.clerk.must("PUT", path, body)
     return time.perf_counter() - began
 
 
-def resident(pid):
-    with open(f"/proc/{pid}/status") as status:
-        return int(re.search(r"^VmRSS:\s+([0-9]+)", status.read(), re.M).group(1)) * 1024
+@contextlib.contextmanager
+def office_over(path, log):
+    """An office over these tables, once clerks are heard."""
+    officed = start(office.PORTS, 10**12, log, {"OFFICED_UDP": office.SERVER}, store=path)
+    try:
+        if not office.is_ready():
+            raise SystemExit("officed doesn't answer")
+        yield officed
+    finally:
+        stop(officed, seconds=60)
+
+
+@contextlib.contextmanager
+def among_relays():
+    """The program of the clients, in a network of its own where all relays' addresses are this machine's."""
+    office.addresses_of_lo(relays="255.192.0.0")
+    with tempfile.TemporaryDirectory() as folder:
+        yield compiled(CLIENTS, folder)
 
 
 def rests(program):
@@ -241,10 +241,7 @@ def measure(program, modems, relays):
     print(f"{modems} modems behind {relays} relays")
     rows = Rows(modems, relays)
     with tempfile.TemporaryFile() as log, store() as path:
-        officed = start(office.PORTS, 10**12, log, {"OFFICED_UDP": office.SERVER}, store=path)
-        try:
-            if not office.is_ready():
-                raise SystemExit("officed doesn't answer")
+        with office_over(path, log) as officed:
             rows.put()
             measured = Measured(program, officed, rows)
             measured.first_boots()
@@ -254,9 +251,6 @@ def measure(program, modems, relays):
             measured.under_a_flood("padded", 0, modems, FLOOD)
             measured.under_a_flood("full", modems, relays, FLOOD)
             print(f"  memory {resident(officed.pid) / 1e6:.1f} MB, {processor_seconds(officed.pid):.1f} s of processor")
-        finally:
-            officed.send_signal(signal.SIGTERM)
-            officed.wait(timeout=30)
         if path != "memory":
             start_again(path)
         log.seek(0)
@@ -265,14 +259,9 @@ def measure(program, modems, relays):
     return rates
 
 
-def within(sizes):
-    office.address_of_lo(b"lo", "127.0.0.1", "255.0.0.0")
-    office.address_of_lo(b"lo:1", office.SERVER, "255.255.255.255")
-    office.address_of_lo(b"lo:2", office.RELAY, "255.192.0.0")
-    with tempfile.TemporaryDirectory() as folder:
-        program = os.path.join(folder, "dora_clients")
-        subprocess.run(["cc", "-O2", "-o", program, CLIENTS], check=True)
-        rates = [(size, measure(program, *size)) for size in sizes]
+def within(*words):
+    with among_relays() as program:
+        rates = [(size, measure(program, *size)) for size in map(size_of, words)]
     for size, each in rates[1:]:
         (time_0, used_0), (time_1, used_1) = [list(zip(*(taken[at_once] for at_once in AT_ONCE))) for taken in (rates[0][1], each)]
         times = [", ".join(f"{after / before:.2f}" for before, after in zip(*columns)) for columns in ((time_0, time_1), (used_0, used_1))]
@@ -282,17 +271,8 @@ def within(sizes):
 
 
 def main():
-    words = sys.argv[1:] or ["100", "100:30", "100000"]
-    if words[0] == "within":
-        return within([size_of(word) for word in words[1:]])
-    if not os.path.exists(PROGRAM):
-        print("officed isn't built: run bin/officed once")
-        return 1
-    if not shutil.which("unshare") or subprocess.run(["unshare", "-rn", "true"], stderr=subprocess.DEVNULL).returncode != 0:
-        print("skipped, since `unshare -rn` gives no network of its own here")
-        return 0
-    return subprocess.run(["unshare", "-rn", sys.executable, os.path.abspath(__file__), "within", *words]).returncode
+    return alone_with(within, *(sys.argv[1:] or ["100", "100:30", "100000"]))
 
 
 if __name__ == "__main__":
-    sys.exit(main())
+    sys.exit(script(main, within))

@@ -19,7 +19,6 @@ It prints figures, of the best and the middle of some rounds, with the machine's
 import json
 import os
 import shutil
-import signal
 import socket
 import subprocess
 import sys
@@ -27,30 +26,22 @@ import tempfile
 import time
 
 import dora
-from dora import AT_ONCE, CLIENTS, FLOOD, Measured, Rows, office, processor_seconds, put_row, resident, size_of, start, store
-from harness.clerks import read_to_end, request
+from dora import AT_ONCE, FLOOD, Measured, Rows, among_relays, office, office_over, put_row, size_of, store
+from harness import alone_with, script
+from harness.clerks import Clerk
+from harness.machine import load, processor_seconds, resident
 
 KEA, POOL_OF_KEA, RELAYS_OF_KEA, MODEMS_OF_KEA = shutil.which("kea-dhcp4"), 4096, 3, 3 * 3800
 MOST_ROWS, CHUNK, ROUNDS = 2000, 1530, 3
 DELETES = 300
 
 
-def load():
-    return "load " + " ".join(f"{each:.1f}" for each in os.getloadavg())
-
-
-def put_text(path, text):
-    with socket.create_connection(("127.0.0.1", office.PORTS[3]), timeout=60) as peer:
-        peer.sendall(request("PUT", path, text.encode()))
-        answer = read_to_end(peer) or b""
-    if not answer.startswith(b"HTTP/1.1 200 "):
-        raise SystemExit(f"PUT {path}: {answer}")
-
-
 def imported(kind, columns, rows, batch):
     """Puts rows, each a line of CSV, by as many imports as they want, which are numbered from `batch` on."""
+    clerk = Clerk(office.PORTS[3], patience=60)
     for number, first in enumerate(range(0, len(rows), MOST_ROWS)):
-        put_text(f"/imports/{kind}/{batch + number}", "\n".join([columns, *rows[first:first + MOST_ROWS]]) + "\n")
+        table = "\n".join([columns, *rows[first:first + MOST_ROWS]]) + "\n"
+        clerk.must("PUT", f"/imports/{kind}/{batch + number}", table.encode())
 
 
 def mac(number):
@@ -124,18 +115,11 @@ class Boots(Measured):
 
 def over(program, rows, what):
     """Measures over an office with these rows, from empty tables on."""
-    with tempfile.TemporaryFile() as log, store() as path:
-        officed = start(office.PORTS, 10**12, log, {"OFFICED_UDP": office.SERVER}, store=path)
-        try:
-            if not office.is_ready():
-                raise SystemExit("officed doesn't answer")
-            rows.put()
-            found = what(Boots(program, officed, rows))
-            print(f"  memory {resident(officed.pid) / 1e6:.1f} MB; {load()}", flush=True)
-            return found
-        finally:
-            officed.send_signal(signal.SIGTERM)
-            officed.wait(timeout=60)
+    with tempfile.TemporaryFile() as log, store() as path, office_over(path, log) as officed:
+        rows.put()
+        found = what(Boots(program, officed, rows))
+        print(f"  memory {resident(officed.pid) / 1e6:.1f} MB; {load()}", flush=True)
+        return found
 
 
 def pools(program, sizes):
@@ -220,33 +204,25 @@ def timed(paths, wanted):
     each = []
     for path in paths:
         began = time.perf_counter()
-        status, text = office.clerk("DELETE", path)
+        office.clerk.must("DELETE", path, status=wanted)
         each.append(time.perf_counter() - began)
-        if status != [wanted]:
-            raise SystemExit(f"DELETE {path}: {status} {text}")
     each.sort()
     return f"{each[len(each) // 2] * 1e3:.2f} ms in the middle, {each[-len(each) // 20] * 1e3:.2f} at the 95th percentile"
 
 
 def removals(boots):
     spare = boots.rows.modems + boots.rows.relays
-    imported_later = [f"{spare + number},yes,2,Ann" for number in range(DELETES)]
-    put_text("/imports/subscribers/99999", "\n".join(["subscriber,active,cpes,name", *imported_later]) + "\n")
+    imported("subscribers", "subscriber,active,cpes,name", [f"{spare + number},yes,2,Ann" for number in range(DELETES)], 99_999)
     before = processor_seconds(boots.officed.pid)
-    print("  DELETE of a subscriber whom no modem names:", timed([f"/subscribers/{spare + number}" for number in range(DELETES)], b"200"))
+    print("  DELETE of a subscriber whom no modem names:", timed([f"/subscribers/{spare + number}" for number in range(DELETES)], 200))
     between = processor_seconds(boots.officed.pid)
-    print("  DELETE of one with a modem, refused:", timed([f"/subscribers/{number}" for number in range(DELETES)], b"409"))
+    print("  DELETE of one with a modem, refused:", timed([f"/subscribers/{number}" for number in range(DELETES)], 409))
     after = processor_seconds(boots.officed.pid)
     print(f"  {(between - before) / DELETES * 1e6:.0f} and {(after - between) / DELETES * 1e6:.0f} us of processor each", flush=True)
 
 
-def within(word, words):
-    office.address_of_lo(b"lo", "127.0.0.1", "255.0.0.0")
-    office.address_of_lo(b"lo:1", office.SERVER, "255.255.255.255")
-    office.address_of_lo(b"lo:2", office.RELAY, "255.192.0.0")
-    with tempfile.TemporaryDirectory() as folder:
-        program = os.path.join(folder, "dora_clients")
-        subprocess.run(["cc", "-O2", "-o", program, CLIENTS], check=True)
+def within(word, *words):
+    with among_relays() as program:
         if word == "pools":
             pools(program, [size_of(each) for each in words or ("100", "10000:3", "200000:51")])
         elif word == "all":
@@ -264,16 +240,11 @@ def within(word, words):
 
 def main():
     words = sys.argv[1:] or ["pools"]
-    if words[0] == "within":
-        return within(words[1], words[2:])
     if words[0] not in ("pools", "all", "kea", "removals"):
         print(__doc__.strip())
         return 2
-    if not os.path.exists(dora.PROGRAM):
-        print("officed isn't built: run bin/officed once")
-        return 1
-    return subprocess.run(["unshare", "-rn", sys.executable, os.path.abspath(__file__), "within", *words]).returncode
+    return alone_with(within, *words)
 
 
 if __name__ == "__main__":
-    sys.exit(main())
+    sys.exit(script(main, within))

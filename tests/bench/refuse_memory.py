@@ -8,11 +8,15 @@ over and over, each time with its next growth refused, until none of its growths
 by the end of its connection, and leaves all as it was: at last the event is answered as the models of tests/examples say, which heard of it once, and a row that a
 clerk put is the last one that was acknowledged. A start, an import, a drill, `seal` and `check` end as ever, or with status 6, 10 or 11 and no row more.
 
+The numbers of a whole run's growths are shared out among as many workers as there are processors, each with a network and a store of its own.
+
 Printed are how many growths each had, and which said `memory`. It judges: its status is 1 where something was not as it was. It wants the proved program, `cc`,
 sqlite3 of Python and `unshare -rn`; over an unproved program, whose sanitizer has memory of its own, no growth is refused.
 """
 import collections
+import concurrent.futures
 import contextlib
+import json
 import os
 import sqlite3
 import subprocess
@@ -24,13 +28,13 @@ HERE = os.path.dirname(os.path.abspath(__file__))
 sys.path.insert(0, os.path.join(HERE, "..", "acceptance"))
 import files_over_sockets as files  # noqa: E402
 import files_without_memory as without  # noqa: E402
-from harness import PROGRAM, check, failures, modems as office, start, stop  # noqa: E402
-from harness.clerks import connect, read_to_end, request  # noqa: E402
+from harness import PROGRAM, check, failures, is_skipped, modems as office, run_alone, script, serve  # noqa: E402
+from harness.network import port_of, took  # noqa: E402
 from harness.told import SECRET  # noqa: E402
 
 import leases  # noqa: E402
 import tftp  # noqa: E402
-from examples import compact, ip, sealed  # noqa: E402
+from examples import ip, sealed  # noqa: E402
 from messages import RELAYED_DISCOVER  # noqa: E402
 
 # A first start over SQLite's format has some 20,000 growths.
@@ -87,24 +91,20 @@ class Trial(without.Trial):
         for number in range(1, MOST):
             path, body = asked(number)
             self.refuser.refuses(number)
-            with contextlib.suppress(OSError), connect(office.PORTS[3]) as peer:
-                answer = None
-                peer.sendall(request("PUT", path, body))
-                answer = read_to_end(peer)
+            answer = office.clerk.ask("PUT", path, body)
             was_refused = self.refuser.is_done()
             self.refuser.refuses(0)
-            status = answer.split(b" ")[1].decode() if answer else "no answer"
             where, wanted = shown(number)
-            found = office.clerk("GET", where)
-            check(status in ("200", "503", "no answer"), f"{kind}, growth {number}: {answer}")
-            is_there = found[0] == [b"200"] and wanted in found[1]
-            check(is_there or status != "200", f"{kind}, growth {number}: what was acknowledged is there: {found}")
-            check(not is_there or status != "503", f"{kind}, growth {number}: what was refused isn't there: {found}")
+            found = office.clerk.ask("GET", where)
+            check(answer.status in (200, 503, None), f"{kind}, growth {number}: {answer}")
+            is_there = found.status == 200 and wanted in found.text
+            check(is_there or answer.status != 200, f"{kind}, growth {number}: what was acknowledged is there: {found}")
+            check(not is_there or answer.status != 503, f"{kind}, growth {number}: what was refused isn't there: {found}")
             if not was_refused:
-                check(status == "200", f"{kind}: with all growths it is done: {answer}")
+                check(answer.status == 200, f"{kind}: with all growths it is done: {answer}")
                 self.noted.note(kind, "done")
                 return
-            self.noted.note(kind, {"200": "done all the same", "503": "503"}.get(status, "closed"))
+            self.noted.note(kind, {200: "done all the same", 503: "503"}.get(answer.status, "closed"))
             if failures:
                 return
         check(False, f"{kind}: no end of growths")
@@ -112,16 +112,13 @@ class Trial(without.Trial):
 
 def events(refuser, counted, folder):
     path = os.path.join(folder, "log")
-    with open(path, "wb") as log:
-        program = start(office.PORTS, 10**9, log, refuser.environment())
-    try:
-        check(office.is_ready(), "the program answers within some seconds")
+    with open(path, "wb") as log, office.running(log, refuser.environment()) as program:
         files.furnish()
         talk = files.Talk()
         trial = Trial(talk, refuser, path, counted)
-        question = office.port_of("10.64.200.9", 1024)
+        question = port_of("10.64.200.9", 1024)
         trial.datagram("a question for the time", "time", lambda: question.sendto(b"", (office.SERVER, office.PORTS[1])), "sent",
-                       lambda: check(len((office.took(question) or (b"",))[0]) == 4, "the time is told"))
+                       lambda: check(len((took(question) or (b"",))[0]) == 4, "the time is told"))
         question.close()
         modem, number = office.modem(2), 2
         given = ""
@@ -139,15 +136,13 @@ def events(refuser, counted, folder):
             trial.goes(at, packet)
         for word, ends in trial.counted.items():
             counted.ends[f"TFTP {word}"].update(ends)
-        trial.clerk("PUT of a subscriber", lambda n: (f"/subscribers/{n + 5000}", compact({"active": True, "cpes": 2, "name": f"S{n}"}).encode()),
+        trial.clerk("PUT of a subscriber", lambda n: (f"/subscribers/{n + 5000}", {"active": True, "cpes": 2, "name": f"S{n}"}),
                     lambda n: (f"/subscribers/{n + 5000}", f'"S{n}"'.encode()))
         classes = [{"name": f"C{n}", "settings": office.GOLD} for n in range(MOST)]
-        trial.clerk("PUT of a class", lambda n: (f"/classes/{n % 900 + 10}", compact(classes[n]).encode()), lambda n: (f"/classes/{n % 900 + 10}", f'"C{n}"'.encode()))
+        trial.clerk("PUT of a class", lambda n: (f"/classes/{n % 900 + 10}", classes[n]), lambda n: (f"/classes/{n % 900 + 10}", f'"C{n}"'.encode()))
         trial.clerk("an import of two rows", lambda n: (f"/imports/subscribers/{n}", f"subscriber,active,cpes,name\n{n + 20000},yes,2,S{n}\n{n + 30000},no,3,S{n}\n".encode()),
                     lambda n: (f"/subscribers/{n + 30000}", f'"S{n}"'.encode()))
         check(program.poll() is None, "the office goes on")
-    finally:
-        stop(program)
 
 
 def rows_of(store):
@@ -155,25 +150,24 @@ def rows_of(store):
         return dict(conn.execute("SELECT ident, val FROM office"))
 
 
-def runs(refuser, counted, folder):
-    """A start over a file, `import`, `drill`, `seal` and `check`, each growth of the whole run refused in turn."""
+def runs(refuser, counted, folder, numbers):
+    """A start over a file, `import`, `drill`, `seal` and `check`, each growth of these numbers of the whole run refused in turn."""
     store = os.path.join(folder, "office.db")
-    ports = ",".join(map(str, office.PORTS))
     sealed_file = sealed(FLOWS, b"secret")
     words = {
-        "a start over a file": (["serve", "--store", store, "--ports", ports, "--turns", "0"], b"", (0, 6, 10, 11)),
+        "a start over a file": (serve(store, ports=office.PORTS)[1:], b"", (0, 6, 10, 11)),
         "a drill of two modems": (["drill", "2"], b"", (0, 6)),
         "seal": (["seal", b"secret".hex()], FLOWS, (0, 6)),
         "check": (["check", b"secret".hex()], sealed_file, (0, 6)),
     }
-    ran(refuser, counted, "a first start", words["a start over a file"], store)
+    ran(refuser, counted, "a first start", words["a start over a file"], store, numbers)
     for number in range(20):
         ran_once(refuser, 0, ["import", "--store", store, "subscribers", str(number + 100_000)], f"subscriber,active,cpes,name\n{number},yes,2,Ann\n".encode())
     kept = rows_of(store)
     for kind, run in words.items():
-        ran(refuser, counted, kind, run, store)
+        ran(refuser, counted, kind, run, store, numbers)
         check(rows_of(store) == kept, f"{kind}: the rows are as before")
-    for number in range(1, MOST_OF_RUNS):
+    for number in numbers:
         before = rows_of(store)
         status, was_refused = ran_once(refuser, number, ["import", "--store", store, "subscribers", str(number)], f"subscriber,active,cpes,name\n{number + 50},yes,2,B{number}\n".encode())
         after = rows_of(store)
@@ -185,16 +179,16 @@ def runs(refuser, counted, folder):
 
 def ran_once(refuser, number, words, data):
     refuser.refuses(number)
-    done = subprocess.run([PROGRAM, *words], input=data, stdout=subprocess.PIPE, stderr=subprocess.DEVNULL, env={**os.environ, **refuser.environment()}, timeout=300)
+    done = subprocess.run([PROGRAM, *words], input=data, stdout=subprocess.PIPE, stderr=subprocess.DEVNULL, env={**os.environ, **refuser.environment(), "OFFICED_UDP": office.SERVER}, timeout=300)
     was_refused = number > 0 and refuser.is_done()
     refuser.refuses(0)
     check(done.returncode != 6 or b"memory refused\n" in done.stdout, f"{words[0]}: status 6 has its line: {done.stdout[-100:]}")
     return done.returncode, was_refused
 
 
-def ran(refuser, counted, kind, run, store):
+def ran(refuser, counted, kind, run, store, numbers):
     words, data, statuses = run
-    for number in range(1, MOST_OF_RUNS):
+    for number in numbers:
         if kind == "a first start":
             for name in (store, store + "-wal"):
                 with contextlib.suppress(FileNotFoundError):
@@ -208,28 +202,36 @@ def ran(refuser, counted, kind, run, store):
     check(False, f"{kind}: no end of growths")
 
 
-def refusing():
-    office.address_of_lo(b"lo", "127.0.0.1", "255.0.0.0")
-    office.address_of_lo(b"lo:1", office.SERVER, "255.255.255.255")
-    office.address_of_lo(b"lo:2", office.RELAY, "255.255.0.0")
+def refusing(place, workers, told):
+    """What one of the workers tries; the first one tries the events besides. `told` is the file that has its counts afterwards."""
+    office.addresses_of_lo()
     counted = Counted()
     with tempfile.TemporaryDirectory() as folder:
         refuser = without.Refuser(folder)
-        events(refuser, counted, folder)
-        runs(refuser, counted, folder)
-    counted.show()
-    print(f"{len(failures)} failed")
-    return 1 if failures else 0
+        if place == "0":
+            events(refuser, counted, folder)
+        runs(refuser, counted, folder, range(int(place) + 1, MOST_OF_RUNS, int(workers)))
+    with open(told, "w", encoding="utf-8") as file:
+        json.dump(counted.ends, file)
 
 
 def main():
-    if not os.path.exists(PROGRAM):
-        print("officed isn't built: run bin/officed once")
-        return 1
-    if sys.argv[1:] == ["alone"]:
-        return refusing()
-    return subprocess.run(["unshare", "-rn", sys.executable, os.path.abspath(__file__), "alone"]).returncode
+    if is_skipped():
+        return 0
+    workers, counted = os.cpu_count(), Counted()
+    with tempfile.TemporaryDirectory() as folder:
+        tellings = [os.path.join(folder, str(place)) for place in range(workers)]
+        with concurrent.futures.ThreadPoolExecutor(workers) as pool:
+            statuses = list(pool.map(lambda place: run_alone("refusing", str(place), str(workers), tellings[place]), range(workers)))
+        for place, told in enumerate(tellings):
+            check(statuses[place] == 0, f"worker {place} ended with status {statuses[place]}")
+            if os.path.exists(told):
+                with open(told, encoding="utf-8") as file:
+                    for kind, ends in json.load(file).items():
+                        counted.ends[kind].update(ends)
+    counted.show()
+    return None
 
 
 if __name__ == "__main__":
-    sys.exit(main())
+    sys.exit(script(main, refusing))

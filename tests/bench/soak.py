@@ -12,7 +12,6 @@ log is one of docs/MESSAGES.md. The clock is that of a small library which is lo
 program isn't linked so that it can be, the clock is left out and a line says so. It ends what it started.
 """
 import collections
-import mmap
 import os
 import random
 import re
@@ -28,13 +27,15 @@ import time
 HERE = os.path.dirname(os.path.abspath(__file__))
 sys.path.insert(0, os.path.join(HERE, "..", "acceptance"))
 import every_word  # noqa: E402
-from harness import PROGRAM, check, failures, modems as office  # noqa: E402
-from harness.clerks import connect, read_to_end, request  # noqa: E402
+from harness import PROGRAM, alone_with, check, failures, kill, modems as office, script, serve  # noqa: E402
+from harness.clerks import Clerk, connect, request  # noqa: E402
+from harness.machine import Preloaded  # noqa: E402
+from harness.network import port_of  # noqa: E402
 from harness.mutating import mutated  # noqa: E402
 
 import leases  # noqa: E402
 import messages  # noqa: E402
-from examples import compact, ip  # noqa: E402
+from examples import ip  # noqa: E402
 
 MODEMS, AT_ONCE, EACH = 2000, 50, 20
 FIRST, LEASE = int.from_bytes(leases.address("10.64.32.0"), "big"), 86_400
@@ -73,26 +74,6 @@ def says(kind, number, client=bytes(4), relay=office.RELAY, **named):
     return messages.message(kind, mac(number), options, leases.address(relay), client, xid=0xABCD0000 + number)
 
 
-class Clock:
-    """The clock of the program, which may be off."""
-
-    def __init__(self, folder):
-        self.path, self.library, source = (os.path.join(folder, name) for name in ("off", "clock.so", "clock.c"))
-        with open(source, "w") as file:
-            file.write(CLOCK)
-        with open(self.path, "wb") as file:
-            file.write(bytes(8))
-        subprocess.run(["cc", "-O2", "-shared", "-fPIC", "-o", self.library, source], check=True)
-        with open(self.path, "r+b") as file:
-            self.shared = mmap.mmap(file.fileno(), 8)
-
-    def environment(self):
-        return {"LD_PRELOAD": self.library, "CLOCK_OFF": self.path}
-
-    def set(self, seconds):
-        self.shared[:8] = struct.pack("=q", seconds)
-
-
 class Program:
     """The office, killed and started again; its log is one file of all starts."""
 
@@ -102,7 +83,7 @@ class Program:
         self.process, self.starts, self.slowest, self.endings = None, 0, 0.0, []
 
     def start(self):
-        words = [PROGRAM, "serve", "--store", self.store, "--ports", ",".join(map(str, office.PORTS)), "--turns", str(10**12)]
+        words = serve(self.store, 10**12, office.PORTS)
         environment = {**os.environ, "OFFICED_UDP": office.SERVER, **(self.clock.environment() if self.clock else {})}
         began = time.perf_counter()
         with open(self.log, "ab") as log:
@@ -117,8 +98,7 @@ class Program:
             if status is not None:
                 self.endings.append(status)
             self.process.send_signal(signal.SIGCONT)
-            self.process.kill()
-            self.process.wait(timeout=30)
+            kill(self.process)
             self.start()
 
 
@@ -127,7 +107,7 @@ class Modems(threading.Thread):
 
     def __init__(self, seed):
         super().__init__(daemon=True)
-        self.chance, self.over, self.relay = random.Random(seed), threading.Event(), office.port_of(office.RELAY, 67)
+        self.chance, self.over, self.relay = random.Random(seed), threading.Event(), port_of(office.RELAY, 67)
         self.relay.settimeout(0.5)
         self.held, self.owners, self.acknowledged = {}, collections.defaultdict(set), 0
 
@@ -167,25 +147,20 @@ class Modems(threading.Thread):
                 check(number not in self.held, f"modem {number}, which holds {ip(self.held.get(number, 0))}, is told no")
 
 
-class Clerk(threading.Thread):
-    """Puts one subscriber after another; `done` are those that were acknowledged."""
+class Putting(threading.Thread):
+    """A clerk that puts one subscriber after another; `done` are those that were acknowledged."""
 
     def __init__(self, first):
         super().__init__(daemon=True)
-        self.first, self.done, self.over, self.refused = first, {}, threading.Event(), collections.Counter()
+        self.clerk, self.first = Clerk(office.PORTS[3], patience=10), first
+        self.done, self.over, self.refused = {}, threading.Event(), collections.Counter()
 
     def run(self):
         number = self.first
         while not self.over.is_set():
             name = f"S{number}"
-            try:
-                with connect(office.PORTS[3], patience=10) as peer:
-                    peer.sendall(request("PUT", f"/subscribers/{number}", compact({"active": True, "cpes": 2, "name": name}).encode()))
-                    answer = read_to_end(peer)
-            except OSError:
-                answer = None
-            status = answer.split(b" ")[1] if answer else None
-            if status == b"200":
+            status = self.clerk.ask("PUT", f"/subscribers/{number}", {"active": True, "cpes": 2, "name": name}).status
+            if status == 200:
                 self.done[number] = name
                 number += 1
             else:
@@ -245,7 +220,7 @@ class Trouble:
             self.program.process.send_signal(signal.SIGCONT)
 
     def clock_set(self):
-        self.clock.set(self.chance.choice((-3600, -60, 0, 60, 3600)))
+        self.clock.number = self.chance.choice((-3600, -60, 0, 60, 3600))
 
     def changed_datagrams(self):
         for _ in range(300):
@@ -263,19 +238,18 @@ def furnish():
     rows = [("/site", {**office.SITE, "lease": LEASE, "log": "0.0.0.0"}), ("/classes/1", {"name": "gold", "settings": office.GOLD}), ("/pools/1", POOL),
             ("/subscribers/7", {"active": True, "cpes": 2, "name": "Ann"})]
     rows += [(f"/modems/{mac(number).hex()}", {"subscriber": 7, "class": 1, "serial": ""}) for number in range(MODEMS)]
-    for path, body in rows:
-        check(office.clerk("PUT", path, body)[0] == [b"200"], f"PUT {path}")
+    office.clerk.furnishes(rows)
 
 
 def all_there(modems, clerks):
     """Each change and each lease that was acknowledged is there."""
     for clerk in clerks:
         for number, name in clerk.done.items():
-            status, text = office.clerk("GET", f"/subscribers/{number}")
-            check(status == [b"200"] and f'"{name}"'.encode() in text, f"subscriber {number} is there: {text}")
+            shown = office.clerk.row(f"/subscribers/{number}") or {}
+            check(shown.get("name") == name, f"subscriber {number} is there: {shown}")
     for number, given in modems.held.items():
-        status, text = office.clerk("GET", f"/leases/{ip(given)}")
-        check(status == [b"200"] and mac(number).hex().encode() in text and b'"bound"' in text, f"modem {number} has {ip(given)}: {text}")
+        shown = office.clerk.row(f"/leases/{ip(given)}") or {}
+        check((shown.get("owner"), shown.get("state")) == (mac(number).hex(), "bound"), f"modem {number} has {ip(given)}: {shown}")
     for given, owners in modems.owners.items():
         check(len(owners) == 1, f"{ip(given)} was acknowledged to {sorted(owners)}")
 
@@ -298,18 +272,17 @@ def lines_are_words(path):
 
 
 def soaking(seconds, store, seed):
-    office.address_of_lo(b"lo", "127.0.0.1", "255.0.0.0")
-    office.address_of_lo(b"lo:1", office.SERVER, "255.255.255.255")
-    office.address_of_lo(b"lo:2", office.RELAY, "255.255.0.0")
+    seconds, seed = float(seconds), int(seed)
+    office.addresses_of_lo()
     with tempfile.TemporaryDirectory() as folder:
         disk = os.path.join(folder, "disk")
         os.mkdir(disk)
         subprocess.run(["mount", "-t", "tmpfs", "-o", "size=64m", "none", disk], check=True)
-        clock = Clock(folder) if may_be_early(PROGRAM) else None
+        clock = Preloaded(folder, "clock", CLOCK, "CLOCK_OFF") if may_be_early(PROGRAM) else None
         program = Program(folder, disk, store, clock)
         program.start()
         furnish()
-        modems, clerks = Modems(seed), [Clerk(100_000 * (place + 1)) for place in range(2)]
+        modems, clerks = Modems(seed), [Putting(100_000 * (place + 1)) for place in range(2)]
         trouble = Trouble(random.Random(seed), program, disk, clock)
         for each in (modems, *clerks):
             each.start()
@@ -325,18 +298,17 @@ def soaking(seconds, store, seed):
         for each in (modems, *clerks):
             each.join(timeout=30)
         if clock:
-            clock.set(0)
+            clock.number = 0
         program.again()
         all_there(modems, clerks)
-        program.process.kill()
-        program.process.wait(timeout=30)
+        kill(program.process)
         counted = lines_are_words(program.log)
         print(f"{seconds:.0f} s over {store} {program.starts} starts, the slowest {program.slowest:.2f} s, and ended by itself {program.endings}; {modems.acknowledged} "
               f"acknowledgements to {len(modems.held)} modems, {sum(len(each.done) for each in clerks)} changes; refused {dict(sum((each.refused for each in clerks), collections.Counter()))}")
         print("  " + ", ".join(f"{name} {count}" for name, count in sorted(trouble.counted.items())) + ("" if clock else "; without the clock, which can't be set here"))
         print("  " + ", ".join(f"{word} {count}" for word, count in sorted(counted.items())))
         subprocess.run(["umount", disk], check=False)
-    return 1 if failures else 0
+    print(f"{len(failures)} failed")
 
 
 def may_be_early(program):
@@ -346,16 +318,9 @@ def may_be_early(program):
 
 
 def main():
-    if not os.path.exists(PROGRAM):
-        print("officed isn't built: run bin/officed once")
-        return 1
-    seconds, store, seed = (sys.argv[1:] + ["600", "sqlite:", "4"][len(sys.argv) - 1:])[:3] if sys.argv[1:2] != ["alone"] else sys.argv[2:5]
-    if sys.argv[1:2] != ["alone"]:
-        return subprocess.run(["unshare", "-rnm", sys.executable, os.path.abspath(__file__), "alone", seconds, store, seed]).returncode
-    status = soaking(float(seconds), store, int(seed))
-    print(f"{len(failures)} failed")
-    return status
+    given = sys.argv[1:4]
+    return alone_with(soaking, *given, *["600", "sqlite:", "4"][len(given):], flags="-rnm")
 
 
 if __name__ == "__main__":
-    sys.exit(main())
+    sys.exit(script(main, soaking))

@@ -21,7 +21,7 @@ import time
 
 HERE = os.path.dirname(os.path.abspath(__file__))
 sys.path.insert(0, os.path.join(HERE, "..", "acceptance"))
-from time_service import PROGRAM, free_ports  # noqa: E402
+from harness import script, serve  # noqa: E402
 
 sys.dont_write_bytecode = True
 TABLE = "CREATE TABLE office (ident BLOB PRIMARY KEY NOT NULL, val BLOB NOT NULL) STRICT"
@@ -58,8 +58,7 @@ def make(store, modems):
 
 def one_start(store):
     """Seconds, seconds of processor, and the most memory, of an office that ends behind no turns."""
-    words = [PROGRAM, "serve", "--store", store, "--ports", ",".join(map(str, free_ports())), "--turns", "0"]
-    began = time.perf_counter()
+    words, began = serve(store), time.perf_counter()
     program = subprocess.Popen(words, stdout=subprocess.PIPE)
     said = program.stdout.read()
     _, status, used = os.wait4(program.pid, 0)
@@ -70,9 +69,6 @@ def one_start(store):
 
 
 def main():
-    if not os.path.exists(PROGRAM):
-        print("officed isn't built: run bin/officed once")
-        return 1
     for modems in map(int, sys.argv[1:] or (1_000, 20_000, 200_000)):
         with tempfile.TemporaryDirectory(dir=os.environ.get("OFFICE_STORES")) as folder:
             store = os.path.join(folder, "office.db")
@@ -84,4 +80,4 @@ def main():
 
 
 if __name__ == "__main__":
-    sys.exit(main())
+    sys.exit(script(main))

@@ -26,13 +26,14 @@ import zlib
 HERE = os.path.dirname(os.path.abspath(__file__))
 sys.path.insert(0, os.path.join(HERE, "..", "acceptance"))
 import mutations as near  # noqa: E402
-from harness import PROGRAM, ROOT, modems as office, start, stop  # noqa: E402
-from harness.clerks import connect, read_to_end, request  # noqa: E402
+from dora import office_over  # noqa: E402
+from harness import PROGRAM, ROOT, alone_with, modems as office, script  # noqa: E402
+from harness.clerks import ANN, Clerk, connect, read_to_end, request, spelled  # noqa: E402
+from harness.machine import compiled, syncs  # noqa: E402
 from harness.mutating import mutated  # noqa: E402
 
 import leases  # noqa: E402
 import tftp  # noqa: E402
-from examples import compact  # noqa: E402
 from messages import RELAYED_DISCOVER, option  # noqa: E402
 
 WORST = os.path.join(ROOT, "tests", "worst")
@@ -49,19 +50,13 @@ FLOWS = near.files_front()
 @contextlib.contextmanager
 def furnished(store="memory"):
     """An office with the rows of tests/acceptance/mutations.py, whose reader has its address."""
-    with tempfile.TemporaryFile() as log:
-        program = start(office.PORTS, 10**12, log, {"OFFICED_UDP": office.SERVER}, store=store)
-        fuzz = None
+    with tempfile.TemporaryFile() as log, office_over(store, log) as program:
+        fuzz = near.Fuzzing(random.Random(1), log, near.Heard())
         try:
-            if not office.is_ready():
-                raise SystemExit("officed doesn't answer")
-            fuzz = near.Fuzzing(random.Random(1), log, near.Heard())
             fuzz.begin()
             yield program, fuzz
         finally:
-            stop(program)
-            if fuzz is not None:
-                fuzz.end()
+            fuzz.end()
 
 
 def spent(pid):
@@ -124,13 +119,10 @@ def puts(seconds):
 
 
 def print_puts(seconds):
-    times, end = [], time.perf_counter() + seconds
+    times, end, clerk = [], time.perf_counter() + seconds, Clerk(office.PORTS[3], patience=30)
     while time.perf_counter() < end:
         began = time.perf_counter()
-        with connect(office.PORTS[3], patience=30) as peer:
-            peer.sendall(request("PUT", "/subscribers/7", compact({"active": True, "cpes": 2, "name": "Ann"}).encode()))
-            if not (read_to_end(peer) or b"").startswith(b"HTTP/1.1 200 "):
-                raise SystemExit("a PUT isn't answered")
+        clerk.must("PUT", "/subscribers/7", ANN)
         times.append(time.perf_counter() - began)
         time.sleep(0.01)
     print(max(times), len(times))
@@ -153,21 +145,9 @@ def under_a_flood(flooder, name, flood, rate, more=""):
           f"of {int(count)} (goal: under {PUT_GOAL:.0f} s)", flush=True)
 
 
-def syncs(folder):
-    """Milliseconds of a write of 16 kB with its sync."""
-    count, began = 0, time.perf_counter()
-    with open(os.path.join(folder, "syncs"), "wb", buffering=0) as each:
-        while time.perf_counter() - began < 1:
-            each.write(bytes(16_384))
-            os.fdatasync(each.fileno())
-            count += 1
-    return (time.perf_counter() - began) / count * 1e3
-
-
 def flooding(stores):
     with tempfile.TemporaryDirectory() as folder:
-        flooder = os.path.join(folder, "flooder")
-        subprocess.run(["cc", "-O2", "-o", flooder, os.path.join(HERE, "flood_clients.c")], check=True)
+        flooder = compiled(os.path.join(HERE, "flood_clients.c"), folder)
         for store in stores or ["memory"]:
             if store == "memory":
                 with furnished() as (program, fuzz):
@@ -177,7 +157,7 @@ def flooding(stores):
                             rests(program.pid)
                 continue
             with tempfile.TemporaryDirectory(dir=store) as own:
-                print(f"  over a file in {store}: a sync takes {syncs(own):.2f} ms (goal: p99 under {SYNCS_GOAL} of them)")
+                print(f"  over a file in {store}: a sync takes {1e3 / syncs(own):.2f} ms (goal: p99 under {SYNCS_GOAL} of them)")
                 with furnished(os.path.join(own, "office.db")) as (_, fuzz):
                     boots = ("10.64.200.9", 67, office.PORTS[0], leases.discover(**office.modem(near.MODEM)), ())
                     under_a_flood(flooder, "DISCOVERs that are written", boots, 20_000, f", or {SYNCS_GOAL} syncs")
@@ -202,7 +182,7 @@ def keep(kind, place, data):
 
 
 def class_body(settings):
-    return compact({"name": "x", "settings": settings}).encode()
+    return spelled({"name": "x", "settings": settings})
 
 
 def padded(code, count):
@@ -217,7 +197,9 @@ def seeds(kind, fuzz):
         front = leases.discover(**{**office.modem(near.MODEM), "cable": None, "way": None})[:-1]
         pieces = b"".join(option(43, option(9, b"")) for _ in range(200)) + b"".join(option(82, option(9, b"")) for _ in range(100))
         bytewise = b"".join(option(code, bytes([byte])) for code in (43, 82) for byte in bytes([9, 1]) * 100)
-        return [*fuzz.messages, padded(43, 630), padded(82, 630), padded(0, 630), padded(1, 630), (front + pieces)[:1499] + b"\xff", (front + bytewise)[:1499] + b"\xff",
+        late = leases.discover(**{**office.modem(near.MODEM), "docsis": None})[:-1]
+        late += option(9, b"") * ((1468 - len(late)) // 2) + b"".join(option(60, bytes([byte])) for byte in leases.DOCSIS)
+        return [*fuzz.messages, late + b"\xff", padded(43, 630), padded(82, 630), padded(0, 630), padded(1, 630), (front + pieces)[:1499] + b"\xff", (front + bytewise)[:1499] + b"\xff",
                 front + option(82, option(1, bytes(200))) * 5 + b"\xff"]
     if kind == "tftp":
         name = leases.name_of(near.SECRET, leases.mac(near.READER), leases.address(near.AT))
@@ -339,16 +321,8 @@ def measuring():
                 told(kind, "as it usually is", len(usual[kind]), cost(program, fuzz, kind, usual[kind]))
 
 
-def main():
-    if not os.path.exists(PROGRAM):
-        print("officed isn't built: run bin/officed once")
-        return 1
-    if sys.argv[1:2] != ["alone"]:
-        return subprocess.run(["unshare", "-rn", sys.executable, os.path.abspath(__file__), "alone", *sys.argv[1:]]).returncode
-    office.address_of_lo(b"lo", "127.0.0.1", "255.0.0.0")
-    office.address_of_lo(b"lo:1", office.SERVER, "255.255.255.255")
-    office.address_of_lo(b"lo:2", office.RELAY, "255.255.0.0")
-    word, *words = sys.argv[2:] or ["worst"]
+def within(word="worst", *words):
+    office.addresses_of_lo()
     if word == "flood":
         flooding(words)
     elif word == "climb":
@@ -358,5 +332,9 @@ def main():
     return 0
 
 
+def main():
+    return alone_with(within, *sys.argv[1:])
+
+
 if __name__ == "__main__":
-    sys.exit(main())
+    sys.exit(script(main, within))

@@ -15,7 +15,6 @@ import collections
 import os
 import re
 import shutil
-import signal
 import subprocess
 import sys
 import tempfile
@@ -23,7 +22,10 @@ import time
 
 HERE = os.path.dirname(os.path.abspath(__file__))
 sys.path.insert(0, os.path.join(HERE, "..", "acceptance"))
-from harness import PROGRAM, modems as office, processor_seconds, start  # noqa: E402
+from harness import alone_with, modems as office, script, stop  # noqa: E402
+from harness.machine import compiled, load, processor_seconds  # noqa: E402
+from harness.network import address_of_lo, port_of, took  # noqa: E402
+from dora import office_over  # noqa: E402
 import leases  # noqa: E402
 import tftp  # noqa: E402
 
@@ -75,9 +77,7 @@ def mac(number):
 
 def furnish():
     for path, body in rows():
-        status, text = office.clerk("PUT", path, body)
-        if status != [b"200"]:
-            raise SystemExit(f"PUT {path}: {status} {text}")
+        office.clerk.must("PUT", path, body)
 
 
 def leased(relay):
@@ -91,7 +91,7 @@ def leased(relay):
 def asked(relay, kind, number, more):
     data = leases.message(kind, mac(number), more, leases.address(office.RELAY), xid=number)
     relay.sendto(data, (office.SERVER, office.PORTS[0]))
-    came = office.took(relay)
+    came = took(relay)
     if came is None:
         raise SystemExit(f"modem {number} has no answer")
     return office.reply_in(came[0])
@@ -156,60 +156,43 @@ def measure(clients, names, length, size, at_once, servers, rounds):
     sys.stdout.flush()
 
 
-def load():
-    with open("/proc/loadavg") as file:
-        return " ".join(file.read().split()[:3])
-
-
 def within(rounds):
-    office.address_of_lo(b"lo", "127.0.0.1", "255.0.0.0")
-    office.address_of_lo(b"lo:1", office.RELAY, "255.255.0.0")
-    for place, address in enumerate((office.SERVER, DNSMASQ_AT, BARE_AT), 2):
-        office.address_of_lo(b"lo:%d" % place, address, "255.255.255.255")
+    office.addresses_of_lo()
+    for place, address in enumerate((DNSMASQ_AT, BARE_AT), 3):
+        address_of_lo(b"lo:%d" % place, address, "255.255.255.255")
     with tempfile.TemporaryDirectory() as folder, tempfile.TemporaryFile() as log:
-        clients, names_at = os.path.join(folder, "transfers_clients"), os.path.join(folder, "names")
-        subprocess.run(["cc", "-O2", "-o", clients, CLIENTS], check=True)
-        officed = start(office.PORTS, 10**12, log, {"OFFICED_UDP": office.SERVER})
-        other = None
-        try:
-            if not office.is_ready():
-                raise SystemExit("officed doesn't answer")
+        with office_over("memory", log) as officed:
             furnish()
-            names = list(leased(office.port_of(office.RELAY, 67)))
-            with open(names_at, "w") as file:
-                file.write("".join(f"{held} {name}\n" for held, name in names))
-            other = dnsmasq(folder, names)
-            print(f"load before: {load()}; {'no dnsmasq here' if other is None else 'dnsmasq beside'}; {rounds} rounds of {MILLISECONDS} ms each")
-            servers = [Server("officed", office.SERVER, officed), *([other] if other else [])]
-            time.sleep(0.3)
-            for length in KINDS:
-                for size in BLOCKS:
-                    for at_once in AT_ONCE:
-                        measure(clients, names_at, length, size, at_once, servers, rounds)
-            print(f"load behind: {load()}")
-        finally:
-            for process in [officed, *([other.process] if other else [])]:
-                process.send_signal(signal.SIGTERM)
-                process.wait(timeout=30)
+            all_rounds(compiled(CLIENTS, folder), folder, officed, int(rounds))
         log.seek(0)
         words = collections.Counter(match.group(1) for match in re.finditer(rb"^[0-9]+ (tftp [a-z-]+|tick|dhcp [a-z-]+|http [0-9]+)", log.read(), re.M))
         print("the log: " + ", ".join(f"{word.decode()} {count}" for word, count in words.most_common()))
     return 0
 
 
+def all_rounds(clients, folder, officed, rounds):
+    """The office and dnsmasq by turns, for each length, size of blocks and number of modems at once."""
+    names, names_at = list(leased(port_of(office.RELAY, 67))), os.path.join(folder, "names")
+    with open(names_at, "w") as file:
+        file.write("".join(f"{held} {name}\n" for held, name in names))
+    other = dnsmasq(folder, names)
+    print(f"{load()} before; {'no dnsmasq here' if other is None else 'dnsmasq beside'}; {rounds} rounds of {MILLISECONDS} ms each")
+    servers = [Server("officed", office.SERVER, officed), *([other] if other else [])]
+    time.sleep(0.3)
+    try:
+        for length in KINDS:
+            for size in BLOCKS:
+                for at_once in AT_ONCE:
+                    measure(clients, names_at, length, size, at_once, servers, rounds)
+    finally:
+        if other:
+            stop(other.process, seconds=30)
+    print(f"{load()} afterwards")
+
+
 def main():
-    words = sys.argv[1:]
-    if words[:1] == ["within"]:
-        return within(int(words[1]))
-    if not os.path.exists(PROGRAM):
-        print("officed isn't built: run bin/officed once")
-        return 1
-    if not shutil.which("unshare") or subprocess.run(["unshare", "-rn", "true"], stderr=subprocess.DEVNULL).returncode != 0:
-        print("skipped, since `unshare -rn` gives no network of its own here")
-        return 0
-    rounds = words[0] if words else "15"
-    return subprocess.run(["unshare", "-rn", sys.executable, os.path.abspath(__file__), "within", rounds]).returncode
+    return alone_with(within, *(sys.argv[1:2] or ["15"]))
 
 
 if __name__ == "__main__":
-    sys.exit(main())
+    sys.exit(script(main, within))

@@ -5,11 +5,11 @@ taken away alone, and the log has the word that says so. What is expected is com
 The word `memory` alone isn't here: a script can refuse memory in front of an event and not within one, as tests/acceptance/files_without_memory.py does.
 """
 from examples import outcome
-from leases import (A, BEHIND, HELD, HUBS, ONE, RELAY, SECOND, THERE, declines, discover, has_which, leased, modem_row, put_hub, put_pool, put_site, reboots, releases,
-                    remove, renews, selects, vendor, who_has)
+from leases import (A, BEHIND, HUBS, ONE, RELAY, SECOND, THERE, declines, discover, has_which, leased, put_hub, put_pool, put_site, reboots, releases, remove,
+                    renews, selects, vendor, who_has)
 import failures
 import leases
-from transfers import (B, BOTH, PLAIN, PORT, TICK, TransferPlayer, acks, file_in, gives_up, is_signed_by, line_of, name, put_class, put_modem, put_subscriber, reads,
+from transfers import (B, PLAIN, PORT, TICK, TransferPlayer, acks, file_in, gives_up, is_signed_by, line_of, name, put_class, put_modem, put_subscriber, reads,
                        sends)
 
 MODEL = "By the models of leases and of transfers, from RFC 2131, 1350, 2347 and 2348, and the office's rules."

@@ -554,8 +554,8 @@ def freeing(player):
         ("t", "cpe-offer", discover(0xA2, relay="10.129.0.1")), ("t", "cpe-pool-full", discover(0xA3, relay="10.129.0.1")), ("t", "cpe-released", gives_back("255.255.255.255")),
         ("t", "cpe-offer", discover(0xA3, relay="10.129.0.1"))], rows=ends)
     player.section("the largest pool for devices has 4,096 addresses", "All are taken but one, which is offered to one device; the next is refused, until the others' time is over.",
-                   "A device's message makes ten calls of the keeper at most, whatever the tables: its modem, the modem's row and its subscriber's, what the modem holds and the lease of that, the "
-                   "hub; for a DISCOVER the lease of what is offered; for each row that it writes the lease before; and the commit.")
+                   "A device's message makes seven calls of the keeper at most, whatever the tables: its modem's row and its subscriber's, what the modem holds and the lease of that, the hub; "
+                   "where no relay names the modem one more, which finds it; for each row that it writes at another address than the device's own the lease before; and the commit.")
     largest = ["device-pool 1 10.128.0.0 10.128.15.255 20 10.128.0.1 10.128.0.1", *ONLINE, 'subscriber 7 active 254 "Ann"']
     for free in ("10.128.15.255", "10.128.9.7"):
         folded = [f"repeat 0 255 device 10.128.{part}.# offered 02aabbcc{part:02x}ee 0201% t+1" for part in range(16)]
@@ -567,7 +567,7 @@ def freeing(player):
         for event in events:
             played.take(*event)
         player.script.run("", ["office", *largest, *folded, f"drop device {free}", "show calls", *player.written(events)],
-                          leases.outcome(wrote=played.wrote, sent=played.sent, calls=opening + 9 + 6 + 8 + 9 + 9))
+                          leases.outcome(wrote=played.wrote, sent=played.sent, calls=opening + 7 + 5 + 6 + 7 + 7))
     player.section("the moments of devices' leases stop at the greatest number", "2^64 - 1 seconds.")
     for before in (0, 1, 119, 120, 121, 599, 600, 86399, 86400, 86401):
         now = 2**64 - 1 - before
@@ -740,7 +740,7 @@ def beside_modems(player):
         ("t", "cpe-offer", says(DISCOVER, 0xA2)), ("t", "cpe-limit", says(DISCOVER, 0xA3)), ("t", "released", releases("10.64.0.11", 1)), ("t", "cpe-released", releases(FIRST, 1)),
         ("t", "cpe-no-pool", leases.discover(1, remote=MAC))], rows=[*PLACE, SECOND])
     player.section("nobody is told of devices' leases: neither a clerk nor a relay that asks", "A query is about the addresses and modems of its relay's hub.")
-    held = [*PLACE, has("bound", 10, 0xA1, "t+900"), f"device-pool 2 10.129.0.10 10.129.0.20 24 10.64.0.1 10.64.0.1"]
+    held = [*PLACE, has("bound", 10, 0xA1, "t+900"), "device-pool 2 10.129.0.10 10.129.0.20 24 10.64.0.1 10.64.0.1"]
     player.play("", [
         ("t", "no-row", show(FIRST)), ("t", "query-unknown", who_has(FIRST)), ("t", "query-unknown", leases.query(hardware=device(0xA1), relay=address("10.64.0.1"))),
         ("t", "query-relay", who_has(FIRST, relay=RELAY)), ("t", "query-active", who_has(A)), ("t", "query-active", has_which())], rows=held)

@@ -80,11 +80,6 @@ def cut_files(script):
         script.run(f"{length}", lines, outcome(wrote=["cm good", "cmts good"]) if word == "good" else outcome(8, [f"refused {word}"]))
 
 
-def nested(depth):
-    """Settings so deep: one is a leaf."""
-    return [{"code": 22, "hex": "01"}] if depth == 1 else [{"code": 22, "parts": nested(depth - 1)}]
-
-
 def is_refused(script, rows, remark, path, body, status, word, text, written=None):
     """A row that is put by this body is refused. `written` is the request as the script writes it, where it's long."""
     script.run(remark, ["office", "show tables", f"t piece 1 {written or quoted(request('PUT', path, body))}"],

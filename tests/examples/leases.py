@@ -9,7 +9,7 @@ import hmac
 import ipaddress
 import random
 
-from examples import T, answered, compact, datagram, ip, order_of, outcome
+from examples import T, answered, compact, datagram, ip, outcome
 from messages import (ACK, ACTIVE, DECLINE, DISCOVER, INFORM, MODEM, NAK, OFFER, RELAYED, RELAYED_DISCOVER, RELEASE, REQUEST, UNASSIGNED, UNKNOWN, Message,
                       answer_to, asked_by, fault_of, first_of, is_query, message, option, parts_in, query, reply_to, split)
 

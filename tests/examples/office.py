@@ -69,32 +69,17 @@ NO_HUB = (422, "no-hub", None)
 DONE = (200, "", OK)
 
 
-def overlaps(number):
-    return 409, "pool-overlap", str(number)
+def refusal(status, word):
+    """Such a refusal over what has a number: another pool, a limit, or a hub's field."""
+    return lambda number: (status, word, str(number))
 
 
-def taken(number):
-    return 409, "relay-taken", str(number)
+overlaps, device_overlaps, taken, in_use = (refusal(409, word) for word in ("pool-overlap", "device-overlap", "relay-taken", "hub-in-use"))
+limit, site_field = refusal(422, "limit"), refusal(422, "site")
 
 
 def lost(address):
     return 409, "pool-has-leases", ip(address)
-
-
-def limit(number):
-    return 422, "limit", str(number)
-
-
-def device_overlaps(number):
-    return 409, "device-overlap", str(number)
-
-
-def in_use(number):
-    return 409, "hub-in-use", str(number)
-
-
-def site_field(number):
-    return 422, "site", str(number)
 
 
 # The first fault of settings, by its number: 1, a code that may not stand there.

@@ -87,7 +87,7 @@ def main():
     for title, ident, val in BAD:
         cells += f"cell {ident} {val}\n0 datagram time from 10.64.0.10:5000\nrun {title}\n"
         told_of_cells += f"run {title}\nstatus 3\n| keeper refused\n"
-    cells += f"office\ncell 0200000009 010203416e6e\nshow tables\nrun a cell that is a row is one\n"
+    cells += "office\ncell 0200000009 010203416e6e\nshow tables\nrun a cell that is a row is one\n"
     told_of_cells += "run a cell that is a row is one\nstatus 0\n" + ROWS
     # The site of earlier days becomes the hub 0; no other cell changes.
     cells += f"office\ndrop hub 0\ncell 01 {SITE}\ncell 0200000009 010203416e6e\nshow tables\nrun a cell of the site of earlier days is moved\n"
@@ -96,7 +96,7 @@ def main():
     told_of_cells += "run a cell of it beside a hub is refused\nstatus 2\n| tables refused site\n"
     cells += f"office\ncell 0a00000001 {SITE}\ncell 0b00000001 00000001\ncell 0200000009 010203416e6e\nshow tables\nrun cells of a hub and of a pool's hub\n"
     told_of_cells += f"run cells of a hub and of a pool's hub\nstatus 0\n{ROWS}row hub 1 10.0.0.2 736563726574 3600 86400 0.0.0.0\nrow pool-hub 1 1\n"
-    cells += f"office\ncell 0c00000001 0a80000a0a800014180a8000010a800001\ncell 0d0a80000a 0202aabbccddee0200000000a1000000006553f100\n"
+    cells += "office\ncell 0c00000001 0a80000a0a800014180a8000010a800001\ncell 0d0a80000a 0202aabbccddee0200000000a1000000006553f100\n"
     cells += "cell 0200000009 010203416e6e\nshow tables\nrun cells of a pool for devices and of a device's lease\n"
     told_of_cells += f"run cells of a pool for devices and of a device's lease\nstatus 0\n{ROWS}row device-pool 1 10.128.0.10 10.128.0.20 24 10.128.0.1 10.128.0.1\n"
     told_of_cells += "row device 10.128.0.10 bound 02aabbccddee 0200000000a1 1700000000\n"

@@ -7,9 +7,9 @@ import hashlib
 import hmac
 import itertools
 
-from examples import answered, compact, datagram, ip, outcome, quoted, verdict
+from examples import answered, compact, datagram, outcome, quoted, verdict
 from examples import request as asked_over_http
-from leases import (A, BEHIND, HELD, HUBS, MAC, MOST, OTHER, SECOND, THERE, Clerk, Disagreement, Office, Player, address, declines, discover, leased, mac, modem_row,
+from leases import (A, BEHIND, HELD, HUBS, MAC, MOST, SECOND, THERE, Clerk, Disagreement, Office, Player, address, declines, discover, leased, mac, modem_row,
                     name_of, put_hub, put_pool, put_site, releases, remove, renews, selects)
 import leases
 from tftp import ERROR, OPTIONS, WRITE, Transfers, acknowledgement, data, error, extensions, headed, options, request, tree_in, tree_json

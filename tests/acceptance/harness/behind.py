@@ -1,12 +1,12 @@
 """Devices behind modems, each of whose replies is compared with the model of tests/examples: their rows, what they say, and an office that hears them."""
-import re
 import socket
 import struct
 import time
 
 from harness import check
 from harness import modems
-from harness.modems import IP_PKTINFO, MODEMS, PORTS, RELAY, SERVER, clerk, leases, port_of
+from harness.modems import MODEMS, PORTS, RELAY, SERVER, clerk, leases
+from harness.network import IP_PKTINFO, address_of_lo, port_of
 
 # harness.modems has the models' folder found before that of the scripts, one of which has this name too.
 import devices as model
@@ -117,7 +117,7 @@ class Talk(modems.Conversation):
     def puts(self, path, body, row):
         """A row that is put, in the office and in the model."""
         self.settles()
-        check(clerk("PUT", path, body)[0] == [b"200"], f"PUT {path}")
+        clerk.puts(path, body)
         status, _, _ = self.model.clerk(int(time.time()), path, row)
         check(status == 200, f"the model's {path}")
 
@@ -135,24 +135,11 @@ def furnish():
     rows += [(f"/subscribers/{number}", {"active": True, "cpes": devices, "name": "Ann"}) for number, devices in MAY_HAVE.items()]
     rows += [(f"/modems/{leases.mac(number).hex()}", {"subscriber": subscriber_of(number), "class": 1, "serial": modems.serial(number)}) for number in range(MODEMS + 1)]
     rows += [(f"/device-pools/{number}", body_of(*pool)) for number, pool in POOLS.items()]
-    for path, body in rows:
-        check(clerk("PUT", path, body)[0] == [b"200"], f"PUT {path}")
+    clerk.furnishes(rows)
 
 
 def addresses_of_lo():
     """All addresses of modems, of their devices and of relays are this machine's, in a network of its own."""
-    for name, address, mask in ((b"lo", "127.0.0.1", "255.0.0.0"), (b"lo:1", SERVER, "255.255.255.255"), (b"lo:2", RELAY, "255.255.0.0"),
-                                (b"lo:3", "10.128.0.1", "255.255.0.0"), (b"lo:4", NARROW, "255.255.0.0")):
-        modems.address_of_lo(name, address, mask)
-
-
-# ---- what the office says of it
-
-def lines_of(log):
-    log.seek(0)
-    return [line.split(" ", 1)[1] for line in log.read().decode().splitlines() if re.match(r"[0-9]+ dhcp ", line)]
-
-
-def are_the_words(found, words, what):
-    said = [f"dhcp {word}" for word in words]
-    check(found == said, f"{what}: each datagram has its line: {[pair for pair in zip(found, said) if pair[0] != pair[1]][:3]}, {len(found)} and {len(said)}")
+    modems.addresses_of_lo()
+    for name, address in ((b"lo:3", "10.128.0.1"), (b"lo:4", NARROW)):
+        address_of_lo(name, address, "255.255.0.0")

@@ -1,19 +1,17 @@
 """A relay and its modems, each of whose replies is compared with the model of tests/examples."""
-import fcntl
-import json
+import contextlib
 import os
-import socket
-import struct
 import sys
 import time
 
-from harness import ROOT, check
-from harness.clerks import read_to_end, request
+from harness import ROOT, check, serving
+from harness.clerks import GOLD, Clerk, is_heard
+from harness.network import address_of_lo, loopback, port_of, took
 from harness.told import SECRET
 
 sys.path.insert(0, os.path.join(ROOT, "tests", "examples"))
 import leases  # noqa: E402
-from examples import compact, ip  # noqa: E402
+from examples import ip  # noqa: E402
 from messages import ACK, NAK, OFFER, option, reply_in  # noqa: E402
 
 SERVER, RELAY = "10.0.0.2", "10.64.0.1"
@@ -22,8 +20,7 @@ FIRST, MODEMS, AT_ONCE = int.from_bytes(leases.address("10.64.16.0"), "big"), 20
 LEASE = 3600
 SITE = {"server": SERVER, "secret": SECRET.hex(), "offset": -18000, "lease": LEASE, "log": "10.0.0.3"}
 POOL = {"first": ip(FIRST), "last": ip(FIRST + MODEMS - 1), "prefix": 20, "router": RELAY, "relay": RELAY}
-GOLD = [{"code": code, "parts": [{"code": 1, "hex": reference}, {"code": 6, "hex": "07"}]} for code, reference in ((24, "0001"), (25, "0002"))]
-IP_PKTINFO = 8
+clerk = Clerk(PORTS[3])
 
 
 def serial(number):
@@ -39,31 +36,11 @@ ROWS = [f"hub 0 {SERVER} {SECRET.hex()} -18000 {LEASE} 10.0.0.3", f"pool 1 {POOL
         *(leases.modem_row(number, serial(number)) for number in range(MODEMS + 1))]
 
 
-def address_of_lo(name, address, mask):
-    """Gives the loopback interface an address; all addresses under the mask are this machine's then."""
-    with socket.socket(socket.AF_INET, socket.SOCK_DGRAM) as any_socket:
-        for command, value in ((0x8916, address), (0x891C, mask)):  # SIOCSIFADDR, SIOCSIFNETMASK
-            fcntl.ioctl(any_socket, command, struct.pack("16sHH4s8x", name, socket.AF_INET, 0, leases.address(value)))
-        fcntl.ioctl(any_socket, 0x8914, struct.pack("16sh14x", name, 1))  # SIOCSIFFLAGS, IFF_UP
-
-
-def port_of(address, port):
-    each = socket.socket(socket.AF_INET, socket.SOCK_DGRAM)
-    each.setsockopt(socket.SOL_SOCKET, socket.SO_RCVBUF, 1 << 22)
-    each.setsockopt(socket.IPPROTO_IP, IP_PKTINFO, 1)
-    each.bind((address, port))
-    each.settimeout(5)
-    return each
-
-
-def took(each):
-    """The next datagram of a socket, and the address that it was sent to; None where none came."""
-    try:
-        data, more, _, _ = each.recvmsg(4096, 256)
-    except OSError:
-        return None
-    target = next((value[8:12] for level, kind, value in more if (level, kind) == (socket.IPPROTO_IP, IP_PKTINFO)), b"")
-    return data, socket.inet_ntoa(target) if target else ""
+def addresses_of_lo(relays="255.255.0.0"):
+    """The server's address is this machine's, in a network of its own, and so are all of relays and modems, by their mask."""
+    loopback()
+    address_of_lo(b"lo:1", SERVER, "255.255.255.255")
+    address_of_lo(b"lo:2", RELAY, relays)
 
 
 class Conversation:
@@ -110,21 +87,12 @@ class Conversation:
             each.settimeout(5)
 
 
-def clerk(method, path, body=None):
-    with socket.create_connection(("127.0.0.1", PORTS[3]), timeout=5) as peer:
-        peer.sendall(request(method, path, compact(body).encode() if body is not None else b""))
-        answer = read_to_end(peer) or b""
-    head, _, text = answer.partition(b"\r\n\r\n")
-    return head.split(b" ")[1:2], text
-
-
 def furnish():
     """The rows that modems stand on."""
     class_ = {"name": "gold", "settings": GOLD}
     rows = [("/site", SITE), ("/classes/1", class_), ("/subscribers/7", {"active": True, "cpes": 2, "name": "Ann"}), ("/pools/1", POOL)]
     rows += [(f"/modems/{leases.mac(number).hex()}", {"subscriber": 7, "class": 1, "serial": serial(number)}) for number in range(MODEMS + 1)]
-    for path, body in rows:
-        check(clerk("PUT", path, body)[0] == [b"200"], f"PUT {path}")
+    clerk.furnishes(rows)
 
 
 def boot(talk):
@@ -170,26 +138,29 @@ def read_back(talk):
     """Each address over HTTP: whose it is, how, and till about when."""
     for number in range(MODEMS):
         held = ip(FIRST + number)
-        status, text = clerk("GET", f"/leases/{held}")
+        found = clerk.ask("GET", f"/leases/{held}")
         expected = talk.model.leases.get(leases.address(held))
         if expected is None:
-            check((status, text) == ([b"404"], b'{"fault":"no-row"}'), f"{held} has no lease")
+            check(found == (404, b'{"fault":"no-row"}'), f"{held} has no lease")
             continue
         hold, owner, expiry = expected
-        shown = json.loads(text) if status == [b"200"] else {}
+        shown = found.row() if found.status == 200 else {}
         check((shown.get("state"), shown.get("owner")) == (hold, owner.hex() if owner else ""), f"{held} is {hold}")
         # On a busy machine the office takes a datagram some seconds later than it was sent.
         check(expiry <= shown.get("expiry", 0) <= expiry + 20, f"{held} ends at {expiry}, and not at {shown.get('expiry')}")
 
 
+@contextlib.contextmanager
+def running(log, addresses=None, store="memory"):
+    """The program at the server's address, once clerks are heard; it's stopped at the end."""
+    with serving(PORTS, log, addresses={"OFFICED_UDP": SERVER, **(addresses or {})}, store=store) as program:
+        check(is_ready(), "the program answers within some seconds")
+        yield program
+
+
 def is_ready():
-    for _ in range(200):
-        try:
-            socket.create_connection(("127.0.0.1", PORTS[3]), timeout=1).close()
-            return True
-        except OSError:
-            time.sleep(0.05)
-    return False
+    """Waits until clerks are heard; the tables of a store may be opened still."""
+    return is_heard(PORTS[3])
 
 
 def bad_datagrams():
