@@ -25,12 +25,6 @@ first_of code parts = find (λ part. part.code == code) parts
 abbrev pub span_of : ℕ → List Part → Span
 span_of code parts = span_at (first_of code parts)
 
--- where the value of the first part with this code stands in a reading, or the place of the part
--- that passes the end
-abbrev pub span_in : ℕ → Result (List Part) ℕ → Result Span PartCut
-span_in code (Ok parts) = Ok (span_of code parts)
-span_in code (Err place) = Err (record { place = place })
-
 -- the parts that the office reads of option 43: 2 the device type, 4 the serial number, 6 the
 -- software version
 unfoldable pub device_of : Result (List Part) ℕ → Result DeviceParts PartCut

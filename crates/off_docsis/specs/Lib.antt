@@ -1,1 +1,2 @@
 pub mod Cable
+pub mod Spans

@@ -2,7 +2,7 @@ ghost use Rattle.std.specs.Prelude.{◌≡◌, false, IfOk};
 ghost use Rattle.off_base.specs.Parts.{parts_in, bytes_of};
 ghost use Rattle.off_docsis.specs.Cable.{relay_of, ShowsRelay, ReadsParts};
 
-use crate::spans::first_part;
+use crate::spans::{Codes, first_parts};
 use crate::{PartCut, Span};
 use off_base::Joined;
 
@@ -28,8 +28,14 @@ pub fn relay(option82: &Joined<'_>) -> Result<RelayParts, PartCut>
         let value = bytes_of option82.now in ShowsRelay value found (parts_in false value)) }
     ensures reading { ReadsParts false (bytes_of option82.now) }
 {
-    let mut bytes = option82.bytes();
-    let circuit = first_part(&mut bytes, CIRCUIT_ID, false)?;
-    let remote = first_part(&mut bytes, REMOTE_ID, false)?;
-    Ok(RelayParts { circuit, remote })
+    let wanted = Codes {
+        first: CIRCUIT_ID,
+        second: REMOTE_ID,
+        third: REMOTE_ID,
+    };
+    let found = first_parts(&mut option82.bytes(), wanted, false)?;
+    Ok(RelayParts {
+        circuit: found.first,
+        remote: found.second,
+    })
 }

@@ -2,7 +2,7 @@ ghost use Rattle.std.specs.Prelude.{◌≡◌, true, IfOk};
 ghost use Rattle.off_base.specs.Parts.{parts_in, bytes_of};
 ghost use Rattle.off_docsis.specs.Cable.{device_of, ShowsDevice, ReadsParts};
 
-use crate::spans::first_part;
+use crate::spans::{Codes, first_parts};
 use crate::{PartCut, Span};
 use off_base::Joined;
 
@@ -31,13 +31,15 @@ pub fn device(option43: &Joined<'_>) -> Result<DeviceParts, PartCut>
         let value = bytes_of option43.now in ShowsDevice value found (parts_in true value)) }
     ensures reading { ReadsParts true (bytes_of option43.now) }
 {
-    let mut bytes = option43.bytes();
-    let kind = first_part(&mut bytes, DEVICE_TYPE, true)?;
-    let serial = first_part(&mut bytes, SERIAL_NUMBER, true)?;
-    let software = first_part(&mut bytes, SOFTWARE_VERSION, true)?;
+    let wanted = Codes {
+        first: DEVICE_TYPE,
+        second: SERIAL_NUMBER,
+        third: SOFTWARE_VERSION,
+    };
+    let found = first_parts(&mut option43.bytes(), wanted, true)?;
     Ok(DeviceParts {
-        kind,
-        serial,
-        software,
+        kind: found.first,
+        serial: found.second,
+        software: found.third,
     })
 }
