@@ -90,6 +90,9 @@ not_stored {at} {piece} {a} lengths fits w s = record {
   bytes = λ c told.
       let b = from_same (Holds at piece) w.bytes s.kept.bytes c told in
       (b.0, (b.1.0, holds_torn at piece b.0 c (omega (arith, fits, lengths b.0 b.1.0)) b.1.1));
+  told = λ b told.
+      let c = onto_same (Holds at piece) w.told s.kept.told b told in
+      (c.0, (c.1.0, holds_torn at piece b c.0 (omega (arith, fits, lengths b told)) c.1.1));
   no_shorter = omega (arith, w.size, s.kept.size);
   no_longer = omega (arith, w.size, s.kept.size);
   passes = passes_same (Torn at (length piece)) (torn_self at (length piece)) w.passes s.kept.passes;

@@ -60,6 +60,7 @@ pub record HasWritten (at : ℕ) (piece : List ℕ) (old new : DiskSeen) : Type 
 -- a write that failed may have written any bytes in its range
 pub record NotWritten (at n : ℕ) (old new : DiskSeen) : Type 0 where
   pub bytes : From (Torn at n) old.bytes new.bytes
+  pub told : Onto (Torn at n) old.bytes new.bytes
   pub no_shorter : old.size ≤ new.size
   pub no_longer : new.size ≤ max old.size (at + n)
   pub passes : Passes (Torn at n) old new

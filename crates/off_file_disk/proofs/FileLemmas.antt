@@ -28,6 +28,7 @@ file_written at piece size more faults longer = record {
 pub file_not_written : (at n size faults rose : ℕ) → Grew 1 faults rose → NotWritten at n (file_seen size faults) (file_seen size rose)
 file_not_written at n size faults rose grew = record {
   bytes = λ c told. absurd told;
+  told = λ b told. absurd told;
   no_shorter = omega arith;
   no_longer = omega arith;
   passes = file_passes (Torn at n) size size faults rose;

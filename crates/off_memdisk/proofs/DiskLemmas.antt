@@ -100,6 +100,7 @@ mem_not_written : (b : List ℕ) (cs : List (Option (ℕ × List ℕ))) (at n f 
     → NotWritten at n (disk_seen b (cs) f) (disk_seen b (cs) g)
 mem_not_written b cs at n f g grew = record {
   bytes = λ c told. (c, (told, torn_self at n c));
+  told = λ c told. (c, (told, torn_self at n c));
   no_shorter = omega arith;
   no_longer = omega arith;
   passes = record {
