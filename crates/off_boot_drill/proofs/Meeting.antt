@@ -60,7 +60,7 @@ known_discover t i h = record {
   modem_is = modem_read t i h;
   vendor = refl;
   relay = refl;
-  remote = refl;
+  remote = λ _. refl;
   class = refl;
   serial = inl refl;
 }
@@ -78,7 +78,7 @@ known_request t i h = record {
   modem_is = modem_read t i h;
   vendor = refl;
   relay = refl;
-  remote = refl;
+  remote = λ _. refl;
   class = refl;
   serial = inl refl;
 }

@@ -1,6 +1,6 @@
 -- A known modem's DISCOVER is answered by an offer, and its REQUEST by an acknowledgement.
 use Rattle.std.proofs.Common.{◌≡◌, ℕ, ◌≤◌, Bool, true, false, true≢false, cond, not, ◌&&◌, ◌||◌, length, ◌==◌, List, [], ◌∷◌, Option, Some, None, option_and_then, MatchOption, ◌⊎◌, inl, inr, refl, sym, ap, subst, ◌∙◌}
-use Rattle.std.proofs.lemmas.Bool.{and_from, and_parts, eq-eqb, le-leb}
+use Rattle.std.proofs.lemmas.Bool.{and_from, and_parts, eq-eqb, eqb-true, le-leb}
 use Rattle.std.specs.Option.{option_or}
 use Rattle.off_base.specs.declared.addresses.Ip4.{Ip4}
 use Rattle.off_base.specs.declared.macs.Mac.{Mac}
@@ -55,7 +55,7 @@ use Rattle.off_book.specs.Step.{Step, Does}
 use Rattle.off_book.specs.Run.{Turn, effect_of}
 use Rattle.off_laws.specs.Leases.{TakesMessage, moment_of}
 use Rattle.off_boot_laws.proofs.Pooling.{pool_is_found, site_is_found}
-use Rattle.off_boot_laws.specs.Known.{IsOwn, SaysModem, IsOfModem}
+use Rattle.off_boot_laws.specs.Known.{IsOwn, NamesNoOther, SaysModem, IsOfModem}
 use Rattle.off_boot_laws.specs.Stages.{IsFree, DiscoversAreOffered, RequestsAreAcknowledged}
 use Rattle.off_boot_laws.proofs.Own.{discover_own, request_own}
 use Rattle.off_cpe_rules.specs.Behind.{modem_behind}
@@ -100,9 +100,13 @@ not_cut false = refl
 not_other : (value own : List ℕ) → value ≡ own → not (bytes_eq value own) ≡ false
 not_other value own e = ap not ((bytes_eq-Decides value own).1 e)
 
-own_remote : (own : List ℕ) (o : Option (List ℕ)) → IsOwn own o → passes (λ remote. (length remote == 6) && not (bytes_eq remote own)) o ≡ false
+own_remote : (own : List ℕ) (o : Option (List ℕ)) → NamesNoOther own o → passes (λ remote. (length remote == 6) && not (bytes_eq remote own)) o ≡ false
 own_remote own None is = refl
-own_remote own (Some value) is = and_false (length value == 6) (not (bytes_eq value own)) (not_other value own is)
+own_remote own (Some value) is =
+    elim (length value == 6) as (λ b. (length value == 6) ≡ b → (b && not (bytes_eq value own)) ≡ false) [
+      | true ↦ λ six. not_other value own (is (eqb-true (length value) 6 six))
+      | false ↦ λ other. refl
+    ] refl
 
 own_serial : (own : List ℕ) (o : Option (List ℕ)) → IsOwn own o → passes (λ serial. not (bytes_eq serial own)) o ≡ false
 own_serial own None is = refl

@@ -1,4 +1,4 @@
--- A modem's own message is no device's: its relay names the modem itself or nobody, and the address that it renews is none of a device's.
+-- A modem's own message is no device's: its relay names the modem itself, or nobody by six bytes, and the address that it renews is none of a device's.
 use Rattle.std.proofs.Common.{◌≡◌, ℕ, true, false, cond, not, ◌&&◌, ◌||◌, eqb, length, List, Option, Some, None, is_some, is_err, option_and_then, refl, sym, ap, subst, ◌∙◌}
 use Rattle.std.proofs.lemmas.Bool.{eqb-true}
 use Rattle.std.proofs.lemmas.Slice.Eq.{bytes_eq-Decides}
@@ -15,7 +15,7 @@ use Rattle.off_asking.specs.declared.forms.Named.{Named}
 use Rattle.off_asking.specs.declared.forms.Named.TheVariants.{Absent, Malformed, At}
 use Rattle.off_cpe_rules.specs.Behind.{modem_for, recorded_modem, modem_by, modem_behind}
 use Rattle.off_book.specs.Run.{Turn}
-use Rattle.off_boot_laws.specs.Known.{IsOwn}
+use Rattle.off_boot_laws.specs.Known.{NamesNoOther}
 use Rattle.off_boot_laws.specs.Stages.{Discovers, Requests}
 
 module _ (t : Tables) (m : Received) where
@@ -24,15 +24,15 @@ module _ (t : Tables) (m : Received) where
   named_by_relay value own =
       ap (λ b. cond (not b && is_some (modem_in t (mac value))) (Some (mac value)) None) ((bytes_eq-Decides value (mac_of_client m)).1 own)
 
-  by_relay : (o : Option (List ℕ)) → IsOwn (mac_of_client m) o → (six_bytes o ≡ None → recorded_modem t m ≡ None) → modem_by t m (six_bytes o) ≡ None
+  by_relay : (o : Option (List ℕ)) → NamesNoOther (mac_of_client m) o → (six_bytes o ≡ None → recorded_modem t m ≡ None) → modem_by t m (six_bytes o) ≡ None
   by_relay None own none = none refl
   by_relay (Some value) own none =
-      elim (eqb (length value) 6) as (λ b. (cond b (Some (mac value)) None ≡ None → recorded_modem t m ≡ None) → modem_by t m (cond b (Some (mac value)) None) ≡ None) [
-        | true ↦ λ f. named_by_relay value own
-        | false ↦ λ f. f refl
-      ] none
+      elim (eqb (length value) 6) as (λ b. eqb (length value) 6 ≡ b → (cond b (Some (mac value)) None ≡ None → recorded_modem t m ≡ None) → modem_by t m (cond b (Some (mac value)) None) ≡ None) [
+        | true ↦ λ six f. named_by_relay value (own (eqb-true (length value) 6 six))
+        | false ↦ λ other f. f refl
+      ] refl none
 
-  own_message : IsOwn (mac_of_client m) (remote_identifier m) → (relayed m ≡ None → recorded_modem t m ≡ None) → modem_behind t m ≡ None
+  own_message : NamesNoOther (mac_of_client m) (remote_identifier m) → (relayed m ≡ None → recorded_modem t m ≡ None) → modem_behind t m ≡ None
   unfolding modem_behind
   own_message own none =
       elim (is_err (relay_parts m)) as (λ b. cond b None (modem_by t m (relayed m)) ≡ None) [
