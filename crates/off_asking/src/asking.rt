@@ -197,7 +197,13 @@ fn four_bytes(value: &Joined<'_>) -> u32
     requires { length (bytes_of value.now) ≡ 4 }
     ensures { result ≡ from_be_bytes w32 (bytes_of value.now) }
 {
-    u32::from_be_bytes([value.byte(0), value.byte(1), value.byte(2), value.byte(3)])
+    let mut bytes = value.bytes();
+    u32::from_be_bytes([
+        bytes.byte_at(0),
+        bytes.byte_at(1),
+        bytes.byte_at(2),
+        bytes.byte_at(3),
+    ])
 }
 
 /// The address that is named, where one is.

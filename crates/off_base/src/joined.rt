@@ -10,22 +10,26 @@ use std::marker::Model;
 /// The values of all options of one code, joined in their order (RFC 3396, section 7).
 ///
 /// Contracts see those bytes, and `None` where no option has the code. It lies where the options
-/// lie, and takes no memory.
+/// lie, and takes no memory. How many bytes there are is found by one walk, as it is made.
 #[derive(Debug, Drop)]
 pub struct Joined<'a> {
     options: &'a [u8],
     code: u8,
+    is_there: bool,
+    len: usize,
 }
 
 impl<'a> Model for Joined<'a> {
-    ghost use Rattle.std.specs.Prelude.{Option, List, ℕ, true, IsOk};
-    ghost use Rattle.off_base.specs.Parts.{joined, parts_in};
+    ghost use Rattle.std.specs.Prelude.{◌≡◌, Option, List, ℕ, true, length, is_some, IsOk};
+    ghost use Rattle.off_base.specs.Parts.{joined, bytes_of, parts_in};
 
     ghost Value = { Option (List ℕ) };
 
     ghost view = { λ j. joined j.code (parts_in true j.options.now) };
 
-    ghost invariant = { λ j. IsOk (parts_in true j.options.now) };
+    ghost invariant = { λ j. IsOk (parts_in true j.options.now)
+        × (j.is_there ≡ is_some (joined j.code (parts_in true j.options.now)))
+        × (j.len ≡ length (bytes_of (joined j.code (parts_in true j.options.now)))) };
 }
 
 /// The place of the first option that passes the end of the bytes (RFC 2132, section 2).
@@ -61,21 +65,27 @@ impl<'a> Joined<'a> {
         requires { IsOk (parts_in true options.now) }
         ensures { result ≡ joined code (parts_in true options.now) }
     {
-        Joined { options, code }
+        let (len, is_there) = len_and_other(options, code, code);
+        Joined {
+            options,
+            code,
+            is_there,
+            len,
+        }
     }
 
     /// Whether an option of the code is there.
     pub fn present(&self) -> bool
         ensures { result ≡ is_some self.now }
     {
-        has_option(self.options, self.code)
+        self.is_there
     }
 
     /// How many bytes there are.
     pub fn len(&self) -> usize
         ensures { result ≡ length (bytes_of self.now) }
     {
-        joined_len(self.options, self.code)
+        self.len
     }
 
     /// Whether there are no bytes.
@@ -98,45 +108,6 @@ impl<'a> Joined<'a> {
         ensures { result ≡ bytes_of self.now }
     {
         JoinedBytes::over(self.options, self.code, self.len())
-    }
-}
-
-#[tactic(auto, unfolding(crate::specs::Parts::parts_in))]
-fn has_option(options: &[u8], wanted: u8) -> bool
-    requires { IsOk (parts_in true options.now) }
-    ensures { result ≡ has wanted (all_parts (parts_in true options.now)) }
-{
-    let mut at = 0;
-    'parts: loop {
-        match next_part(options, at, true) {
-            Step::Found(code, place, len) => {
-                if code == wanted {
-                    return true;
-                }
-                at = place + 2 + len;
-            }
-            Step::End => return false,
-            Step::Cut(_) => return false,
-        }
-    }
-}
-
-#[tactic(auto, unfolding(crate::specs::Parts::parts_in))]
-fn joined_len(options: &[u8], wanted: u8) -> usize
-    requires { IsOk (parts_in true options.now) }
-    ensures { result ≡ length (values wanted (all_parts (parts_in true options.now))) }
-{
-    let mut at = 0;
-    let mut total = 0;
-    'parts: loop {
-        match next_part(options, at, true) {
-            Step::Found(code, place, len) => {
-                total += len_if(code == wanted, len);
-                at = place + 2 + len;
-            }
-            Step::End => return total,
-            Step::Cut(_) => return total,
-        }
     }
 }
 
