@@ -63,7 +63,12 @@ pub fn answer<K: Keeper>(
     let devices = Devices::of(alloc, keeper)?;
     let pools = pools_at(alloc, keeper, now)?;
     let modems = modems_at(alloc, keeper, now)?;
-    let answer = answer_by(alloc, keeper, &devices, &pools, &modems, now, m)?;
+    let known = Known {
+        devices: &devices,
+        pools: &pools,
+        modems: &modems,
+    };
+    let answer = answer_by(alloc, keeper, &known, now, &Asked::of(m))?;
     Ok(step_of(answer))
 }
 
@@ -112,45 +117,8 @@ fn modems_at<K: Keeper>(alloc: Global, keeper: &mut K, now: Moment) -> Result<Fr
 /// makes one, and so does one that is refused by what it says itself. Two rows are written at most,
 /// and of those at most one is the lease of another address than the device's own, where it's a
 /// DISCOVER; else none.
-pub fn answer_by<K: Keeper>(
-    alloc: Global,
-    keeper: &mut K,
-    index: &Devices,
-    pools: &DeviceRuns,
-    modems: &FreeRuns,
-    now: Moment,
-    m: &Message<'_>,
-) -> Result<Option<DeviceAnswer>, KeepErr>
-    ensures told { Looks result (K.seen keeper.old) (K.seen keeper.new)
-        (λ answer t. Indexes index.now (devices t)
-        → StandsFor pools.now (device_ground t) now.0
-        → StandsFor modems.now (ground t) now.0
-        → option_map (λ a. a.step) answer ≡ device_step t now.0 m.now) }
-    ensures own { is_own m.now ≡ true → result ≡ Ok None }
-    ensures spent { is_own m.now ≡ true → Spent 0 (K.seen keeper.old) (K.seen keeper.new) }
-    ensures once { LooksOnce m.now (K.seen keeper.old) (K.seen keeper.new) }
-    ensures idle { result ≡ Ok None → Spent 1 (K.seen keeper.old) (K.seen keeper.new) }
-    ensures none { FindsNone result m.now (K.seen keeper.old) }
-    ensures few { Spent (most_deciding m.now) (K.seen keeper.old) (K.seen keeper.new) }
-    ensures few_refused { is_refused m.now ≡ true
-        → Spent 1 (K.seen keeper.old) (K.seen keeper.new) }
-    ensures stands { (t : Tables) → Indexes index.now (devices t)
-        → IfOk result (λ answer. IfSome answer (λ a. StandsIn a.own t)) }
-    ensures writes { IfOk result (λ answer. IfSome answer (λ a. length a.step.writes ≤ 2)) }
-    ensures aside { IfOk result (λ answer. IfSome answer
-        (λ a. length (elsewhere a.own a.step.writes) ≤ most_elsewhere m.now)) }
-{
-    let known = Known {
-        devices: index,
-        pools,
-        modems,
-    };
-    answer_asked(alloc, keeper, &known, now, &Asked::of(m))
-}
-
-// What becomes of a message whose options are read.
 #[tactic(auto, using(crate::proofs::Chain::rows), unfolding(off_cpe_rules::specs::Steps::device_step))]
-fn answer_asked<K: Keeper>(
+pub fn answer_by<K: Keeper>(
     alloc: Global,
     keeper: &mut K,
     known: &Known<'_>,

@@ -4,11 +4,11 @@ use off_runs::FreeRuns;
 
 /// What is known of the tables without a look at them.
 #[derive(Drop)]
-pub(crate) struct Known<'k> {
+pub struct Known<'k> {
     /// The leases of devices by the modem that they are behind.
-    pub(crate) devices: &'k Devices,
+    pub devices: &'k Devices,
     /// The pools for devices, with their free addresses.
-    pub(crate) pools: &'k DeviceRuns,
+    pub pools: &'k DeviceRuns,
     /// The pools of modems, with their hubs.
-    pub(crate) modems: &'k FreeRuns,
+    pub modems: &'k FreeRuns,
 }

@@ -21,4 +21,5 @@ mod settling;
 mod writing;
 
 pub use answering::{DeviceAnswer, answer, answer_by};
+pub use known::Known;
 pub use off_cpe_rules::{DeviceStep, DeviceWord};

@@ -18,7 +18,6 @@ use crate::settling::{refuse, settle, silent};
 use off_asking::Asked;
 use off_base::{Moment, NoMemory};
 use off_defs::Writes;
-use off_dhcp::Message;
 use off_lease_rules::{Case, LeaseStep};
 use off_outside::{KeepErr, Keeper};
 use off_runs::FreeRuns;
@@ -33,23 +32,8 @@ use std::alloc::Global;
 ///
 /// A message that is refused by what it says itself makes no call of the keeper, one that gives an
 /// address back two at most, a REQUEST three, and a DISCOVER four, whatever the tables.
-pub fn answer<K: Keeper>(
-    alloc: Global,
-    keeper: &mut K,
-    runs: &FreeRuns,
-    now: Moment,
-    m: &Message<'_>,
-) -> Result<LeaseStep, KeepErr>
-    ensures told { Looks result (K.seen keeper.old) (K.seen keeper.new)
-        (λ step t. StandsFor runs.now (ground t) now.0 → step ≡ lease_step t now.0 m.now) }
-    ensures spent { Spent (message_calls m.now) (K.seen keeper.old) (K.seen keeper.new) }
-{
-    answer_asked(alloc, keeper, runs, now, &Asked::of(m))
-}
-
-// What becomes of a message whose options are read.
 #[tactic(auto, using(crate::proofs::Chain::rows))]
-fn answer_asked<K: Keeper>(
+pub fn answer<K: Keeper>(
     alloc: Global,
     keeper: &mut K,
     runs: &FreeRuns,

@@ -16,9 +16,10 @@ ghost use Rattle.off_office.specs.Leasing.{ServesDatagram, ServesMessage, Serves
 use crate::commanding::commit_all;
 use crate::office::Office;
 use arrayvec::ArrayVec;
+use off_asking::Asked;
 use off_base::{Ip4, NoMemory, Peer};
 use off_behind::read_olds;
-use off_cpe::{DeviceAnswer, DeviceStep, DeviceWord, answer_by};
+use off_cpe::{DeviceAnswer, DeviceStep, DeviceWord, Known, answer_by};
 use off_defs::{DeviceLease, Writes};
 use off_dhcp::{DhcpFault, Message};
 use off_lease::{DhcpWord, LeaseStep, answer};
@@ -79,7 +80,7 @@ impl Office {
             (K.seen keeper.old) (K.seen keeper.new) }
     {
         match Message::read(bytes) {
-            Ok(m) => self.serve_message(keeper, &m, out),
+            Ok(m) => self.serve_message(keeper, &Asked::of(&m), out),
             Err(fault) => {
                 out.set_line(line_of(word_of(fault)).as_slice());
                 Ok(())
@@ -91,7 +92,7 @@ impl Office {
     fn serve_message<K: Keeper>(
         &mut self,
         keeper: &mut K,
-        m: &Message<'_>,
+        m: &Asked<'_>,
         out: &mut Replies,
     ) -> Result<(), KeepErr>
         requires { out.old ≡ says_nothing }
@@ -100,15 +101,12 @@ impl Office {
         ensures same { OnErr result (self.new ≡ self.old) }
         ensures spent { MessageAsks m.now (K.seen keeper.old) (K.seen keeper.new) }
     {
-        match answer_by(
-            self.alloc,
-            keeper,
-            &self.devices,
-            &self.device_runs,
-            &self.runs,
-            self.now,
-            m,
-        ) {
+        let known = Known {
+            devices: &self.devices,
+            pools: &self.device_runs,
+            modems: &self.runs,
+        };
+        match answer_by(self.alloc, keeper, &known, self.now, m) {
             Ok(Some(answer)) => self.carry_device(keeper, answer, out),
             Ok(None) => self.serve_modem(keeper, m, out),
             Err(err) => Err(err),
@@ -119,7 +117,7 @@ impl Office {
     fn serve_modem<K: Keeper>(
         &mut self,
         keeper: &mut K,
-        m: &Message<'_>,
+        m: &Asked<'_>,
         out: &mut Replies,
     ) -> Result<(), KeepErr>
         requires { out.old ≡ says_nothing }

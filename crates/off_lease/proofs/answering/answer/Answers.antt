@@ -1,19 +1,17 @@
-use Rattle.std.proofs.Common.{◌≡◌, subst}
-use Rattle.off_defs.specs.State.{Tables}
-use Rattle.off_dhcp.specs.Datagram.{Received}
-use Rattle.off_outside.specs.KeeperCalls.{Looks, Spent}
-use Rattle.off_runs.specs.Held.{StandsFor}
-use Rattle.off_runs.specs.Leases.{ground}
-use Rattle.off_lease_rules.specs.Steps.{lease_step}
-use Rattle.off_lease_rules.specs.declared.results.LeaseStep.{LeaseStep}
-use Rattle.off_lease.specs.Calls.{message_calls}
+use Rattle.std.proofs.Common.{List, None, sym, ap, ◌∙◌}
+use Rattle.off_defs.specs.declared.writes.Write.{Write}
+use Rattle.off_outside.proofs.KeeperLemmas.{reads_none}
+use Rattle.off_lease_rules.specs.Steps.{lease_step_by}
+use Rattle.off_lease.proofs.CaseLemmas.{own_step, none_are_enough, rows_are_enough}
 use Rattle.off_lease.proofs.answering.answer.Goals as goal
 
-pub returns-clause-told : goal.returns-clause-told
-returns-clause-told g c =
-    subst (λ (r : Received). Looks c.answer_asked.result (g.K.Keeper.seen c.args.keeper.now) (g.K.Keeper.seen c.answer_asked.new.keeper)
-    (λ (step : LeaseStep) (t : Tables). StandsFor c.args.runs.now (ground t) c.args.now.0 → step ≡ lease_step t c.args.now.0 r)) c.of.ensures c.answer_asked.ensures.told
+pub returns-in-Some-clause-told : goal.returns-in-Some-clause-told
+returns-in-Some-clause-told g c =
+    reads_none (λ t stands.
+    c.silent.ensures ∙ ap (λ (writes : List Write). lease_step_by c.in-Some.word writes None) c.new.ensures ∙ own_step t c.args.now.0 c.args.m.now c.in-Some.word c.in-Some.ensures)
 
-pub returns-clause-spent : goal.returns-clause-spent
-returns-clause-spent g c =
-    subst (λ (r : Received). Spent (message_calls r) (g.K.Keeper.seen c.args.keeper.now) (g.K.Keeper.seen c.answer_asked.new.keeper)) c.of.ensures c.answer_asked.ensures.spent
+pub returns-in-Some-clause-spent : goal.returns-in-Some-clause-spent
+returns-in-Some-clause-spent g c = none_are_enough c.args.m.now c.in-Some.word _ c.in-Some.ensures
+
+pub returns-in-None-clause-spent : goal.returns-in-None-clause-spent
+returns-in-None-clause-spent g c = rows_are_enough c.args.m.now (sym c.in-None.ensures) c.answer_by_rows.ensures.spent

@@ -1,4 +1,4 @@
-use Rattle.std.proofs.Common.{sym, ap, ◌∙◌, subst, Result, List, ℕ}
+use Rattle.std.proofs.Common.{sym, ap, ◌∙◌, subst, Result, Ok, List, ℕ}
 use Rattle.off_dhcp.specs.Datagram.{Received, message_of}
 use Rattle.off_dhcp.specs.declared.faults.DhcpFault.{DhcpFault}
 use Rattle.off_defs.specs.State.{Said}
@@ -14,13 +14,13 @@ returns-in-Ok-clause-told g c =
     subst
     (λ (read : Result Received DhcpFault). ServesMessage c.serve_message.result read c.args.self.now c.serve_message.new.self c.serve_message.new.out
     (g.K.Keeper.seen c.args.keeper.now) (g.K.Keeper.seen c.serve_message.new.keeper))
-    (sym c.in-Ok.is ∙ c.read.ensures.message) c.serve_message.ensures.told
+    (ap Ok c.of.ensures ∙ sym c.in-Ok.is ∙ c.read.ensures.message) c.serve_message.ensures.told
 
 pub returns-in-Ok-clause-spent : goal.returns-in-Ok-clause-spent
 returns-in-Ok-clause-spent g c =
     subst
     (λ (read : Result Received DhcpFault). ReadAsks read (g.K.Keeper.seen c.args.keeper.now) (g.K.Keeper.seen c.serve_message.new.keeper))
-    (sym c.in-Ok.is ∙ c.read.ensures.message) c.serve_message.ensures.spent
+    (ap Ok c.of.ensures ∙ sym c.in-Ok.is ∙ c.read.ensures.message) c.serve_message.ensures.spent
 
 pub returns-in-Err-clause-told : goal.returns-in-Err-clause-told
 returns-in-Err-clause-told g c =

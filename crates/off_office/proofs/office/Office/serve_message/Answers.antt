@@ -28,8 +28,11 @@ returns-in-Ok-Some-clause-told g c =
     device_serves c.carry_device.result _ _ _ c.in-Ok-Some.answer.step _ _ _ _ (g.met.K.Keeper.rests c.args.keeper.now)
     (subst (λ (d : Desk). Reads (DecidesDevice (Some c.in-Ok-Some.answer.step) d c.args.m.now) (g.K.Keeper.seen c.args.keeper.now) (g.K.Keeper.seen c.answer_by.new.keeper)) c.self.view_is
     (reads_as c.in-Ok-Some.ensures.told (λ t says mirrors.
-    let decided = says (keeps_stands c.self.inside.devices (devices t) mirrors.devices) (record { moment = c.self.invariant.1; keeps = mirrors.device_pools })
-    (record { moment = c.self.invariant.0; keeps = mirrors.pools }) in
+    let decided = says (record {
+      leases = keeps_stands c.self.inside.devices (devices t) mirrors.devices;
+      free = record { moment = c.self.invariant.1; keeps = mirrors.device_pools };
+      hubs = record { moment = c.self.invariant.0; keeps = mirrors.pools };
+    }) in
     sym (ap steps c.in-Ok-Some.field-0-is) ∙ decided)))
     c.carry_device.ensures.told
 
@@ -53,7 +56,10 @@ returns-in-Ok-None-clause-told g c =
     modem_serves c.serve_modem.result _ _ _ _ _ _ _ (g.met.K.Keeper.rests c.args.keeper.now)
     (subst (λ (d : Desk). Reads (DecidesDevice None d c.args.m.now) (g.K.Keeper.seen c.args.keeper.now) (g.K.Keeper.seen c.answer_by.new.keeper)) c.self.view_is
     (reads_as c.in-Ok-None.ensures.told (λ t says mirrors.
-    let decided = says (keeps_stands c.self.inside.devices (devices t) mirrors.devices) (record { moment = c.self.invariant.1; keeps = mirrors.device_pools })
-    (record { moment = c.self.invariant.0; keeps = mirrors.pools }) in
+    let decided = says (record {
+      leases = keeps_stands c.self.inside.devices (devices t) mirrors.devices;
+      free = record { moment = c.self.invariant.1; keeps = mirrors.device_pools };
+      hubs = record { moment = c.self.invariant.0; keeps = mirrors.pools };
+    }) in
     sym (ap steps c.in-Ok-None.field-0-is) ∙ decided)))
     c.serve_modem.ensures.told
