@@ -1,6 +1,5 @@
 -- The counts behind each command whose rules are passed.
-use Rattle.std.proofs.Common.{◌≡◌, ℕ, ◌-◌, ◌≤◌, length, Bool, true, Option, Some, None, is_some, List, [], ◌∷◌, count_by, refl, sym, ap, subst, ◌∙◌}
-use Rattle.off_base.specs.Choices.{first_there}
+use Rattle.std.proofs.Common.{◌≡◌, ℕ, ◌-◌, ◌≤◌, length, Bool, true, Some, None, is_some, List, count_by, refl, sym, ap, subst, ◌∙◌}
 use Rattle.off_base.specs.Tree.{Tree}
 use Rattle.off_defs.specs.declared.keys.Key.{Key}
 use Rattle.off_defs.specs.declared.keys.Key.TheVariants as key
@@ -12,7 +11,6 @@ use Rattle.off_defs.specs.declared.tables.Class.{Class}
 use Rattle.off_defs.specs.declared.tables.Pool.{Pool}
 use Rattle.off_defs.specs.declared.tables.Site.{Site}
 use Rattle.off_base.specs.declared.macs.Mac.{Mac}
-use Rattle.off_orders.specs.declared.rules.Rule.{Rule}
 use Rattle.off_defs.specs.declared.kinds.Kind.{Kind}
 use Rattle.off_defs.specs.declared.kinds.Kind.TheVariants.{Subscribers, AddOns, Modems, Classes, Pools, Hubs, DevicePools}
 use Rattle.off_orders.specs.declared.orders.Command.{Command}
@@ -33,16 +31,7 @@ use Rattle.off_accounts.proofs.LimitLemmas.{limit_is}
 use Rattle.std.specs.List.{flat_map}
 use Rattle.off_accounts.proofs.RemovalLemmas.{drop_counts, lease_counts, device_counts, subscriber_counts}
 use Rattle.off_accounts.proofs.PlanLemmas.{no_kind, hub_counts, good_add_on, good_class, good_hub, good_pool, good_device_pool}
-
--- all rules are passed
-abbrev Whole : List (Option Rule) → Type 0
-Whole [] = Unit {0}
-Whole (rule ∷ rules) = (rule ≡ None) × Whole rules
-
-unbroken : (rules : List (Option Rule)) → first_there rules ≡ None → Whole rules
-unbroken [] e = tt
-unbroken (None ∷ rules) e = (refl, unbroken rules e)
-unbroken (Some broken ∷ rules) e = cc
+use Rattle.off_order_laws.proofs.ClerkSteps.{unbroken}
 
 -- what the function of a put says of the counts
 abbrev pub PutSays : Counts → Kind → Bool → Counts → Type 0

@@ -24,6 +24,7 @@ use Rattle.off_orders.specs.Clerk.{no_row, lease_drops, device_drop}
 use Rattle.off_accounts.specs.Changes.{count_in, with_count, counts_drop}
 use Rattle.off_accounts.proofs.CountsLemmas.{kept, counts_without, counts_without_other}
 use Rattle.off_accounts.proofs.PresentLemmas.{row_present}
+use Rattle.std.proofs.lemmas.Bool.{false_from_ne_true}
 
 -- the drop of a row that was there
 pub drop_counts : (kind : Kind) (key : Key) (t : Tables) (counts after : Counts) → ((n : ℕ) → kept kind n ≡ n) → is_of_kind kind key ≡ true → no_row t key ≡ None → after ≡ counts_drop kind true counts
@@ -96,12 +97,9 @@ add_on_number : Key → ℕ
 add_on_number (AddOn n number) = number
 add_on_number key = 0
 
-not_true : (b : Bool) → (b ≡ true → ⊥) → b ≡ false
-not_true b = elim b as (λ v. (v ≡ true → ⊥) → v ≡ false) [ true ↦ λ no. absurd (no refl) | false ↦ λ no. refl ]
-
 apart : (n a b : ℕ) → b < a → eq_by_cmp key_cmp (AddOn n a) (AddOn n b) ≡ false
 unfolding add_on_number
-apart n a b less = not_true (eq_by_cmp key_cmp (AddOn n a) (AddOn n b)) (λ tied.
+apart n a b less = false_from_ne_true (eq_by_cmp key_cmp (AddOn n a) (AddOn n b)) (λ tied.
     let same : a ≡ b = ap add_on_number (same_key (AddOn n a) (AddOn n b) tied) in
     omega (arith, same))
 

@@ -1,6 +1,6 @@
 -- At which address a device's message aims: one that was chosen for it in its pool, or its own that it claims.
 use Rattle.std.proofs.Common.{◌≡◌, ℕ, Bool, true, false, cond, not, ◌&&◌, ◌||◌, Option, Some, None, option_and_then, [], refl, sym, ap, subst, ◌∙◌}
-use Rattle.std.proofs.lemmas.Bool.{and_parts, or_parts}
+use Rattle.std.proofs.lemmas.Bool.{and_parts, or_parts, not-false}
 use Rattle.off_base.specs.declared.addresses.Ip4.{Ip4}
 use Rattle.off_base.specs.declared.macs.Mac.{Mac}
 use Rattle.off_defs.specs.declared.tables.Site.{Site}
@@ -33,10 +33,6 @@ pub data Aims (t : Tables) (now : ℕ) (modem : Mac) (m : Received) (among : Opt
       → Aims t now modem m among own step
   freeing : (address : Ip4) → is_release m ≡ true → claimed m ≡ Some address → own ≡ Some address → step.writes ≡ given_up address
       → Aims t now modem m among own step
-
-not_false : (b : Bool) → not b ≡ false → b ≡ true
-not_false true e = refl
-not_false false e = cc
 
 first_unbroken : (b : Bool) (said : DeviceWord) (rest : Option DeviceWord) → cond b (Some said) rest ≡ None → b ≡ false
 first_unbroken true said rest e = cc
@@ -89,14 +85,14 @@ module _ (t : Tables) (now : ℕ) (modem : Mac) (m : Received) (c : DeviceCase) 
       → A (cond b (declines now chosen) (releases chosen))
   by_release true k d r none =
       let u = unbroken m c chosen none in
-      let h = not_false (claims_own m c.own) (second_false (gives_back m) (not (claims_own m c.own)) (ap (λ b. b || is_release m) k) (or_parts _ _ u.known).1) in
+      let h = not-false (claims_own m c.own) (second_false (gives_back m) (not (claims_own m c.own)) (ap (λ b. b || is_release m) k) (or_parts _ _ u.known).1) in
       subst (λ (o : Option Ip4). A (declines now o)) (sym (claims d)) (decline_aims k h (claimed m) refl)
   by_release false k d r none =
       let u = unbroken m c chosen none in
-      let served = not_false (is_served m) (first_unbroken (not (is_served m)) _ _ none) in
+      let served = not-false (is_served m) (first_unbroken (not (is_served m)) _ _ none) in
       let released : is_release m ≡ true = third (is_discover m) (is_request m) (is_decline m) (is_release m) served d r k in
       let back : gives_back m ≡ true = ap (λ b. is_decline m || b) released ∙ or_true (is_decline m) in
-      let h = not_false (claims_own m c.own) (second_false (gives_back m) (not (claims_own m c.own)) back (or_parts _ _ u.known).1) in
+      let h = not-false (claims_own m c.own) (second_false (gives_back m) (not (claims_own m c.own)) back (or_parts _ _ u.known).1) in
       subst (λ (o : Option Ip4). A (releases o)) (sym (claims d)) (release_aims released h (claimed m) refl)
     where
       or_true : (b : Bool) → (b || true) ≡ true
@@ -107,7 +103,7 @@ module _ (t : Tables) (now : ℕ) (modem : Mac) (m : Received) (c : DeviceCase) 
       → A (cond b (acknowledges now modem m c chosen) (cond (is_decline m) (declines now chosen) (releases chosen)))
   by_request true r d none =
       let u = unbroken m c chosen none in
-      let both = not_false (claims_own m c.own && claims_in_pool m c.pool) (second_false (is_request m) (not (claims_own m c.own && claims_in_pool m c.pool)) r u.own) in
+      let both = not-false (claims_own m c.own && claims_in_pool m c.pool) (second_false (is_request m) (not (claims_own m c.own && claims_in_pool m c.pool)) r u.own) in
       subst (λ (o : Option Ip4). A (acknowledges now modem m c o)) (sym (claims d))
       (bind_aims (and_parts (claims_own m c.own) (claims_in_pool m c.pool) both).0 (claimed m) refl c.site refl)
   by_request false r d none = by_release (is_decline m) refl d r none

@@ -1,26 +1,14 @@
 -- The address that is chosen in a pool is one that passes, the client's own where that lies there; and one is chosen where there is any.
-use Rattle.std.proofs.Common.{◌≡◌, ◌⊎◌, ℕ, zero, suc, ◌+◌, ◌-◌, ◌≤◌, ◌<◌, Bool, true, false, true≢false, cond, leb, Option, Some, None, ◌∷◌, map, inl, inr, refl, sym, ap, ◌∙◌, arith}
-use Rattle.std.proofs.lemmas.Bool.{and_parts, leb-true, leb-false}
-use Rattle.std.specs.List.{range_with_len}
+use Rattle.std.proofs.Common.{◌≡◌, ◌⊎◌, ◌+◌, ◌-◌, Bool, true, true≢false, cond, leb, Option, Some, None, inl, inr, refl, sym, ap, ◌∙◌, arith}
+use Rattle.std.proofs.lemmas.Bool.{and_parts, leb-true}
 use Rattle.std.specs.Option.{option_or}
 use Rattle.off_base.specs.declared.addresses.Ip4.{Ip4}
 use Rattle.off_defs.specs.declared.tables.Pool.{Pool}
 use Rattle.off_account_rules.specs.Rows.{has_address}
 use Rattle.off_table_laws.proofs.ListLemmas.{In, none_found, found_passes}
-use Rattle.off_asking.specs.Asking.{ip}
 use Rattle.off_asking.specs.Choice.{addresses, least_of, provided, choice_by}
-use Rattle.off_lease_laws.proofs.ChoiceLemmas.{provided_is, neither}
-
-in_range : (first count k : ℕ) → first ≤ k → k < first + count → In (ip k) (map ip (range_with_len first count))
-in_range first zero k a b = absurd (omega (arith, a, b))
-in_range first (suc count) k a b =
-    elim (leb k first) as (λ t. leb k first ≡ t → In (ip k) (ip first ∷ map ip (range_with_len (first + 1) count))) [
-      | true ↦ λ t. let n : k ≡ first = omega (arith, a, leb-true k first t) in inl (ap ip n)
-      | false ↦ λ t. inr (in_range (first + 1) count k (above t) (omega (arith, b)))
-    ] refl
-  where
-    above : leb k first ≡ false → first + 1 ≤ k
-    above t = let more = leb-false k first t in omega (arith, more)
+use Rattle.off_lease_laws.proofs.ChoiceLemmas.{provided_is, either, neither}
+use Rattle.off_lease_laws.proofs.FreeLemmas.{in_range}
 
 in_pool : (pool : Pool) (address : Ip4) → has_address pool address ≡ true → In address (addresses pool)
 in_pool pool address h =
@@ -28,10 +16,6 @@ in_pool pool address h =
     let above = leb-true pool.first.0 address.0 parts.0 in
     let below = leb-true address.0 pool.last.0 parts.1 in
     in_range pool.first.0 (pool.last.0 + 1 - pool.first.0) address.0 above (omega (arith, above, below))
-
-either : (o q : Option Ip4) (address : Ip4) → option_or o q ≡ Some address → (o ≡ Some address) ⊎ (q ≡ Some address)
-either None q address e = inr e
-either (Some other) q address e = inl e
 
 module _ (free : Ip4 → Bool) (pool : Pool) (own asked : Option Ip4) where
   -- it's its own and lies in the pool, or passes the test of those that are free

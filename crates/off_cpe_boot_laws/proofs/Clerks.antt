@@ -1,5 +1,5 @@
 -- A clerk's request keeps each lease of a device, or drops one that has ended.
-use Rattle.std.proofs.Common.{◌≡◌, ◌⊎◌, inl, inr, ℕ, ◌+◌, ◌<◌, true, false, cond, length, List, [], ◌∷◌, ◌++◌, map, Option, Some, None, option_map, option_and_then, Result, Ok, Err, IfOk, refl, sym, ap, subst, ◌∙◌, arith}
+use Rattle.std.proofs.Common.{◌≡◌, ◌⊎◌, inl, inr, ℕ, ◌+◌, ◌<◌, true, false, cond, length, List, [], ◌∷◌, ◌++◌, map, Option, Some, None, option_and_then, Result, Ok, Err, IfOk, refl, sym, ap, subst, ◌∙◌, arith}
 use Rattle.std.proofs.lemmas.Bool.{ltb-false}
 use Rattle.std.specs.Prelude.{nat_lt}
 use Rattle.std.specs.List.{flat_map}
@@ -39,7 +39,7 @@ use Rattle.off_table_laws.proofs.Judging.{good_rows}
 use Rattle.off_table_laws.proofs.PoolLemmas.{set_pool, set_hub}
 use Rattle.off_order_laws.proofs.LostLeases.{rows_append, drops_other, is_other}
 use Rattle.off_order_laws.proofs.DevicePools.{set_device_pool, devices_left}
-use Rattle.off_order_laws.proofs.ClerkSteps.{hub_written}
+use Rattle.off_order_laws.proofs.ClerkSteps.{hub_written, unbroken, not_mapped}
 use Rattle.off_cpe_laws.proofs.RowLemmas.{device_listed}
 use Rattle.off_book.specs.Http.{answer_result, answer_command, answer_request}
 use Rattle.off_laws.proofs.Requests.{MayBe, request_may}
@@ -47,20 +47,6 @@ use Rattle.off_laws.proofs.Answers.{step_tables}
 
 abbrev device_read : Ip4 → Option Row → Option DeviceLease
 device_read address o = option_and_then as_device (possible (key.Device address) o)
-
--- where no rule is broken first, none is
-abbrev NoneBroken : List (Option Rule) → Type 0
-NoneBroken [] = Unit {0}
-NoneBroken (rule ∷ rules) = (rule ≡ None) × NoneBroken rules
-
-none_broken : (rules : List (Option Rule)) → first_there rules ≡ None → NoneBroken rules
-none_broken [] e = tt
-none_broken (None ∷ rules) e = (refl, none_broken rules e)
-none_broken (Some broken ∷ rules) e = cc
-
-not_mapped : {A B : Type 0} (f : A → B) (o : Option A) → option_map f o ≡ None → o ≡ None
-not_mapped f None e = refl
-not_mapped f (Some x) e = cc
 
 module _ (address : Ip4) where
   -- writes that leave the row of the lease, over these rows, or over all
@@ -157,7 +143,7 @@ module _ (address : Ip4) where
     removal_leaves (key.Class n) sound whole = inl refl
     removal_leaves (key.Pool n) sound whole = inl (drops_other (drop_row (drop_row (row_at t) (key.Pool n)) (key.PoolHub n)) (lost_leases t n None) (key.Device address) refl)
     removal_leaves (key.Hub n) sound whole = inl refl
-    removal_leaves (key.DevicePool n) sound whole = pool_leaves n None (none_broken (removal_rules t now (key.DevicePool n)) whole).1.0
+    removal_leaves (key.DevicePool n) sound whole = pool_leaves n None (unbroken (removal_rules t now (key.DevicePool n)) whole).1.0
     removal_leaves removed sound whole = cc
 
     put_pool_leaves : (n : ℕ) (pool : Pool) (hub : ℕ) → After (writes_of t (PutPool n pool hub))
@@ -177,7 +163,7 @@ module _ (address : Ip4) where
     command_leaves (PutPool n pool hub) sound = ruled (writes_of t (PutPool n pool hub)) Done (first_there (rules_of t now (PutPool n pool hub))) (λ _. put_pool_leaves n pool hub)
     command_leaves (PutDevicePool n pool) sound =
         ruled (writes_of t (PutDevicePool n pool)) Done (first_there (rules_of t now (PutDevicePool n pool)))
-        (λ whole. pool_leaves n (Some pool) (none_broken (rules_of t now (PutDevicePool n pool)) whole).1.1.1.1.0)
+        (λ whole. pool_leaves n (Some pool) (unbroken (rules_of t now (PutDevicePool n pool)) whole).1.1.1.1.0)
     command_leaves (Remove removed) sound = ruled (writes_of t (Remove removed)) Done (first_there (rules_of t now (Remove removed))) (removal_leaves removed sound)
 
     decision_leaves : (decision : Decision) → LeftBy decision → Fate (row_at (stepped_by t decision).tables (key.Device address))

@@ -1,7 +1,6 @@
 -- No rule refuses the DISCOVER or the REQUEST of a device that may have an address: so it's offered, or acknowledged.
-use Rattle.std.proofs.Common.{◌≡◌, ◌⊎◌, inl, inr, ℕ, ◌<◌, Bool, true, false, cond, not, ◌&&◌, ◌||◌, List, [], ◌∷◌, Option, Some, None, option_and_then, refl, ap, subst, ◌∙◌}
+use Rattle.std.proofs.Common.{◌≡◌, ◌⊎◌, inl, inr, ℕ, ◌<◌, true, false, not, ◌&&◌, Option, Some, None, option_and_then, refl, ap, subst, ◌∙◌}
 use Rattle.std.proofs.lemmas.Bool.{and_from, eq-eqb, lt-leb, lt-ltb}
-use Rattle.std.specs.List.{AllByRecursion}
 use Rattle.off_base.specs.declared.addresses.Ip4.{Ip4}
 use Rattle.off_base.specs.declared.macs.Mac.{Mac}
 use Rattle.off_defs.specs.declared.tables.Site.{Site}
@@ -13,25 +12,20 @@ use Rattle.off_defs.specs.State.{Tables}
 use Rattle.off_dhcp.specs.Datagram.{Received}
 use Rattle.off_account_rules.specs.Rows.{passes, site_of, subscriber_in, modem_in, lease_in, held_in, device_in, device_pools, devices, has_address}
 use Rattle.off_account_rules.specs.Good.{Good, owner_of, is_address}
-use Rattle.off_asking.specs.Asking.{client, claimed, form_of, named_address, named_server, at_address, asked_by, is_formless, is_selecting}
+use Rattle.off_asking.specs.Asking.{client, claimed, form_of, named_address, named_server, at_address, is_selecting}
 use Rattle.off_asking.specs.Choice.{pool_among, choice_by}
 use Rattle.off_asking.specs.Claims.{is_another, names_another_server, claims_own, claims_wrongly, refused_by}
-use Rattle.off_asking.specs.declared.forms.Form.{Form}
-use Rattle.off_asking.specs.declared.forms.Form.TheVariants.{Selecting, InitReboot, Renewing, NoForm}
 use Rattle.off_asking.specs.declared.forms.Named.TheVariants.{Absent, At}
+use Rattle.off_asking.proofs.ClaimLemmas.{none_broken}
 use Rattle.off_lease_laws.proofs.GoodLemmas.{good_agree}
 use Rattle.off_cpe_rules.specs.Behind.{is_free, is_live_bound, is_online, own_among, others_among, device_case, chosen_in}
 use Rattle.off_cpe_rules.specs.Rules.{rules_for}
 use Rattle.off_cpe_rules.specs.Steps.{offers, acknowledges, accepts, unless_refused, settled, settled_in, step_behind}
 use Rattle.off_cpe_rules.specs.declared.cases.DeviceCase.{DeviceCase}
-use Rattle.off_boot_laws.proofs.Messages.{of_kind, kind_is}
+use Rattle.off_boot_laws.proofs.Messages.{of_kind, kind_is, formed, no_lack}
 use Rattle.off_cpe_boot_laws.specs.Known.{IsOfDevice, IsBelowLimit}
 use Rattle.off_cpe_boot_laws.proofs.Pooling.{pool_is_found}
 use Rattle.off_cpe_boot_laws.proofs.Others.{others_are_few}
-
-none_broken : {W : Type 0} (rules : List (W × Bool)) → AllByRecursion (λ (rule : W × Bool). rule.1 ≡ false) rules → refused_by rules ≡ None
-none_broken [] all = refl
-none_broken (rule ∷ rules) all = ap (λ b. cond b (Some rule.0) (refused_by rules)) all.0 ∙ none_broken rules all.1
 
 -- ---- what the rules read
 
@@ -124,16 +118,6 @@ module _ (t : Tables) (now : ℕ) (modem : Mac) where
 pub right_server : (m : Received) (site : Site) → (named_server m ≡ Absent) ⊎ (named_server m ≡ At site.server) → names_another_server m site ≡ false
 right_server m site (inl none) = ap (λ n. passes (is_another site) (at_address n)) none
 right_server m site (inr own) = ap (λ n. passes (is_another site) (at_address n)) own ∙ ap not (eq-eqb site.server.0 site.server.0 refl)
-
-formed : (f : Form) (a : Ip4) → asked_by f ≡ Some a → is_formless f ≡ false
-formed (Selecting b) a e = refl
-formed (InitReboot b) a e = refl
-formed (Renewing b) a e = refl
-formed NoForm a e = cc
-
-no_lack : (b c : Bool) → ((true && not b && false) || (false && not c)) ≡ false
-no_lack true c = refl
-no_lack false c = refl
 
 module _ (t : Tables) (now : ℕ) (modem : Mac) where
   own_claim : (m : Received) (pool : Pool) (a : Ip4) → claimed (of_kind 3 m) ≡ Some a → has_address pool a ≡ true → claims_wrongly (of_kind 3 m) (Some a) (Some pool) ≡ false

@@ -1,6 +1,6 @@
 -- The pool for devices that is found for a message is the one of its relay, or of the address that it renews: good tables have no other.
 use Rattle.std.proofs.Common.{◌≡◌, ℕ, true, false, cond, not, ◌&&◌, eqb, List, Option, Some, None, option_map, inl, inr, refl, sym, ap, subst, ◌∙◌}
-use Rattle.std.proofs.lemmas.Bool.{or_cases, and_parts, and_from, not-true, eqb-true, eq-eqb, false_from_ne_true}
+use Rattle.std.proofs.lemmas.Bool.{or_cases, and_parts, not-true, eqb-true, eq-eqb}
 use Rattle.std.specs.List.{find}
 use Rattle.off_defs.specs.declared.tables.Pool.{Pool}
 use Rattle.off_defs.specs.State.{Tables}
@@ -16,15 +16,7 @@ use Rattle.off_defs.specs.Tables.{row_at}
 use Rattle.off_asking.specs.Asking.{ip}
 use Rattle.off_asking.specs.Choice.{is_renewal, serves, numbered_among, pool_among}
 use Rattle.off_boot_laws.specs.Known.{IsPoolOf}
-
-served_by : (m : Received) (pool : Pool) → IsPoolOf m pool → serves m pool ≡ true
-served_by m pool (inl relayed) =
-    ap (λ b. cond b (is_renewal m && has_address pool (ip m.ciaddr)) (eqb pool.relay.0 m.giaddr))
-    (false_from_ne_true (eqb m.giaddr 0) (λ e. relayed.0 (eqb-true m.giaddr 0 e)))
-    ∙ eq-eqb pool.relay.0 m.giaddr relayed.1
-served_by m pool (inr renews) =
-    ap (λ b. cond b (is_renewal m && has_address pool (ip m.ciaddr)) (eqb pool.relay.0 m.giaddr)) (eq-eqb m.giaddr 0 renews.0)
-    ∙ and_from (is_renewal m) (has_address pool (ip m.ciaddr)) renews.1 renews.2
+use Rattle.off_boot_laws.proofs.Pooling.{served_by}
 
 module _ (t : Tables) (good : Good t) (m : Received) (n : ℕ) (pool : Pool) (there : device_pool_in t n ≡ Some pool) (serving : serves m pool ≡ true) where
   g : GoodRows (row_at t)

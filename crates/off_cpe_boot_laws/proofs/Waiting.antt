@@ -1,5 +1,5 @@
 -- A device that waits keeps what it has; and it waits where it's left alone.
-use Rattle.std.proofs.Common.{◌≡◌, ◌≢◌, ℕ, ◌<◌, List, [], ◌∷◌, ◌++◌, All, Some, option_and_then, Result, Ok, refl, sym, ap, subst, ◌∙◌, arith}
+use Rattle.std.proofs.Common.{◌≡◌, ◌≢◌, ℕ, ◌<◌, List, [], ◌∷◌, ◌++◌, All, Some, option_and_then, refl, sym, ap, subst, ◌∙◌, arith}
 use Rattle.std.proofs.lemmas.List.Elements.{All-head, All-tail, All-same}
 use Rattle.off_base.specs.declared.addresses.Ip4.{Ip4}
 use Rattle.off_base.specs.declared.addresses.Peer.{Peer}
@@ -11,8 +11,6 @@ use Rattle.off_defs.specs.declared.results.Outcome.{Outcome}
 use Rattle.off_defs.specs.declared.results.Outcome.TheVariants.{Did, Memory, Keeper}
 use Rattle.off_defs.specs.declared.tables.DeviceLease.{DeviceLease}
 use Rattle.off_defs.specs.State.{Tables, State, Effect, at_moment}
-use Rattle.off_dhcp.specs.declared.faults.DhcpFault.{DhcpFault}
-use Rattle.off_dhcp.specs.Datagram.{Received, message_of}
 use Rattle.off_account_rules.specs.Rows.{device_in}
 use Rattle.off_account_rules.specs.Good.{Good, device_owner}
 use Rattle.off_table_laws.specs.Laws.{device_owner_in}
@@ -22,12 +20,13 @@ use Rattle.off_cpe_rules.specs.declared.words.DeviceWord.{DeviceWord}
 use Rattle.off_book.specs.Dhcp.{device_line}
 use Rattle.off_book.specs.Step.{Step, Does}
 use Rattle.off_book.specs.Run.{Turn, Run, effect_of}
-use Rattle.off_laws.specs.Leases.{TakesMessage, moment_of}
+use Rattle.off_laws.specs.Leases.{moment_of}
 use Rattle.off_laws.proofs.Lines.{line_is, device_tells}
 use Rattle.off_laws.proofs.StepLaws.{moment_is_greatest, step_good}
 use Rattle.off_laws.proofs.RunLaws.{one_end, moment_never_falls}
 use Rattle.off_cpe_boot_laws.specs.Waiting.{ServesDevice, DoesNotServeDevice, GivesUp, DeviceLeaseLasts, DeviceWaits, DeviceKeeps, WaitingDevicesKeep, DeviceLeasesOutlast, DevicesLeftAloneWait, MostDoNotServeDevices}
 use Rattle.off_cpe_boot_laws.proofs.Turns.{Becomes, remains, renews, given, turn_becomes}
+use Rattle.off_boot_laws.proofs.Waiting.{one_message}
 
 same_lease : (modem device : Mac) (address : Ip4) (t u : Tables) → device_in u address ≡ device_in t address → device_owner_in t address ≡ Some (modem, device) → DeviceKeeps modem device address t u
 same_lease modem device address t u same owned = record {
@@ -133,13 +132,6 @@ unfolding Step
 undone_serves s after turn device step undone served =
     undone_says (at_moment s turn.event.at.0) served.takes.from served.takes.bytes turn.outcome (effect_of turn after) served.word
     (subst (λ (what : What). Does (at_moment s turn.event.at.0) what turn.outcome (effect_of turn after)) served.takes.came step) served.line undone
-
-one_message : (turn : Turn) (m other : Received) → TakesMessage m turn → TakesMessage other turn → m ≡ other
-one_message turn m other a b =
-    let came : ◌≡◌ {A = What} (Datagram Dhcp a.from a.bytes) (Datagram Dhcp b.from b.bytes) = sym a.came ∙ b.came in
-    let same : a.bytes ≡ b.bytes = cc in
-    let read : ◌≡◌ {A = Result Received DhcpFault} (Ok m) (Ok other) = sym a.read ∙ ap message_of same ∙ b.read in
-    cc
 
 pub most_do_not_serve_devices : MostDoNotServeDevices
 most_do_not_serve_devices s after turn device step = record {

@@ -1,12 +1,11 @@
 -- The files of a drill's modems: their profiles, and how long they are.
-use Rattle.std.proofs.Common.{◌≡◌, ℕ, zero, suc, ◌+◌, ◌-◌, ◌*◌, ◌%◌, ◌≤◌, min, Bool, true, false, nat_lt, eqb, List, [], ◌∷◌, ◌++◌, length, drop, replicate, Option, Some, None, option_map, option_and_then, refl, ap, ◌∙◌, arith, length-append, length-drop}
+use Rattle.std.proofs.Common.{◌≡◌, ℕ, zero, suc, ◌+◌, ◌-◌, ◌*◌, ◌%◌, ◌≤◌, min, Bool, true, false, nat_lt, eqb, List, [], ◌∷◌, length, drop, replicate, Option, Some, None, option_map, option_and_then, refl, ap, ◌∙◌, arith, length-append, length-drop}
 use Rattle.std.proofs.lemmas.List.{length-take, length-replicate}
-use Rattle.md5.proofs.StandardFacts.{length-md5}
-use Rattle.off_base.specs.Tree.{Tree, leaf, spelling, trees_length}
+use Rattle.off_base.specs.Tree.{Tree, spelling, trees_length}
 use Rattle.off_base.specs.declared.addresses.Ip4.{Ip4}
 use Rattle.off_base.proofs.TreeLemmas.{length-spelling}
-use Rattle.off_mic.proofs.SealLemmas.{length-hmac}
-use Rattle.off_mic.specs.Mic.{without_mics, cm_mic_of, cmts_mic_of, digest_text, with_cm, with_both, Sealed}
+use Rattle.off_mic.proofs.SealLemmas.{length_both}
+use Rattle.off_mic.specs.Mic.{with_both, Sealed}
 use Rattle.off_defs.specs.Bounds.{add_on_numbers}
 use Rattle.off_defs.specs.declared.tables.Modem.{Modem}
 use Rattle.off_defs.specs.declared.tables.Subscriber.{Subscriber}
@@ -45,20 +44,6 @@ module _ (t : Tables) (i : ℕ) (h : HasRows t i) where
   profile_is = ap (option_and_then (λ (m : Modem). profile_at t m.subscriber m.class)) (modem_read t i h) ∙ profile_there
 
 -- ---- how long a file is
-
-length_join : (ts us : List Tree) → trees_length (ts ++ us) ≡ trees_length ts + trees_length us
-length_join [] us = omega arith
-length_join (t ∷ ts) us = omega (arith, length_join ts us)
-
-length_both : (secret : List ℕ) (ts : List Tree) → trees_length (with_both secret ts) ≡ trees_length ts + 36
-length_both secret ts =
-    omega (
-      arith,
-      length_join (with_cm ts) (leaf 7 (cmts_mic_of secret (with_cm ts)) ∷ []),
-      length_join ts (leaf 6 (cm_mic_of ts) ∷ []),
-      length-hmac secret (digest_text (with_cm ts)),
-      length-md5 (spelling (without_mics ts)),
-    )
 
 own_length : (active : Bool) (now : ℕ) (ip : Ip4) → trees_length (with_stamps (profile active) now ip) ≡ (file_size active - 40)
 own_length true now ip = refl

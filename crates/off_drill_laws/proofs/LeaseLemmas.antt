@@ -4,7 +4,6 @@ use Rattle.std.proofs.lemmas.Bool.{cases_lt, le-leb, lt-leb, leb-true, and_parts
 use Rattle.std.proofs.lemmas.Slice.Eq.{bytes_eq-Decides}
 use Rattle.std.proofs.lemmas.Nat.{from_be_bytes-to_be_bytes_4}
 use Rattle.std.specs.Int.{w32, from_be_bytes}
-use Rattle.std.specs.List.{AllByRecursion}
 use Rattle.std.specs.Str.{bytes_eq}
 use Rattle.off_base.specs.declared.addresses.Ip4.{Ip4}
 use Rattle.off_base.specs.Parts.{parts_in}
@@ -31,13 +30,13 @@ use Rattle.off_lease_rules.specs.Rules.{rules_for}
 use Rattle.off_lease_rules.specs.Steps.{lease_row, reply_for, settled, settled_in, lease_step, step_of, dhcp_step, unless_refused, accepts}
 use Rattle.off_lease_rules.specs.declared.cases.Case.{Case}
 use Rattle.off_lease_rules.specs.declared.results.LeaseStep.{LeaseStep}
-use Rattle.off_lease_rules.specs.declared.words.DhcpWord.{DhcpWord}
 use Rattle.off_lease_rules.specs.declared.words.DhcpWord.TheVariants as word
 use Rattle.off_lease_laws.proofs.FreeLemmas.{least_is_least}
 use Rattle.off_drill_rules.specs.Rows.{site, pool, modem, mac, address, lease, moment, drill_tables}
 use Rattle.off_drill_rules.specs.Messages.{modem_options, discover, request}
 use Rattle.off_drill_laws.specs.Stages.{offered_lease, offered_tables}
 use Rattle.off_drill_laws.proofs.RowLemmas.{HasRows, with_lease, with_held, drill_rows, lease_beyond, held_beyond, lease_within, address_within, site_read_for, modem_read, pool_read_for, lease_read, held_read}
+use Rattle.off_asking.proofs.ClaimLemmas.{none_broken}
 
 -- ---- what the two messages say
 
@@ -84,10 +83,6 @@ unfolding parts_in
 own_request t i = own_relayed t (requested i) (mac i) refl refl
 
 -- ---- rules, none of which is broken
-
-none_broken : (rules : List (DhcpWord × Bool)) → AllByRecursion (λ (rule : DhcpWord × Bool). rule.1 ≡ false) rules → refused_by rules ≡ None
-none_broken [] all = refl
-none_broken (rule ∷ rules) all = ap (λ b. cond b (Some rule.0) (refused_by rules)) all.0 ∙ none_broken rules all.1
 
 -- the relay names the client itself
 own_remote : (i : ℕ) → not (bytes_eq (mac i).0 (mac i).0) ≡ false

@@ -11,14 +11,11 @@ use Rattle.std.specs.declared.cmp.Ordering.TheVariants.{Less, Equal, Greater}
 use Rattle.std.specs.FinMap as fin
 use Rattle.std.specs.FinMap.Entries as list
 use Rattle.std.proofs.lemmas.List.{length-map}
+use Rattle.off_defs.proofs.EntryLemmas.{both}
 use Rattle.off_http.specs.Request.{Waits}
 use Rattle.off_http.specs.Heard.{Heard}
 use Rattle.off_book.specs.Http.{is_full}
 use Rattle.off_office.specs.Connections.{bytes_of, heard_entry, heard_in, AllWait, AreLive}
-
-both : (a b : Bool) → T a → T b → T (a && b)
-both true b p q = q
-both false b p q = absurd p
 
 below_heard : (x : ℕ) (es : List (ℕ × Heard)) → AllByRecursion (λ y. nat_cmp x y ≡ Less) (keys_of es) → T (list.below_all nat_cmp x (map heard_entry es))
 below_heard x [] all = tt

@@ -1,8 +1,8 @@
 -- What each statement makes of the cells that the rows of the table hold.
-use Rattle.std.proofs.Common.{◌≡◌, ◌⊎◌, ℕ, ℤ, ◌≤◌, Bool, true, false, List, [], ◌∷◌, length, map, take, codes, Option, Some, None, Ok, Err, Result, refl, sym, ap, subst, ◌∙◌, inl, inr, arith}
+use Rattle.std.proofs.Common.{◌≡◌, ◌⊎◌, ℕ, ℤ, Bool, true, false, List, [], ◌∷◌, map, take, codes, Option, Some, None, Ok, Err, Result, refl, sym, ap, subst, ◌∙◌, inl, inr}
 use Rattle.std.specs.List.{list_all, find as first_of_all}
-use Rattle.std.specs.Ordering.{nat_cmp, is_lt, is_gt, eq_by_cmp, ordering_reverse}
-use Rattle.std.specs.Cmp.Lexicographic.{slice_cmp, nat_list_cmp_total}
+use Rattle.std.specs.Ordering.{is_lt, is_gt, eq_by_cmp, ordering_reverse}
+use Rattle.std.specs.Cmp.Lexicographic.{nat_list_cmp_total}
 use Rattle.std.specs.declared.cmp.Ordering.{Ordering}
 use Rattle.std.specs.declared.cmp.Ordering.TheVariants.{Less, Equal, Greater}
 use Rattle.std.specs.FinMap as map
@@ -28,17 +28,14 @@ use Rattle.sqlite.specs.State.{State, mode_of, Executes, Shown}
 use Rattle.sqlite.proofs.Callers.{statement_of, runs_as, reads_as, one_step}
 use Rattle.sqlite.specs.Listing.{understood}
 use Rattle.off_sqlcells.specs.Office.{office, office_schema, cell_row}
-use Rattle.off_cells.specs.CellsSeen.{CellMap, is_behind, next_cell}
+use Rattle.off_cells.specs.CellsSeen.{CellMap, is_behind}
 use Rattle.off_sqlcells.specs.Statements.{get_text, first_text, next_text, drop_text, Gets, walk_text, walk_params, Nexts}
 use Rattle.off_sqlcells.specs.Holds.{IsCellOf, Holds}
 use Rattle.off_sqlcells.proofs.Texts.{has_ident, is_above, by_ident, get_query, walk_query, first_query, next_query, drop_query, alone, get_is, get_plain, first_is as first_is_read, first_plain, next_is, next_plain, drop_is, drop_plain}
-use Rattle.off_sqlcells.specs.OneMap.{same_key, same_bytes}
+use Rattle.off_sqlcells.specs.OneMap.{bytes_cmp, same_key, same_bytes}
 use Rattle.off_sqlcells.proofs.RowLemmas.{own_key, drop_holds, rows_dropped, IsDropped}
 use Rattle.off_sqlcells.proofs.AnswerLemmas.{ordered_sound, ordered_complete, shown_sound, shown_complete, ident_test, above_test, first_least}
 use Rattle.off_sqlcells.proofs.NextLemmas.{first_is, none_is, entry_has, entry_got}
-
-abbrev bytes_cmp : List ℕ → List ℕ → Ordering
-bytes_cmp = slice_cmp nat_cmp
 
 -- ---- a row of a key
 

@@ -1,10 +1,8 @@
 -- What the insertion makes of the cells that the rows of the table hold.
 use Rattle.std.proofs.Common.{◌≡◌, ◌≢◌, ℕ, ℤ, Bool, true, false, cond, ◌&&◌, ◌||◌, List, [], ◌∷◌, map, drop, Option, Some, None, Ok, Err, Result, refl, sym, ap, subst, ◌∙◌, inl, inr}
 use Rattle.std.specs.List.{list_all}
-use Rattle.std.specs.Ordering.{nat_cmp, is_eq, eq_by_cmp}
+use Rattle.std.specs.Ordering.{is_eq, eq_by_cmp}
 use Rattle.std.specs.Cmp.{tied_itself}
-use Rattle.std.specs.Cmp.Lexicographic.{slice_cmp}
-use Rattle.std.specs.declared.cmp.Ordering.{Ordering}
 use Rattle.std.specs.FinMap as map
 use Rattle.sqlite_value.specs.declared.value.Value.{Value}
 use Rattle.sqlite_value.specs.declared.value.Value.TheVariants.{Null, Int, Blob as Bytes}
@@ -40,13 +38,10 @@ use Rattle.off_cells.specs.CellsSeen.{CellMap}
 use Rattle.off_sqlcells.specs.Statements.{put_text}
 use Rattle.off_sqlcells.specs.Holds.{IsCellOf, Holds}
 use Rattle.off_sqlcells.proofs.Texts.{has_rowid_given, put_query, put_terms, upsert, alone, put_is, put_plain}
-use Rattle.off_sqlcells.specs.OneMap.{same_key, same_bytes}
+use Rattle.off_sqlcells.specs.OneMap.{bytes_cmp, same_key, same_bytes}
 use Rattle.off_sqlcells.proofs.RowLemmas.{own_key, tied_id, put_holds, rows_put, IsPut}
 use Rattle.off_sqlcells.proofs.AnswerLemmas.{shown_sound, shown_complete, rowid_test}
 use Rattle.off_sqlcells.proofs.Content.{went, same_value}
-
-abbrev bytes_cmp : List ℕ → List ℕ → Ordering
-bytes_cmp = slice_cmp nat_cmp
 
 -- ---- values that are cast
 

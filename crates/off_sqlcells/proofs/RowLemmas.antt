@@ -1,11 +1,10 @@
 -- What writes of rows make of the cells that the rows hold.
-use Rattle.std.proofs.Common.{◌≡◌, ◌≢◌, ◌⊎◌, inl, inr, ℕ, ℤ, Bool, true, false, cond, not, ◌&&◌, List, [], ◌∷◌, Some, None, refl, sym, ap, subst, ◌∙◌}
-use Rattle.std.specs.Ordering.{nat_cmp, int_cmp, is_eq, eq_by_cmp}
+use Rattle.std.proofs.Common.{◌≡◌, ◌≢◌, ◌⊎◌, inl, inr, ℕ, ℤ, true, false, cond, not, ◌&&◌, List, [], ◌∷◌, Some, None, refl, sym, ap, subst, ◌∙◌}
+use Rattle.std.specs.Ordering.{int_cmp, is_eq, eq_by_cmp}
 use Rattle.std.specs.Cmp.{eq_by_cmp_equiv, tied_itself}
-use Rattle.std.specs.Cmp.Lexicographic.{slice_cmp, nat_list_cmp_total}
-use Rattle.std.specs.declared.cmp.Ordering.{Ordering}
+use Rattle.std.specs.Cmp.Lexicographic.{nat_list_cmp_total}
 use Rattle.std.specs.FinMap as map
-use Rattle.std.proofs.lemmas.Bool.{and_parts, true≢false, false_from_ne_true}
+use Rattle.std.proofs.lemmas.Bool.{and_parts, true≢false, false_from_ne_true, not-true}
 use Rattle.sqlite_value.specs.declared.value.Value.{Value}
 use Rattle.sqlite_value.specs.declared.value.Value.TheVariants.{Int, Blob as Bytes}
 use Rattle.sqlite_value.specs.Order.{Row, column, value_cmp}
@@ -17,11 +16,8 @@ use Rattle.sqlite_rules.proofs.ListLemmas.{has_filtered, has_kept, some_from}
 use Rattle.sqlite_rules.proofs.TableLemmas.{put_all_has, put_all_keeps, put_all_adds, without_all_has}
 use Rattle.off_sqlcells.specs.Office.{cell_row}
 use Rattle.off_cells.specs.CellsSeen.{CellMap}
-use Rattle.off_sqlcells.specs.OneMap.{is_equal, same_key, same_bytes}
+use Rattle.off_sqlcells.specs.OneMap.{bytes_cmp, is_equal, same_key, same_bytes}
 use Rattle.off_sqlcells.specs.Holds.{IsCellOf, AreCells, Holds}
-
-abbrev bytes_cmp : List ℕ → List ℕ → Ordering
-bytes_cmp = slice_cmp nat_cmp
 
 -- ---- keys
 
@@ -176,15 +172,11 @@ has_id m x id c t =
     let is : rowid x ≡ Int c.id = ap (λ (r : Row). rowid r) c.is in
     is ∙ ap (λ (n : ℤ). Int n) (tied_id c.id id (ap (λ (v : Value). is_eq (value_cmp v (Int id))) (sym is) ∙ t))
 
-not_false : (b : Bool) → not b ≡ true → b ≡ false
-not_false true e = cc
-not_false false e = refl
-
 pub left_not : (ids : List ℤ) (rows : List Row) (x : Row) (id : ℤ) → Has (without_all rows ids) x → Has ids id → has_rowid id x ≡ false
 left_not [] rows x id h k = absurd k
 left_not (i ∷ ids) rows x id h (inl same) =
     let f = has_filtered (λ r. not (has_rowid i r)) rows x (without_all_has ids (without_rowid i rows) x h) in
-    subst (λ (z : ℤ). has_rowid z x ≡ false) (sym same) (not_false _ f.1)
+    subst (λ (z : ℤ). has_rowid z x ≡ false) (sym same) (not-true _ f.1)
 left_not (i ∷ ids) rows x id h (inr later) = left_not ids (without_rowid i rows) x id h later
 
 pub left_has : (ids : List ℤ) (rows : List Row) (x : Row) → Has rows x → ((id : ℤ) → Has ids id → has_rowid id x ≡ false) → Has (without_all rows ids) x
@@ -219,7 +211,7 @@ fresh_apart : (news rows : List Row) (n x : Row) → are_fresh rows news ≡ tru
 fresh_apart [] rows n x fresh h k = absurd h
 fresh_apart (r ∷ news) rows n x fresh (inl same) k =
     false_from_ne_true _ (λ t.
-    let free : is_taken rows r ≡ false = not_false _ (and_parts _ _ fresh).0 in
+    let free : is_taken rows r ≡ false = not-true _ (and_parts _ _ fresh).0 in
     let tied = subst (λ (z : Row). is_eq (value_cmp (rowid x) (rowid z)) ≡ true) same t in
     absurd (true≢false (sym (some_from (λ (z : Row). is_eq (value_cmp (rowid z) (rowid r))) rows x k tied) ∙ free)))
 fresh_apart (r ∷ news) rows n x fresh (inr later) k =

@@ -16,7 +16,7 @@ use Rattle.off_sqlcells.specs.Office.{cell_row}
 use Rattle.off_sqlcells.specs.Holds.{AreCells}
 use Rattle.off_sqlcells.specs.Stands.{Tells}
 
-abbrev bytes_cmp : List ℕ → List ℕ → Ordering
+abbrev pub bytes_cmp : List ℕ → List ℕ → Ordering
 bytes_cmp = slice_cmp nat_cmp
 
 pub is_equal : (o : Ordering) → is_eq o ≡ true → o ≡ Equal
