@@ -1,5 +1,6 @@
 -- What commands and turns did to a keeper: one step, none, and several behind one another.
 use Rattle.std.proofs.Common.{◌≡◌, ◌≢◌, ℕ, Bool, ◌<◌, ◌≤◌, ◌⊎◌, List, [], ◌∷◌, ◌++◌, refl, sym, ap, subst, ◌∙◌, inl, inr, arith}
+use mathlib.Core.Logic.{⊎_map}
 use Rattle.std.proofs.lemmas.Bool.{cases_lt}
 use Rattle.off_orders.specs.declared.orders.Command.{Command}
 use Rattle.off_orders.specs.declared.orders.Reply.{Reply}
@@ -9,18 +10,19 @@ use Rattle.off_defs.specs.declared.results.Outcome.{Outcome}
 use Rattle.off_defs.specs.declared.results.Outcome.TheVariants.{Did, Memory, Keeper}
 use Rattle.off_defs.specs.Counts.{commits_after}
 use Rattle.off_defs.specs.State.{Tables, State, Held, Said, state_of, held_at, held_at_start, start}
-use Rattle.off_defs.specs.Tables.{write_all, doubt_behind}
+use Rattle.off_defs.specs.Tables.{write_all}
+use Rattle.off_defs.proofs.TableLemmas.{doubt_more}
 use Rattle.off_defs.proofs.ToldLemmas.{told_then, told_self}
 use Rattle.off_orders.specs.Clerk.{Stepped, clerk_step, step_done}
 use Rattle.off_book.specs.Step.{Step, completed}
 use Rattle.off_book.specs.Run.{Turn, effect_of, commits_by}
-use Rattle.off_book.specs.Crashes.{Begins, Doubt, doubt_in, Lasts}
-use Rattle.off_book.proofs.CrashLemmas.{OneTurn, doubts_more, doubts_by, lasts_later, lasts_push, lasts_front}
+use Rattle.off_book.specs.Crashes.{Doubt, Lasts}
+use Rattle.off_book.proofs.CrashLemmas.{OneTurn, in_more, doubts_by, lasts_later, lasts_doubt, lasts_push, lasts_front}
 use Rattle.off_outside.specs.declared.keeper.KeepErr.{KeepErr}
 use Rattle.off_outside.specs.declared.keeper.KeepErr.TheVariants as keep
 use Rattle.off_outside.specs.KeeperSeen.{KeeperSeen, Rests}
 use Rattle.off_outside.specs.KeeperCalls.{Reads, NotCommitted, Crash, IsWritten, begun_by}
-use Rattle.off_office.specs.Acting.{Acts, EventBegins}
+use Rattle.off_office.specs.Acting.{Acts}
 use Rattle.off_office.specs.Answering.{Commanded, CommandBegins}
 use Rattle.off_office.specs.Conditions.{Mirrors, Fits, WhereFit, StaysAs}
 use Rattle.off_office.specs.Desk.{Desk}
@@ -35,64 +37,18 @@ use Rattle.off_account_rules.specs.Good.{Good}
 use Rattle.off_account_rules.specs.Migration.{migrated}
 use Rattle.std.specs.Prelude.{IsTrue}
 use Rattle.off_drill_rules.specs.Rows.{begins_at}
-use Rattle.off_drill_job.specs.Stepping.{Given, commits_given, commands_of, book_writes, written_in, Would, DoubtGiven, behind, LastsDrill, KeeperDid, KeeperDrilled}
+use Rattle.off_import_job.specs.Opening.{Would}
+use Rattle.off_drill_job.specs.Stepping.{Given, commits_given, commands_of, book_writes, written_in, DoubtGiven, behind, LastsDrill, KeeperDid, KeeperDrilled}
 
 abbrev Opens : Type 1
 Opens = ℕ → Tables → Type 0
 
 -- ---- what is in doubt
 
-doubt_more : (writes : List Write) {old new : Type 0} → (new → old) → doubt_behind writes new → doubt_behind writes old
-doubt_more [] more doubt = more doubt
-doubt_more (write ∷ writes) more doubt = doubt
-
-in_more : (outcome : Outcome) {old new : Type 0} (begun : Type 0) → (new → old) → doubt_in outcome new begun → doubt_in outcome old begun
-in_more Did begun more doubt = more doubt
-in_more Memory begun more doubt = more doubt
-in_more Keeper begun more (inl doubt) = inl (more doubt)
-in_more Keeper begun more (inr own) = inr own
-
 given_more : (d e : Tables → Type 0) (t : Tables) (given : Given) (u : Tables) → (e u → d u) → DoubtGiven e t given u → DoubtGiven d t given u
-given_more d e t given u more doubt = doubt_more given.commit (in_more given.outcome (Would t given.command u) more) doubt
-
-or_more : {p d e : Type 0} → (e → d) → p ⊎ e → p ⊎ d
-or_more more (inl same) = inl same
-or_more more (inr doubt) = inr (more doubt)
-
-or_left : {d e q : Type 0} → (e → d) → e ⊎ q → d ⊎ q
-or_left more (inl doubt) = inl (more doubt)
-or_left more (inr begun) = inr begun
-
-or_right : {p d q r : Type 0} → (q → r) → p ⊎ (d ⊎ q) → p ⊎ (d ⊎ r)
-or_right more (inl same) = inl same
-or_right more (inr (inl doubt)) = inr (inl doubt)
-or_right more (inr (inr begun)) = inr (inr (more begun))
-
-or_first : {p d : Type 0} (q : Type 0) → p ⊎ d → p ⊎ (d ⊎ q)
-or_first q (inl same) = inl same
-or_first q (inr doubt) = inr (inl doubt)
+given_more d e t given u more doubt = doubt_more given.commit (in_more given.outcome more (λ begun. begun)) doubt
 
 -- ---- chains
-
-lasts_doubt : (opened : Opens) (ends doubt more : Tables → Type 0) (from : ℕ) (s : State) (turns : List Turn) (to : ℕ) (last : State)
-    → ((u : Tables) → doubt u → more u) → Lasts opened ends doubt from s turns to last → Lasts opened ends more from s turns to last
-lasts_doubt opened ends doubt more from s [] to last wider l = (l.0, (l.1.0, (λ u ended. wider u (l.1.1.0 u ended), λ m u after upto shown. or_more (wider u) (l.1.1.1 m u after upto shown))))
-lasts_doubt opened ends doubt more from s (turn ∷ turns) to last wider l = (
-  l.0,
-  (
-    l.1.0,
-    (
-      l.1.1.0,
-      (
-        l.1.1.1.0,
-        (
-          λ m u after upto shown. or_more (or_left (wider u)) (l.1.1.1.1.0 m u after upto shown),
-          lasts_doubt opened ends (Doubt doubt s turn) (Doubt more s turn) l.0 l.1.0 turns to last (λ u. doubts_more more doubt s turn u (wider u)) l.1.1.1.1.1,
-        ),
-      ),
-    ),
-  ),
-)
 
 drill_later : (opened : Opens) (ends doubt : Tables → Type 0) (from : ℕ) (s : State) (given : List Given) (turns : List Turn) (to : ℕ) (last : State)
     → LastsDrill opened ends doubt from s given turns to last → from ≤ to
@@ -111,7 +67,7 @@ drill_doubt opened ends doubt more from s (one ∷ given) turns to last wider l 
     (
       l.1.1.0,
       (
-        λ m u after upto shown. or_more (or_left (wider u)) (l.1.1.1.0 m u after upto shown),
+        λ m u after upto shown. ⊎_map (λ same. same) (⊎_map (wider u) (λ begun. begun)) (l.1.1.1.0 m u after upto shown),
         drill_doubt opened ends (DoubtGiven doubt s.tables one) (DoubtGiven more s.tables one) l.0 (behind s one) given turns to last (λ u. given_more more doubt s.tables one u (wider u)) l.1.1.1.1,
       ),
     ),
@@ -134,7 +90,7 @@ drill_front opened ends doubt before first from s (one ∷ given) turns to last 
             λ m u after upto shown.
                 elim (cases_lt from m) [
                   | inl second ↦ wide.1.1.1.0 m u (omega (arith, second)) upto shown
-                  | inr once ↦ or_first (Would s.tables one.command u) (early m u after once shown)
+                  | inr once ↦ ⊎_map (λ same. same) inl (early m u after once shown)
                 ],
             wide.1.1.1.1,
           ),
@@ -302,11 +258,6 @@ keeper_opened {given} {turns} {d} {f} {i} {k} {o} rests begins opened fits did =
 
 -- ---- one turn
 
-begun_so : (event : Event) (d : Desk) (t : Tables) (doubt : Type 0) (u : Tables) → Mirrors d t → (u ≡ t) ⊎ (doubt ⊎ EventBegins event d t u) → (u ≡ t) ⊎ (doubt ⊎ Begins (state_of t d.held) event u)
-begun_so event d t doubt u agree (inl same) = inl same
-begun_so event d t doubt u agree (inr (inl is)) = inr (inl is)
-begun_so event d t doubt u agree (inr (inr begun)) = inr (inr (begun agree))
-
 pub keeper_turn : (event : Event) (outcome : Outcome) (said : Said) (went : List Bool) (d e : Desk) (a b : KeeperSeen) → Rests a → Rests b → (acts : Acts event outcome said d e a b)
     → KeeperDid [] (record { event = event; outcome = outcome; said = completed event.what outcome said; commit = acts.commit; went = went } ∷ []) d e a b
 keeper_turn event outcome said went d e a b first rests acts =
@@ -329,7 +280,7 @@ keeper_turn event outcome said went d e a b first rests acts =
                     let one : OneTurn a.opened b.opened a.doubt b.doubt a.moment b.moment s (state_of g.value e.held) turn = record {
                       later = acts.crash.later;
                       past = acts.crash.past;
-                      within = λ m u second upto shown. begun_so event d t (a.doubt u) u agree (acts.crash.within t told m u second upto shown);
+                      within = λ m u second upto shown. ⊎_map (λ same. same) (⊎_map (λ doubt. doubt) (λ begun. begun agree)) (acts.crash.within t told m u second upto shown);
                       doubts = λ u ends. doubts_by a.doubt s turn u (λ begun. begun agree) (acts.doubts t told u ends);
                       rests = λ u shown. rests g.value g.told u shown;
                     } in (
@@ -348,7 +299,7 @@ record OneCommand (given : Given) (t z : Tables) (a b : KeeperSeen) : Type 0 whe
   later : a.moment ≤ b.moment
   past : (m : ℕ) (u : Tables) → m ≤ a.moment → b.opened m u → a.opened m u
   writes : given.commit ≡ written_in given.outcome (book_writes t given.command)
-  within : (m : ℕ) (u : Tables) → a.moment < m → m ≤ b.moment → b.opened m u → (u ≡ t) ⊎ (a.doubt u ⊎ Would t given.command u)
+  within : (m : ℕ) (u : Tables) → a.moment < m → m ≤ b.moment → b.opened m u → (u ≡ t) ⊎ (a.doubt u ⊎ Would begins_at given.command t u)
   doubts : (u : Tables) → b.doubt u → DoubtGiven a.doubt t given u
   after : z ≡ write_all t given.commit
 
@@ -364,7 +315,7 @@ one_command given h i a b first rests t z told now comes one = (
         λ m u early upto shown.
             elim (cases_lt a.moment m) [
               | inl second ↦ one.within m u second upto shown
-              | inr once ↦ or_first (Would t given.command u) (rests_at a first t told m u early once (one.past m u once shown))
+              | inr once ↦ ⊎_map (λ same. same) inl (rests_at a first t told m u early once (one.past m u once shown))
             ],
         (
           (λ j. state_of (one.after j) (comes j)),
@@ -389,7 +340,7 @@ module _ (command : Command) (d e : Desk) (a b : KeeperSeen) (first : Rests a) (
   written_now : (t : Tables) (s : Stepped) → clerk_step t e.held.now command ≡ s → book_writes t command ≡ s.writes
   written_now t s is = ap (λ (n : ℕ). (clerk_step t n command).writes) (sym now) ∙ ap (λ (v : Stepped). v.writes) is
 
-  would : (writes : List Write) (t : Tables) → book_writes t command ≡ writes → (u : Tables) → IsWritten writes t u → Would t command u
+  would : (writes : List Write) (t : Tables) → book_writes t command ≡ writes → (u : Tables) → IsWritten writes t u → Would begins_at command t u
   would writes t same u is = is ∙ ap (write_all t) (sym same)
 
   pub keeper_commanded : (reply : Reply) → IsTrue (is_sound command) → IsTrue (secret_fits command) → (did : Commanded command reply e.held.now d e a b) → KeeperDid (done command did.writes ∷ []) [] d e a b
@@ -412,7 +363,7 @@ module _ (command : Command) (d e : Desk) (a b : KeeperSeen) (first : Rests a) (
                       later = did.settled.crash.later;
                       past = did.settled.crash.past;
                       writes = sym same;
-                      within = λ m u second upto shown. or_right (would did.writes t same u) (did.settled.crash.within t told m u second upto shown);
+                      within = λ m u second upto shown. ⊎_map (λ same. same) (⊎_map (λ doubt. doubt) (would did.writes t same u)) (did.settled.crash.within t told m u second upto shown);
                       doubts = λ u ends. did.settled.doubts t told u ends;
                       after = held.1;
                     }),
@@ -441,7 +392,7 @@ module _ (command : Command) (d e : Desk) (a b : KeeperSeen) (first : Rests a) (
                   later = still.later;
                   past = still.past;
                   writes = sym (none t one.1 fits.mirrors);
-                  within = λ m u second upto shown. or_first (Would t command u) (first t told u (still.within m u (omega (arith, second)) upto shown));
+                  within = λ m u second upto shown. ⊎_map (λ same. same) inl (first t told u (still.within m u (omega (arith, second)) upto shown));
                   doubts = λ u ends. still.doubts u ends;
                   after = refl;
                 }),
@@ -456,14 +407,14 @@ module _ (command : Command) (d e : Desk) (a b : KeeperSeen) (first : Rests a) (
   undone keep.Memory = record { command = command; outcome = Memory; commit = [] }
   undone keep.Failed = record { command = command; outcome = Keeper; commit = [] }
 
-  begins_now : (t : Tables) → Mirrors d t → (u : Tables) → CommandBegins command e.held.now d t u → Would t command u
+  begins_now : (t : Tables) → Mirrors d t → (u : Tables) → CommandBegins command e.held.now d t u → Would begins_at command t u
   begins_now t agree u begun = begun agree ∙ ap (λ (n : ℕ). write_all t (clerk_step t n command).writes) now
 
-  lost_within : (err : KeepErr) (t : Tables) → Mirrors d t → (u : Tables) {p q : Type 0} → p ⊎ (q ⊎ begun_by err (CommandBegins command e.held.now d) t u) → p ⊎ (q ⊎ Would t command u)
+  lost_within : (err : KeepErr) (t : Tables) → Mirrors d t → (u : Tables) {p q : Type 0} → p ⊎ (q ⊎ begun_by err (CommandBegins command e.held.now d) t u) → p ⊎ (q ⊎ Would begins_at command t u)
   lost_within keep.Memory t agree u (inl same) = inl same
   lost_within keep.Memory t agree u (inr (inl doubt)) = inr (inl doubt)
   lost_within keep.Memory t agree u (inr (inr begun)) = absurd begun
-  lost_within keep.Failed t agree u is = or_right (begins_now t agree u) is
+  lost_within keep.Failed t agree u is = ⊎_map (λ same. same) (⊎_map (λ doubt. doubt) (begins_now t agree u)) is
 
   lost_doubts : (err : KeepErr) (t : Tables) → Mirrors d t → (u : Tables) → a.doubt u ⊎ begun_by err (CommandBegins command e.held.now d) t u → DoubtGiven a.doubt t (undone err) u
   lost_doubts keep.Memory t agree u (inl doubt) = doubt

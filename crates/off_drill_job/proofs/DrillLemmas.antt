@@ -1,18 +1,19 @@
 -- From what was founded and exercised to what `drill` promises.
-use Rattle.std.proofs.Common.{◌≡◌, ◌≢◌, ℕ, ◌<◌, ◌≤◌, ◌⊎◌, true, false, Option, Some, None, is_some, List, [], ◌∷◌, ◌++◌, length, append-nil, refl, sym, ap, subst, ◌∙◌, inl, inr, arith}
+use Rattle.std.proofs.Common.{◌≡◌, ◌≢◌, ℕ, ◌≤◌, ◌⊎◌, true, false, Option, Some, None, is_some, List, [], ◌∷◌, ◌++◌, length, append-nil, refl, sym, ap, subst, ◌∙◌, inl, inr, arith}
+use Rattle.std.specs.Prelude.{Contains}
 use Rattle.std.proofs.lemmas.List.Elements.{All-nil}
 use Rattle.std.specs.FinMap as map
 use Rattle.std.specs.List.{find}
 use Rattle.off_defs.specs.declared.keys.Key.{Key}
 use Rattle.off_defs.specs.declared.tables.Row.{Row}
 use Rattle.off_defs.specs.declared.results.Outcome.TheVariants.{Did}
-use Rattle.off_defs.specs.Counts.{Grew, Tallied, most_count}
+use Rattle.off_defs.specs.Counts.{Grew, Tallied}
 use Rattle.off_defs.specs.Keys.{key_cmp}
 use Rattle.off_defs.specs.State.{Tables, State, Held, state_of, held_at_start}
 use Rattle.off_defs.specs.Tables.{is_after, next_entry}
 use Rattle.off_defs.proofs.ToldLemmas.{told_then, told_weaker}
 use Rattle.off_defs.specs.Told.{Told}
-use Rattle.off_account_rules.specs.Good.{Good, IsLeastBad}
+use Rattle.off_account_rules.specs.Good.{IsLeastBad}
 use Rattle.off_account_rules.specs.Migration.{migrated}
 use Rattle.off_book.specs.Run.{Turn}
 use Rattle.off_outside.specs.declared.keeper.KeepErr.{KeepErr}
@@ -22,10 +23,14 @@ use Rattle.off_outside.specs.KeeperCalls.{Reads, NotDone, StaysUp}
 use Rattle.off_outside.specs.LinkSeen.{LinkSeen}
 use Rattle.off_outside.specs.Streams.{SinkSeen}
 use Rattle.off_outside.proofs.KeeperLemmas.{reads_as, tallied_behind}
-use Rattle.off_jobs.specs.Jobs.{Tells}
+use Rattle.off_jobs.specs.Ending.{Tells}
+use Rattle.off_jobs.specs.Health.{Stood}
+use Rattle.off_jobs.proofs.EndingLemmas.{stands, kept, told_whole, sink_kept, ends_by}
 use Rattle.off_office.specs.Opening.{OpensTo}
 use Rattle.off_office.specs.Conditions.{Fits, Opened}
 use Rattle.off_office.proofs.OpeningLemmas.{leaves_opening, doubts_opened, empty_before, empty_stays}
+use Rattle.off_import_job.specs.Opening.{SameOrGood}
+use Rattle.off_import_job.proofs.ClosedLemmas.{closed_status, closed_kept, closed_same}
 use Rattle.off_import_job.proofs.BehindLemmas.{opens_then}
 use Rattle.off_office.specs.Desk.{Desk}
 use Rattle.off_office.specs.declared.office.StartErr.TheVariants as start_err
@@ -42,8 +47,8 @@ use Rattle.off_drill_job.specs.Stepping.{Given, commands_of, KeeperDid, KeeperDr
 use Rattle.off_drill_job.specs.Founding.{founding, AllGiven, Builds, GaveFront, Halts}
 use Rattle.off_drill_job.specs.Exercising.{Exercised, Stopped}
 use Rattle.off_drill_job.specs.Tallying.{raised_by}
-use Rattle.off_drill_job.specs.Telling.{ended_text, ended_status}
-use Rattle.off_drill_job.specs.Drilling.{FindsRows, LeavesDrill, GaveAll, CameSoFar, Ends, DoneBy, BrokenBy, GoesOn, NoneFailed, Drills}
+use Rattle.off_drill_job.specs.Telling.{drill_end}
+use Rattle.off_drill_job.specs.Drilling.{FindsRows, LeavesDrill, GaveAll, CameSoFar, Ends, DoneBy, BrokenBy, GoesOn, Drills}
 use Rattle.off_drill_job.specs.declared.drilling.Ended.{Ended}
 use Rattle.off_drill_job.specs.declared.drilling.Ended.TheVariants.{Closed, NotEmpty, Broken, Done}
 use Rattle.off_drill_job.proofs.CommandLemmas.{no_entries}
@@ -280,56 +285,46 @@ ends_going (Done tally) n d i j k o l m rests begins opened finds goes =
 
 -- ---- the statuses
 
-stands : (a b : ℕ) → b ≡ a → a < most_count → Grew 1 a b → ⊥
-stands a b same fits grew = omega (arith, same, fits, grew.grew)
+few_of : (ended : Ended) (n : ℕ) (k k' : KeeperSeen) (l m : LinkSeen) → Ends ended n k k' l m → Stood k.faults k'.faults → Contains (0 ∷ 2 ∷ 6 ∷ 9 ∷ []) (drill_end n ended).status
+few_of (Closed err) n k k' l m ends stood = closed_status err (0 ∷ 2 ∷ 6 ∷ 9 ∷ []) k k' ends.0 stood (1, omega arith, refl) (2, omega arith, refl)
+few_of NotEmpty n k k' l m ends stood = (3, omega arith, refl)
+few_of (Broken keep.Failed) n k k' l m ends stood = absurd (stands stood ends.faults.grew)
+few_of (Broken keep.Memory) n k k' l m ends stood = (2, omega arith, refl)
+few_of (Done tally) n k k' l m ends stood = (0, omega arith, refl)
 
-told_whole : (of : ℕ) (text : List ℕ) (status : ℕ) (k k' : KeeperSeen) (s s' : SinkSeen) → Tells of text status s s' → NoneFailed k k' s s' → status ≡ of
-told_whole of text status k k' s s' (inl told) none = told.0
-told_whole of text status k k' s s' (inr cut) none = absurd (stands s.faults s'.faults none.sink_same none.sink_count cut.1.faults)
-
-abbrev FewStatuses : ℕ → Type 0
-FewStatuses status = (status ≡ 0) ⊎ ((status ≡ 2) ⊎ ((status ≡ 6) ⊎ (status ≡ 9)))
-
-few_of : (ended : Ended) (n status : ℕ) (k k' : KeeperSeen) (l m : LinkSeen) (s s' : SinkSeen) → Ends ended n k k' l m → NoneFailed k k' s s' → status ≡ ended_status ended → FewStatuses status
-few_of (Closed (start_err.Bad key)) n status k k' l m s s' ends none is = inr (inl is)
-few_of (Closed start_err.Failed) n status k k' l m s s' ends none is = absurd (stands k.faults k'.faults none.keeper_same none.keeper_count ends.0.faults.grew)
-few_of (Closed start_err.Memory) n status k k' l m s s' ends none is = inr (inr (inl is))
-few_of NotEmpty n status k k' l m s s' ends none is = inr (inr (inr is))
-few_of (Broken keep.Failed) n status k k' l m s s' ends none is = absurd (stands k.faults k'.faults none.keeper_same none.keeper_count ends.faults.grew)
-few_of (Broken keep.Memory) n status k k' l m s s' ends none is = inr (inr (inl is))
-few_of (Done tally) n status k k' l m s s' ends none is = inl is
+keeper_kept : (ended : Ended) (n : ℕ) (k k' : KeeperSeen) (l m : LinkSeen) → Ends ended n k k' l m → Stood k.faults k'.faults → k.up → k'.up
+keeper_kept (Closed err) n k k' l m ends stood up = closed_kept err k k' ends.0 stood up
+keeper_kept NotEmpty n k k' l m ends stood up = ends.0.settled.up up
+keeper_kept (Broken err) n k k' l m ends stood up = kept stood (ends.up up)
+keeper_kept (Done tally) n k k' l m ends stood up = kept stood (ends.up up)
 
 never_bad : (key : Key) → IsLeastBad map.empty key → ⊥
 never_bad key bad = let f : Some bad.held ≡ None = sym bad.there ∙ map.get-empty key_cmp key in cc
 
-done_of : (ended : Ended) (n status : ℕ) (k k' : KeeperSeen) (l m : LinkSeen) (s s' : SinkSeen) → Ends ended n k k' l m → k.tables map.empty → NoneFailed k k' s s' → status ≢ 6
-    → status ≡ ended_status ended → status ≡ 0
-done_of (Closed (start_err.Bad key)) n status k k' l m s s' ends told none other is = absurd (never_bad key (ends.0.tables map.empty told).1)
-done_of (Closed start_err.Failed) n status k k' l m s s' ends told none other is = absurd (stands k.faults k'.faults none.keeper_same none.keeper_count ends.0.faults.grew)
-done_of (Closed start_err.Memory) n status k k' l m s s' ends told none other is = absurd (other is)
-done_of NotEmpty n status k k' l m s s' ends told none other is =
+done_of : (ended : Ended) (n status : ℕ) (k k' : KeeperSeen) (l m : LinkSeen) → Ends ended n k k' l m → k.tables map.empty → Stood k.faults k'.faults → status ≢ 6
+    → status ≡ (drill_end n ended).status → status ≡ 0
+done_of (Closed (start_err.Bad key)) n status k k' l m ends told stood other is = absurd (never_bad key (ends.0.tables map.empty told).1)
+done_of (Closed start_err.Failed) n status k k' l m ends told stood other is = absurd (stands stood ends.0.faults.grew)
+done_of (Closed start_err.Memory) n status k k' l m ends told stood other is = absurd (other is)
+done_of NotEmpty n status k k' l m ends told stood other is =
     let o = ends.0.tables.each map.empty told in
     absurd (o.fits.1.1 (o.fits.0 ∙ empty_stays))
-done_of (Broken keep.Failed) n status k k' l m s s' ends told none other is = absurd (stands k.faults k'.faults none.keeper_same none.keeper_count ends.faults.grew)
-done_of (Broken keep.Memory) n status k k' l m s s' ends told none other is = absurd (other is)
-done_of (Done tally) n status k k' l m s s' ends told none other is = is
+done_of (Broken keep.Failed) n status k k' l m ends told stood other is = absurd (stands stood ends.faults.grew)
+done_of (Broken keep.Memory) n status k k' l m ends told stood other is = absurd (other is)
+done_of (Done tally) n status k k' l m ends told stood other is = is
 
 -- whatever became of it, the tables are as before or good
-good_of : (ended : Ended) (n : ℕ) (k k' : KeeperSeen) (l m : LinkSeen) → Ends ended n k k' l m → Told k.tables k'.tables (λ t u. (u ≡ t) ⊎ Good u)
-good_of (Closed (start_err.Bad key)) n k k' l m ends = record { each = λ t told. record { value = t; told = (ends.0.tables t told).0; fits = inl refl } }
-good_of (Closed start_err.Failed) n k k' l m ends = record { each = λ t told. record { value = t; told = ends.0.tables t told; fits = inl refl } }
-good_of (Closed start_err.Memory) n k k' l m ends = record { each = λ t told. record { value = t; told = ends.0.tables t told; fits = inl refl } }
+good_of : (ended : Ended) (n : ℕ) (k k' : KeeperSeen) (l m : LinkSeen) → Ends ended n k k' l m → Told k.tables k'.tables SameOrGood
+good_of (Closed err) n k k' l m ends = closed_same err k k' ends.0
 good_of NotEmpty n k k' l m ends = told_weaker ends.0.tables (λ t u p. inr p.1.0)
 good_of (Broken err) n k k' l m ends = told_weaker ends.tables (λ t u is. inr is.0)
 good_of (Done tally) n k k' l m ends = told_weaker ends.tables (λ t u is. inr is.1.0)
 
-pub drills_by : (ended : Ended) (n status : ℕ) (k k' : KeeperSeen) (l m : LinkSeen) (s s' : SinkSeen) → Ends ended n k k' l m → Tells (ended_status ended) (ended_text n ended) status s s'
+pub drills_by : (ended : Ended) (n status : ℕ) (k k' : KeeperSeen) (l m : LinkSeen) (s s' : SinkSeen) → Ends ended n k k' l m → Tells (drill_end n ended) status s s'
     → Drills n status k k' l m s s'
 drills_by ended n status k k' l m s s' ends told = record {
-  ended = ended;
-  ends = ends;
+  ends =
+      ends_by ended ends told (λ none. none.1.0) (λ none. few_of ended n k k' l m ends none.0) (λ none. (keeper_kept ended n k k' l m ends none.0, (sink_kept told none.1.0, tt)));
   good = good_of ended n k k' l m ends;
-  told = told;
-  statuses = λ none. few_of ended n status k k' l m s s' ends none (told_whole (ended_status ended) (ended_text n ended) status k k' s s' told none);
-  complete = λ empty none other. done_of ended n status k k' l m s s' ends empty none other (told_whole (ended_status ended) (ended_text n ended) status k k' s s' told none);
+  complete = λ empty none other. done_of ended n status k k' l m ends empty none.0 other (told_whole told none.1.0).0;
 }

@@ -1,8 +1,8 @@
 -- What `drill` promises. The order is: the tables are opened, they have no rows, the office is
 -- founded, and its modems boot one after another.
-use Rattle.std.specs.Prelude.{◌≡◌, ◌≢◌, ℕ, ◌<◌, ◌⊎◌, Bool, true, false, List, [], ◌++◌}
+use Rattle.std.specs.Prelude.{◌≡◌, ◌≢◌, ℕ, ◌⊎◌, Bool, true, false, List, [], ◌∷◌, ◌++◌}
 use Rattle.std.specs.FinMap as map
-use Rattle.off_defs.specs.Counts.{Tallied, most_count}
+use Rattle.off_defs.specs.Counts.{Tallied}
 use Rattle.off_defs.specs.Told.{Told}
 use Rattle.off_defs.specs.State.{Tables, State}
 use Rattle.off_account_rules.specs.Good.{Opens, Good}
@@ -13,8 +13,10 @@ use Rattle.off_outside.specs.KeeperCalls.{Reads, StaysUp, keeper_faults_in}
 use Rattle.off_outside.specs.LinkSeen.{LinkSeen}
 use Rattle.off_outside.specs.LinkCalls.{LinkUnasked}
 use Rattle.off_outside.specs.Streams.{SinkSeen}
-use Rattle.off_jobs.specs.Jobs.{Tells}
+use Rattle.off_jobs.specs.Health.{of_keeper, of_sink, NoFault}
+use Rattle.off_jobs.specs.Ending.{JobEnds}
 use Rattle.off_office.specs.Acting.{NotStarted}
+use Rattle.off_import_job.specs.Opening.{SameOrGood}
 use Rattle.off_office.specs.Opening.{OpensTo}
 use Rattle.off_office.specs.Conditions.{Fits}
 use Rattle.off_office.specs.Desk.{Desk}
@@ -26,7 +28,7 @@ use Rattle.off_drill_job.specs.Stepping.{Given, commands_of, KeeperDid, KeeperDr
 use Rattle.off_drill_job.specs.Founding.{founding, AllGiven, GaveFront}
 use Rattle.off_drill_job.specs.Exercising.{SentTurns, TriedOne}
 use Rattle.off_drill_job.specs.Tallying.{raised_by}
-use Rattle.off_drill_job.specs.Telling.{ended_text, ended_status}
+use Rattle.off_drill_job.specs.Telling.{drill_end}
 use Rattle.off_drill_job.specs.declared.drilling.Ended.{Ended}
 use Rattle.off_drill_job.specs.declared.drilling.Ended.TheVariants.{Closed, NotEmpty, Broken, Done}
 
@@ -136,23 +138,15 @@ GoesOn NotEmpty n before old new link link' = ⊥
 GoesOn (Broken err) n before old new link link' = BrokenBy err n before old new link link'
 GoesOn (Done tally) n before old new link link' = DoneBy n tally before old new link link'
 
--- no count of the keeper or of the sink rose, and none stood at the greatest number
-pub record NoneFailed (old new : KeeperSeen) (sink sink' : SinkSeen) : Type 0 where
-  pub keeper_same : new.faults ≡ old.faults
-  pub keeper_count : old.faults < most_count
-  pub sink_same : sink'.faults ≡ sink.faults
-  pub sink_count : sink.faults < most_count
-
 -- What `drill` did. Whatever the status, the tables are as before or good. Where the sink failed
 -- the status is 4, and a front of the text is there; else the text was written. Where no count rose
 -- and no memory was wanted, the status is 0, or 2, where the tables don't open, or 9, where they
--- have rows; over tables without rows it is 0.
+-- have rows; over tables without rows it is 0. A send that fails is passed over, so the link isn't
+-- among what it needs.
 pub record Drills (n : ℕ) (status : ℕ) (old new : KeeperSeen) (link link' : LinkSeen)
     (sink sink' : SinkSeen) : Type 0 where
-  pub ended : Ended
-  pub ends : Ends ended n old new link link'
-  pub good : Told old.tables new.tables (λ t u. (u ≡ t) ⊎ Good u)
-  pub told : Tells (ended_status ended) (ended_text n ended) status sink sink'
-  pub statuses : NoneFailed old new sink sink'
-      → (status ≡ 0) ⊎ ((status ≡ 2) ⊎ ((status ≡ 6) ⊎ (status ≡ 9)))
-  pub complete : old.tables map.empty → NoneFailed old new sink sink' → status ≢ 6 → status ≡ 0
+  pub ends : JobEnds (λ ended. Ends ended n old new link link') (drill_end n) (0 ∷ 2 ∷ 6 ∷ 9 ∷ [])
+      (of_keeper old new ∷ of_sink sink sink' ∷ []) status sink sink'
+  pub good : Told old.tables new.tables SameOrGood
+  pub complete : old.tables map.empty → NoFault (of_keeper old new ∷ of_sink sink sink' ∷ [])
+      → status ≢ 6 → status ≡ 0

@@ -1,6 +1,6 @@
 -- What a drill does to its keeper: its commits, and what a crash meanwhile may open. The office is
 -- given commands first, all at the drill's first moment, and then acts on events.
-use Rattle.std.specs.Prelude.{◌≡◌, ℕ, ◌≤◌, ◌⊎◌, List, [], ◌∷◌}
+use Rattle.std.specs.Prelude.{◌≡◌, ℕ, ◌≤◌, ◌⊎◌, List, [], ◌∷◌, map, fold}
 use Rattle.off_orders.specs.declared.orders.Command.{Command}
 use Rattle.off_defs.specs.declared.writes.Write.{Write}
 use Rattle.off_defs.specs.declared.results.Outcome.{Outcome}
@@ -14,10 +14,10 @@ use Rattle.off_account_rules.specs.Migration.{migration, migrated}
 use Rattle.off_book.specs.Run.{Turn, commits_by}
 use Rattle.off_book.specs.Crashes.{doubt_in, Lasts}
 use Rattle.off_outside.specs.KeeperSeen.{KeeperSeen}
-use Rattle.off_outside.specs.KeeperCalls.{IsWritten}
 use Rattle.off_office.specs.Opening.{LeavesOpening, doubt_opened}
 use Rattle.off_office.specs.Conditions.{WhereFit}
 use Rattle.off_office.specs.Desk.{Desk}
+use Rattle.off_import_job.specs.Opening.{Would}
 use Rattle.off_drill_rules.specs.Rows.{begins_at}
 
 -- A command that the office was given, and what it wrote, in one commit. One that a rule refused is
@@ -28,13 +28,11 @@ pub record Given : Type 0 where
   pub commit : List Write
 
 abbrev pub commands_of : List Given → List Command
-commands_of [] = []
-commands_of (given ∷ more) = given.command ∷ commands_of more
+commands_of given = map (λ one. one.command) given
 
 -- a counter of commits behind commands: each makes one commit at most
 abbrev pub commits_given : List Given → ℕ → ℕ
-commits_given [] commits = commits
-commits_given (given ∷ more) commits = commits_given more (commits_after given.commit commits)
+commits_given given commits = fold (λ count one. commits_after one.commit count) commits given
 
 -- what the book's step of a command writes
 abbrev pub book_writes : Tables → Command → List Write
@@ -46,14 +44,10 @@ written_in Did writes = writes
 written_in Memory writes = []
 written_in Keeper writes = []
 
--- the tables that a command would leave
-abbrev pub Would : Tables → Command → Tables → Type 0
-Would t command u = IsWritten (book_writes t command) t u
-
 -- the commit in doubt behind a command: as it is behind a turn
 abbrev pub DoubtGiven : (Tables → Type 0) → Tables → Given → Tables → Type 0
 DoubtGiven doubt t given u =
-    doubt_behind given.commit (doubt_in given.outcome (doubt u) (Would t given.command u))
+    doubt_behind given.commit (doubt_in given.outcome (doubt u) (Would begins_at given.command t u))
 
 -- the state behind a command
 abbrev pub behind : State → Given → State
@@ -69,7 +63,7 @@ LastsDrill opened ends doubt from s (given ∷ more) turns to last =
     (at : ℕ) × ((from ≤ at)
     × ((given.commit ≡ written_in given.outcome (book_writes s.tables given.command))
     × (((m : ℕ) (u : Tables) → from ≤ m → m ≤ at → opened m u
-    → (u ≡ s.tables) ⊎ (doubt u ⊎ Would s.tables given.command u))
+    → (u ≡ s.tables) ⊎ (doubt u ⊎ Would begins_at given.command s.tables u))
     × LastsDrill opened ends (DoubtGiven doubt s.tables given) at (behind s given) more turns to
     last)))
 

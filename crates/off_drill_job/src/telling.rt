@@ -1,41 +1,28 @@
 ghost use Rattle.std.specs.Prelude.{◌≡◌, ◌≤◌, ◌+◌, ◌++◌, length, decimal};
-ghost use Rattle.off_jobs.specs.Jobs.{Tells};
+ghost use Rattle.off_jobs.specs.Ending.{Tells};
 ghost use Rattle.off_drill_rules.specs.Numbers.{summary};
-ghost use Rattle.off_drill_job.specs.Telling.{ended_text, ended_status};
-ghost use Rattle.off_drill_job.specs.Telling.{broken_text, broken_status};
+ghost use Rattle.off_drill_job.specs.Telling.{drill_end};
 
 use crate::drilling::Ended;
 use arrayvec::ArrayVec;
 use itoa::Buffer;
 use off_drill_rules::Tally;
 use off_import_job::stay_closed;
-use off_jobs::tell;
-use off_outside::{KeepErr, Sink};
+use off_jobs::{tell, tell_undone};
+use off_outside::Sink;
 
 // Room for the six numbers and the words between them.
 type Line = ArrayVec<u8, 192>;
 
 /// Tells what became of a drill, and answers the status, or 4 where the sink fails.
 pub(crate) fn tell_end<W: Sink>(count: u32, ended: Ended, out: &mut W) -> u8
-    ensures { Tells (ended_status ended) (ended_text count ended) result
-        (W.seen out.old) (W.seen out.new) }
+    ensures { Tells (drill_end count ended) result (W.seen out.old) (W.seen out.new) }
 {
     match ended {
         Ended::Closed(err) => stay_closed(err, out),
         Ended::NotEmpty => tell(out, b"refused not-empty\n", 9),
-        Ended::Broken(err) => tell_broken(err, out),
+        Ended::Broken(err) => tell_undone(err, out),
         Ended::Done(tally) => tell(out, summary_line(count, tally).as_slice(), 0),
-    }
-}
-
-// Tells why a drill didn't come to its end.
-fn tell_broken<W: Sink>(err: KeepErr, out: &mut W) -> u8
-    ensures { Tells (broken_status err) (broken_text err) result
-        (W.seen out.old) (W.seen out.new) }
-{
-    match err {
-        KeepErr::Failed => tell(out, b"keeper refused\n", 3),
-        KeepErr::Memory => tell(out, b"memory refused\n", 6),
     }
 }
 

@@ -1,11 +1,10 @@
 -- From what each call did to what `import` promises.
-use Rattle.std.proofs.Common.{◌≡◌, ◌≢◌, ℕ, ◌<◌, ◌⊎◌, true, false, List, Result, Ok, Err, refl, sym, ap, ◌∙◌, subst, inl, inr, arith}
-use Rattle.std.specs.Prelude.{IsTrue}
+use Rattle.std.proofs.Common.{◌≡◌, ◌≢◌, ℕ, true, false, List, [], ◌∷◌, Result, Ok, Err, refl, sym, ap, ◌∙◌, subst, inr, arith}
+use Rattle.std.specs.Prelude.{Contains, IsTrue}
 use Rattle.md5.specs.Md5.{md5}
 use Rattle.csv.specs.Reading.{default_config, records, strip_bom}
 use Rattle.off_defs.specs.Told.{Told}
 use Rattle.off_defs.proofs.ToldLemmas.{told_weaker}
-use Rattle.off_defs.specs.Counts.{Grew, most_count}
 use Rattle.off_defs.specs.State.{Tables, Held, held_at, held_at_start}
 use Rattle.off_defs.specs.declared.tables.ImportKind.{ImportKind}
 use Rattle.off_orders.specs.declared.orders.Command.{Command}
@@ -31,17 +30,22 @@ use Rattle.off_accounts.specs.declared.results.AccountErr.TheVariants as account
 use Rattle.off_outside.specs.KeeperSeen.{KeeperSeen, Rests}
 use Rattle.off_outside.specs.KeeperCalls.{IsWritten}
 use Rattle.off_outside.specs.Streams.{SourceSeen, SinkSeen}
-use Rattle.off_jobs.specs.Jobs.{Tells, NoFault}
+use Rattle.off_jobs.specs.Ending.{Tells}
+use Rattle.off_jobs.specs.Health.{Stood, of_keeper, NoFault}
+use Rattle.off_jobs.specs.Jobs.{streams}
 use Rattle.off_jobs.specs.declared.input.InputErr.TheVariants as input_err
-use Rattle.off_jobs.proofs.JobLemmas.{told_whole, source_held, sink_kept, told_file, too_many_of}
+use Rattle.off_jobs.proofs.EndingLemmas.{stands, kept, told_whole, sink_kept, ends_by, source_kept, unread_status}
+use Rattle.off_jobs.proofs.JobLemmas.{told_file, too_many_of}
 use Rattle.off_office.specs.Answering.{Commanded, NotCommanded, CountsRows}
 use Rattle.off_office.specs.Conditions.{Opened}
 use Rattle.off_office.specs.Opening.{OpensTo}
 use Rattle.off_office.specs.Desk.{Desk}
 use Rattle.off_office.specs.declared.office.StartErr.TheVariants as start_err
-use Rattle.off_import_job.specs.Telling.{ended_text, ended_status}
-use Rattle.off_import_job.specs.Importing.{ReadAs, NotTaken, DidCommand, CarriesOut, LeftUndone, Ends, NoneFailed, Doable, Imports}
+use Rattle.off_import_job.specs.Opening.{SameOrGood}
+use Rattle.off_import_job.specs.Telling.{import_end}
+use Rattle.off_import_job.specs.Importing.{ReadAs, NotTaken, DidCommand, CarriesOut, LeftUndone, Ends, Doable, Imports}
 use Rattle.off_import_job.specs.declared.importing.Ended.{Ended}
+use Rattle.off_import_job.proofs.ClosedLemmas.{closed_status, closed_kept, closed_same}
 use Rattle.off_import_job.proofs.BehindLemmas.{opens_as, opens_then, settled_both, lost_behind}
 use Rattle.off_import_job.specs.declared.importing.Ended.TheVariants.{Closed, Unread, NoImport, NotDone, Done}
 
@@ -180,86 +184,51 @@ pub did_nothing : (command : Command) (err : AccountErr) (before after : Desk) (
 did_nothing command err before after k l came fresh not =
     subst (λ (now : ℕ). NotCommanded command err now before k l) (at_zero before.held after.held came fresh) not
 
--- a count that rose is no count that stands
-stands : (a b : ℕ) → b ≡ a → a < most_count → Grew 1 a b → ⊥
-stands a b same fits grew = omega (arith, same, fits, grew.grew)
+-- ---- where no count rose
 
--- where a count didn't rise, what stays up by it is up
-kept : {P : Type 0} (a b : ℕ) → b ≡ a → a < most_count → P ⊎ Grew 1 a b → P
-kept a b same fits (inl up) = up
-kept a b same fits (inr grew) = absurd (stands a b same fits grew)
+abbrev Calm : KeeperSeen → KeeperSeen → SourceSeen → SourceSeen → SinkSeen → SinkSeen → Type 0
+Calm k k' s s' t t' = NoFault (of_keeper k k' ∷ streams s s' t t')
 
--- the statuses that are left where no count rose
-abbrev pub FewStatuses : ℕ → Type 0
-FewStatuses status = (status ≡ 0) ⊎ ((status ≡ 2) ⊎ ((status ≡ 6) ⊎ (status ≡ 9)))
+few_of : (ended : Ended) (kind : ImportKind) (batch : ℕ) (k k' : KeeperSeen) (s s' : SourceSeen) → Ends ended kind batch k k' s s' → Stood k.faults k'.faults → Stood s.faults s'.faults
+    → Contains (0 ∷ 2 ∷ 6 ∷ 9 ∷ []) (import_end ended).status
+few_of (Closed err) kind batch k k' s s' ends keeper source = closed_status err (0 ∷ 2 ∷ 6 ∷ 9 ∷ []) k k' ends.0 keeper (1, omega arith, refl) (2, omega arith, refl)
+few_of (Unread err) kind batch k k' s s' ends keeper source = unread_status _ 9 err (0 ∷ 2 ∷ 6 ∷ 9 ∷ []) _ _ ends.1 source (2, omega arith, refl) (3, omega arith, refl)
+few_of (NoImport (import_err.Fault fault)) kind batch k k' s s' ends keeper source = (3, omega arith, refl)
+few_of (NoImport import_err.Memory) kind batch k k' s s' ends keeper source = (2, omega arith, refl)
+few_of (NotDone (account_err.Refused row broken)) kind batch k k' s s' ends keeper source = (3, omega arith, refl)
+few_of (NotDone account_err.Failed) kind batch k k' s s' ends keeper source = absurd (stands keeper ends.undone.faults.grew)
+few_of (NotDone account_err.Memory) kind batch k k' s s' ends keeper source = (2, omega arith, refl)
+few_of (Done rows) kind batch k k' s s' ends keeper source = (0, omega arith, refl)
 
-is_two : {status : ℕ} → status ≡ 2 → FewStatuses status
-is_two e = inr (inl e)
+keeper_kept : (ended : Ended) (kind : ImportKind) (batch : ℕ) (k k' : KeeperSeen) (s s' : SourceSeen) → Ends ended kind batch k k' s s' → Stood k.faults k'.faults → k.up → k'.up
+keeper_kept (Closed err) kind batch k k' s s' ends stood up = closed_kept err k k' ends.0 stood up
+keeper_kept (Unread err) kind batch k k' s s' ends stood up = ends.0.settled.up up
+keeper_kept (NoImport err) kind batch k k' s s' ends stood up = ends.0.settled.up up
+keeper_kept (NotDone (account_err.Refused row broken)) kind batch k k' s s' ends stood up = ends.undone.settled.up up
+keeper_kept (NotDone account_err.Failed) kind batch k k' s s' ends stood up = kept stood (ends.undone.up up)
+keeper_kept (NotDone account_err.Memory) kind batch k k' s s' ends stood up = kept stood (ends.undone.up up)
+keeper_kept (Done rows) kind batch k k' s s' ends stood up = ends.settled.up up
 
-is_six : {status : ℕ} → status ≡ 6 → FewStatuses status
-is_six e = inr (inr (inl e))
+import_source_kept : (ended : Ended) (kind : ImportKind) (batch : ℕ) (k k' : KeeperSeen) (s s' : SourceSeen) → Ends ended kind batch k k' s s' → Stood s.faults s'.faults → s.up → s'.up
+import_source_kept (Closed err) kind batch k k' s s' ends stood up = ends.1.up up
+import_source_kept (Unread err) kind batch k k' s s' ends stood up = source_kept _ err _ _ ends.1 stood up
+import_source_kept (NoImport err) kind batch k k' s s' ends stood up = ends.1.took.took.up up
+import_source_kept (NotDone err) kind batch k k' s s' ends stood up = ends.read.took.took.up up
+import_source_kept (Done rows) kind batch k k' s s' ends stood up = ends.read.took.took.up up
 
-is_nine : {status : ℕ} → status ≡ 9 → FewStatuses status
-is_nine e = inr (inr (inr e))
+-- whatever became of the import, the tables are as before or good
+good_then : {P : Tables → Tables → Type 0} (k k' : KeeperSeen) → Told k.tables k'.tables P → ((t u : Tables) → P t u → Good u) → Told k.tables k'.tables SameOrGood
+good_then k k' told good = told_weaker told (λ t u p. inr (good t u p))
 
-few_of : (ended : Ended) (kind : ImportKind) (batch status : ℕ) (k k' : KeeperSeen) (s s' : SourceSeen) (t t' : SinkSeen) → Ends ended kind batch k k' s s'
-    → NoneFailed k k' s s' t t' → status ≡ ended_status ended → FewStatuses status
-few_of (Closed (start_err.Bad key)) kind batch status k k' s s' t t' ends none is = is_two is
-few_of (Closed start_err.Failed) kind batch status k k' s s' t t' ends none is = absurd (stands k.faults k'.faults none.keeper_same none.keeper_count ends.0.faults.grew)
-few_of (Closed start_err.Memory) kind batch status k k' s s' t t' ends none is = is_six is
-few_of (Unread input_err.TooLong) kind batch status k k' s s' t t' ends none is = is_nine is
-few_of (Unread input_err.Failed) kind batch status k k' s s' t t' ends none is = absurd (source_held ends.1 none.streams)
-few_of (Unread input_err.Memory) kind batch status k k' s s' t t' ends none is = is_six is
-few_of (NoImport (import_err.Fault fault)) kind batch status k k' s s' t t' ends none is = is_nine is
-few_of (NoImport import_err.Memory) kind batch status k k' s s' t t' ends none is = is_six is
-few_of (NotDone (account_err.Refused row broken)) kind batch status k k' s s' t t' ends none is = is_nine is
-few_of (NotDone account_err.Failed) kind batch status k k' s s' t t' ends none is = absurd (stands k.faults k'.faults none.keeper_same none.keeper_count ends.undone.faults.grew)
-few_of (NotDone account_err.Memory) kind batch status k k' s s' t t' ends none is = is_six is
-few_of (Done rows) kind batch status k k' s s' t t' ends none is = inl is
-
-keeper_kept : (ended : Ended) (kind : ImportKind) (batch : ℕ) (k k' : KeeperSeen) (s s' : SourceSeen) → Ends ended kind batch k k' s s'
-    → k'.faults ≡ k.faults → k.faults < most_count → k.up → k'.up
-keeper_kept (Closed (start_err.Bad key)) kind batch k k' s s' ends same fits up = ends.0.quiet.up up
-keeper_kept (Closed start_err.Failed) kind batch k k' s s' ends same fits up = kept k.faults k'.faults same fits (ends.0.up up)
-keeper_kept (Closed start_err.Memory) kind batch k k' s s' ends same fits up = kept k.faults k'.faults same fits (ends.0.up up)
-keeper_kept (Unread err) kind batch k k' s s' ends same fits up = ends.0.settled.up up
-keeper_kept (NoImport err) kind batch k k' s s' ends same fits up = ends.0.settled.up up
-keeper_kept (NotDone (account_err.Refused row broken)) kind batch k k' s s' ends same fits up = ends.undone.settled.up up
-keeper_kept (NotDone account_err.Failed) kind batch k k' s s' ends same fits up = kept k.faults k'.faults same fits (ends.undone.up up)
-keeper_kept (NotDone account_err.Memory) kind batch k k' s s' ends same fits up = kept k.faults k'.faults same fits (ends.undone.up up)
-keeper_kept (Done rows) kind batch k k' s s' ends same fits up = ends.settled.up up
-
-source_kept : (ended : Ended) (kind : ImportKind) (batch : ℕ) (k k' : KeeperSeen) (s s' : SourceSeen) (t t' : SinkSeen) → Ends ended kind batch k k' s s'
-    → NoFault s s' t t' → s.up → s'.up
-source_kept (Closed err) kind batch k k' s s' t t' ends none up = ends.1.up up
-source_kept (Unread input_err.TooLong) kind batch k k' s s' t t' ends none up = ends.1.took.up up
-source_kept (Unread input_err.Failed) kind batch k k' s s' t t' ends none up = absurd (source_held ends.1 none)
-source_kept (Unread input_err.Memory) kind batch k k' s s' t t' ends none up = ends.1.took.up up
-source_kept (NoImport err) kind batch k k' s s' t t' ends none up = ends.1.took.took.up up
-source_kept (NotDone err) kind batch k k' s s' t t' ends none up = ends.read.took.took.up up
-source_kept (Done rows) kind batch k k' s s' t t' ends none up = ends.read.took.took.up up
-
--- tables that open do so again, and good ones stay good, whatever became of the import
-abbrev KeepsOpening : Tables → Tables → Type 0
-KeepsOpening t u = (Opens t → Opens u) × (Good t → Good u)
-
-stays_as : (k k' : KeeperSeen) → ((t : Tables) → k.tables t → k'.tables t) → Told k.tables k'.tables KeepsOpening
-stays_as k k' stay = record { each = λ t told. record { value = t; told = stay t told; fits = (λ opens. opens, λ good. good) } }
-
-good_then : {P : Tables → Tables → Type 0} (k k' : KeeperSeen) → Told k.tables k'.tables P → ((t u : Tables) → P t u → Good u) → Told k.tables k'.tables KeepsOpening
-good_then k k' told good = told_weaker told (λ t u p. (λ opens. (good t u p).opens, λ was. good t u p))
-
-keeps_of : (ended : Ended) (kind : ImportKind) (batch : ℕ) (k k' : KeeperSeen) (s s' : SourceSeen) → Ends ended kind batch k k' s s'
-    → Told k.tables k'.tables KeepsOpening
-keeps_of (Closed (start_err.Bad key)) kind batch k k' s s' ends = stays_as k k' (λ t told. (ends.0.tables t told).0)
-keeps_of (Closed start_err.Failed) kind batch k k' s s' ends = stays_as k k' ends.0.tables
-keeps_of (Closed start_err.Memory) kind batch k k' s s' ends = stays_as k k' ends.0.tables
-keeps_of (Unread err) kind batch k k' s s' ends = good_then k k' ends.0.tables (λ t u p. p.1)
-keeps_of (NoImport err) kind batch k k' s s' ends = good_then k k' ends.0.tables (λ t u p. p.1)
-keeps_of (NotDone (account_err.Refused row broken)) kind batch k k' s s' ends = good_then k k' ends.undone.tables (λ t u p. p.1.0)
-keeps_of (NotDone account_err.Failed) kind batch k k' s s' ends = good_then k k' ends.undone.tables (λ t u p. p.1)
-keeps_of (NotDone account_err.Memory) kind batch k k' s s' ends = good_then k k' ends.undone.tables (λ t u p. p.1)
-keeps_of (Done rows) kind batch k k' s s' ends = good_then k k' ends.stays_good (λ t u good. good)
+good_of : (ended : Ended) (kind : ImportKind) (batch : ℕ) (k k' : KeeperSeen) (s s' : SourceSeen) → Ends ended kind batch k k' s s'
+    → Told k.tables k'.tables SameOrGood
+good_of (Closed err) kind batch k k' s s' ends = closed_same err k k' ends.0
+good_of (Unread err) kind batch k k' s s' ends = good_then k k' ends.0.tables (λ t u p. p.1)
+good_of (NoImport err) kind batch k k' s s' ends = good_then k k' ends.0.tables (λ t u p. p.1)
+good_of (NotDone (account_err.Refused row broken)) kind batch k k' s s' ends = good_then k k' ends.undone.tables (λ t u p. p.1.0)
+good_of (NotDone account_err.Failed) kind batch k k' s s' ends = good_then k k' ends.undone.tables (λ t u p. p.1)
+good_of (NotDone account_err.Memory) kind batch k k' s s' ends = good_then k k' ends.undone.tables (λ t u p. p.1)
+good_of (Done rows) kind batch k k' s s' ends = good_then k k' ends.stays_good (λ t u good. good)
 
 -- tables that open have no bad key
 not_bad : (t : Tables) (key : Key) → Opens t → IsLeastBad t key → ⊥
@@ -284,14 +253,14 @@ not_refused : (t : Tables) (writes : List Write) (reply : Reply) (row : ℕ) (br
 not_refused t writes reply row broken is = let e = ap (λ (s : Stepped). s.answer) is in cc
 
 done_of : (ended : Ended) (kind : ImportKind) (batch status : ℕ) (k k' : KeeperSeen) (s s' : SourceSeen) (t t' : SinkSeen) → Ends ended kind batch k k' s s'
-    → Doable kind batch k s → NoneFailed k k' s s' t t' → status ≢ 6 → status ≡ ended_status ended → status ≡ 0
+    → Doable kind batch k s → Calm k k' s s' t t' → status ≢ 6 → status ≡ (import_end ended).status → status ≡ 0
 done_of (Closed (start_err.Bad key)) kind batch status k k' s s' t t' ends can none other is =
     absurd (not_bad can.tables key can.opens (ends.0.tables can.tables can.told).1)
-done_of (Closed start_err.Failed) kind batch status k k' s s' t t' ends can none other is = absurd (stands k.faults k'.faults none.keeper_same none.keeper_count ends.0.faults.grew)
+done_of (Closed start_err.Failed) kind batch status k k' s s' t t' ends can none other is = absurd (stands none.0 ends.0.faults.grew)
 done_of (Closed start_err.Memory) kind batch status k k' s s' t t' ends can none other is = absurd (other is)
 done_of (Unread input_err.TooLong) kind batch status k k' s s' t t' ends can none other is =
     absurd (too_many_of ends.1 can.held can.short)
-done_of (Unread input_err.Failed) kind batch status k k' s s' t t' ends can none other is = absurd (source_held ends.1 none.streams)
+done_of (Unread input_err.Failed) kind batch status k k' s s' t t' ends can none other is = absurd (stands none.1.0 ends.1.faults)
 done_of (Unread input_err.Memory) kind batch status k k' s s' t t' ends can none other is = absurd (other is)
 done_of (NoImport (import_err.Fault fault)) kind batch status k k' s s' t t' ends can none other is =
     absurd (no_fault kind batch can.bytes ends.1.bytes can.command fault can.means (told_file ends.1.took can.held)
@@ -302,22 +271,16 @@ done_of (NotDone (account_err.Refused row broken)) kind batch status k k' s s' t
     let o = ends.undone.tables.each can.tables can.told in
     let refused = subst (λ (v : Tables). clerk_step v 0 ends.command ≡ step_refused v row broken) o.fits.0 o.fits.1.1 in
     absurd (not_refused (migrated can.tables) can.writes can.reply row broken (sym step ∙ refused))
-done_of (NotDone account_err.Failed) kind batch status k k' s s' t t' ends can none other is = absurd (stands k.faults k'.faults none.keeper_same none.keeper_count ends.undone.faults.grew)
+done_of (NotDone account_err.Failed) kind batch status k k' s s' t t' ends can none other is = absurd (stands none.0 ends.undone.faults.grew)
 done_of (NotDone account_err.Memory) kind batch status k k' s s' t t' ends can none other is = absurd (other is)
 done_of (Done rows) kind batch status k k' s s' t t' ends can none other is = is
 
 pub imports_by : (ended : Ended) (kind : ImportKind) (batch status : ℕ) (k k' : KeeperSeen) (s s' : SourceSeen) (t t' : SinkSeen) → Ends ended kind batch k k' s s'
-    → Tells (ended_status ended) (ended_text ended) status t t' → Imports kind batch status k k' s s' t t'
+    → Tells (import_end ended) status t t' → Imports kind batch status k k' s s' t t'
 imports_by ended kind batch status k k' s s' t t' ends told = record {
-  ended = ended;
-  ends = ends;
-  told = told;
-  complete = λ can none other. done_of ended kind batch status k k' s s' t t' ends can none other (told_whole told none.streams);
-  stays_open = told_weaker (keeps_of ended kind batch k k' s s' ends) (λ t u keeps. keeps.0);
-  stays_good = told_weaker (keeps_of ended kind batch k k' s s' ends) (λ t u keeps. keeps.1);
-  statuses = λ none. few_of ended kind batch status k k' s s' t t' ends none (told_whole told none.streams);
-  up = λ none. record {
-    keeper_up = keeper_kept ended kind batch k k' s s' ends none.keeper_same none.keeper_count;
-    both_up = record { source_up = source_kept ended kind batch k k' s s' t t' ends none.streams; sink_up = sink_kept told none.streams };
-  };
+  ends =
+      ends_by ended ends told (λ none. none.1.1.0) (λ none. few_of ended kind batch k k' s s' ends none.0 none.1.0)
+      (λ none. (keeper_kept ended kind batch k k' s s' ends none.0, (import_source_kept ended kind batch k k' s s' ends none.1.0, (sink_kept told none.1.1.0, tt))));
+  complete = λ can none other. done_of ended kind batch status k k' s s' t t' ends can none other (told_whole told none.1.1.0).0;
+  good = good_of ended kind batch k k' s s' ends;
 }

@@ -1,3 +1,3 @@
 pub mod BehindLemmas
+pub mod ClosedLemmas
 pub mod ImportLemmas
-pub mod TellLemmas

@@ -1,7 +1,7 @@
 -- What `import` promises. The order is: the tables are opened, the source is read to its end, its
 -- bytes are read as an import, and the office does it in one step at moment 0.
-use Rattle.std.specs.Prelude.{◌≡◌, ◌≢◌, ℕ, ◌<◌, ◌≤◌, ◌⊎◌, List, length, Ok}
-use Rattle.off_defs.specs.Counts.{Tallied, most_count, commits_after}
+use Rattle.std.specs.Prelude.{◌≡◌, ◌≢◌, ℕ, ◌≤◌, ◌⊎◌, List, [], ◌∷◌, length, Ok}
+use Rattle.off_defs.specs.Counts.{Tallied, commits_after}
 use Rattle.off_defs.specs.Told.{Told}
 use Rattle.off_defs.specs.State.{Tables}
 use Rattle.off_defs.specs.Tables.{write_all, doubt_behind}
@@ -23,12 +23,15 @@ use Rattle.off_outside.specs.Streams.{SourceSeen, SourceUnasked, SinkSeen}
 use Rattle.off_outside.specs.declared.keeper.KeepErr.{KeepErr}
 use Rattle.off_outside.specs.declared.keeper.KeepErr.TheVariants as keep
 use Rattle.off_jobs.specs.Input.{TookAll, NoInput}
-use Rattle.off_jobs.specs.Jobs.{Tells, NoFault, BothUp}
+use Rattle.off_jobs.specs.Health.{of_keeper, NoFault}
+use Rattle.off_jobs.specs.Ending.{JobEnds}
+use Rattle.off_jobs.specs.Jobs.{streams}
 use Rattle.off_office.specs.Acting.{NotStarted}
 use Rattle.off_office.specs.Opening.{IsMigrated, OpensTo}
 use Rattle.off_office.specs.Answering.{Commanded, NotCommanded, CountsRows}
 use Rattle.off_office.specs.Desk.{Desk}
-use Rattle.off_import_job.specs.Telling.{ended_text, ended_status}
+use Rattle.off_import_job.specs.Opening.{Would, SameOrGood}
+use Rattle.off_import_job.specs.Telling.{import_end}
 use Rattle.off_import_job.specs.declared.importing.Ended.{Ended}
 use Rattle.off_import_job.specs.declared.importing.Ended.TheVariants.{Closed, Unread, NoImport, NotDone, Done}
 
@@ -75,10 +78,6 @@ CarriesOut (NoImport err) command before old new = ⊥
 CarriesOut (NotDone err) command before old new = NotCommanded command err 0 before old new
 CarriesOut (Done rows) command before old new = DidCommand rows command before old new
 
--- the tables that a command would leave
-abbrev pub ImportBegins : Command → Tables → Tables → Type 0
-ImportBegins command t u = u ≡ write_all t (clerk_step t 0 command).writes
-
 -- the tables opened, and behind that a command failed, or had no memory: they are as the opening
 -- left them, but that the command may have been begun
 pub record LostBehind (err : KeepErr) (command : Command) (old new : KeeperSeen) : Type 0 where
@@ -90,9 +89,9 @@ pub record LostBehind (err : KeepErr) (command : Command) (old new : KeeperSeen)
   pub faults : Tallied (keeper_faults_in err) old.faults new.faults
   pub commits : new.commits ≡ commits_after first old.commits
   pub crash : Crash
-      (λ t u. IsMigrated t u ⊎ begun_by err (ImportBegins command) (migrated t) u) old new
+      (λ t u. IsMigrated t u ⊎ begun_by err (Would 0 command) (migrated t) u) old new
   pub doubts : (t : Tables) → old.tables t → (u : Tables) → new.doubt u →
-      doubt_behind first (old.doubt u) ⊎ begun_by err (ImportBegins command) (migrated t) u
+      doubt_behind first (old.doubt u) ⊎ begun_by err (Would 0 command) (migrated t) u
 
 -- a command wasn't done: a rule of the book's refuses it over the opened tables, or the keeper
 -- failed and counted it, or memory was wanted
@@ -165,33 +164,14 @@ pub record Doable (kind : ImportKind) (batch : ℕ) (keeper : KeeperSeen) (sourc
   pub reply : Reply
   pub step : clerk_step (migrated tables) 0 command ≡ step_done (migrated tables) writes reply
 
--- no count rose, and none stood at the greatest number
-pub record NoneFailed (old new : KeeperSeen) (source source' : SourceSeen)
-    (sink sink' : SinkSeen) : Type 0 where
-  pub keeper_same : new.faults ≡ old.faults
-  pub keeper_count : old.faults < most_count
-  pub streams : NoFault source source' sink sink'
-
--- what was up is up
-pub record AllUp (old new : KeeperSeen) (source source' : SourceSeen) (sink sink' : SinkSeen) :
-    Type 0 where
-  pub keeper_up : old.up → new.up
-  pub both_up : BothUp source source' sink sink'
-
--- What `import` did. Where the sink failed the status is 4, and a front of the text is there; else
--- the text was written. Whatever the status, tables that open are left such that open, and good
--- ones good. Where no count rose and no memory was wanted, the status is 0, or 2, where the tables
--- don't open, or 9, where the import is refused; and what can be done is done.
+-- What `import` did. Whatever the status, the tables are as before or good. Where the sink failed
+-- the status is 4, and a front of the text is there; else the text was written. Where no count rose
+-- and no memory was wanted, the status is 0, or 2, where the tables don't open, or 9, where the
+-- import is refused; and what can be done is done.
 pub record Imports (kind : ImportKind) (batch : ℕ) (status : ℕ) (old new : KeeperSeen)
     (source source' : SourceSeen) (sink sink' : SinkSeen) : Type 0 where
-  pub ended : Ended
-  pub ends : Ends ended kind batch old new source source'
-  pub told : Tells (ended_status ended) (ended_text ended) status sink sink'
-  pub stays_open : Told old.tables new.tables (λ t u. Opens t → Opens u)
-  pub stays_good : Told old.tables new.tables (λ t u. Good t → Good u)
-  pub statuses : NoneFailed old new source source' sink sink'
-      → (status ≡ 0) ⊎ ((status ≡ 2) ⊎ ((status ≡ 6) ⊎ (status ≡ 9)))
-  pub up : NoneFailed old new source source' sink sink'
-      → AllUp old new source source' sink sink'
-  pub complete : Doable kind batch old source → NoneFailed old new source source' sink sink'
-      → status ≢ 6 → status ≡ 0
+  pub ends : JobEnds (λ ended. Ends ended kind batch old new source source') import_end
+      (0 ∷ 2 ∷ 6 ∷ 9 ∷ []) (of_keeper old new ∷ streams source source' sink sink') status sink sink'
+  pub good : Told old.tables new.tables SameOrGood
+  pub complete : Doable kind batch old source
+      → NoFault (of_keeper old new ∷ streams source source' sink sink') → status ≢ 6 → status ≡ 0

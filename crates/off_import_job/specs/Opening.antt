@@ -1,23 +1,25 @@
--- What is told of an office whose tables didn't open, and the status.
-use Rattle.std.specs.Prelude.{ℕ, List, [], ◌∷◌, ◌++◌, codes}
-use Rattle.off_defs.specs.declared.keys.Key.{Key}
+-- What the jobs over tables have in common.
+use Rattle.std.specs.Prelude.{◌≡◌, ℕ, ◌⊎◌}
+use Rattle.off_defs.specs.State.{Tables}
+use Rattle.off_orders.specs.declared.orders.Command.{Command}
 use Rattle.off_rows.specs.KeyText.{key_text_of}
-use Rattle.off_jobs.specs.Text.{memory_refused}
+use Rattle.off_account_rules.specs.Good.{Good}
+use Rattle.off_orders.specs.Clerk.{clerk_step}
+use Rattle.off_outside.specs.KeeperCalls.{IsWritten}
+use Rattle.off_jobs.specs.Ending.{Ending, tables_refused, keeper_refused, memory_refused}
 use Rattle.off_office.specs.declared.office.StartErr.{StartErr}
-use Rattle.off_office.specs.declared.office.StartErr.TheVariants as start_err
+use Rattle.off_office.specs.declared.office.StartErr.TheVariants.{Bad, Failed, Memory}
 
-abbrev pub keeper_refused : List ℕ
-keeper_refused = codes "keeper refused" ++ 10 ∷ []
+-- how a job ends whose tables don't open
+abbrev pub closed_end : StartErr → Ending
+closed_end (Bad key) = tables_refused (key_text_of key)
+closed_end Failed = keeper_refused
+closed_end Memory = memory_refused
 
-abbrev pub tables_refused : Key → List ℕ
-tables_refused key = codes "tables refused " ++ key_text_of key ++ 10 ∷ []
+-- the tables that a command would leave at a moment
+abbrev pub Would : ℕ → Command → Tables → Tables → Type 0
+Would now command t u = IsWritten (clerk_step t now command).writes t u
 
-abbrev pub closed_status : StartErr → ℕ
-closed_status (start_err.Bad key) = 2
-closed_status start_err.Failed = 3
-closed_status start_err.Memory = 6
-
-abbrev pub closed_line : StartErr → List ℕ
-closed_line (start_err.Bad key) = tables_refused key
-closed_line start_err.Failed = keeper_refused
-closed_line start_err.Memory = memory_refused
+-- the tables are as before, or good
+abbrev pub SameOrGood : Tables → Tables → Type 0
+SameOrGood t u = (u ≡ t) ⊎ Good u

@@ -1,31 +1,32 @@
 ghost use Rattle.std.specs.Prelude.{◌≡◌};
-ghost use Rattle.off_jobs.specs.Jobs.{Tells};
-ghost use Rattle.off_import_job.specs.Opening.{closed_status, closed_line, tables_refused};
+ghost use Rattle.off_rows.specs.KeyText.{key_text_of};
+ghost use Rattle.off_jobs.specs.Ending.{Tells, tables_refused};
+ghost use Rattle.off_import_job.specs.Opening.{closed_end};
 
 use arrayvec::ArrayVec;
 use off_defs::Key;
-use off_jobs::tell;
+use off_jobs::{tell, tell_memory, tell_undone};
 use off_office::StartErr;
-use off_outside::Sink;
+use off_outside::{KeepErr, Sink};
 use off_rows::key_text;
 
 /// Writes the line of an office that didn't open, and answers the status.
 pub fn stay_closed<W: Sink>(err: StartErr, out: &mut W) -> u8
-    ensures { Tells (closed_status err) (closed_line err) result (W.seen out.old) (W.seen out.new) }
+    ensures { Tells (closed_end err) result (W.seen out.old) (W.seen out.new) }
 {
     match err {
         StartErr::Bad(key) => {
             let line = refusal_line(&key);
             tell(out, line.as_slice(), 2)
         }
-        StartErr::Failed => tell(out, b"keeper refused\n", 3),
-        StartErr::Memory => tell(out, b"memory refused\n", 6),
+        StartErr::Failed => tell_undone(KeepErr::Failed, out),
+        StartErr::Memory => tell_memory(out),
     }
 }
 
 // The line that names the least bad key.
 fn refusal_line(key: &Key) -> ArrayVec<u8, 80>
-    ensures { result.items ≡ tables_refused key.now }
+    ensures { result.items ≡ (tables_refused (key_text_of key.now)).text }
 {
     let text = key_text(key);
     let mut line = ArrayVec::new();

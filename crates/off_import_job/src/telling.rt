@@ -1,10 +1,8 @@
 ghost use Rattle.std.specs.Prelude.{◌≡◌, ◌≤◌, length, codes};
-ghost use Rattle.off_jobs.specs.Jobs.{Tells};
 ghost use Rattle.off_jobs.specs.Text.{refused};
-ghost use Rattle.off_import_job.specs.Telling.{ended_text, ended_status, unread_text};
-ghost use Rattle.off_import_job.specs.Telling.{unread_status, fault_text, fault_status};
-ghost use Rattle.off_import_job.specs.Telling.{undone_text, undone_status, broken_words, row_words};
-ghost use Rattle.off_import_job.specs.Telling.{rows_line};
+ghost use Rattle.off_jobs.specs.Ending.{Tells};
+ghost use Rattle.off_import_job.specs.Telling.{import_end, fault_end, refusal_end};
+ghost use Rattle.off_import_job.specs.Telling.{broken_words, row_words, rows_line};
 
 use crate::importing::Ended;
 use crate::opening::stay_closed;
@@ -14,59 +12,44 @@ use off_accounts::AccountErr;
 use off_clerk::fault_word;
 use off_clerk_rules::Fault;
 use off_import::{ImportErr, fault_words};
-use off_jobs::{InputErr, Line, numbered_line, refused_line, tell};
+use off_jobs::{Line, numbered_line, refused_line, tell, tell_memory, tell_undone, tell_unread};
 use off_orders::Rule;
-use off_outside::Sink;
+use off_outside::{KeepErr, Sink};
 
 /// Tells what became of an import, and answers the status, or 4 where the sink fails.
 pub(crate) fn tell_end<W: Sink>(ended: Ended, out: &mut W) -> u8
-    ensures { Tells (ended_status ended) (ended_text ended) result
-        (W.seen out.old) (W.seen out.new) }
+    ensures { Tells (import_end ended) result (W.seen out.old) (W.seen out.new) }
 {
     match ended {
         Ended::Closed(err) => stay_closed(err, out),
-        Ended::Unread(err) => tell_unread(err, out),
+        Ended::Unread(err) => tell_unread(err, 9, out),
         Ended::NoImport(err) => tell_fault(err, out),
-        Ended::NotDone(err) => tell_undone(err, out),
+        Ended::NotDone(err) => tell_refusal(err, out),
         Ended::Done(rows) => tell(out, rows_line(rows).as_slice(), 0),
-    }
-}
-
-// Tells why the source wasn't read to its end.
-fn tell_unread<W: Sink>(err: InputErr, out: &mut W) -> u8
-    ensures { Tells (unread_status err) (unread_text err) result
-        (W.seen out.old) (W.seen out.new) }
-{
-    match err {
-        InputErr::TooLong => tell(out, b"refused too-long\n", 9),
-        InputErr::Failed => tell(out, b"source refused\n", 7),
-        InputErr::Memory => tell(out, b"memory refused\n", 6),
     }
 }
 
 // Tells why the bytes are no import.
 fn tell_fault<W: Sink>(err: ImportErr, out: &mut W) -> u8
-    ensures { Tells (fault_status err) (fault_text err) result
-        (W.seen out.old) (W.seen out.new) }
+    ensures { Tells (fault_end err) result (W.seen out.old) (W.seen out.new) }
 {
     match err {
         ImportErr::Fault(fault) => {
             let words = fault_words(fault);
             tell(out, refused_line(words.as_slice()).as_slice(), 9)
         }
-        ImportErr::Memory => tell(out, b"memory refused\n", 6),
+        ImportErr::Memory => tell_memory(out),
     }
 }
 
 // Tells why an import wasn't done.
-fn tell_undone<W: Sink>(err: AccountErr, out: &mut W) -> u8
-    ensures { Tells (undone_status err) (undone_text err) result
-        (W.seen out.old) (W.seen out.new) }
+fn tell_refusal<W: Sink>(err: AccountErr, out: &mut W) -> u8
+    ensures { Tells (refusal_end err) result (W.seen out.old) (W.seen out.new) }
 {
     match err {
         AccountErr::Refused { row, rule } => tell(out, broken_line(row, rule).as_slice(), 9),
-        AccountErr::Failed => tell(out, b"keeper refused\n", 3),
-        AccountErr::Memory => tell(out, b"memory refused\n", 6),
+        AccountErr::Failed => tell_undone(KeepErr::Failed, out),
+        AccountErr::Memory => tell_memory(out),
     }
 }
 

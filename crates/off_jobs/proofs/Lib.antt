@@ -1,3 +1,4 @@
 pub mod InputLemmas
+pub mod EndingLemmas
 pub mod VerdictLemmas
 pub mod JobLemmas

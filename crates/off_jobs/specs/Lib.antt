@@ -1,3 +1,5 @@
 pub mod Input
 pub mod Text
+pub mod Health
+pub mod Ending
 pub mod Jobs

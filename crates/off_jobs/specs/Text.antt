@@ -1,4 +1,4 @@
--- The lines of the jobs.
+-- The words of the jobs.
 use Rattle.std.specs.Prelude.{ℕ, ◌&&◌, List, [], ◌∷◌, ◌++◌, codes, decimal, cond}
 use Rattle.off_tlv.specs.declared.faults.ReadFault.{ReadFault}
 use Rattle.off_tlv.specs.declared.faults.ReadFault.TheVariants.{Cut, NoEnd, AfterEnd, EarlyPad}
@@ -23,15 +23,6 @@ mic_fault_words (mic.Read fault) = read_fault_words fault
 mic_fault_words (mic.NoMic code) = codes "no-mic " ++ decimal code
 mic_fault_words (mic.TwiceMic code) = codes "twice-mic " ++ decimal code
 mic_fault_words (mic.MicLength code) = codes "mic-length " ++ decimal code
-
-abbrev pub too_long : List ℕ
-too_long = refused (codes "too-long")
-
-abbrev pub memory_refused : List ℕ
-memory_refused = codes "memory refused" ++ 10 ∷ []
-
-abbrev pub source_refused : List ℕ
-source_refused = codes "source refused" ++ 10 ∷ []
 
 -- a line for each of the two values
 abbrev pub verdict_text : Verdict → List ℕ

@@ -2,9 +2,9 @@ ghost use Rattle.std.specs.Prelude.{◌≡◌};
 ghost use Rattle.off_jobs.specs.Jobs.{ChecksInput};
 ghost use Rattle.off_jobs.specs.Text.{verdict_text, verdict_status};
 
-use crate::input::{InputErr, read_input};
+use crate::input::read_input;
 use crate::limits::MOST_BYTES;
-use crate::telling::{mic_fault_line, tell};
+use crate::telling::{mic_fault_line, tell, tell_unread};
 use off_mic::{Verdict, verify};
 use off_outside::{Sink, Source};
 use std::alloc::Global;
@@ -28,9 +28,7 @@ pub fn check_input<S: Source, W: Sink>(
             Ok(verdict) => tell(out, answer(verdict), status(verdict)),
             Err(fault) => tell(out, mic_fault_line(fault).as_slice(), 8),
         },
-        Err(InputErr::TooLong) => tell(out, b"refused too-long\n", 8),
-        Err(InputErr::Failed) => tell(out, b"source refused\n", 7),
-        Err(InputErr::Memory) => tell(out, b"memory refused\n", 6),
+        Err(err) => tell_unread(err, 8, out),
     }
 }
 

@@ -11,4 +11,4 @@ mod telling;
 pub use checking::check_input;
 pub use input::{InputErr, read_input};
 pub use sealing::seal_input;
-pub use telling::{Line, numbered_line, refused_line, tell};
+pub use telling::{Line, numbered_line, refused_line, tell, tell_memory, tell_undone, tell_unread};

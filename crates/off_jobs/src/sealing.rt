@@ -1,8 +1,8 @@
 ghost use Rattle.off_jobs.specs.Jobs.{SealsInput};
 
-use crate::input::{InputErr, read_input};
+use crate::input::read_input;
 use crate::limits::MOST_BYTES;
-use crate::telling::{read_fault_line, tell};
+use crate::telling::{read_fault_line, tell, tell_memory, tell_unread};
 use off_mic::seal;
 use off_outside::{Sink, Source};
 use off_tlv::FileErr;
@@ -26,10 +26,8 @@ pub fn seal_input<S: Source, W: Sink>(
         Ok(file) => match seal(alloc, file.as_slice(), secret) {
             Ok(sealed) => tell(out, sealed.as_slice(), 0),
             Err(FileErr::Read(fault)) => tell(out, read_fault_line(fault).as_slice(), 9),
-            Err(FileErr::Memory) => tell(out, b"memory refused\n", 6),
+            Err(FileErr::Memory) => tell_memory(out),
         },
-        Err(InputErr::TooLong) => tell(out, b"refused too-long\n", 9),
-        Err(InputErr::Failed) => tell(out, b"source refused\n", 7),
-        Err(InputErr::Memory) => tell(out, b"memory refused\n", 6),
+        Err(err) => tell_unread(err, 9, out),
     }
 }

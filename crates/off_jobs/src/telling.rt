@@ -1,12 +1,12 @@
 ghost use Rattle.std.specs.Prelude.{◌≡◌, ◌≤◌, ◌++◌, ◌∷◌, [], length, codes, decimal};
 ghost use Rattle.off_jobs.specs.Text.{refused, read_fault_words, mic_fault_words};
-ghost use Rattle.off_jobs.specs.Jobs.{Tells};
+ghost use Rattle.off_jobs.specs.Ending.{Tells, ending_of, memory_refused, undone_end, unread_end};
 
 use crate::input::InputErr;
 use arrayvec::ArrayVec;
 use itoa::Buffer;
 use off_mic::MicFault;
-use off_outside::{Failed, Sink};
+use off_outside::{Failed, KeepErr, Sink};
 use off_tlv::ReadFault;
 
 /// Room for `refused`, the word of a fault or of a rule, and a number.
@@ -14,12 +14,42 @@ pub type Line = ArrayVec<u8, 96>;
 
 /// Writes a text, and answers its status, or 4 where the sink fails.
 pub fn tell<W: Sink>(out: &mut W, text: &[u8], status: u8) -> u8
-    ensures { Tells status text.now result (W.seen out.old) (W.seen out.new) }
+    ensures { Tells (ending_of status text.now) result (W.seen out.old) (W.seen out.new) }
 {
     match out.write(text) {
         Ok(()) => status,
         Err(Failed) => 4,
     }
+}
+
+/// Tells why a source wasn't read to its end, and answers the status: `own` for too many bytes, 7
+/// where the source failed, 6 where memory was refused, or 4 where the sink fails.
+pub fn tell_unread<W: Sink>(err: InputErr, own: u8, out: &mut W) -> u8
+    ensures { Tells (unread_end own err) result (W.seen out.old) (W.seen out.new) }
+{
+    match err {
+        InputErr::TooLong => tell(out, b"refused too-long\n", own),
+        InputErr::Failed => tell(out, b"source refused\n", 7),
+        InputErr::Memory => tell_memory(out),
+    }
+}
+
+/// Tells why the keeper didn't do what it was to do, and answers the status: 3 where it failed, 6
+/// where memory was refused, or 4 where the sink fails.
+pub fn tell_undone<W: Sink>(err: KeepErr, out: &mut W) -> u8
+    ensures { Tells (undone_end err) result (W.seen out.old) (W.seen out.new) }
+{
+    match err {
+        KeepErr::Failed => tell(out, b"keeper refused\n", 3),
+        KeepErr::Memory => tell_memory(out),
+    }
+}
+
+/// Tells that memory was refused, and answers the status: 6, or 4 where the sink fails.
+pub fn tell_memory<W: Sink>(out: &mut W) -> u8
+    ensures { Tells memory_refused result (W.seen out.old) (W.seen out.new) }
+{
+    tell(out, b"memory refused\n", 6)
 }
 
 /// The line for a file that the grammar refuses.

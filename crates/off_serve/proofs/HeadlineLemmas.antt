@@ -1,12 +1,12 @@
 -- From the loop and the run's own line to the headline.
-use Rattle.std.proofs.Common.{◌≡◌, ◌≢◌, ℕ, ◌<◌, ◌⊎◌, List, [], All, Option, Some, MatchOption, refl, ap, ◌∙◌, subst, inl, inr, arith}
+use Rattle.std.proofs.Common.{◌≡◌, ◌≢◌, ℕ, ◌⊎◌, List, [], ◌∷◌, All, Option, Some, MatchOption, refl, ap, ◌∙◌, subst, inl, inr, arith}
 use Rattle.off_defs.specs.Told.{Told}
 use Rattle.off_defs.specs.declared.writes.Write.{Write}
 use Rattle.off_defs.specs.State.{Tables, State, Held, held_at_start, start, state_of}
 use Rattle.off_book.specs.Crashes.{Lasts}
 use Rattle.off_book.proofs.CrashLemmas.{lasts_run, lasts_doubt}
 use Rattle.off_book.specs.Words.{Job}
-use Rattle.off_book.specs.Run.{Turn, SaysMemory, commits_by, lost_by}
+use Rattle.off_book.specs.Run.{Turn, SaysMemory, commits_by, lost_by, lines_from}
 use Rattle.off_book.proofs.StepLemmas.{turns_did}
 use Rattle.off_defs.proofs.CountLemmas.{later_grew}
 use Rattle.off_defs.proofs.ToldLemmas.{stays_self}
@@ -14,7 +14,7 @@ use Rattle.off_account_rules.specs.Good.{Good}
 use Rattle.off_account_rules.specs.Migration.{migrated}
 use Rattle.off_outside.specs.LinkSeen.{LinkSeen}
 use Rattle.off_outside.specs.KeeperSeen.{KeeperSeen, Rests}
-use Rattle.off_defs.specs.Counts.{Grew, one_more, most_count}
+use Rattle.off_defs.specs.Counts.{Grew, one_more}
 use Rattle.off_outside.specs.KeeperCalls.{Settled}
 use Rattle.off_outside.specs.LinkCalls.{LinkUnasked}
 use Rattle.off_laws.proofs.Stretches.{leases_hold_through}
@@ -35,27 +35,28 @@ use Rattle.off_outside.specs.Streams.{SinkSeen}
 use Rattle.off_office.specs.Desk.{Desk}
 use Rattle.off_office.specs.Acting.{NotStarted}
 use Rattle.off_office.specs.declared.office.StartErr.{StartErr}
-use Rattle.off_office.specs.declared.office.StartErr.TheVariants as start_err
 use Rattle.off_serve.specs.declared.serving.Stop.{Stop}
 use Rattle.off_serve.specs.declared.serving.Stop.TheVariants as stop
 use Rattle.off_serve.specs.Serving.{World, world_of}
-use Rattle.off_jobs.specs.Jobs.{Tells}
-use Rattle.off_jobs.specs.Text.{memory_refused}
-use Rattle.off_import_job.specs.Opening.{closed_status, closed_line}
-use Rattle.off_serve.specs.Headline.{WroteText, CutText, LastsIn, RanTurns, KeeperRan, RanFrom, RanOffice, Stops, Served, OwnLine, Ended, Ends, NoFault, AllUp, Completed, ServesAsOffice, own_writes, link_refused}
-use Rattle.off_serve.proofs.ServeLemmas.{wrote_more, wrote_same, wrote_none, cut_more, cut_same}
+use Rattle.off_jobs.specs.Ending.{Ending, Tells, link_refused, memory_refused}
+use Rattle.off_jobs.specs.Health.{NoFault, AllUp}
+use Rattle.off_jobs.proofs.EndingLemmas.{stands, kept, ends_by, sink_kept as told_kept}
+use Rattle.off_import_job.specs.Opening.{closed_end}
+use Rattle.off_import_job.proofs.ClosedLemmas.{closed_status, closed_kept}
+use Rattle.off_serve.specs.Headline.{WroteText, CutText, LastsIn, RanTurns, KeeperRan, RanFrom, RanOffice, Stops, Served, OwnLine, Ended, Ends, all_of, Completed, ServesAsOffice, own_writes}
+use Rattle.off_serve.proofs.ServeLemmas.{wrote_more, wrote_same, cut_more, cut_same}
 use Rattle.off_office.proofs.UpLemmas.{up_chain}
 
-own_line : (of : ℕ) (own text : List ℕ) (status : ℕ) (a b c : SinkSeen) → WroteText text a b → Tells of own status b c → OwnLine of own text status a c
-own_line of own text status a b c wrote (inl w) = inl (w.0, wrote_more wrote w.1)
-own_line of own text status a b c wrote (inr w) = inr (w.0, cut_more wrote w.1)
+own_line : (own : Ending) (text : List ℕ) (status : ℕ) (a b c : SinkSeen) → WroteText text a b → Tells own status b c → OwnLine own text status a c
+own_line own text status a b c wrote (inl w) = inl (w.0, wrote_more wrote w.1)
+own_line own text status a b c wrote (inr w) = inr (w.0, cut_more wrote w.1)
 
 ends_of : (reason : Stop) (budget : ℕ) (turns : List Turn) (link link' : LinkSeen) (j k k' : KeeperSeen) (a b c : SinkSeen) (status : ℕ)
     → Stops reason budget turns (world_of link j a) (world_of link' k' b) → Ended reason status b c → Ends reason budget turns (world_of link k a) (world_of link' k' c) status
 ends_of stop.Finished budget turns link link' j k k' a b c status stops ended =
     (ended.0, record { cause = stops.cause; missed = stops.missed; faults = stops.faults; text = wrote_same stops.text ended.1 })
-ends_of stop.Memory budget turns link link' j k k' a b c status stops ended = (stops.0, own_line _ _ _ status a b c stops.1 ended)
-ends_of stop.Link budget turns link link' j k k' a b c status stops ended = (stops.0, own_line _ _ _ status a b c stops.1 ended)
+ends_of stop.Memory budget turns link link' j k k' a b c status stops ended = (stops.0, own_line memory_refused (lines_from 1 turns) status a b c stops.1 ended)
+ends_of stop.Link budget turns link link' j k k' a b c status stops ended = (stops.0, own_line link_refused (lines_from 1 turns) status a b c stops.1 ended)
 ends_of stop.Sink budget turns link link' j k k' a b c status stops ended = (
   ended.0,
   record {
@@ -68,23 +69,28 @@ ends_of stop.Sink budget turns link link' j k k' a b c status stops ended = (
   },
 )
 
--- a text that was cut off counted a fault
-cut_counts : {old new : World} {text last : List ℕ} → NoFault old new → CutText text last old.sink new.sink → ⊥
-cut_counts none cut = omega (arith, none.sink, none.sink_count, cut.faults.grew)
+-- ---- where no count rose
 
-status_of : (reason : Stop) (budget : ℕ) (turns : List Turn) (old new : World) (status : ℕ) → NoFault old new → status ≢ 6 → Ends reason budget turns old new status → status ≡ 0
+abbrev Calm : World → World → Type 0
+Calm old new = NoFault (all_of old new)
+
+-- a text that was cut off counted a fault
+cut_counts : (old new : World) {text last : List ℕ} → Calm old new → CutText text last old.sink new.sink → ⊥
+cut_counts old new none cut = stands none.1.1.0 cut.faults
+
+status_of : (reason : Stop) (budget : ℕ) (turns : List Turn) (old new : World) (status : ℕ) → Calm old new → status ≢ 6 → Ends reason budget turns old new status → status ≡ 0
 status_of stop.Finished budget turns old new status none other ends = ends.0
 status_of stop.Memory budget turns old new status none other ends =
-    elim ends.1 [ inl w ↦ absurd (other w.0) | inr w ↦ absurd (cut_counts none w.1) ]
-status_of stop.Link budget turns old new status none other ends = absurd (omega (arith, none.faults, none.faults_count, ends.0.faults.faults.grew.grew))
-status_of stop.Sink budget turns old new status none other ends = absurd (cut_counts none ends.1.text)
+    elim ends.1 [ inl w ↦ absurd (other w.0) | inr w ↦ absurd (cut_counts old new none w.1) ]
+status_of stop.Link budget turns old new status none other ends = absurd (omega (arith, none.0.0.same, none.0.0.room, ends.0.faults.faults.grew.grew))
+status_of stop.Sink budget turns old new status none other ends = absurd (cut_counts old new none ends.1.text)
 
 complete_of : (reason : Stop) (budget : ℕ) (turns : List Turn) (held : Held) (old new : World) (status : ℕ) → RanTurns turns old.link new.link
     → RanOffice turns held old.keeper new.keeper → Ends reason budget turns old new status
-    → NoFault old new → All (λ (turn : Turn). ¬ (SaysMemory turn)) turns → status ≢ 6 → Completed turns status
+    → Calm old new → All (λ (turn : Turn). ¬ (SaysMemory turn)) turns → status ≢ 6 → Completed turns status
 complete_of reason budget turns held old new status ran office ends none silent other =
-    let did = turns_did turns office.tell (omega (arith, none.keeper, none.keeper_count, office.keeper.faults.grew)) silent in
-    let lost : lost_by turns ≡ 0 = omega (arith, none.unsent, none.unsent_count, ran.unsent.grew.grew) in
+    let did = turns_did turns office.tell (omega (arith, none.1.0.same, none.1.0.room, office.keeper.faults.grew)) silent in
+    let lost : lost_by turns ≡ 0 = omega (arith, none.0.1.same, none.0.1.room, ran.unsent.grew.grew) in
     record {
       did = did;
       lost = lost;
@@ -94,13 +100,13 @@ complete_of reason budget turns held old new status ran office ends none silent 
 
 -- and each modem is served
 each_served : (turns : List Turn) (old new : World) (status : ℕ) (t : Tables) → Good t
-    → (NoFault old new → All (λ turn. ¬ (SaysMemory turn)) turns → status ≢ 6 → Completed turns status)
-    → NoFault old new → All (λ turn. ¬ (SaysMemory turn)) turns → status ≢ 6 → ModemsAreServed Anyhow (start t) turns
+    → (Calm old new → All (λ turn. ¬ (SaysMemory turn)) turns → status ≢ 6 → Completed turns status)
+    → Calm old new → All (λ turn. ¬ (SaysMemory turn)) turns → status ≢ 6 → ModemsAreServed Anyhow (start t) turns
 each_served turns old new status t good complete none silent other = all_are_served (start t) turns good (complete none silent other).well
 
 each_device_served : (turns : List Turn) (old new : World) (status : ℕ) (t : Tables) → Good t
-    → (NoFault old new → All (λ turn. ¬ (SaysMemory turn)) turns → status ≢ 6 → Completed turns status)
-    → NoFault old new → All (λ turn. ¬ (SaysMemory turn)) turns → status ≢ 6 → DevicesAreServed Anyhow (start t) turns
+    → (Calm old new → All (λ turn. ¬ (SaysMemory turn)) turns → status ≢ 6 → Completed turns status)
+    → Calm old new → All (λ turn. ¬ (SaysMemory turn)) turns → status ≢ 6 → DevicesAreServed Anyhow (start t) turns
 each_device_served turns old new status t good complete none silent other = all_devices_are_served (start t) turns good (complete none silent other).well
 
 -- what the turns did to the keeper, behind the opening
@@ -166,57 +172,35 @@ good_again opened ran = record {
       record { value = g.value; told = g.told; fits = (g.fits o.fits.1).good };
 }
 
-own_one : (of : ℕ) (own : List ℕ) (status : ℕ) (a b : SinkSeen) → Tells of own status a b → b.calls ≡ one_more a.calls
-own_one of own status a b (inl w) = w.1.calls
-own_one of own status a b (inr w) = w.1.calls
+own_one : (own : Ending) (status : ℕ) (a b : SinkSeen) → Tells own status a b → b.calls ≡ one_more a.calls
+own_one own status a b (inl w) = w.1.calls
+own_one own status a b (inr w) = w.1.calls
 
 ended_writes : (reason : Stop) (status : ℕ) (a b : SinkSeen) → Ended reason status a b → b.calls ≡ own_writes reason a.calls
 ended_writes stop.Finished status a b ended = ended.1.calls
-ended_writes stop.Memory status a b ended = own_one 6 memory_refused status a b ended
-ended_writes stop.Link status a b ended = own_one 5 link_refused status a b ended
+ended_writes stop.Memory status a b ended = own_one memory_refused status a b ended
+ended_writes stop.Link status a b ended = own_one link_refused status a b ended
 ended_writes stop.Sink status a b ended = ended.1.calls
 
--- where a count didn't rise, what stays up by it is up
-up_kept : {P : Type 0} (x y : ℕ) → y ≡ x → x < most_count → P ⊎ Grew 1 x y → P
-up_kept x y same fits (inl up) = up
-up_kept x y same fits (inr grew) = absurd (omega (arith, same, fits, grew.grew))
-
-link_kept : (old new : World) → NoFault old new → new.link.up ⊎ (Grew 1 old.link.faults new.link.faults ⊎ Grew 1 old.link.unsent new.link.unsent) → new.link.up
+link_kept : (old new : World) → Calm old new → new.link.up ⊎ (Grew 1 old.link.faults new.link.faults ⊎ Grew 1 old.link.unsent new.link.unsent) → new.link.up
 link_kept old new none (inl up) = up
-link_kept old new none (inr (inl grew)) = absurd (omega (arith, none.faults, none.faults_count, grew.grew))
-link_kept old new none (inr (inr grew)) = absurd (omega (arith, none.unsent, none.unsent_count, grew.grew))
+link_kept old new none (inr (inl grew)) = absurd (stands none.0.0 grew)
+link_kept old new none (inr (inr grew)) = absurd (stands none.0.1 grew)
 
-own_kept : (of : ℕ) (own text : List ℕ) (status : ℕ) (old new : World) → NoFault old new → OwnLine of own text status old.sink new.sink → old.sink.up → new.sink.up
-own_kept of own text status old new none (inl wrote) up = wrote.1.up up
-own_kept of own text status old new none (inr cut) up = absurd (cut_counts none cut.1)
+own_kept : (own : Ending) (text : List ℕ) (status : ℕ) (old new : World) → Calm old new → OwnLine own text status old.sink new.sink → old.sink.up → new.sink.up
+own_kept own text status old new none (inl wrote) up = wrote.1.up up
+own_kept own text status old new none (inr cut) up = absurd (cut_counts old new none cut.1)
 
-sink_kept : (reason : Stop) (budget : ℕ) (turns : List Turn) (old new : World) (status : ℕ) → NoFault old new → Ends reason budget turns old new status → old.sink.up → new.sink.up
+sink_kept : (reason : Stop) (budget : ℕ) (turns : List Turn) (old new : World) (status : ℕ) → Calm old new → Ends reason budget turns old new status → old.sink.up → new.sink.up
 sink_kept stop.Finished budget turns old new status none ends up = ends.1.text.up up
-sink_kept stop.Memory budget turns old new status none ends up = own_kept _ _ _ status old new none ends.1 up
-sink_kept stop.Link budget turns old new status none ends up = own_kept _ _ _ status old new none ends.1 up
-sink_kept stop.Sink budget turns old new status none ends up = absurd (cut_counts none ends.1.text)
+sink_kept stop.Memory budget turns old new status none ends up = own_kept memory_refused (lines_from 1 turns) status old new none ends.1 up
+sink_kept stop.Link budget turns old new status none ends up = own_kept link_refused (lines_from 1 turns) status old new none ends.1 up
+sink_kept stop.Sink budget turns old new status none ends up = absurd (cut_counts old new none ends.1.text)
 
 all_kept : (reason : Stop) (budget : ℕ) (turns : List Turn) (held : Held) (old new : World) (status : ℕ) → RanTurns turns old.link new.link
-    → RanOffice turns held old.keeper new.keeper → Ends reason budget turns old new status → NoFault old new → AllUp old new
-all_kept reason budget turns held old new status ran office ends none = record {
-  link = λ up. link_kept old new none (ran.up up);
-  keeper = λ up. up_kept old.keeper.faults new.keeper.faults none.keeper none.keeper_count (office.keeper.up up);
-  sink = sink_kept reason budget turns old new status none ends;
-}
-
--- an office that didn't open has asked its keeper to read alone
-closed_keeper : (why : StartErr) (old new : World) → NotStarted why old.keeper new.keeper → NoFault old new → old.keeper.up → new.keeper.up
-closed_keeper (start_err.Bad key) old new tables none up = tables.quiet.up up
-closed_keeper start_err.Failed old new tables none up = up_kept old.keeper.faults new.keeper.faults none.keeper none.keeper_count (tables.up up)
-closed_keeper start_err.Memory old new tables none up = up_kept old.keeper.faults new.keeper.faults none.keeper none.keeper_count (tables.up up)
-
-closed_kept : (why : StartErr) (old new : World) (status : ℕ) → LinkUnasked old.link new.link → NotStarted why old.keeper new.keeper
-    → OwnLine (closed_status why) (closed_line why) [] status old.sink new.sink → NoFault old new → AllUp old new
-closed_kept why old new status same tables text none = record {
-  link = same.up;
-  keeper = closed_keeper why old new tables none;
-  sink = own_kept (closed_status why) (closed_line why) [] status old new none text;
-}
+    → RanOffice turns held old.keeper new.keeper → Ends reason budget turns old new status → Calm old new → AllUp (all_of old new)
+all_kept reason budget turns held old new status ran office ends none =
+    (λ up. link_kept old new none (ran.up up), (λ up. kept none.1.0 (office.keeper.up up), (sink_kept reason budget turns old new status none ends, tt)))
 
 pub serves : (budget : ℕ) (link link' : LinkSeen) (k l m : KeeperSeen) (a b c : SinkSeen) (reason : Stop) (first last : Desk) (status : ℕ)
     → Rests k → Opened first k l → first.held ≡ held_at_start
@@ -251,30 +235,16 @@ serves budget link link' k l m a b c reason first last status rests opened fresh
       all_devices = λ t told. each_device_served served.turns (world_of link k a) (world_of link' m c) status (migrated t) (opened_good opened t told) complete;
     })
 
-closed_complete : (why : StartErr) (old new : World) (status : ℕ) → NotStarted why old.keeper new.keeper
-    → OwnLine (closed_status why) (closed_line why) [] status old.sink new.sink → NoFault old new → status ≢ 6 → status ≡ 2
-closed_complete why old new status tables (inr w) none other = absurd (cut_counts none w.1)
-closed_complete (start_err.Bad key) old new status tables (inl w) none other = w.0
-closed_complete start_err.Failed old new status tables (inl w) none other = absurd (omega (arith, none.keeper, none.keeper_count, tables.faults.grew))
-closed_complete start_err.Memory old new status tables (inl w) none other = absurd (other w.0)
-
 -- the link isn't asked
-pub link_unasked : (link : LinkSeen) → LinkUnasked link link
+link_unasked : (link : LinkSeen) → LinkUnasked link link
 link_unasked link = record { left = stays_self; sent = stays_self; up = λ up. up; missed = refl; longest = refl; faults = refl; unsent = refl }
 
-pub stays_closed : (budget : ℕ) (link : LinkSeen) (k l : KeeperSeen) (a b : SinkSeen) (why : StartErr) (status : ℕ)
-    → LinkUnasked link link → NotStarted why k l → Tells (closed_status why) (closed_line why) status a b → ServesAsOffice budget (world_of link k a) (world_of link l b) status
-stays_closed budget link k l a b why status same tables wrote =
-    let text = own_line (closed_status why) (closed_line why) [] status a a b (wrote_none a) wrote in
-    inl (record {
-      why = why;
-      tables = tables;
-      link = same;
-      writes = own_one (closed_status why) (closed_line why) status a b wrote;
-      text = text;
-      up = closed_kept why (world_of link k a) (world_of link l b) status same tables text;
-      complete = closed_complete why (world_of link k a) (world_of link l b) status tables text;
-    })
+pub stays_closed : (budget : ℕ) (link : LinkSeen) (k l : KeeperSeen) (a b : SinkSeen) (why : StartErr) (status : ℕ) → NotStarted why k l → Tells (closed_end why) status a b
+    → ServesAsOffice budget (world_of link k a) (world_of link l b) status
+stays_closed budget link k l a b why status tables told =
+    let same = link_unasked link in
+    inl (ends_by why (tables, same) told (λ none. none.1.1.0) (λ none. closed_status why (2 ∷ 6 ∷ []) k l tables none.1.0 (0, omega arith, refl) (1, omega arith, refl))
+    (λ none. (same.up, (closed_kept why k l tables none.1.0, (told_kept told none.1.1.0, tt)))))
 
 -- the words that were read are those of the book
 pub by_words : (P : Type 0) (Q : Job → Type 0) (form : Job) (words : Option Job) → Some form ≡ words → Q form → MatchOption words P Q

@@ -1,9 +1,9 @@
 -- The promise of `run`: whatever events come, lost, repeated or interleaved, `serve` sends and
 -- writes what a run of the abstract office does, and only want of memory or a counted fault departs
 -- from it.
-use Rattle.std.specs.Prelude.{◌≡◌, ℕ, ◌+◌, ◌-◌, ◌*◌, ◌<◌, ◌≤◌, true, List, [], ◌∷◌, ◌++◌, length, drop, max, All, codes, ◌⊎◌, ◌≢◌}
+use Rattle.std.specs.Prelude.{◌≡◌, ℕ, ◌+◌, ◌-◌, ◌*◌, ◌<◌, ◌≤◌, true, List, [], ◌∷◌, ◌++◌, length, drop, max, All, ◌⊎◌, ◌≢◌}
 use Rattle.off_defs.specs.Told.{Told}
-use Rattle.off_defs.specs.Counts.{Grew, Tallied, one_more, most_count, commits_after}
+use Rattle.off_defs.specs.Counts.{Grew, Tallied, one_more, commits_after}
 use Rattle.off_defs.specs.declared.writes.Write.{Write}
 use Rattle.off_defs.specs.State.{Tables, State, Held, state_of, start}
 use Rattle.off_defs.specs.declared.results.Outcome.TheVariants as outcome
@@ -27,14 +27,14 @@ use Rattle.off_outside.specs.LinkCalls.{LinkUnasked, LinkStaysUp}
 use Rattle.off_office.specs.Opening.{LeavesOpening, doubt_opened}
 use Rattle.off_office.specs.Conditions.{WhereFit, StaysFit}
 use Rattle.off_office.specs.Acting.{NotStarted}
-use Rattle.off_office.specs.declared.office.StartErr.{StartErr}
 use Rattle.off_outside.specs.Streams.{SourceSeen, SourceUnasked, SinkSeen, SinkUnasked, SinkStaysUp, HasFront}
 use Rattle.off_book.specs.Words.{Job, to_serve, to_import, to_drill, to_seal, to_check}
-use Rattle.off_import_job.specs.Opening.{closed_status, closed_line}
+use Rattle.off_import_job.specs.Opening.{closed_end}
 use Rattle.off_import_job.specs.Importing.{Imports}
 use Rattle.off_drill_job.specs.Drilling.{Drills}
-use Rattle.off_jobs.specs.Jobs.{Tells, SealsInput, ChecksInput}
-use Rattle.off_jobs.specs.Text.{memory_refused}
+use Rattle.off_jobs.specs.Health.{Health, of_link, of_keeper, of_sink, NoFault, AllUp}
+use Rattle.off_jobs.specs.Ending.{Ending, words_refused, link_refused, memory_refused, Tells, JobEnds}
+use Rattle.off_jobs.specs.Jobs.{SealsInput, ChecksInput}
 use Rattle.off_serve.specs.Serving.{World, world_of, most_missed}
 use Rattle.off_serve.specs.declared.serving.Stop.{Stop}
 use Rattle.off_serve.specs.declared.serving.Stop.TheVariants as stop
@@ -190,21 +190,16 @@ pub record Served (reason : Stop) (budget : ℕ) (first last : Desk) (old new : 
 
 -- the run's own line was written behind the text, and the status is the line's; or it was cut off,
 -- and the status is 4
-abbrev pub OwnLine : ℕ → List ℕ → List ℕ → ℕ → SinkSeen → SinkSeen → Type 0
-OwnLine of own text status old new =
-    ((status ≡ of) × WroteText (text ++ own) old new) ⊎ ((status ≡ 4) × CutText text own old new)
-
-abbrev pub words_refused : List ℕ
-words_refused = codes "words refused" ++ 10 ∷ []
-
-abbrev pub link_refused : List ℕ
-link_refused = codes "link refused" ++ 10 ∷ []
+abbrev pub OwnLine : Ending → List ℕ → ℕ → SinkSeen → SinkSeen → Type 0
+OwnLine own text status old new =
+    ((status ≡ own.status) × WroteText (text ++ own.text) old new)
+    ⊎ ((status ≡ 4) × CutText text own.text old new)
 
 -- the end of the run: its own line, where it has one, and the status
 abbrev pub Ended : Stop → ℕ → SinkSeen → SinkSeen → Type 0
 Ended stop.Finished status old new = (status ≡ 0) × SinkUnasked old new
-Ended stop.Memory status old new = Tells 6 memory_refused status old new
-Ended stop.Link status old new = Tells 5 link_refused status old new
+Ended stop.Memory status old new = Tells memory_refused status old new
+Ended stop.Link status old new = Tells link_refused status old new
 Ended stop.Sink status old new = (status ≡ 4) × SinkUnasked old new
 
 -- what was written at the end, and the status. 0: all turns were taken, or an End; 4: the sink
@@ -214,28 +209,16 @@ abbrev pub Ends : Stop → ℕ → List Turn → World → World → ℕ → Typ
 Ends stop.Finished budget turns old new status = (status ≡ 0) × Finished budget turns old new
 Ends stop.Memory budget turns old new status =
     LackedMemory budget turns old.link new.link
-    × OwnLine 6 memory_refused (lines_from 1 turns) status old.sink new.sink
+    × OwnLine memory_refused (lines_from 1 turns) status old.sink new.sink
 Ends stop.Link budget turns old new status =
     LostLink budget turns old.link new.link
-    × OwnLine 5 link_refused (lines_from 1 turns) status old.sink new.sink
+    × OwnLine link_refused (lines_from 1 turns) status old.sink new.sink
 Ends stop.Sink budget turns old new status = (status ≡ 4) × SinkRefused turns old new
 
--- no count rose, and none stood at the greatest number
-pub record NoFault (old new : World) : Type 0 where
-  pub faults : new.link.faults ≡ old.link.faults
-  pub faults_count : old.link.faults < most_count
-  pub unsent : new.link.unsent ≡ old.link.unsent
-  pub unsent_count : old.link.unsent < most_count
-  pub keeper : new.keeper.faults ≡ old.keeper.faults
-  pub keeper_count : old.keeper.faults < most_count
-  pub sink : new.sink.faults ≡ old.sink.faults
-  pub sink_count : old.sink.faults < most_count
-
--- what was up is up
-pub record AllUp (old new : World) : Type 0 where
-  pub link : old.link.up → new.link.up
-  pub keeper : old.keeper.up → new.keeper.up
-  pub sink : old.sink.up → new.sink.up
+-- `serve` needs all of its world
+abbrev pub all_of : World → World → List Health
+all_of old new =
+    of_link old.link new.link ∷ of_keeper old.keeper new.keeper ∷ of_sink old.sink new.sink ∷ []
 
 -- every event had its outcome, every item went out, and the status is 0
 pub record Completed (turns : List Turn) (status : ℕ) : Type 0 where
@@ -246,16 +229,12 @@ pub record Completed (turns : List Turn) (status : ℕ) : Type 0 where
 
 -- The office didn't open: 2, the tables don't open, and the line names their least bad key; 3, the
 -- keeper failed; 6, memory was wanted. No event is taken, nothing is sent, and the tables stay; where
--- the keeper failed a crash may leave what the opening would have made of them.
-pub record StaysClosed (old new : World) (status : ℕ) : Type 0 where
-  pub why : StartErr
-  pub tables : NotStarted why old.keeper new.keeper
-  pub link : LinkUnasked old.link new.link
-  pub writes : new.sink.calls ≡ one_more old.sink.calls
-  pub text : OwnLine (closed_status why) (closed_line why) [] status old.sink new.sink
-  pub up : NoFault old new → AllUp old new
-  -- where no count rose and memory wasn't wanted, the tables don't open
-  pub complete : NoFault old new → status ≢ 6 → status ≡ 2
+-- the keeper failed a crash may leave what the opening would have made of them. Where no count rose
+-- and memory wasn't wanted, the tables don't open.
+abbrev pub StaysClosed : World → World → ℕ → Type 0
+StaysClosed old new status =
+    JobEnds (λ why. NotStarted why old.keeper new.keeper × LinkUnasked old.link new.link) closed_end
+    (2 ∷ 6 ∷ []) (all_of old new) status old.sink new.sink
 
 -- a counter of writes behind the own line of the end, where there is one
 abbrev pub own_writes : Stop → ℕ → ℕ
@@ -310,15 +289,15 @@ pub record RunsAsOffice (budget : ℕ) (old new : World) (status : ℕ) : Type 0
   pub ends : Ends reason budget turns old new status
   pub writes : new.sink.calls ≡ own_writes reason (writes_by turns old.sink.calls)
   -- where no count rose, what is told of the link, the tables and the sink is one value each
-  pub up : NoFault old new → AllUp old new
+  pub up : NoFault (all_of old new) → AllUp (all_of old new)
   -- where no count rose and no line says `memory`, nothing departs from the run
-  pub complete : NoFault old new → All (λ turn. ¬ (SaysMemory turn)) turns → status ≢ 6
+  pub complete : NoFault (all_of old new) → All (λ turn. ¬ (SaysMemory turn)) turns → status ≢ 6
       → Completed turns status
   -- and each modem and each device is served, of whose turns nothing is asked
-  pub all_modems : (t : Tables) → old.keeper.tables t → NoFault old new
+  pub all_modems : (t : Tables) → old.keeper.tables t → NoFault (all_of old new)
       → All (λ turn. ¬ (SaysMemory turn)) turns → status ≢ 6
       → ModemsAreServed Anyhow (start (migrated t)) turns
-  pub all_devices : (t : Tables) → old.keeper.tables t → NoFault old new
+  pub all_devices : (t : Tables) → old.keeper.tables t → NoFault (all_of old new)
       → All (λ turn. ¬ (SaysMemory turn)) turns → status ≢ 6
       → DevicesAreServed Anyhow (start (migrated t)) turns
 
@@ -330,8 +309,7 @@ ServesAsOffice budget old new status =
 pub record RefusesWords (old new : World) (status : ℕ) : Type 0 where
   pub link : LinkUnasked old.link new.link
   pub keeper : Unasked old.keeper new.keeper
-  pub writes : new.sink.calls ≡ one_more old.sink.calls
-  pub text : OwnLine 1 words_refused [] status old.sink new.sink
+  pub told : Tells words_refused status old.sink new.sink
 
 -- what is seen of the whole outside
 pub record Outside : Type 1 where

@@ -9,7 +9,7 @@ use crate::jobs::{Asked, read_words};
 use crate::turning::{Turned, take_turn};
 use off_drill_job::drill;
 use off_import_job::{import_input, stay_closed};
-use off_jobs::{check_input, seal_input, tell};
+use off_jobs::{check_input, seal_input, tell, tell_memory};
 use off_office::Office;
 use off_outside::{Keeper, Link, Sink, Source};
 use std::alloc::Global;
@@ -118,7 +118,7 @@ fn finish<W: Sink>(stop: Stop, out: &mut W) -> u8
 {
     match stop {
         Stop::Finished => 0,
-        Stop::Memory => tell(out, b"memory refused\n", 6),
+        Stop::Memory => tell_memory(out),
         Stop::Link => tell(out, b"link refused\n", 5),
         Stop::Sink => 4,
     }
