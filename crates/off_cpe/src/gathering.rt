@@ -29,9 +29,9 @@ use off_readers::{read_held, read_lease, read_modem, read_site, read_subscriber}
 use off_runs::FreeRuns;
 use std::alloc::Global;
 
-/// The rows by which the message is judged: four calls of the keeper at most, and one more where the
-/// modem's row isn't read yet. The pool and the modem's hub are what is known of them, and so are
-/// the leases behind the modem.
+/// The rows by which the message is judged: four calls of the keeper at most, and one more where
+/// the modem's row isn't read yet. The pool and the modem's hub are what is known of them, and so
+/// are the leases behind the modem.
 #[tactic(auto, using(crate::proofs::Chain::rows))]
 pub(crate) fn gather<K: Keeper>(
     alloc: Global,

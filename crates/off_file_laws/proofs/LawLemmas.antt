@@ -26,7 +26,7 @@ use Rattle.off_defs.specs.Tables.{row_at}
 use Rattle.off_account_rules.specs.Rows.{class_is_good, add_on_is_good, possible, as_class, as_add_on, subscriber_in, modem_in, class_in, add_on_in}
 use Rattle.off_defs.specs.Bounds.{add_on_numbers}
 use Rattle.off_file_rules.specs.Profile.{profile_of, numbered_add_on, add_ons_in, profile_at, profile_in}
-use Rattle.off_file_rules.specs.File.{stamps, with_stamps, IsBuilt}
+use Rattle.off_file_rules.specs.File.{stamps, with_stamps, most_file_bytes, IsBuilt}
 use Rattle.off_file_laws.specs.Laws.{Agree, own_codes, ProfilesAgree, ProfilesSpell, SpellsProfile, OwnSettingsOnce, FileIsOne, FileIsThere, FilesAreShort, FilesBoot}
 use Rattle.off_file_laws.proofs.AgreeLemmas.{AllGood, profile_agrees}
 use Rattle.off_file_laws.proofs.ShapeLemmas.{both_right, profile_spells}
@@ -192,7 +192,7 @@ file_is_there tables mac now ip site modem who class s m w c =
 
 -- under any secret
 pub built_short : (tables : Tables) (mac : Mac) (now : ℕ) (ip : Ip4) (secret : List ℕ) (profile : List Tree) (file : List ℕ) → profile_in tables mac ≡ Some profile
-    → IsBuilt secret profile now ip file → length file ≤ 6200
+    → IsBuilt secret profile now ip file → length file ≤ most_file_bytes
 built_short tables mac now ip secret profile file is built =
     file_short file secret profile now ip (by_rows tables mac profile (λ (p : List Tree). trees_length p ≤ 6150) profile_short is) built
 

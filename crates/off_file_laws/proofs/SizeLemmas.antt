@@ -9,7 +9,7 @@ use Rattle.off_mic.specs.Mic.{with_both, Sealed}
 use Rattle.off_tree.specs.declared.tables.Kind.TheVariants.{Class}
 use Rattle.off_tree.specs.Good.{GoodSettings}
 use Rattle.off_file_rules.specs.Profile.{raised, all_raised, devices, profile_of}
-use Rattle.off_file_rules.specs.File.{stamps, with_stamps}
+use Rattle.off_file_rules.specs.File.{stamps, with_stamps, most_file_bytes}
 use Rattle.off_file_laws.proofs.AgreeLemmas.{AllGood}
 use Rattle.off_file_laws.proofs.ShapeLemmas.{row_length_raised}
 
@@ -40,7 +40,7 @@ to_four : (n body pads : ℕ) → n ≡ body + suc pads → body ≤ 6198 → pa
 to_four n body pads is few more even = omega arith
 
 -- a sealed file has the bytes of its settings, both checks, the end marker and at most three pads
-pub file_short : (file secret : List ℕ) (ts : List Tree) (now : ℕ) (ip : Ip4) → trees_length ts ≤ 6150 → Sealed file (with_stamps ts now ip) secret → length file ≤ 6200
+pub file_short : (file secret : List ℕ) (ts : List Tree) (now : ℕ) (ip : Ip4) → trees_length ts ≤ 6150 → Sealed file (with_stamps ts now ip) secret → length file ≤ most_file_bytes
 file_short file secret ts now ip short s =
     let long : length file ≡ length (spelling (with_both secret (with_stamps ts now ip))) + suc s.pads =
     ap length s.whole ∙ length-append (spelling (with_both secret (with_stamps ts now ip))) (255 ∷ replicate s.pads 0)

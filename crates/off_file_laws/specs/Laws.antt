@@ -16,7 +16,7 @@ use Rattle.off_defs.specs.declared.tables.Modem.{Modem}
 use Rattle.off_defs.specs.declared.tables.Class.{Class}
 use Rattle.off_account_rules.specs.Rows.{site_of, subscriber_in, modem_in, class_in}
 use Rattle.off_file_rules.specs.Profile.{profile_in}
-use Rattle.off_file_rules.specs.File.{with_stamps, IsFile}
+use Rattle.off_file_rules.specs.File.{with_stamps, most_file_bytes, IsFile}
 
 -- The references of flows differ over both directions, and so do those of classifiers; the flow
 -- that a classifier names is there, in the classifier's direction.
@@ -74,7 +74,7 @@ FileIsThere =
 abbrev pub FilesAreShort : Type 0
 FilesAreShort =
     (tables : Tables) (mac : Mac) (now : ℕ) (ip : Ip4) (file : List ℕ) →
-    IsFile tables mac now ip file → length file ≤ 6200
+    IsFile tables mac now ip file → length file ≤ most_file_bytes
 
 -- by the grammar a file is its settings with both checks, and nothing else, and both checks are
 -- right

@@ -20,6 +20,10 @@ stamps now ip = leaf 19 (time_bytes now) ∷ leaf 20 (to_be_bytes w32 ip.0) ∷ 
 abbrev pub with_stamps : List Tree → ℕ → Ip4 → List Tree
 with_stamps profile now ip = profile ++ stamps now ip
 
+-- no modem's file has more bytes
+abbrev pub most_file_bytes : ℕ
+most_file_bytes = 6200
+
 -- the file of a profile, for an address at a moment under the secret of its hub
 abbrev pub IsBuilt : List ℕ → List Tree → ℕ → Ip4 → List ℕ → Type 0
 IsBuilt secret profile now ip file = Sealed file (with_stamps profile now ip) secret

@@ -340,6 +340,8 @@ pub ruleset none_rules = (nothing_on, nothing_dropped)
 
 pub ruleset begin_rules = (put_none, rises_none, all_one, nothing_on)
 
+pub ruleset write_rules = (put_rises, drop_rises)
+
 pub ruleset put_rules = (shelf_rises, put_on_set, cut_same, all_set, all_parted)
 
 pub ruleset split_rules = (set_split, drop-set-lt, take-set)

@@ -4,8 +4,8 @@ use off_defs::{Key, Row};
 use std::marker::Model;
 use std::mem;
 
-/// A key, and its row in a box of its own: what moves when entries are shifted is small, and a shelf
-/// that is empty takes little. Contracts see the key with the row.
+/// A key, and its row in a box of its own: what moves when entries are shifted is small, and
+/// a shelf that is empty takes little. Contracts see the key with the row.
 #[derive(Drop)]
 pub(crate) struct Entry {
     key: Key,

@@ -1,5 +1,5 @@
-ghost use Rattle.std.specs.Prelude.{◌≡◌, ◌+◌, ◌<◌, ◌≤◌, ◌∷◌, ◌++◌, [], Some, None, length, max, min};
-ghost use Rattle.std.specs.Prelude.{take, drop, vec_len, slice_index_or, slice_get, OnOk};
+ghost use Rattle.std.specs.Prelude.{◌≡◌, ◌+◌, ◌<◌, ◌≤◌, ◌∷◌, ◌++◌, [], Some, None, length, max};
+ghost use Rattle.std.specs.Prelude.{min, take, drop, vec_len, slice_index_or, slice_get, OnOk};
 ghost use Rattle.std.specs.List.{All, insert};
 ghost use Rattle.std.specs.Vec.{vec_capacity};
 ghost use Rattle.std.specs.Option.{option_map};
@@ -146,7 +146,7 @@ impl Table {
     }
 
     /// Does one write.
-    #[tactic(auto, using(crate::proofs::ShelfLemmas::put_rises, crate::proofs::ShelfLemmas::drop_rises))]
+    #[tactic(auto, using(crate::proofs::ShelfLemmas::write_rules))]
     fn write(&mut self, write: Planned)
         requires room { puts_in (write ∷ []) ≤ self.old.spare }
         requires rises { Rises self.old.entries }
@@ -243,7 +243,8 @@ fn begin(shelves: &mut Vec<Shelf>, stock: &mut Vec<Shelf>, key: Key, row: Box<Ro
     requires none { vec_len shelves.old ≡ 0 }
     requires some { 0 < vec_len stock.old }
     requires held { ShelvesHeld shelves.old.items stock.old.items (vec_capacity shelves.old) }
-    ensures entries { entries_on shelves.new.items ≡ put_entry key row.value (entries_on shelves.old.items) }
+    ensures entries { entries_on shelves.new.items
+        ≡ put_entry key row.value (entries_on shelves.old.items) }
     ensures spent { vec_len stock.new + 1 ≡ vec_len stock.old }
     ensures held { ShelvesHeld shelves.new.items stock.new.items (vec_capacity shelves.new) }
 {
@@ -259,7 +260,8 @@ fn put_on(shelves: &mut Vec<Shelf>, stock: &mut Vec<Shelf>, key: Key, row: Box<R
     requires some { 0 < vec_len stock.old }
     requires rises { Rises (entries_on shelves.old.items) }
     requires held { ShelvesHeld shelves.old.items stock.old.items (vec_capacity shelves.old) }
-    ensures entries { entries_on shelves.new.items ≡ put_entry key row.value (entries_on shelves.old.items) }
+    ensures entries { entries_on shelves.new.items
+        ≡ put_entry key row.value (entries_on shelves.old.items) }
     ensures spent { vec_len stock.old ≤ vec_len stock.new + 1 }
     ensures held { ShelvesHeld shelves.new.items stock.new.items (vec_capacity shelves.new) }
 {
@@ -324,7 +326,8 @@ fn remove_from(shelves: &mut Vec<Shelf>, key: &Key)
     requires used { 0 < vec_len shelves.old }
     requires rises { Rises (entries_on shelves.old.items) }
     requires stocked { All IsStocked shelves.old.items }
-    ensures entries { entries_on shelves.new.items ≡ but_key key.now (entries_on shelves.old.items) }
+    ensures entries { entries_on shelves.new.items
+        ≡ but_key key.now (entries_on shelves.old.items) }
     ensures stocked { All IsStocked shelves.new.items }
     ensures len { vec_len shelves.new ≤ vec_len shelves.old }
     ensures room { vec_capacity shelves.old ≤ vec_capacity shelves.new }

@@ -1,7 +1,7 @@
 ghost use Rattle.std.specs.Prelude.{◌≡◌, ◌+◌, ◌++◌, ◌≤◌, ◌<◌, List, length, IfSome, MatchOption};
 ghost use Rattle.off_base.specs.Tree.{Tree, spelling};
 ghost use Rattle.off_file_rules.specs.Block.{block};
-ghost use Rattle.off_file_rules.specs.File.{IsBuilt};
+ghost use Rattle.off_file_rules.specs.File.{IsBuilt, most_file_bytes};
 ghost use Rattle.off_tftp.specs.Built.{CanBuild};
 
 use off_base::{Ip4, Moment};
@@ -20,12 +20,13 @@ pub(crate) struct File {
 
 impl Model for File {
     ghost use Rattle.std.specs.Prelude.{List, ℕ, ◌+◌, ◌++◌, ◌≤◌, length};
+    ghost use Rattle.off_file_rules.specs.File.{most_file_bytes};
 
     ghost Value = { List ℕ };
 
     ghost view = { λ f. f.body ++ f.tail };
 
-    ghost invariant = { λ f. length f.body + length f.tail ≤ 6200 };
+    ghost invariant = { λ f. length f.body + length f.tail ≤ most_file_bytes };
 }
 
 impl File {
@@ -37,7 +38,7 @@ impl File {
         ensures built { (profile : List Tree) → body ≡ spelling profile
             → CanBuild secret.now profile now.0 ip
             → MatchOption result ⊥ (λ file. IsBuilt secret.now profile now.0 ip file) }
-        ensures few { IfSome result (λ file. length file ≤ 6200) }
+        ensures few { IfSome result (λ file. length file ≤ most_file_bytes) }
     {
         let tail = tail(&body, now, ip, secret);
         short_file(body, tail)
@@ -46,7 +47,7 @@ impl File {
     /// How many bytes the file has.
     pub(crate) fn len(&self) -> usize
         ensures len { result ≡ length self.now }
-        ensures few { result ≤ 6200 }
+        ensures few { result ≤ most_file_bytes }
     {
         self.body.len() + self.tail.len()
     }
@@ -62,8 +63,8 @@ impl File {
 
 // The file of a body and a tail, where it isn't too long.
 fn short_file(body: Body, tail: FileTail) -> Option<File>
-    ensures { MatchOption result (6200 < length (body ++ tail))
-        (λ file. (file ≡ body ++ tail) × (length file ≤ 6200)) }
+    ensures { MatchOption result (most_file_bytes < length (body ++ tail))
+        (λ file. (file ≡ body ++ tail) × (length file ≤ most_file_bytes)) }
 {
     if body.len() > MOST {
         return None;

@@ -4,9 +4,9 @@
 //! `Transfers` has what is live, each with its own file (`transfers`, `live`, `files`), whose body
 //! may be shared with other files of the modem and with what is kept (`bodies`). A datagram is read
 //! (`off_packets`); by the peer's transfer it's told what is to be read of the tables
-//! (`acknowledging`, `gathering`), and what was read judges it (`judging`, `opening`). What it comes
-//! to is a value (`deciding`) before anything is said or done (`datagrams`); whoever calls says it
-//! and has its change made.
+//! (`acknowledging`, `gathering`), and what was read judges it (`judging`, `opening`). What it
+//! comes to is a value (`deciding`) before anything is said or done (`datagrams`); whoever calls
+//! says it and has its change made.
 #![tactic(auto)]
 
 mod acknowledging;

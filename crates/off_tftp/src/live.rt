@@ -1,4 +1,5 @@
 ghost use Rattle.std.specs.Prelude.{◌≡◌, ◌≤◌, suc, true, false, length, Ok, IfOk, IfSome};
+ghost use Rattle.off_file_rules.specs.File.{most_file_bytes};
 ghost use Rattle.off_file_rules.specs.Name.{name_of};
 ghost use Rattle.off_packets.specs.Packets.{Reads, packet_of};
 ghost use Rattle.off_transfer_rules.specs.Steps.{is_repeated};
@@ -25,8 +26,8 @@ const MOST_SIZE: u16 = 1_428;
 
 const USUAL_SIZE: u16 = 512;
 
-// A packet that wasn't answered is sent again behind so many seconds, where no others are asked for,
-// and so often.
+// A packet that wasn't answered is sent again after so many seconds, where no others are asked
+// for, and so often.
 const USUAL_SECONDS: u64 = 2;
 
 const MOST_RESENDS: u8 = 5;
@@ -57,6 +58,7 @@ struct Held {
 
 impl Model for Live {
     ghost use Rattle.std.specs.Prelude.{◌≡◌, ◌≤◌, length};
+    ghost use Rattle.off_file_rules.specs.File.{most_file_bytes};
     ghost use Rattle.off_file_rules.specs.Name.{name_of};
     ghost use Rattle.off_packets.specs.Packets.{packet_of, options_by};
     ghost use Rattle.off_defs.specs.State.{Transfer};
@@ -80,7 +82,7 @@ impl Model for Live {
     } };
 
     ghost invariant = { λ l. (8 ≤ l.held.value.size) × (l.held.value.size ≤ 1428)
-        × (length l.held.value.file ≤ 6200)
+        × (length l.held.value.file ≤ most_file_bytes)
         × (options_by (packet_of l.held.value.request) ≡ l.held.value.options)
         × (l.held.value.name
         ≡ name_of l.held.value.named.secret l.held.value.modem l.held.value.named.ip) };
@@ -96,7 +98,7 @@ impl Live {
         requires least { IfSome request.now.options.blksize (λ size. 8 ≤ size) }
         requires read { packet_of request.now.bytes.now
             ≡ Ok (Reads request.now.name.now request.now.options) }
-        requires few { length grant.file ≤ 6200 }
+        requires few { length grant.file ≤ most_file_bytes }
         requires right { request.now.name.now
             ≡ name_of grant.named.secret grant.modem grant.named.ip }
         ensures { IfOk result (λ live. live ≡ begun_by request.now grant) }

@@ -5,6 +5,7 @@ ghost use Rattle.std.specs.Prelude.{true, false, is_some, Ok, IfOk, IfSome, Matc
 ghost use Rattle.std.specs.FinMap as map;
 ghost use Rattle.off_base.specs.Tree.{Tree, spelling};
 ghost use Rattle.off_account_rules.specs.Rows.{passes};
+ghost use Rattle.off_file_rules.specs.File.{most_file_bytes};
 ghost use Rattle.off_file_rules.specs.Name.{name_of};
 ghost use Rattle.off_packets.specs.Packets.{Reads, packet_of};
 ghost use Rattle.off_transfer_rules.specs.View.{View, is_own_name};
@@ -141,7 +142,7 @@ fn start(
     requires least { IfSome request.now.options.blksize (λ size. 8 ≤ size) }
     requires read { packet_of request.now.bytes.now
         ≡ Ok (Reads request.now.name.now request.now.options) }
-    requires few { IfSome grant (λ grant. length grant.file ≤ 6200) }
+    requires few { IfSome grant (λ grant. length grant.file ≤ most_file_bytes) }
     requires right { IfSome grant (λ grant. request.now.name.now
         ≡ name_of grant.named.secret grant.modem grant.named.ip) }
     ensures { IfOk result (Starts request.now entry grant) }
@@ -187,7 +188,7 @@ fn grant_for(
         site.now ≡ true → IfSome result (λ grant. request.now.name.now
         ≡ name_of grant.named.secret grant.modem grant.named.ip) }
     ensures whose { IfSome result (IsFor found.now.modem found.now.subscriber) }
-    ensures few { IfSome result (λ grant. length grant.file ≤ 6200) }
+    ensures few { IfSome result (λ grant. length grant.file ≤ most_file_bytes) }
     ensures sited { is_some result ≡ true → is_some site.now ≡ true }
 {
     let Some(site) = site else { return None };

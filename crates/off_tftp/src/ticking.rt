@@ -22,8 +22,8 @@ use off_outside::Replies;
 use off_transfer_rules::Ticked;
 use std::alloc::Global;
 
-/// What a Tick did: the packets that go again, in the order of peers, and how many transfers it sent
-/// again and closed.
+/// What a Tick did: the packets that go again, in the order of peers, and how many transfers it
+/// sent again and closed.
 #[derive(Drop)]
 pub struct TickDone {
     pub packets: Replies,

@@ -8,6 +8,7 @@ use Rattle.off_base.specs.declared.addresses.Peer.{Peer}
 use Rattle.off_base.specs.declared.macs.Mac.{Mac}
 use Rattle.off_defs.specs.State.{Tables, Transfer, peer_cmp}
 use Rattle.off_account_rules.specs.Rows.{lease_in}
+use Rattle.off_file_rules.specs.File.{most_file_bytes}
 use Rattle.off_file_laws.proofs.LawLemmas.{files_are_short}
 use Rattle.off_packets.specs.Packets.{has_option}
 use Rattle.off_packets.specs.declared.packets.Options.{Options}
@@ -39,7 +40,7 @@ least_by : (any : Bool) → (if any then 0 else 1) ≤ 1
 least_by true = lit≤ tt
 least_by false = lit≤ tt
 
-pub begun_sound : (now : ℕ) (request : List ℕ) (mac : Mac) (owner : ℕ) (name : List ℕ) (asked : Options) (file : List ℕ) → length file ≤ 6200 → Fits asked
+pub begun_sound : (now : ℕ) (request : List ℕ) (mac : Mac) (owner : ℕ) (name : List ℕ) (asked : Options) (file : List ℕ) → length file ≤ most_file_bytes → Fits asked
     → IsSound (begun now request mac owner name asked file)
 begun_sound now request mac owner name asked file short fits = record {
   short = short;
@@ -101,7 +102,7 @@ sound_without xs y peer false all e = all peer y e
 sound_removed : (xs : Transfers) (from : Peer) → AllSound xs → AllSound (map.remove xs from)
 sound_removed xs from all peer y e = sound_without xs y peer (eq_by_cmp peer_cmp peer from) all (sym (removed xs from peer) ∙ e)
 
-pub accepted_short : (t : Tables) (now : ℕ) (ip : Ip4) (mac : Mac) (owner : ℕ) (name file : List ℕ) → Accepting (view t ip) now ip mac owner name → IsBuiltBy (view t ip) now ip file → length file ≤ 6200
+pub accepted_short : (t : Tables) (now : ℕ) (ip : Ip4) (mac : Mac) (owner : ℕ) (name file : List ℕ) → Accepting (view t ip) now ip mac owner name → IsBuiltBy (view t ip) now ip file → length file ≤ most_file_bytes
 accepted_short t now ip mac owner name file a built =
     files_are_short t mac now ip file (file_of_built t now ip mac file (owner_held now (lease_in t ip) mac (live_in t now ip mac (held_of (view t ip) now mac a.held))) built)
 
@@ -146,7 +147,7 @@ number_by : (before size all : ℕ) → 8 ≤ size → before * size ≤ all →
 number_by before size all least within short =
     let eight : before * 8 ≤ before * size = mul-le-mul_left before least in omega (arith, eight, within, short)
 
-number_fits : (file : List ℕ) (size sent : ℕ) → length file ≤ 6200 → 8 ≤ size → BeginsWithin file size sent → sent ≤ 776
+number_fits : (file : List ℕ) (size sent : ℕ) → length file ≤ most_file_bytes → 8 ≤ size → BeginsWithin file size sent → sent ≤ 776
 number_fits file size zero short least within = lit≤ tt
 number_fits file size (suc before) short least within = number_by before size (length file) least within short
 

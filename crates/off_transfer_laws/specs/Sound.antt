@@ -5,6 +5,7 @@ use Rattle.std.specs.FinMap as map
 use Rattle.off_base.specs.declared.addresses.Peer.{Peer}
 use Rattle.off_defs.specs.declared.results.Sent.{Sent}
 use Rattle.off_defs.specs.State.{Tables, Transfer}
+use Rattle.off_file_rules.specs.File.{most_file_bytes}
 use Rattle.off_transfer_rules.specs.Transfers.{Transfers}
 use Rattle.off_transfer_rules.specs.Steps.{Given, TftpStep}
 use Rattle.off_transfer_rules.specs.Ticks.{TickStep}
@@ -18,7 +19,7 @@ BeginsWithin file size (suc before) = before * size ≤ length file
 -- its last block begins within its file; and before anything was acknowledged nothing but its
 -- first packet was sent
 pub record IsSound (x : Transfer) : Type 0 where
-  pub short : length x.file ≤ 6200
+  pub short : length x.file ≤ most_file_bytes
   pub least_size : 8 ≤ x.size
   pub most_size : x.size ≤ 1428
   pub within : BeginsWithin x.file x.size x.sent

@@ -1,9 +1,10 @@
 //! A device's message, over the keeper alone and by what is kept of the tables.
 
 use crate::desk::OFFICE;
+use off_asking::Asked;
 use off_base::{Bytes, Ip4, Moment, NoMemory, Peer};
 use off_behind::Devices;
-use off_cpe::{DeviceAnswer, DeviceStep, DeviceWord, answer, answer_by};
+use off_cpe::{DeviceAnswer, DeviceStep, DeviceWord, Known, answer, answer_by};
 use off_defs::{Sent, Writes};
 use off_device_runs::DeviceRuns;
 use off_dhcp::Message;
@@ -137,7 +138,18 @@ fn answered(
             let mut modems = FreeRuns::of(alloc, kept)?;
             pools.pass(AT);
             modems.pass(AT);
-            step_of(answer_by(alloc, &mut keeper, &index, &pools, &modems, AT, &m)?)
+            let known = Known {
+                devices: &index,
+                pools: &pools,
+                modems: &modems,
+            };
+            step_of(answer_by(
+                alloc,
+                &mut keeper,
+                &known,
+                AT,
+                &Asked::of(&m),
+            )?)
         }
     };
     Ok(match &step {

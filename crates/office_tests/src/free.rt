@@ -5,6 +5,7 @@
 ghost use Rattle.std.specs.Prelude.{◌≤◌};
 
 use crate::lease_rows::{AT, MODEM, discover_by, modem_row, site_row};
+use off_asking::Asked;
 use off_base::{Ip4, Mac, Moment, NoMemory};
 use off_defs::{Hold, Key, Lease, Pool, Row, Sent, Write, Writes};
 use off_dhcp::Message;
@@ -346,7 +347,8 @@ fn offered(
     let Ok(message) = Message::read(bytes.as_slice()) else {
         return Err(KeepErr::Failed);
     };
-    let step = answer(alloc, &mut world.keeper, &world.runs, world.now, &message)?;
+    let asked = Asked::of(&message);
+    let step = answer(alloc, &mut world.keeper, &world.runs, world.now, &asked)?;
     Ok(match &step.reply {
         Some(Sent::Datagram { bytes, .. }) => given(bytes.as_slice()),
         _ => None,

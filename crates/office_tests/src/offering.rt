@@ -1,4 +1,5 @@
 use crate::lease_rows::{AT, RELAY, discover, office_rows};
+use off_asking::Asked;
 use off_base::{Bytes, Peer};
 use off_defs::Sent;
 use off_dhcp::Message;
@@ -38,7 +39,13 @@ fn answered(alloc: Global, keeper: &mut MemKeeper, datagram: &Bytes) -> Result<S
     let mut runs = FreeRuns::of(alloc, &mut keeper_of_office(alloc, 0)?)?;
     runs.pass(AT);
     match Message::read(datagram.as_slice()) {
-        Ok(m) => Ok(summary_of(&answer(alloc, keeper, &runs, AT, &m)?)),
+        Ok(m) => Ok(summary_of(&answer(
+            alloc,
+            keeper,
+            &runs,
+            AT,
+            &Asked::of(&m),
+        )?)),
         Err(_fault) => Err(KeepErr::Failed),
     }
 }

@@ -1,5 +1,6 @@
 use crate::lease_rows::{AT, RELAY, discover, site_row};
 use crate::silence::{Answers, Silent, unasked};
+use off_asking::Asked;
 use off_base::Ip4;
 use off_defs::{Key, Pool, Row, Writes};
 use off_dhcp::Message;
@@ -53,7 +54,7 @@ fn word_over(alloc: Global, keeper: &mut Silent<Stray>) -> Result<(DhcpWord, u64
     };
     let mut runs = FreeRuns::of(alloc, keeper)?;
     runs.pass(AT);
-    let word = answer(alloc, keeper, &runs, AT, &m)?.word;
+    let word = answer(alloc, keeper, &runs, AT, &Asked::of(&m))?.word;
     Ok((word, keeper.calls))
 }
 
