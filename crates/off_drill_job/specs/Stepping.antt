@@ -54,8 +54,8 @@ abbrev pub behind : State → Given → State
 behind s given = state_of (write_all s.tables given.commit) (held_at s.held begins_at)
 
 -- Commands, and then a run of turns: within a command too a crash opens as the tables before it, as
--- the one commit in doubt, or as the command would leave them. So at every moment all commits that
--- were answered by then are there, and at most one more.
+-- the one commit in doubt, or as the command would leave them. So at every moment the first so many
+-- commits are there, never fewer than a moment before, and at most one more.
 abbrev pub LastsDrill : (ℕ → Tables → Type 0) → (Tables → Type 0) → (Tables → Type 0) → ℕ → State
     → List Given → List Turn → ℕ → State → Type 0
 LastsDrill opened ends doubt from s [] turns to last = Lasts opened ends doubt from s turns to last

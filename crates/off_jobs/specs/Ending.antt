@@ -1,5 +1,4 @@
--- How the program ends: each status with its text. Status 4 has none: the sink failed in the last
--- write.
+-- How a job ends: each status with its text. Status 4 has none: the sink failed in the last write.
 use Rattle.std.specs.Prelude.{◌≡◌, ℕ, ◌⊎◌, List, ◌++◌, codes, Contains}
 use Rattle.off_outside.specs.Streams.{SinkSeen, Wrote, NotWritten}
 use Rattle.off_outside.specs.declared.keeper.KeepErr.{KeepErr}
@@ -61,8 +60,8 @@ Tells end status old new =
     ((status ≡ end.status) × Wrote end.text old new)
     ⊎ ((status ≡ 4) × NotWritten end.text old new)
 
--- What a job did. It ended in one of its ways, `Did` says what it did then, and its ending was told.
--- Where nothing that it needs failed, its status is one of a few, and what was up is up.
+-- What a job did. It ended in one of its ways, `Did` says what it did then, and its ending was
+-- told. Where nothing that it needs failed, its status is one of a few, and what was up is up.
 pub record JobEnds {Way : Type 0} (Did : Way → Type 0) (end : Way → Ending) (few : List ℕ)
     (needs : List Health) (status : ℕ) (old new : SinkSeen) : Type 0 where
   pub way : Way

@@ -96,8 +96,8 @@ pub record KeeperRan (first : List Write) (turns : List Turn) (old new : KeeperS
 -- earlier days is the hub 0, to what it held at the end over those that are told then.
 pub record RanOffice (turns : List Turn) (held : Held) (old new : KeeperSeen) : Type 0 where
   pub run : Told old.tables new.tables (λ t u. Run (start (migrated t)) turns (state_of u held))
-  -- and at every moment an opening after a crash gives the tables behind the turns that were
-  -- answered by then, or one commit more
+  -- and at every moment an opening after a crash gives the tables behind so many of the first turns,
+  -- never fewer than a moment before, or one commit more
   pub crash : Told old.tables new.tables (λ t u. LastsOpened old new t turns (state_of u held))
   -- what was written first is the migration
   pub first : List Write
