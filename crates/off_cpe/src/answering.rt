@@ -63,13 +63,32 @@ pub fn answer<K: Keeper>(
     let devices = Devices::of(alloc, keeper)?;
     let pools = pools_at(alloc, keeper, now)?;
     let modems = modems_at(alloc, keeper, now)?;
-    let known = Known {
-        devices: &devices,
-        pools: &pools,
-        modems: &modems,
-    };
-    let answer = answer_by(alloc, keeper, &known, now, &Asked::of(m))?;
+    let answer = answer_read(alloc, keeper, &devices, &pools, &modems, now, m)?;
     Ok(step_of(answer))
+}
+
+// What a message does by what was read for it.
+fn answer_read<K: Keeper>(
+    alloc: Global,
+    keeper: &mut K,
+    index: &Devices,
+    pools: &DeviceRuns,
+    modems: &FreeRuns,
+    now: Moment,
+    m: &Message<'_>,
+) -> Result<Option<DeviceAnswer>, KeepErr>
+    ensures { Looks result (K.seen keeper.old) (K.seen keeper.new)
+        (λ answer t. Indexes index.now (devices t)
+        → StandsFor pools.now (device_ground t) now.0
+        → StandsFor modems.now (ground t) now.0
+        → option_map (λ a. a.step) answer ≡ device_step t now.0 m.now) }
+{
+    let known = Known {
+        devices: index,
+        pools,
+        modems,
+    };
+    answer_by(alloc, keeper, &known, now, &Asked::of(m))
 }
 
 fn step_of(answer: Option<DeviceAnswer>) -> Option<DeviceStep>
