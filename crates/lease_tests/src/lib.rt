@@ -1,0 +1,15 @@
+//! What no script can say of leases: the service by itself, over a keeper whose calls fail;
+//! queries over a keeper alone; and free addresses, behind random writes.
+//!
+//! There is nothing here but tests. They show that calls succeed with ample memory, which no
+//! contract can say. All other examples are data: `office_script`, `format_script`, `clerk_script`.
+#![tactic(auto)]
+
+#[cfg(test)]
+mod free;
+#[cfg(test)]
+mod lease_rows;
+#[cfg(test)]
+mod offering;
+#[cfg(test)]
+mod querying;
