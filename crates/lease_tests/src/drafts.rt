@@ -2,7 +2,7 @@
 
 use crate::free::{World, address, number_of, relay};
 use crate::lease_rows::MODEM;
-use crate::reading::{held_in, hub_in, site_in};
+use crate::reading::{held_in, hub_in, lease_in, site_in};
 use off_asking::Named;
 use off_base::{Bytes, Ip4, Mac, NoMemory};
 use off_outside::KeepErr;
@@ -114,13 +114,17 @@ fn renews(draft: &mut Draft, own: Ip4) {
     draft.server = Named::Absent;
 }
 
-/// A message of one of six modems, mostly as the rows would have it.
+/// A message of one of six modems, mostly as the rows would have it. Now and then the moment is that
+/// at which the lease ends that it is about.
 pub(crate) fn some_draft(alloc: Global, world: &mut World) -> Result<Draft, KeepErr> {
     let mac = modem(world.some(6));
     let own = match held_in(alloc, &mut world.keeper, mac)? {
         Some(own) => own,
         None => address(world.some(3), world.some(8)),
     };
+    if world.some(6) == 0 {
+        come_to_the_end(alloc, world, own)?;
+    }
     let number = match number_of(alloc, &mut world.keeper, own)? {
         Some(number) => number,
         None => world.some(3).wrapping_add(1),
@@ -130,10 +134,19 @@ pub(crate) fn some_draft(alloc: Global, world: &mut World) -> Result<Draft, Keep
         Some(site) => site.server,
         None => Ip4(7),
     };
-    let mut draft = draft_of(some_wish(world.some(9)), mac, own, relay(number), server);
+    let mut draft = draft_of(some_wish(world.some(11)), mac, own, relay(number), server);
     slip(&mut draft, world);
     slip(&mut draft, world);
     Ok(draft)
+}
+
+// The moment at which the lease of an address ends.
+fn come_to_the_end(alloc: Global, world: &mut World, address: Ip4) -> Result<(), KeepErr> {
+    if let Some(lease) = lease_in(alloc, &mut world.keeper, address)? {
+        world.now = lease.expiry;
+        world.runs.pass(lease.expiry);
+    }
+    Ok(())
 }
 
 fn some_wish(number: u32) -> Wish {
@@ -152,7 +165,7 @@ fn some_wish(number: u32) -> Wish {
 // Something is otherwise, or, as often as not, nothing.
 fn slip(draft: &mut Draft, world: &mut World) {
     let any = address(world.some(3), world.some(8));
-    match world.some(48) {
+    match world.some(36) {
         0 => draft.kind = 8,
         1 => draft.kind = 3,
         2 => draft.address = Named::Malformed,

@@ -141,7 +141,7 @@ fn push_rest(writes: &mut Writes, stretch: u32, now: Moment) -> Result<(), NoMem
     for place in 0..8 {
         let lease = Lease {
             hold: Hold::Declined,
-            expiry: Moment(now.0.saturating_add(20)),
+            expiry: Moment(now.0.saturating_add(40)),
         };
         writes.push(Write::Put(Key::Lease(address(stretch, place)), Row::Lease(lease)))?;
     }
@@ -170,7 +170,7 @@ fn changes(alloc: Global, world: &mut World) -> Result<Writes, NoMemory> {
             let number = number.wrapping_add(1);
             writes.push(Write::Put(Key::Pool(number), pool_row(number)))?;
         }
-        16 | 17 => push_rest(&mut writes, number, world.now)?,
+        16 | 17 | 18 | 19 | 20 => push_rest(&mut writes, number, world.now)?,
         _ => {}
     }
     Ok(writes)
@@ -245,7 +245,7 @@ fn round(alloc: Global, world: &mut World, tally: &mut Tally) -> Result<(), Keep
     world.commit(alloc)?;
     let writes = changes(alloc, world)?;
     world.take(alloc, &writes)?;
-    for _message in 0..6 {
+    for _message in 0..8 {
         exchange(alloc, world, tally)?;
     }
     Ok(())
