@@ -114,8 +114,8 @@ fn renews(draft: &mut Draft, own: Ip4) {
     draft.server = Named::Absent;
 }
 
-/// A message of one of six modems, mostly as the rows would have it. Now and then the moment is that
-/// at which the lease ends that it is about.
+/// A message of one of six modems, mostly as the rows would have it. Now and then the moment is
+/// that at which the lease of its address ends.
 pub(crate) fn some_draft(alloc: Global, world: &mut World) -> Result<Draft, KeepErr> {
     let mac = modem(world.some(6));
     let own = match held_in(alloc, &mut world.keeper, mac)? {
@@ -140,7 +140,7 @@ pub(crate) fn some_draft(alloc: Global, world: &mut World) -> Result<Draft, Keep
     Ok(draft)
 }
 
-// The moment at which the lease of an address ends.
+// The moment is that at which the lease of an address ends.
 fn come_to_the_end(alloc: Global, world: &mut World, address: Ip4) -> Result<(), KeepErr> {
     if let Some(lease) = lease_in(alloc, &mut world.keeper, address)? {
         world.now = lease.expiry;
@@ -162,7 +162,7 @@ fn some_wish(number: u32) -> Wish {
     }
 }
 
-// Something is otherwise, or, as often as not, nothing.
+// Something is otherwise, or nothing.
 fn slip(draft: &mut Draft, world: &mut World) {
     let any = address(world.some(3), world.some(8));
     match world.some(36) {

@@ -1,6 +1,6 @@
 //! What is kept of pools, their hubs and free addresses, behind random writes and at moments that
-//! rise and fall: each answer is the one that plain reading of the rows gives, and a DISCOVER is offered the address
-//! that plain reading chooses.
+//! rise and fall: each answer is the one that plain reading of the rows gives, and a DISCOVER is
+//! offered the address that plain reading chooses.
 
 ghost use Rattle.std.specs.Prelude.{◌≤◌};
 

@@ -62,8 +62,8 @@ fn judge(
     })
 }
 
-// The hub of a message is that of its pool; for an address that is given back, that of the pool with
-// the address.
+// The hub of a message is that of its pool; for an address that is given back, that of the pool
+// with the address.
 fn case_of(alloc: Global, keeper: &mut MemKeeper, said: &Said) -> Result<Case, KeepErr> {
     let pools = pools_in(alloc, keeper)?;
     let serving = serving(&pools, said);
@@ -162,7 +162,7 @@ fn early_refusal(said: &Said, case: &Case) -> Option<DhcpWord> {
     let asks = said.discovers || said.requests;
     let gives_back = said.declines || said.releases;
     let is_cut = (asks && said.serial.is_cut) || said.remote.is_cut;
-    // A client that asks says that it's a modem; one that has an address already may leave that out.
+    // A client that asks says that it's a modem; one that has an address may leave that out.
     let is_no_modem = (said.discovers && said.is_modem != Some(true))
         || (said.requests && said.is_modem == Some(false));
     first_of(&[
