@@ -57,19 +57,16 @@ fn are_same_writes(one: &Writes, other: &Writes) -> bool {
     true
 }
 
+// A message writes leases, and what modems hold, alone.
 fn is_same_write(one: &Write, other: &Write) -> bool {
     match (one, other) {
-        (Write::Put(key, row), Write::Put(same, put)) => key == same && is_same_row(row, put),
+        (Write::Put(key, Row::Lease(lease)), Write::Put(same, Row::Lease(put))) => {
+            key == same && lease == put
+        }
+        (Write::Put(key, Row::Held(held)), Write::Put(same, Row::Held(put))) => {
+            key == same && held == put
+        }
         (Write::Drop(key), Write::Drop(same)) => key == same,
-        _ => false,
-    }
-}
-
-// A message writes leases, and what modems hold, alone.
-fn is_same_row(one: &Row, other: &Row) -> bool {
-    match (one, other) {
-        (Row::Lease(lease), Row::Lease(same)) => lease == same,
-        (Row::Held(address), Row::Held(same)) => address == same,
         _ => false,
     }
 }
