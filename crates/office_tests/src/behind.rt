@@ -143,13 +143,7 @@ fn answered(
                 pools: &pools,
                 modems: &modems,
             };
-            step_of(answer_by(
-                alloc,
-                &mut keeper,
-                &known,
-                AT,
-                &Asked::of(&m),
-            )?)
+            step_of(answer_by(alloc, &mut keeper, &known, AT, &Asked::of(&m))?)
         }
     };
     Ok(match &step {

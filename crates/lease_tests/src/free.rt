@@ -1,10 +1,11 @@
 //! What is kept of pools, their hubs and free addresses, behind random writes and at moments that
-//! rise and fall: each answer is the one that plain reading of the rows gives, and a DISCOVER is offered the address
-//! that plain reading chooses.
+//! rise and fall: each answer is the one that plain reading of the rows gives, and a DISCOVER is
+//! offered the address that plain reading chooses.
 
 ghost use Rattle.std.specs.Prelude.{◌≤◌};
 
 use crate::lease_rows::{AT, MODEM, discover_by, modem_row, site_row};
+use crate::reading::{choice_in, has, has_ended, held_in, hub_in, least_in};
 use off_asking::Asked;
 use off_base::{Ip4, Mac, Moment, NoMemory};
 use off_defs::{Hold, Key, Lease, Pool, Row, Sent, Write, Writes};
@@ -19,12 +20,12 @@ use std::test::Fail;
 // 10.64.1.0: three stretches of eight addresses, each of which has one of three pools at most.
 const BASE: u32 = 0x0a40_0100;
 
-// Tables with what is kept of them, and which stretch each pool has.
+/// Tables with what is kept of them, and which stretch each pool has.
 #[derive(Drop)]
-struct World {
-    keeper: MemKeeper,
-    runs: FreeRuns,
-    now: Moment,
+pub(crate) struct World {
+    pub(crate) keeper: MemKeeper,
+    pub(crate) runs: FreeRuns,
+    pub(crate) now: Moment,
     homes: [u32; 3],
     seed: u64,
     // How many DISCOVERs were offered an address, and how many none.
@@ -48,14 +49,16 @@ fn part(seed: u64, most: u32) -> u32
     ((seed >> 33) % u64::from(most)) as u32
 }
 
-fn address(stretch: u32, place: u32) -> Ip4 {
+/// An address of a stretch.
+pub(crate) fn address(stretch: u32, place: u32) -> Ip4 {
     Ip4(
         BASE.wrapping_add(stretch.wrapping_mul(8))
             .wrapping_add(place),
     )
 }
 
-fn relay(number: u32) -> Ip4 {
+/// The relay of a pool.
+pub(crate) fn relay(number: u32) -> Ip4 {
     Ip4(0x0a40_0000_u32.wrapping_add(number))
 }
 
@@ -138,12 +141,17 @@ fn push_held(writes: &mut Writes, stretch: u32, seed: u64) -> Result<(), NoMemor
 }
 
 impl World {
-    // Tables with three hubs and a modem, and no pools.
-    fn new(alloc: Global) -> Result<World, KeepErr> {
+    /// Tables with three hubs and a modem, and no pools.
+    pub(crate) fn new(alloc: Global) -> Result<World, KeepErr> {
+        World::over(alloc, &first_rows(alloc)?)
+    }
+
+    /// Tables with these rows.
+    pub(crate) fn over(alloc: Global, rows: &Writes) -> Result<World, KeepErr> {
         let mut keeper = MemKeeper::new(alloc, Calls::new(alloc));
-        let rows = first_rows(alloc)?;
-        keeper.commit(alloc, &rows)?;
-        let runs = FreeRuns::of(alloc, &mut keeper)?;
+        keeper.commit(alloc, rows)?;
+        let mut runs = FreeRuns::of(alloc, &mut keeper)?;
+        runs.pass(AT);
         Ok(World {
             keeper,
             runs,
@@ -155,8 +163,8 @@ impl World {
         })
     }
 
-    // The next random number below `most`.
-    fn some(&mut self, most: u32) -> u32 {
+    /// The next random number below `most`.
+    pub(crate) fn some(&mut self, most: u32) -> u32 {
         self.seed = next_seed(self.seed);
         part(self.seed, most)
     }
@@ -201,8 +209,8 @@ impl World {
         push_pool(writes, 2, self.homes[1], next_seed(seed))
     }
 
-    // The moment goes on, and falls now and then.
-    fn pass(&mut self) {
+    /// The moment goes on, and falls now and then.
+    pub(crate) fn pass(&mut self) {
         let on = u64::from(self.some(9));
         let falls = self.some(10) == 0;
         self.now = Moment(if falls {
@@ -221,11 +229,17 @@ impl World {
         }
     }
 
-    fn commit(&mut self, alloc: Global) -> Result<(), KeepErr> {
+    /// Some random writes are done.
+    pub(crate) fn commit(&mut self, alloc: Global) -> Result<(), KeepErr> {
         let writes = self.writes(alloc)?;
-        self.runs.ready(&writes)?;
-        self.keeper.commit(alloc, &writes)?;
-        self.runs.apply(&writes);
+        self.take(alloc, &writes)
+    }
+
+    /// These writes are done.
+    pub(crate) fn take(&mut self, alloc: Global, writes: &Writes) -> Result<(), KeepErr> {
+        self.runs.ready(writes)?;
+        self.keeper.commit(alloc, writes)?;
+        self.runs.apply(writes);
         Ok(())
     }
 }
@@ -254,21 +268,12 @@ fn pool_in(alloc: Global, keeper: &mut MemKeeper, number: u32) -> Result<Option<
     })
 }
 
-// The number of a pool's hub.
-fn hub_in(alloc: Global, keeper: &mut MemKeeper, number: u32) -> Result<u32, KeepErr> {
-    let row = keeper.get(alloc, &Key::PoolHub(number))?;
-    Ok(match &row {
-        Some(Row::PoolHub(hub)) => *hub,
-        _ => 0,
-    })
-}
-
-fn has(pool: &Pool, address: Ip4) -> bool {
-    pool.first.0 <= address.0 && address.0 <= pool.last.0
-}
-
-// The number of the pool with the address, where one has it.
-fn number_of(alloc: Global, keeper: &mut MemKeeper, at: Ip4) -> Result<Option<u32>, KeepErr> {
+/// The number of the pool with the address, where one has it.
+pub(crate) fn number_of(
+    alloc: Global,
+    keeper: &mut MemKeeper,
+    at: Ip4,
+) -> Result<Option<u32>, KeepErr> {
     for number in 1..4 {
         if let Some(pool) = pool_in(alloc, keeper, number)? {
             if has(&pool, at) {
@@ -277,38 +282,6 @@ fn number_of(alloc: Global, keeper: &mut MemKeeper, at: Ip4) -> Result<Option<u3
         }
     }
     Ok(None)
-}
-
-// Whether the address has no lease, or one that has ended.
-fn has_ended(alloc: Global, keeper: &mut MemKeeper, now: Moment, at: Ip4) -> Result<bool, KeepErr> {
-    let row = keeper.get(alloc, &Key::Lease(at))?;
-    Ok(match &row {
-        Some(Row::Lease(lease)) => lease.expiry.0 <= now.0,
-        _ => true,
-    })
-}
-
-fn least_in(
-    alloc: Global,
-    keeper: &mut MemKeeper,
-    now: Moment,
-    pool: &Pool,
-) -> Result<Option<Ip4>, KeepErr> {
-    for at in pool.first.0..=pool.last.0 {
-        if has_ended(alloc, keeper, now, Ip4(at))? {
-            return Ok(Some(Ip4(at)));
-        }
-    }
-    Ok(None)
-}
-
-// The address that the modem holds.
-fn held_in(alloc: Global, keeper: &mut MemKeeper) -> Result<Option<Ip4>, KeepErr> {
-    let row = keeper.get(alloc, &Key::Held(MODEM))?;
-    Ok(match &row {
-        Some(Row::Held(at)) => Some(*at),
-        _ => None,
-    })
 }
 
 // The address that is offered for a DISCOVER: the one that the modem holds, where its pool has it;
@@ -323,15 +296,8 @@ fn chosen(
     let Some(pool) = pool_in(alloc, keeper, number)? else {
         return Ok(None);
     };
-    if let Some(own) = held_in(alloc, keeper)? {
-        if has(&pool, own) {
-            return Ok(Some(own));
-        }
-    }
-    if has(&pool, asked) && has_ended(alloc, keeper, now, asked)? {
-        return Ok(Some(asked));
-    }
-    least_in(alloc, keeper, now, &pool)
+    let held = held_in(alloc, keeper, MODEM)?;
+    choice_in(alloc, keeper, now, &pool, held, Some(asked))
 }
 
 // ---- both beside each other

@@ -39,13 +39,7 @@ fn answered(alloc: Global, keeper: &mut MemKeeper, datagram: &Bytes) -> Result<S
     let mut runs = FreeRuns::of(alloc, &mut keeper_of_office(alloc, 0)?)?;
     runs.pass(AT);
     match Message::read(datagram.as_slice()) {
-        Ok(m) => Ok(summary_of(&answer(
-            alloc,
-            keeper,
-            &runs,
-            AT,
-            &Asked::of(&m),
-        )?)),
+        Ok(m) => Ok(summary_of(&answer(alloc, keeper, &runs, AT, &Asked::of(&m))?)),
         Err(_fault) => Err(KeepErr::Failed),
     }
 }
