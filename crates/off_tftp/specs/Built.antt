@@ -11,4 +11,4 @@ pub record CanBuild (secret : List ℕ) (profile : List Tree) (now : ℕ) (ip : 
   pub fits : AllFit profile
   pub neither : without_mics profile ≡ profile
   pub short : (file : List ℕ) → IsBuilt secret profile now ip file
-    → length file ≤ most_file_bytes
+      → length file ≤ most_file_bytes
