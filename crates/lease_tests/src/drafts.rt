@@ -2,10 +2,10 @@
 
 use crate::free::{World, address, number_of, relay};
 use crate::lease_rows::MODEM;
-use crate::reading::{held_in, hub_in, lease_in, site_in};
 use off_asking::Named;
 use off_base::{Bytes, Ip4, Mac, NoMemory};
 use off_outside::KeepErr;
+use plain_leases::{held_in, hub_in, lease_in, site_in};
 use std::alloc::Global;
 
 // Option 60 of a modem (`docsis3.1:`), of something else, and of one that says no version.

@@ -5,7 +5,6 @@
 ghost use Rattle.std.specs.Prelude.{◌≤◌};
 
 use crate::lease_rows::{AT, MODEM, discover_by, modem_row, site_row};
-use crate::reading::{choice_in, has, has_ended, held_in, hub_in, least_in};
 use off_asking::Asked;
 use off_base::{Ip4, Mac, Moment, NoMemory};
 use off_defs::{Hold, Key, Lease, Pool, Row, Sent, Write, Writes};
@@ -14,6 +13,7 @@ use off_keepmem::MemKeeper;
 use off_lease::answer;
 use off_outside::{Calls, KeepErr, Keeper};
 use off_runs::FreeRuns;
+use plain_leases::{choice_in, has, has_ended, held_in, hub_in, least_in};
 use std::alloc::Global;
 use std::test::Fail;
 

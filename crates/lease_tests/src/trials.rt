@@ -5,7 +5,6 @@
 use crate::drafts::{Draft, Wish, draft_of, modem, some_draft, written};
 use crate::free::{World, address, relay};
 use crate::lease_rows::{MODEM, RELAY, office_rows};
-use crate::plain::plain_answer;
 use off_asking::Asked;
 use off_base::{Ip4, Moment, NoMemory, Secret, Short};
 use off_defs::{Hold, Key, Lease, Modem, Pool, Row, Sent, Site, Write, Writes};
@@ -13,6 +12,7 @@ use off_dhcp::Message;
 use off_lease::answer;
 use off_lease_rules::{DhcpWord, LeaseStep};
 use off_outside::{KeepErr, Keeper};
+use plain_leases::plain_answer;
 use std::alloc::Global;
 use std::test::Fail;
 

@@ -16,7 +16,7 @@ use off_outside::KeepErr;
 use std::alloc::Global;
 
 /// What a message does at a moment: what it writes, its reply and its word.
-pub(crate) fn plain_answer(
+pub fn plain_answer(
     alloc: Global,
     keeper: &mut MemKeeper,
     now: Moment,

@@ -8,11 +8,7 @@ use off_outside::{KeepErr, Keeper};
 use std::alloc::Global;
 
 /// The site of a hub.
-pub(crate) fn site_in(
-    alloc: Global,
-    keeper: &mut MemKeeper,
-    hub: u32,
-) -> Result<Option<Site>, KeepErr> {
+pub fn site_in(alloc: Global, keeper: &mut MemKeeper, hub: u32) -> Result<Option<Site>, KeepErr> {
     let row = keeper.get(alloc, &Key::Hub(hub))?;
     Ok(match &row {
         Some(Row::Site(site)) if site_fits(site) => Some(site.copy()),
@@ -34,7 +30,7 @@ fn site_fits(site: &Site) -> bool {
 }
 
 /// The number of a pool's hub, which is 0 where none is named.
-pub(crate) fn hub_in(alloc: Global, keeper: &mut MemKeeper, number: u32) -> Result<u32, KeepErr> {
+pub fn hub_in(alloc: Global, keeper: &mut MemKeeper, number: u32) -> Result<u32, KeepErr> {
     let row = keeper.get(alloc, &Key::PoolHub(number))?;
     Ok(match &row {
         Some(Row::PoolHub(hub)) => *hub,
@@ -43,11 +39,7 @@ pub(crate) fn hub_in(alloc: Global, keeper: &mut MemKeeper, number: u32) -> Resu
 }
 
 /// The modem of a hardware address.
-pub(crate) fn modem_in(
-    alloc: Global,
-    keeper: &mut MemKeeper,
-    mac: Mac,
-) -> Result<Option<Modem>, KeepErr> {
+pub fn modem_in(alloc: Global, keeper: &mut MemKeeper, mac: Mac) -> Result<Option<Modem>, KeepErr> {
     let row = keeper.get(alloc, &Key::Modem(mac))?;
     Ok(match &row {
         Some(Row::Modem(modem)) => Some(modem.copy()),
@@ -56,11 +48,7 @@ pub(crate) fn modem_in(
 }
 
 /// The address that a modem holds.
-pub(crate) fn held_in(
-    alloc: Global,
-    keeper: &mut MemKeeper,
-    mac: Mac,
-) -> Result<Option<Ip4>, KeepErr> {
+pub fn held_in(alloc: Global, keeper: &mut MemKeeper, mac: Mac) -> Result<Option<Ip4>, KeepErr> {
     let row = keeper.get(alloc, &Key::Held(mac))?;
     Ok(match &row {
         Some(Row::Held(at)) => Some(*at),
@@ -69,11 +57,7 @@ pub(crate) fn held_in(
 }
 
 /// The lease of an address.
-pub(crate) fn lease_in(
-    alloc: Global,
-    keeper: &mut MemKeeper,
-    at: Ip4,
-) -> Result<Option<Lease>, KeepErr> {
+pub fn lease_in(alloc: Global, keeper: &mut MemKeeper, at: Ip4) -> Result<Option<Lease>, KeepErr> {
     let row = keeper.get(alloc, &Key::Lease(at))?;
     Ok(match &row {
         Some(Row::Lease(lease)) => Some(*lease),
@@ -82,10 +66,7 @@ pub(crate) fn lease_in(
 }
 
 /// All pools with their numbers, in the order of these.
-pub(crate) fn pools_in(
-    alloc: Global,
-    keeper: &mut MemKeeper,
-) -> Result<Items<(u32, Pool)>, KeepErr> {
+pub fn pools_in(alloc: Global, keeper: &mut MemKeeper) -> Result<Items<(u32, Pool)>, KeepErr> {
     let mut pools = Items::new(alloc);
     let mut place: Option<Key> = None;
     for _entry in 0..u64::MAX {
@@ -119,12 +100,12 @@ fn pool_fits(pool: &Pool) -> bool {
 }
 
 /// Whether the pool has the address.
-pub(crate) fn has(pool: &Pool, address: Ip4) -> bool {
+pub fn has(pool: &Pool, address: Ip4) -> bool {
     pool.first.0 <= address.0 && address.0 <= pool.last.0
 }
 
 /// Whether the address has no lease, or one that has ended.
-pub(crate) fn has_ended(
+pub fn has_ended(
     alloc: Global,
     keeper: &mut MemKeeper,
     now: Moment,
@@ -137,7 +118,7 @@ pub(crate) fn has_ended(
 }
 
 /// The least free address of a pool.
-pub(crate) fn least_in(
+pub fn least_in(
     alloc: Global,
     keeper: &mut MemKeeper,
     now: Moment,
@@ -153,7 +134,7 @@ pub(crate) fn least_in(
 
 /// The address for a client of the pool: the one that it holds, where the pool has it; else the one
 /// that it asks for, where that is free; else the least that is free.
-pub(crate) fn choice_in(
+pub fn choice_in(
     alloc: Global,
     keeper: &mut MemKeeper,
     now: Moment,
