@@ -13,3 +13,4 @@ pub mod ReadLemmas
 pub mod LeastLemmas
 pub mod WalkLemmas
 pub mod OpenLemmas
+pub mod TakenLemmas

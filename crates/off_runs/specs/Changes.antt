@@ -1,10 +1,10 @@
 -- What becomes of a pool that is kept.
-use Rattle.std.specs.Prelude.{◌≡◌, ℕ, ◌≤◌, ◌<◌, ◌==◌, Bool, true, ◌&&◌, nat_le, List, [], ◌∷◌, ◌++◌, length, get_or, Option, Some, None, if◌then◌else◌}
+use Rattle.std.specs.Prelude.{◌≡◌, ℕ, ◌+◌, ◌-◌, ◌≤◌, ◌<◌, ◌==◌, Bool, true, false, not, ◌&&◌, nat_le, nat_lt, List, [], ◌∷◌, ◌++◌, length, take, drop, suc, get_or, Option, Some, None, if◌then◌else◌}
 use Rattle.std.specs.List.{All, list_any}
 use Rattle.off_base.specs.declared.addresses.Ip4.{Ip4}
 use Rattle.off_defs.specs.declared.tables.Pool.{Pool}
 use Rattle.off_runs.specs.declared.runs.Run.{Run}
-use Rattle.off_runs.specs.Runs.{in_pool, listed}
+use Rattle.off_runs.specs.Runs.{address, in_pool, listed}
 use Rattle.off_runs.specs.Held.{PoolHeld, expiry_at, HasLeases}
 
 pub record SamePool (old new : PoolHeld) : Type 0 where
@@ -59,6 +59,30 @@ HasGathered expiry seen p =
 abbrev pub first_of : List Run → Option Ip4
 first_of [] = None
 first_of (run ∷ runs) = Some run.first
+
+-- the addresses but one, and the runs with that one taken out of the run that has it
+abbrev pub but_address : ℕ → (ℕ → Bool) → ℕ → Bool
+but_address out free a = not (a == out) && free a
+
+-- the expiries of addresses, with another one for this address
+abbrev pub with_expiry : ℕ → ℕ → (ℕ → ℕ) → ℕ → ℕ
+with_expiry address expiry before a = if a == address then expiry else before a
+
+abbrev pub ends_before : ℕ → Run → Type 0
+ends_before a run = run.last.0 < a
+
+abbrev pub pieces_by : Bool → Bool → ℕ → Run → List Run
+pieces_by true true out run =
+    record run { last = address (out - 1) } ∷ record run { first = address (out + 1) } ∷ []
+pieces_by true false out run = record run { last = address (out - 1) } ∷ []
+pieces_by false true out run = record run { first = address (out + 1) } ∷ []
+pieces_by false false out run = []
+
+abbrev pub pieces_without : ℕ → Run → List Run
+pieces_without out run = pieces_by (nat_lt run.first.0 out) (nat_lt out run.last.0) out run
+
+abbrev pub cut_at : ℕ → ℕ → Run → List Run → List Run
+cut_at out place run runs = take place runs ++ (pieces_without out run ++ drop (suc place) runs)
 
 -- It has the pool of the number, and no address of it has a lease
 pub record Began (number : ℕ) (pool : Pool) (hub : ℕ) (p : PoolHeld) : Type 0 where

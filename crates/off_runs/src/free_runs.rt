@@ -19,7 +19,7 @@ ghost use Rattle.off_outside.specs.KeeperCalls.{Looks};
 
 use crate::leases::{count_puts, take_hubs, take_leases, take_pools};
 use crate::pool_runs::PoolRuns;
-use crate::pools::{pass_all, place_behind, place_numbered, place_with};
+use crate::pools::{pass_all, pass_since, place_behind, place_numbered, place_with};
 use crate::reading::{read_pools, take_kept_hubs, take_kept_leases};
 use crate::shelf::{push_aside, put_back};
 use off_base::{Ip4, Moment, NoMemory};
@@ -133,7 +133,8 @@ impl FreeRuns {
     pub fn pass(&mut self, now: Moment)
         ensures { self.new ≡ record self.old { at = now.0 } }
     {
-        pass_all(&mut self.pools, now);
+        let last = self.moment;
+        pass_since(&mut self.pools, last, now);
         self.moment = now;
     }
 

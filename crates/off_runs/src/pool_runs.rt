@@ -7,7 +7,7 @@ ghost use Rattle.off_runs.specs.Runs.{in_pool, is_open};
 ghost use Rattle.off_runs.specs.Held.{expiry_at, HasLeases, PoolHeld, NoneOpen, IsLeastOpen};
 ghost use Rattle.off_runs.specs.Changes.{Wrote, Rehubbed, Began, Copied, HasPart};
 
-use crate::runs::{Run, first_address, first_open, lay_out};
+use crate::runs::{Run, first_address, first_open, follow, lay_out};
 use off_base::{Ip4, Moment, NoMemory};
 use off_defs::Pool;
 use std::alloc::Global;
@@ -115,13 +115,17 @@ impl PoolRuns {
     }
 
     /// Keeps that the lease of an address ends then (0: it has none), where the address is one of
-    /// the pool's.
+    /// the pool's. The runs follow at once where it was free, and where it stays taken or free.
     pub(crate) fn set(&mut self, address: Ip4, expiry: u64)
         ensures { Wrote address.0 expiry self.old self.new }
     {
         if self.has(address) {
-            self.expiries[(address.0 - self.pool.first.0) as usize] = expiry;
-            self.is_stale = true;
+            let place = (address.0 - self.pool.first.0) as usize;
+            let before = self.expiries[place];
+            let follows = follow(&mut self.runs, address, self.laid_at, before, expiry);
+            self.expiries[place] = expiry;
+            self.soonest = self.soonest.min(expiry);
+            self.is_stale = self.is_stale || !follows;
         }
     }
 

@@ -21,6 +21,17 @@ pub(crate) fn pass_all(pools: &mut Vec<PoolRuns>, now: Moment)
     }
 }
 
+/// All pools come to a moment, unless it's the one to which they came last.
+pub(crate) fn pass_since(pools: &mut Vec<PoolRuns>, last: Moment, now: Moment)
+    ensures each { EachBecomes IsSame pools.old.items pools.new.items }
+    ensures len { vec_len pools.new ≡ vec_len pools.old }
+    ensures capacity { vec_capacity pools.new ≡ vec_capacity pools.old }
+{
+    if last.0 != now.0 {
+        pass_all(pools, now);
+    }
+}
+
 /// All pools that have the address keep that its lease ends then.
 pub(crate) fn set_all(pools: &mut Vec<PoolRuns>, address: Ip4, expiry: u64)
     ensures each { EachBecomes (Wrote address.0 expiry) pools.old.items pools.new.items }

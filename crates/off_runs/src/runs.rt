@@ -1,12 +1,15 @@
 //! Runs of free addresses, laid out from the expiries of all addresses of a pool.
 
-ghost use Rattle.std.specs.Prelude.{◌≡◌, ◌≤◌, ◌<◌, ◌^◌, ◌*◌, ◌+◌, length, vec_len, true, IsTrue};
-ghost use Rattle.std.specs.Prelude.{ℕ, MatchOption};
+ghost use Rattle.std.specs.Prelude.{◌≡◌, ◌≤◌, ◌<◌, ◌^◌, ◌*◌, ◌+◌, ◌++◌, ◌∷◌, length, vec_len};
+ghost use Rattle.std.specs.Prelude.{ℕ, Bool, true, IsTrue, MatchOption, IfSome, Some, slice_get};
+ghost use Rattle.std.specs.Prelude.{take, drop, suc};
+ghost use Rattle.std.specs.List.{All};
 ghost use Rattle.std.specs.Vec.{vec_capacity};
 ghost use Rattle.off_account_rules.specs.Rows.{has_pool_size};
 ghost use Rattle.off_runs.specs.Runs.{AreRuns, in_pool, is_open, listed, with_run};
 ghost use Rattle.off_runs.specs.Held.{NoneOpen, IsLeastOpen};
-ghost use Rattle.off_runs.specs.Changes.{first_of};
+ghost use Rattle.off_runs.specs.Changes.{first_of, but_address, with_expiry};
+ghost use Rattle.off_runs.specs.Changes.{ends_before, cut_at};
 
 use off_base::{Ip4, Moment};
 use off_defs::Pool;
@@ -67,6 +70,107 @@ fn end_run(runs: &mut Vec<Run>, start: u64, end: u64)
         };
         let _is_done = runs.push(run).is_ok();
     }
+}
+
+/// Has runs that were laid out at a moment follow where the lease of an address ends at another
+/// time than before, and tells whether they could. They can't where the address gets free, nor where
+/// a run would be parted in two, and there is no room for one more.
+pub(crate) fn follow(
+    runs: &mut Vec<Run>,
+    address: Ip4,
+    laid_at: Moment,
+    before: u64,
+    expiry: u64,
+) -> bool
+    ensures done { (pool : Pool) (held : ℕ → ℕ) → held address.0 ≡ before
+        → AreRuns pool (is_open held laid_at.0 pool) runs.old.items → result ≡ true
+        → AreRuns pool (is_open (with_expiry address.0 expiry held) laid_at.0 pool)
+        runs.new.items }
+    ensures capacity { vec_capacity runs.old ≤ vec_capacity runs.new }
+{
+    if expiry <= laid_at.0 {
+        before <= laid_at.0
+    } else if before > laid_at.0 {
+        true
+    } else {
+        take_out(runs, address)
+    }
+}
+
+// Takes an address out of the run that has it, if one has, and tells whether that's done.
+fn take_out(runs: &mut Vec<Run>, address: Ip4) -> bool
+    ensures done { (pool : Pool) (free : ℕ → Bool) → AreRuns pool free runs.old.items
+        → result ≡ true → AreRuns pool (but_address address.0 free) runs.new.items }
+    ensures capacity { vec_capacity runs.old ≤ vec_capacity runs.new }
+{
+    let place = place_up_to(runs, address);
+    if place == runs.len() {
+        return true;
+    }
+    let run = runs[place];
+    if address.0 < run.first.0 {
+        return true;
+    }
+    cut(runs, place, run, address)
+}
+
+// Where the first run stands that doesn't end before an address: past the end, where all do.
+fn place_up_to(runs: &Vec<Run>, address: Ip4) -> usize
+    ensures within { result ≤ vec_len runs.now }
+    ensures front { All (ends_before address.0) (take result runs.now.items) }
+    ensures here { IfSome (slice_get runs.now.items result) (λ run. address.0 ≤ run.last.0) }
+{
+    let mut place = 0;
+    'seek: while place < runs.len() && runs[place].last.0 < address.0 {
+        place += 1;
+    }
+    place
+}
+
+// Takes an address out of the run at a place.
+fn cut(runs: &mut Vec<Run>, place: usize, run: Run, address: Ip4) -> bool
+    requires at { slice_get runs.old.items place ≡ Some run }
+    requires low { run.first.0 ≤ address.0 }
+    requires high { address.0 ≤ run.last.0 }
+    ensures done { result ≡ true → runs.new.items ≡ cut_at address.0 place run runs.old.items }
+    ensures capacity { vec_capacity runs.old ≤ vec_capacity runs.new }
+{
+    if run.first.0 < address.0 {
+        let lower = Run {
+            first: run.first,
+            last: Ip4(address.0 - 1),
+        };
+        if address.0 < run.last.0 {
+            let upper = Run {
+                first: Ip4(address.0 + 1),
+                last: run.last,
+            };
+            return part(runs, place, lower, upper);
+        }
+        runs[place] = lower;
+    } else if address.0 < run.last.0 {
+        runs[place] = Run {
+            first: Ip4(address.0 + 1),
+            last: run.last,
+        };
+    } else {
+        let _run = runs.remove(place);
+    }
+    true
+}
+
+// Puts two runs in place of one, where there is room.
+fn part(runs: &mut Vec<Run>, place: usize, lower: Run, upper: Run) -> bool
+    requires { place < vec_len runs.old }
+    ensures done { result ≡ true → runs.new.items
+        ≡ take place runs.old.items ++ lower ∷ upper ∷ drop (suc place) runs.old.items }
+    ensures capacity { vec_capacity runs.old ≤ vec_capacity runs.new }
+{
+    if runs.len() == runs.capacity() {
+        return false;
+    }
+    runs[place] = upper;
+    runs.insert(place, lower).is_ok()
 }
 
 /// The first address of runs, or `None` where there are none.
