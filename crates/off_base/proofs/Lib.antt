@@ -1,4 +1,5 @@
 pub mod AddressExamples
+pub mod ExtentLemmas
 pub mod IpTextLemmas
 pub mod MacTextLemmas
 pub mod NumberLemmas

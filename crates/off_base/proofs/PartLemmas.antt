@@ -2,14 +2,15 @@
 use Rattle.std.proofs.Common.{◌≡◌, ℕ, zero, suc, ◌+◌, ◌<◌, ◌≤◌, Bool, true, false, cond, eqb, leb, List, [], ◌∷◌, ◌++◌, length, take, drop, get_or, Result, Ok, Err, refl, sym, ap, ◌∙◌, arith, inl, inr, add-zero, drop-cons, length-drop, length-append}
 use Rattle.std.proofs.Math.Nat.{le_refl}
 use Rattle.std.proofs.Math.Seq.{take-append_seam, drop-append_seam}
-use Rattle.std.proofs.lemmas.List.{drop-drop, drop_all, take-append-drop, length-take-le}
-use Rattle.std.specs.Prelude.{MatchResult, IsOk}
+use Rattle.std.proofs.lemmas.List.{drop-drop, drop_all, take-append-drop, length-take-le, get_or-drop, get_or-take}
+use Rattle.std.proofs.Math.ListN.{get_or-append}
+use Rattle.std.specs.Prelude.{MatchResult, IsOk, is_some}
 use Rattle.std.specs.Result.{result_err}
 use Rattle.std.proofs.lemmas.Bool.{both_ways, and_parts, cases_Bool, or_parts, cases_lt, eqb-true, le-leb, lt-leb, ne_eqb, eq-eqb}
 use Rattle.off_base.specs.Parts.{Part, has, values, joined, bytes_of, IsCode, Spells, Cut, IsReading, onto, is_mark, parts_from, parts_in}
 use Rattle.off_base.specs.Parts.Spells.{spells_nothing, spells_end, spells_pad, spells_part}
 use Rattle.off_base.specs.Parts.Cut.{cut_length, cut_value, cut_behind_pad, cut_behind_part}
-use Rattle.off_base.specs.Walk.{all_parts, left, Finds, FindsPart, all_values, cursor_at, CursorStands}
+use Rattle.off_base.specs.Walk.{all_parts, left, Finds, FindsPart, all_values, cursor_at, CursorStands, Shows}
 use Rattle.off_base.specs.declared.parts.Step.{Step}
 use Rattle.off_base.specs.declared.parts.Step.TheVariants.{Found, End, Cut as Cuts}
 
@@ -249,6 +250,14 @@ bytes_of-joined wanted (Ok parts) =
       | inr none ↦ rw none (sym (values_none wanted parts none))
     ]
 
+pub is_some-joined : (wanted : ℕ) (read : Result (List Part) ℕ) → is_some (joined wanted read) ≡ has wanted (all_parts read)
+is_some-joined wanted (Err place) = refl
+is_some-joined wanted (Ok parts) =
+    elim (cases_Bool (has wanted parts)) [
+      | inl there ↦ rw there refl
+      | inr none ↦ rw none refl
+    ]
+
 -- ---- a cursor among options
 
 pub at_front : (options : List ℕ) (code : ℕ) → IsOk (parts_in true options) → CursorStands options code (cursor_at 0 0)
@@ -259,7 +268,7 @@ at_front options code ok = record { within = omega arith; ok = ok; few = omega a
 abbrev pub counts : ℕ → ℕ → ℕ → ℕ
 counts code wanted len = cond (eqb code wanted) len 0
 
-values_on : (wanted code place len : ℕ) (options : List ℕ) (rest : List Part) → place + 2 + len ≤ length options
+pub values_on : (wanted code place len : ℕ) (options : List ℕ) (rest : List Part) → place + 2 + len ≤ length options
     → (shown : List ℕ) × (length shown ≡ counts code wanted len) × (values wanted (record { code = code; place = place; value = take len (drop (place + 2) options) } ∷ rest) ≡ shown ++ values wanted rest)
 values_on wanted code place len options rest within =
     elim (cases_Bool (eqb code wanted)) [
@@ -268,6 +277,44 @@ values_on wanted code place len options rest within =
           (take len (drop (place + 2) options), rw same (length-take-le len (drop (place + 2) options) (omega arith)), rw same refl)
       | inr other ↦ ([], rw other refl, rw other refl)
     ]
+
+-- the cursor goes over pads to the code
+pub stands_at : (options : List ℕ) (wanted at before code place len : ℕ) → CursorStands options wanted (cursor_at at before)
+    → FindsPart true options at code place len → CursorStands options wanted (cursor_at place before)
+stands_at options wanted at before code place len stands found =
+    let inside = found.within in
+    record {
+      within = omega (arith, inside);
+      ok = rw found.here at stands.ok;
+      few = stands.few;
+      rest = ap (λ read. values wanted (all_parts read)) (sym found.here) ∙ stands.rest;
+    }
+
+-- an option of the code has the joined bytes from the cursor's on
+pub shows_at : (options : List ℕ) (wanted at before code place len : ℕ) → CursorStands options wanted (cursor_at at before)
+    → FindsPart true options at code place len → code ≡ wanted → Shows options wanted (record { cursor = cursor_at place before; len = len })
+shows_at options wanted at before code place len stands found same =
+    let inside = found.within in
+    let rest = found_rest true options at code place len found stands.ok in
+    let test : eqb code wanted ≡ true = eq-eqb code wanted same in
+    let value = take len (drop (place + 2) options) in
+    let behind = values wanted (all_parts (left true (place + 2 + len) options)) in
+    let first : values wanted (record { code = code; place = place; value = take len (drop (place + 2) options) } ∷ all_parts (left true (place + 2 + len) options))
+    ≡ take len (drop (place + 2) options) ++ values wanted (all_parts (left true (place + 2 + len) options)) = rw test refl in
+    let all : drop before (all_values wanted options) ≡ take len (drop (place + 2) options) ++ behind = sym stands.rest ∙ ap (values wanted) rest.1 ∙ first in
+    let size = length-drop (place + 2) options in
+    let long : length (take len (drop (place + 2) options)) ≡ len = length-take-le len (drop (place + 2) options) (omega (arith, size, inside)) in
+    record {
+      stands = stands_at options wanted at before code place len stands found;
+      within = λ i near. omega (arith, inside, near);
+      bytes = λ i near.
+          let here : i < length (take len (drop (place + 2) options)) = omega (arith, long, near) in
+          sym (sym (get_or-drop before (all_values wanted options) i 0)
+          ∙ ap (λ bytes. get_or bytes i 0) all
+          ∙ get_or-append value behind 0 i here
+          ∙ get_or-take len (drop (place + 2) options) i 0 near
+          ∙ get_or-drop (place + 2) options i 0);
+    }
 
 -- behind an option that doesn't have the byte
 pub stands_on : (options : List ℕ) (wanted at before code place len : ℕ) → CursorStands options wanted (cursor_at at before)

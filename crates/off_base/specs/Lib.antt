@@ -4,6 +4,7 @@ pub mod Dotted
 pub mod Number
 pub mod Parts
 pub mod Walk
+pub mod Extents
 pub mod Setting
 pub mod SettingFalls
 pub mod Tree

@@ -1,8 +1,9 @@
 -- How the calls that go over parts stand: what is left at a place, and what a step from there
 -- finds.
-use Rattle.std.specs.Prelude.{◌≡◌, ℕ, ◌+◌, ◌-◌, ◌<◌, ◌≤◌, Bool, true, List, [], take, drop, length, slice_index, Result, Ok, Err, IsOk}
+use Rattle.std.specs.Prelude.{◌≡◌, ℕ, ◌+◌, ◌<◌, ◌≤◌, Bool, true, List, [], take, drop, length, slice_index, Result, Ok, Err, IsOk}
 use Rattle.off_base.specs.Parts.{Part, onto, parts_from, parts_in, values}
 use Rattle.off_base.specs.declared.cursors.Cursor.{Cursor}
+use Rattle.off_base.specs.declared.cursors.Piece.{Piece}
 use Rattle.off_base.specs.declared.parts.Step.{Step}
 use Rattle.off_base.specs.declared.parts.Step.TheVariants.{Found, End, Cut}
 
@@ -44,10 +45,15 @@ pub record CursorStands (options : List ℕ) (code : ℕ) (cursor : Cursor) : Ty
   pub rest : values code (all_parts (left true cursor.at options))
       ≡ drop cursor.before (all_values code options)
 
--- the option at the cursor has this joined byte
-pub record Holds (options : List ℕ) (code i : ℕ) (cursor : Cursor) : Type 0 where
-  pub stands : CursorStands options code cursor
-  pub behind : cursor.before ≤ i
-  pub within : cursor.at + 2 + (i - cursor.before) < length options
-  pub byte : slice_index options (cursor.at + 2 + (i - cursor.before))
-      ≡ slice_index (all_values code options) i
+-- the bytes of the option at the cursor are so many of the joined ones
+pub record Shows (options : List ℕ) (code : ℕ) (piece : Piece) : Type 0 where
+  pub stands : CursorStands options code piece.cursor
+  pub within : (i : ℕ) → i < piece.len → piece.cursor.at + 2 + i < length options
+  pub bytes : (i : ℕ) → i < piece.len → slice_index options (piece.cursor.at + 2 + i)
+      ≡ slice_index (all_values code options) (piece.cursor.before + i)
+
+-- the option has this joined byte
+pub record Holds (options : List ℕ) (code i : ℕ) (piece : Piece) : Type 0 where
+  pub shows : Shows options code piece
+  pub behind : piece.cursor.before ≤ i
+  pub near : i < piece.cursor.before + piece.len

@@ -1,6 +1,6 @@
 ghost use Rattle.std.specs.Prelude.{◌≡◌, ◌==◌, ◌<◌, ◌≤◌, true, length, slice_index, IsOk};
 ghost use Rattle.off_base.specs.Parts.{parts_in};
-ghost use Rattle.off_base.specs.Walk.{all_values, CursorStands, Holds, Finds};
+ghost use Rattle.off_base.specs.Walk.{all_values, cursor_at, CursorStands, Shows, Holds, Finds};
 
 use crate::joined::len_if;
 use crate::parts::{Step, next_in, next_part};
@@ -14,6 +14,13 @@ pub struct Cursor {
     before: usize,
 }
 
+// An option at a cursor, and how many of the joined bytes stand in it.
+#[derive(Clone, Copy, Debug)]
+pub(crate) struct Piece {
+    cursor: Cursor,
+    len: usize,
+}
+
 /// A joined value, to be read from the front on: one walk over its bytes is one walk over the
 /// options.
 ///
@@ -22,14 +29,15 @@ pub struct Cursor {
 pub struct JoinedBytes<'a> {
     options: &'a [u8],
     code: u8,
+    first: usize,
     len: usize,
-    cursor: Cursor,
+    piece: Piece,
 }
 
 impl<'a> Model for JoinedBytes<'a> {
     ghost use Rattle.std.specs.Prelude.{List, ℕ, ◌≡◌, length, true, IsOk};
     ghost use Rattle.off_base.specs.Parts.{parts_in};
-    ghost use Rattle.off_base.specs.Walk.{all_values, CursorStands};
+    ghost use Rattle.off_base.specs.Walk.{all_values, cursor_at, CursorStands, Shows};
 
     ghost Value = { List ℕ };
 
@@ -37,21 +45,31 @@ impl<'a> Model for JoinedBytes<'a> {
 
     ghost invariant = { λ b. IsOk (parts_in true b.options.now)
         × (b.len ≡ length (all_values b.code b.options.now))
-        × CursorStands b.options.now b.code b.cursor };
+        × Shows b.options.now b.code b.piece
+        × CursorStands b.options.now b.code (cursor_at b.first 0) };
 }
 
 impl<'a> JoinedBytes<'a> {
-    // The joined values of a code, of which there are so many bytes.
-    pub(crate) fn over(options: &'a [u8], code: u8, len: usize) -> JoinedBytes<'a>
+    // The joined values of a code, whose first option stands at a place or behind it, and of which
+    // there are so many bytes.
+    pub(crate) fn over(options: &'a [u8], code: u8, first: usize, len: usize) -> JoinedBytes<'a>
         requires read { IsOk (parts_in true options.now) }
+        requires stands { CursorStands options.now code (cursor_at first 0) }
         requires counted { len ≡ length (all_values code options.now) }
         ensures { result ≡ all_values code options.now }
     {
         JoinedBytes {
             options,
             code,
+            first,
             len,
-            cursor: FRONT,
+            piece: Piece {
+                cursor: Cursor {
+                    at: first,
+                    before: 0,
+                },
+                len: 0,
+            },
         }
     }
 
@@ -96,21 +114,35 @@ impl<'a> Readable for JoinedBytes<'a> {
     }
 
     fn byte(&mut self, place: usize) -> u8 {
-        let near = if place < self.cursor.before {
-            FRONT
-        } else {
-            self.cursor
-        };
-        let cursor = holder(self.options, self.code, near, place);
-        self.cursor = cursor;
-        self.options[cursor.at + 2 + (place - cursor.before)]
+        let piece = piece_with(self.options, self.code, self.first, self.piece, place);
+        self.piece = piece;
+        self.options[piece.cursor.at + 2 + (place - piece.cursor.before)]
     }
 }
 
-const FRONT: Cursor = Cursor { at: 0, before: 0 };
+// The option that has a joined byte: the one that was read last, or one that stands behind it, or
+// behind the first place.
+fn piece_with(options: &[u8], code: u8, first: usize, last: Piece, i: usize) -> Piece
+    requires shows { Shows options.now code last }
+    requires front { CursorStands options.now code (cursor_at first 0) }
+    requires within { i < length (all_values code options.now) }
+    ensures { Holds options.now code i result }
+{
+    if i < last.cursor.before {
+        let front = Cursor {
+            at: first,
+            before: 0,
+        };
+        return holder(options, code, front, i);
+    }
+    if i - last.cursor.before < last.len {
+        return last;
+    }
+    holder(options, code, last.cursor, i)
+}
 
-// Where the option stands that has a joined byte, from a cursor on.
-fn holder(options: &[u8], wanted: u8, from: Cursor, i: usize) -> Cursor
+// The option that has a joined byte, from a cursor on.
+fn holder(options: &[u8], wanted: u8, from: Cursor, i: usize) -> Piece
     requires stands { CursorStands options.now wanted from }
     requires behind { from.before ≤ i }
     requires within { i < length (all_values wanted options.now) }
@@ -123,7 +155,8 @@ fn holder(options: &[u8], wanted: u8, from: Cursor, i: usize) -> Cursor
             Step::Found(code, place, len) => {
                 let here = len_if(code == wanted, len);
                 if i - before < here {
-                    return Cursor { at: place, before };
+                    let cursor = Cursor { at: place, before };
+                    return Piece { cursor, len };
                 }
                 before += here;
                 at = place + 2 + len;

@@ -1,9 +1,11 @@
 ghost use Rattle.std.specs.Prelude.{◌≡◌, ◌==◌, ◌<◌, true, length, if◌then◌else◌, slice_index, Err};
-ghost use Rattle.std.specs.Prelude.{IsOk, is_some, MatchOption};
+ghost use Rattle.std.specs.Prelude.{IfSome, IsOk, is_some, MatchOption};
 ghost use Rattle.off_base.specs.Parts.{parts_in, has, values, joined, bytes_of, IsReading};
-ghost use Rattle.off_base.specs.Walk.{all_parts};
+ghost use Rattle.off_base.specs.Walk.{all_parts, all_values, cursor_at, CursorStands};
+ghost use Rattle.off_base.specs.Extents.{IsExtent};
 
 use crate::cursors::JoinedBytes;
+use crate::index::Extent;
 use crate::parts::{Step, next_part};
 use std::marker::Model;
 
@@ -16,12 +18,14 @@ pub struct Joined<'a> {
     options: &'a [u8],
     code: u8,
     is_there: bool,
+    first: usize,
     len: usize,
 }
 
 impl<'a> Model for Joined<'a> {
     ghost use Rattle.std.specs.Prelude.{◌≡◌, Option, List, ℕ, true, length, is_some, IsOk};
     ghost use Rattle.off_base.specs.Parts.{joined, bytes_of, parts_in};
+    ghost use Rattle.off_base.specs.Walk.{cursor_at, CursorStands};
 
     ghost Value = { Option (List ℕ) };
 
@@ -29,7 +33,8 @@ impl<'a> Model for Joined<'a> {
 
     ghost invariant = { λ j. IsOk (parts_in true j.options.now)
         × (j.is_there ≡ is_some (joined j.code (parts_in true j.options.now)))
-        × (j.len ≡ length (bytes_of (joined j.code (parts_in true j.options.now)))) };
+        × (j.len ≡ length (bytes_of (joined j.code (parts_in true j.options.now))))
+        × CursorStands j.options.now j.code (cursor_at j.first 0) };
 }
 
 /// The place of the first option that passes the end of the bytes (RFC 2132, section 2).
@@ -70,7 +75,23 @@ impl<'a> Joined<'a> {
             options,
             code,
             is_there,
+            first: 0,
             len,
+        }
+    }
+
+    // The options of one code, of which it's known where they stand.
+    pub(crate) fn within(options: &'a [u8], code: u8, extent: Extent) -> Joined<'a>
+        requires read { IsOk (parts_in true options.now) }
+        requires extent { IsExtent options.now code extent }
+        ensures { result ≡ joined code (parts_in true options.now) }
+    {
+        Joined {
+            options,
+            code,
+            is_there: extent.is_there,
+            first: extent.first,
+            len: extent.len,
         }
     }
 
@@ -100,14 +121,22 @@ impl<'a> Joined<'a> {
         requires { i < length (bytes_of self.now) }
         ensures { result ≡ slice_index (bytes_of self.now) i }
     {
-        joined_byte(self.options, self.code, i)
+        let mut bytes = self.bytes();
+        bytes.byte_at(i)
+    }
+
+    /// The bytes, where all of them stand in the first option.
+    pub fn whole(&self) -> Option<&'a [u8]>
+        ensures { IfSome result (λ bytes. bytes.now ≡ bytes_of self.now) }
+    {
+        whole_in(self.options, self.code, self.first, self.len)
     }
 
     /// The bytes, to be read from the front on.
     pub fn bytes(&self) -> JoinedBytes<'a>
         ensures { result ≡ bytes_of self.now }
     {
-        JoinedBytes::over(self.options, self.code, self.len())
+        JoinedBytes::over(self.options, self.code, self.first, self.len())
     }
 }
 
@@ -133,27 +162,23 @@ fn counted_and_other(options: &[u8], counted: u8, other: u8) -> (usize, bool)
     }
 }
 
-#[tactic(auto, unfolding(crate::specs::Parts::parts_in))]
-fn joined_byte(options: &[u8], wanted: u8, i: usize) -> u8
-    requires read { IsOk (parts_in true options.now) }
-    requires within { i < length (values wanted (all_parts (parts_in true options.now))) }
-    ensures { result ≡ slice_index (values wanted (all_parts (parts_in true options.now))) i }
+// The joined bytes of a code, of which there are so many, where all of them stand in the option at
+// or behind the first place.
+fn whole_in(options: &[u8], code: u8, first: usize, len: usize) -> Option<&[u8]>
+    requires stands { CursorStands options.now code (cursor_at first 0) }
+    requires counted { len ≡ length (all_values code options.now) }
+    ensures { IfSome result (λ bytes. bytes.now ≡ all_values code options.now) }
 {
-    let mut at = 0;
-    let mut left = i;
-    'parts: loop {
-        match next_part(options, at, true) {
-            Step::Found(code, place, len) => {
-                let here = len_if(code == wanted, len);
-                if left < here {
-                    return options[place + 2 + left];
-                }
-                left -= here;
-                at = place + 2 + len;
+    match next_part(options, first, true) {
+        Step::Found(found, place, here) => {
+            if found == code && here == len {
+                Some(&options[place + 2..place + 2 + here])
+            } else {
+                None
             }
-            Step::End => return 0,
-            Step::Cut(_) => return 0,
         }
+        Step::End => None,
+        Step::Cut(_) => None,
     }
 }
 

@@ -6,6 +6,7 @@
 mod addresses;
 mod cursors;
 mod dotted;
+mod index;
 mod items;
 mod joined;
 mod macs;
@@ -21,6 +22,7 @@ mod wording;
 pub use addresses::{Ip4, Peer};
 pub use cursors::{Cursor, JoinedBytes};
 pub use dotted::{IpText, NotIp, ip_text, read_ip};
+pub use index::{Extent, OptionIndex};
 pub use items::Items;
 pub use joined::{Joined, first_cut, len_and_other};
 pub use macs::{Mac, NotMac, mac_text, read_mac};

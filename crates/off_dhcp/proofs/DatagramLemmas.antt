@@ -37,6 +37,14 @@ pub in_fixed : (bytes : List ℕ) (fault : DhcpFault) → first_there (fixed_fau
 unfolding message_fault
 in_fixed bytes fault is = ap (λ o. received_unless o (received bytes)) (there_first (fixed_faults bytes) (option_faults (options_in bytes)) fault is)
 
+pub fixed_first : (bytes : List ℕ) (fault : DhcpFault) → first_there (fixed_faults bytes) ≡ Some fault → message_fault bytes ≡ Some fault
+unfolding message_fault
+fixed_first bytes fault is = there_first (fixed_faults bytes) (option_faults (options_in bytes)) fault is
+
+pub options_first : (bytes : List ℕ) → first_there (fixed_faults bytes) ≡ None → message_fault bytes ≡ first_there (option_faults (options_in bytes))
+unfolding message_fault
+options_first bytes none = none_first (fixed_faults bytes) (option_faults (options_in bytes)) none
+
 pub in_options : (bytes : List ℕ) (fault : DhcpFault) → first_there (fixed_faults bytes) ≡ None → first_there (option_faults (options_in bytes)) ≡ Some fault
     → message_of bytes ≡ Err fault
 unfolding message_fault

@@ -1,8 +1,8 @@
 -- Option 82 piece by piece.
-use Rattle.std.proofs.Common.{◌≡◌, ℕ, zero, suc, ◌+◌, Bool, true, false, List, [], ◌∷◌, ◌++◌, length, Option, Some, None, refl, sym, ap, ◌∙◌, arith, add-zero, append_assoc}
+use Rattle.std.proofs.Common.{◌≡◌, ℕ, zero, suc, ◌+◌, true, false, List, [], ◌∷◌, ◌++◌, ◌≤◌, length, take, Option, Some, None, refl, sym, ap, ◌∙◌, arith, add-zero, append_assoc}
 use Rattle.std.specs.Prelude.{is_some}
 use Rattle.std.specs.List.{flat_map, range_with_len}
-use Rattle.std.proofs.lemmas.List.{append-nil}
+use Rattle.std.proofs.lemmas.List.{append-nil, take_all}
 use Rattle.std.proofs.lemmas.Grind.{flat_map-append}
 use Rattle.off_base.specs.Parts.{bytes_of}
 use Rattle.off_dhcp.specs.Reply.{relayed, relay_options, option, piece, pieces}
@@ -36,15 +36,21 @@ unfolding relay_options
 relay_missing (Some value) missing = cc
 relay_missing None missing = refl
 
+pieces_one : (len : ℕ) → len ≤ 255 → pieces len ≡ 1
+pieces_one len few = omega (arith, few)
+
+-- a value that one option can have
+pub relay_whole : (o : Option (List ℕ)) (value : List ℕ) → is_some o ≡ true → value ≡ bytes_of o → length value ≤ 255 → relay_options o ≡ option 82 value
+relay_whole o value there is few =
+    let short : length (bytes_of o) ≤ 255 = rw is at few in
+    let one : relayed (bytes_of o) 1 ≡ option 82 (take 255 (bytes_of o)) = append-nil (option 82 (piece (bytes_of o) 0)) in
+    relay_there o there
+    ∙ ap (relayed (bytes_of o)) (pieces_one (length (bytes_of o)) short)
+    ∙ one
+    ∙ ap (option 82) (take_all 255 (bytes_of o) short ∙ sym is)
+
 -- one more piece behind those so far
 pub relay_step : (new out old value shown items : List ℕ) (k : ℕ) → new ≡ out ++ option 82 shown → shown ≡ items → items ≡ piece value k
     → out ≡ old ++ relayed value k → new ≡ old ++ relayed value (k + 1)
 relay_step new out old value shown items k pushed is cut so_far =
     pushed ∙ rw (is, cut, so_far) (append_assoc old (relayed value k) (option 82 (piece value k))) ∙ ap (λ xs. old ++ xs) (sym (relayed_more value k))
-
--- all pieces
-pub relay_done : (out old : List ℕ) (o value : Option (List ℕ)) (there : Bool) (len count k : ℕ) → value ≡ o → there ≡ is_some value → there ≡ true
-    → len ≡ length (bytes_of value) → count ≡ pieces len → k ≡ count → out ≡ old ++ relayed (bytes_of value) k → out ≡ old ++ relay_options o
-relay_done out old o value there len count k same is yes_ size counted last so_far =
-    let all = relay_there o (rw same at (sym is ∙ yes_)) in
-    so_far ∙ rw (last, counted, size, same, all) refl

@@ -1,11 +1,13 @@
-ghost use Rattle.std.specs.Prelude.{◌≡◌, ◌≤◌, ◌==◌, ◌&&◌, length, None, IfNone};
+ghost use Rattle.std.specs.Prelude.{◌≡◌, ◌≤◌, ◌==◌, ◌&&◌, true, length};
+ghost use Rattle.std.specs.Prelude.{Some, None, IfNone, IsOk, IfOk, MatchResult};
 ghost use Rattle.std.specs.List.{slice_range};
 ghost use Rattle.std.specs.Str.{bytes_eq};
 ghost use Rattle.off_base.specs.Choices.{first_there};
+ghost use Rattle.off_base.specs.Parts.{parts_in};
 ghost use Rattle.off_dhcp.specs.Datagram.{fixed_faults, option_faults};
 ghost use Rattle.off_dhcp.specs.Datagram.{magic_cookie, has_fixed_part};
 
-use off_base::{first_cut, len_and_other};
+use off_base::OptionIndex;
 
 /// Why a datagram is no message that the office reads. The first fault in the order of `read` is
 /// told.
@@ -100,19 +102,32 @@ fn is_ethernet(kind: u8, length: u8) -> bool
     kind == ETHERNET && length == ETHERNET_LENGTH
 }
 
-/// The first fault of the options, which begin at place 240 of the datagram.
-pub(crate) fn option_fault(options: &[u8]) -> Option<DhcpFault>
+/// Goes over the options, which begin at place 240 of the datagram: where they stand, or their
+/// first fault.
+pub(crate) fn sound_options(options: &[u8]) -> Result<OptionIndex<'_>, DhcpFault>
     requires { length options.now ≤ 1260 }
+    ensures index { IfOk result (λ index. index ≡ options.now) }
+    ensures fault { MatchResult result (λ _. first_there (option_faults options.now) ≡ None)
+        (λ fault. first_there (option_faults options.now) ≡ Some fault) }
+{
+    match OptionIndex::read(options) {
+        Ok(index) => match index_fault(&index) {
+            Some(fault) => Err(fault),
+            None => Ok(index),
+        },
+        Err(place) => Err(DhcpFault::OptionCut(place + OPTIONS)),
+    }
+}
+
+/// The first fault of options of which none passes the end.
+pub(crate) fn index_fault(options: &OptionIndex<'_>) -> Option<DhcpFault>
+    requires { IsOk (parts_in true options.now) }
     ensures { result ≡ first_there (option_faults options.now) }
 {
-    if let Some(place) = first_cut(options) {
-        return Some(DhcpFault::OptionCut(place + OPTIONS));
-    }
-    let (type_bytes, is_overloaded) = len_and_other(options, MESSAGE_TYPE, OPTION_OVERLOAD);
-    if type_bytes != 1 {
+    if options.option(MESSAGE_TYPE).len() != 1 {
         return Some(DhcpFault::NoType);
     }
-    if is_overloaded {
+    if options.option(OPTION_OVERLOAD).present() {
         return Some(DhcpFault::Overload);
     }
     None

@@ -4,27 +4,30 @@ ghost use Rattle.std.specs.List.{slice_range};
 ghost use Rattle.off_dhcp.specs.Datagram.{option_in, options_in, head_of};
 
 use crate::faults::{OPTIONS, has_fixed_part};
-use off_base::{Ip4, Joined, first_cut};
+use off_base::{Ip4, Joined, OptionIndex};
 use std::marker::Model;
 
 /// The fixed part and the options of a request of BOOTP, whatever its client's hardware is and
 /// whatever the options say (RFC 951, section 3; RFC 2131, section 2).
 ///
-/// Contracts see the datagram's bytes, in which it lies.
+/// Contracts see the datagram's bytes, in which it lies. Where the options stand is found by one
+/// walk, as it is read.
 #[derive(Debug, Drop)]
 pub struct Head<'a> {
     pub(crate) bytes: &'a [u8],
+    pub(crate) options: OptionIndex<'a>,
 }
 
 impl<'a> Model for Head<'a> {
     ghost use Rattle.std.specs.Prelude.{◌≡◌, List, ℕ, true};
-    ghost use Rattle.off_dhcp.specs.Datagram.{has_head};
+    ghost use Rattle.off_dhcp.specs.Datagram.{has_head, options_in};
 
     ghost Value = { List ℕ };
 
     ghost view = { λ h. h.bytes.now };
 
-    ghost invariant = { λ h. has_head h.bytes.now ≡ true };
+    ghost invariant = { λ h. (has_head h.bytes.now ≡ true)
+        × (h.options ≡ options_in h.bytes.now) };
 }
 
 impl<'a> Head<'a> {
@@ -36,9 +39,9 @@ impl<'a> Head<'a> {
         if !has_fixed_part(bytes) {
             return None;
         }
-        match first_cut(options_of(bytes)) {
-            None => Some(Head { bytes }),
-            Some(_place) => None,
+        match OptionIndex::read(options_of(bytes)) {
+            Ok(options) => Some(Head { bytes, options }),
+            Err(_place) => None,
         }
     }
 
@@ -91,8 +94,7 @@ impl<'a> Head<'a> {
     pub fn option(&self, code: u8) -> Joined<'a>
         ensures { result ≡ option_in code (options_in self.now) }
     {
-        let options = options_of(self.bytes);
-        Joined::over(options, code)
+        self.options.option(code)
     }
 }
 

@@ -2,10 +2,10 @@ ghost use Rattle.std.specs.Prelude.{◌≡◌, ◌≤◌, length, None};
 ghost use Rattle.off_base.specs.Choices.{first_there};
 ghost use Rattle.off_dhcp.specs.Datagram.{message_of, option_in, options_in, mac_of_client};
 ghost use Rattle.off_dhcp.specs.Datagram.{ReadsOptions, received};
-ghost use Rattle.off_dhcp.specs.Datagram.{fixed_faults};
+ghost use Rattle.off_dhcp.specs.Datagram.{fixed_faults, message_fault};
 
 use crate::DhcpFault;
-use crate::faults::{MESSAGE_TYPE, fixed_fault, option_fault};
+use crate::faults::{MESSAGE_TYPE, fixed_fault, index_fault, sound_options};
 use crate::heads::{Head, options_of};
 use off_base::{Ip4, Joined, Mac};
 use std::marker::Model;
@@ -43,6 +43,17 @@ impl<'a> Message<'a> {
         }
     }
 
+    /// Reads the datagram of a head, whose options aren't gone over again. The faults come in the
+    /// order of `read`.
+    pub fn of(head: Head<'a>) -> Result<Message<'a>, DhcpFault>
+        ensures { result ≡ message_of head.entry }
+    {
+        match head_fault(&head) {
+            Some(fault) => Err(fault),
+            None => Ok(Message { head }),
+        }
+    }
+
     // Reads a datagram whose fixed part has no fault.
     fn behind_the_fixed_part(bytes: &'a [u8]) -> Result<Message<'a>, DhcpFault>
         requires long { 240 ≤ length bytes.now }
@@ -50,12 +61,12 @@ impl<'a> Message<'a> {
         requires none { first_there (fixed_faults bytes.now) ≡ None }
         ensures { result ≡ message_of bytes.now }
     {
-        match option_fault(options_of(bytes)) {
-            Some(fault) => Err(fault),
-            None => {
-                let head = Head { bytes };
+        match sound_options(options_of(bytes)) {
+            Ok(options) => {
+                let head = Head { bytes, options };
                 Ok(Message { head })
             }
+            Err(fault) => Err(fault),
         }
     }
 
@@ -124,5 +135,15 @@ impl<'a> Message<'a> {
         ensures { result ≡ option_in code self.now.options }
     {
         self.head.option(code)
+    }
+}
+
+// The first fault of a message by its head.
+fn head_fault(head: &Head<'_>) -> Option<DhcpFault>
+    ensures { result ≡ message_fault head.now }
+{
+    match fixed_fault(head.bytes) {
+        Some(fault) => Some(fault),
+        None => index_fault(&head.options),
     }
 }

@@ -1,12 +1,13 @@
 ghost use Rattle.std.specs.Prelude.{◌≡◌, ◌≤◌, ◌+◌, ◌*◌, ◌++◌, length, OnOk};
 ghost use Rattle.std.specs.List.{slice_range};
 ghost use Rattle.off_dhcp.specs.Datagram.{option_in};
-ghost use Rattle.off_dhcp.specs.Reply.{relay_options, pieces};
+ghost use Rattle.off_base.specs.Parts.{bytes_of};
+ghost use Rattle.off_dhcp.specs.Reply.{relay_options, relayed, pieces};
 
 use crate::Message;
 use crate::pieces::push_option;
 use arrayvec::ArrayVec;
-use off_base::{Bytes, JoinedBytes, NoMemory};
+use off_base::{Bytes, Joined, JoinedBytes, NoMemory};
 
 // Option 82 (RFC 3046).
 const RELAY_AGENT: u8 = 82;
@@ -22,6 +23,19 @@ pub fn push_relay(out: &mut Bytes, m: &Message<'_>) -> Result<(), NoMemory>
     if !value.present() {
         return Ok(());
     }
+    if let Some(bytes) = value.whole() {
+        if bytes.len() <= MOST_OF_AN_OPTION {
+            return push_option(out, RELAY_AGENT, bytes);
+        }
+    }
+    push_pieces(out, &value)
+}
+
+// Appends a value piece by piece, byte for byte, since it doesn't lie in one piece.
+fn push_pieces(out: &mut Bytes, value: &Joined<'_>) -> Result<(), NoMemory>
+    ensures { OnOk result (out.new ≡ out.old
+        ++ relayed (bytes_of value.now) (pieces (length (bytes_of value.now)))) }
+{
     let mut bytes = value.bytes();
     let len = value.len();
     for k in 0..pieces_of(len) {

@@ -35,6 +35,9 @@ const ACK: u8 = 5;
 
 const BROADCAST: u16 = 0x8000;
 
+// As many bytes as each client takes (RFC 2131, section 2): a usual reply has fewer.
+const ROOM: usize = 576;
+
 /// A NAK from a server: it has no address and no name, and option 82 of the request.
 #[tactic(auto, unfolding(crate::specs::Reply::nak_bytes))]
 pub fn write_nak(alloc: Global, m: &Message<'_>, server: Ip4) -> Result<Bytes, NoMemory>
@@ -102,7 +105,7 @@ fn write_head(
     requires { length name.now ≤ 128 }
     ensures { IfOk result (λ bytes. bytes ≡ head m.now flags ciaddr.0 yiaddr.0 siaddr.0 name.now) }
 {
-    let mut out = Bytes::new(alloc);
+    let mut out = Bytes::with_capacity(alloc, ROOM)?;
     out.push_all(&[2, 1, 6, 0])?;
     out.push_all(&m.xid().to_be_bytes())?;
     out.push_all(&[0, 0])?;

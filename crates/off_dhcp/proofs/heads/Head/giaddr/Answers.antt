@@ -3,4 +3,4 @@ use Rattle.off_dhcp.proofs.DatagramLemmas.{is_long}
 use Rattle.off_dhcp.proofs.heads.Head.giaddr.Goals as goal
 
 pub four_bytes-requires : goal.four_bytes-requires
-four_bytes-requires c = let sound = is_long c.self.inside.bytes.now c.self.invariant in omega (arith, sound.long)
+four_bytes-requires c = let sound = is_long c.self.inside.bytes.now c.self.invariant.0 in omega (arith, sound.long)
