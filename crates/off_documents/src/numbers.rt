@@ -1,0 +1,104 @@
+ghost use Rattle.std.specs.Prelude.{◌≡◌, ◌==◌, ◌<◌, length, slice_index, option_map};
+ghost use Rattle.std.specs.Prelude.{◌+◌, ◌∷◌, [], IsTrue, IfSome, true, false};
+ghost use Rattle.serde_json.specs.Find.{as_u64, as_i64};
+ghost use Rattle.serde_json.specs.Read.{number_of, number_from, float_of};
+
+use fast_float::Numeral;
+
+// A number of a JSON text: an integer of 64 bits, or the nearest float.
+#[derive(Clone, Copy, Drop)]
+pub(crate) enum Number {
+    Unsigned(u64),
+    Negative(i64),
+    Float(f64),
+}
+
+impl Number {
+    ghost use Rattle.off_documents.specs.Numbers.{num_of};
+
+    // The number that its text in JSON (RFC 8259, section 6) means, or None where it's too large
+    // for a float.
+    pub(crate) fn read(text: &str) -> Option<Number>
+        ensures { option_map num_of result ≡ number_of text.now }
+    {
+        let bytes = text.as_bytes();
+        if let Some(digit) = digit_of(bytes) {
+            return Some(Number::Unsigned(u64::from(digit)));
+        }
+        if has_minus(bytes) {
+            Number::negative(&Numeral::scan(&bytes[1..]))
+        } else {
+            Number::unsigned(&Numeral::scan(bytes))
+        }
+    }
+
+    fn unsigned(numeral: &Numeral<'_>) -> Option<Number>
+        ensures { option_map num_of result ≡ number_from false numeral.now }
+    {
+        match numeral.to_u64() {
+            Some(number) => Some(Number::Unsigned(number)),
+            None => Number::nearest(false, numeral),
+        }
+    }
+
+    fn negative(numeral: &Numeral<'_>) -> Option<Number>
+        ensures { option_map num_of result ≡ number_from true numeral.now }
+    {
+        if let Some(number) = numeral.to_i64(true) {
+            if number < 0 {
+                return Some(Number::Negative(number));
+            }
+        }
+        Number::nearest(true, numeral)
+    }
+
+    fn nearest(negative: bool, numeral: &Numeral<'_>) -> Option<Number>
+        ensures { option_map num_of result ≡ float_of negative numeral.now }
+    {
+        let number = numeral.to_float::<f64>(negative);
+        if number.is_finite() {
+            Some(Number::Float(number))
+        } else {
+            None
+        }
+    }
+
+    pub(crate) fn as_u64(self) -> Option<u64>
+        ensures { result ≡ as_u64 (num_of self) }
+    {
+        match self {
+            Number::Unsigned(number) => Some(number),
+            Number::Negative(_) => None,
+            Number::Float(_) => None,
+        }
+    }
+
+    pub(crate) fn as_i64(self) -> Option<i64>
+        ensures { result ≡ as_i64 (num_of self) }
+    {
+        match self {
+            Number::Unsigned(number) => i64::try_from(number).ok(),
+            Number::Negative(number) => Some(number),
+            Number::Float(_) => None,
+        }
+    }
+}
+
+// The digit that a text of one byte is. Bodies with the most numbers have only such.
+fn digit_of(bytes: &[u8]) -> Option<u8>
+    ensures is { IfSome result (λ digit. bytes.now ≡ (48 + digit) ∷ []) }
+    ensures below { IfSome result (λ digit. digit < 10) }
+{
+    if bytes.len() == 1 && b'0' <= bytes[0] && bytes[0] <= b'9' {
+        Some(bytes[0] - b'0')
+    } else {
+        None
+    }
+}
+
+fn has_minus(bytes: &[u8]) -> bool
+    ensures value { result ≡ (slice_index bytes.now 0 == 45) }
+    ensures some { IsTrue result → 0 < length bytes.now }
+{
+    !bytes.is_empty() && bytes[0] == b'-'
+}
