@@ -1,5 +1,5 @@
 ghost use Rattle.std.specs.Prelude.{◌≡◌, MatchResult, Ok, IsTrue, IfOk};
-ghost use Rattle.serde_json.specs.View.{view};
+ghost use Rattle.off_documents.specs.Documents.{data_of};
 ghost use Rattle.off_orders.specs.Sound.{is_sound_subscriber, is_sound_pool};
 ghost use Rattle.off_clerk_rules.specs.Commands.{GivesWanted, GivesFault, object_in, site_in};
 ghost use Rattle.off_clerk_rules.specs.Commands.{subscriber_in};
@@ -7,39 +7,39 @@ ghost use Rattle.off_clerk_rules.specs.Commands.{add_on_in, modem_in, class_in, 
 
 use crate::fields::{address, flag, number, number_or, offset, relay, secret, small, text};
 use crate::trees::settings;
+use json::Scratch;
 use off_base::Settings;
 use off_clerk_rules::{ClerkErr, CommandErr, Name};
 use off_defs::{Class, LEAST_PREFIX, MOST_DEVICES, MOST_PREFIX, Modem, Pool, Site, Subscriber};
-use serde_json::Value;
+use off_documents::{Document, DocumentErr, Part};
 use std::alloc::Global;
 
 // The JSON object that a body is.
-pub(crate) fn object_of(alloc: Global, body: &[u8]) -> Result<Value, CommandErr>
-    ensures { MatchResult result (λ value. object_in body.now ≡ Ok (view value))
+pub(crate) fn object_of<'a>(
+    alloc: Global,
+    body: &'a [u8],
+    scratch: &'a mut Scratch,
+) -> Result<Document<'a>, CommandErr>
+    ensures { MatchResult result (λ document. object_in body.now ≡ Ok (data_of document))
         (GivesFault (object_in body.now)) }
 {
-    match Value::from_slice(alloc, body) {
-        Ok(value) => {
-            if value.is_object() {
-                Ok(value)
+    match Document::read(alloc, body, scratch) {
+        Ok(document) => {
+            if document.root().is_object() {
+                Ok(document)
             } else {
                 Err(CommandErr::Fault(ClerkErr::NotJson))
             }
         }
-        Err(err) => {
-            if err.is_memory() {
-                Err(CommandErr::Memory)
-            } else {
-                Err(CommandErr::Fault(ClerkErr::NotJson))
-            }
-        }
+        Err(DocumentErr::NotJson) => Err(CommandErr::Fault(ClerkErr::NotJson)),
+        Err(DocumentErr::Memory) => Err(CommandErr::Memory),
     }
 }
 
 // Each of these reads the fields of a body, in the order in which their faults count.
 
-pub(crate) fn site_of(body: &Value) -> Result<Site, ClerkErr>
-    ensures { result ≡ site_in (view body.now) }
+pub(crate) fn site_of(body: &Part<'_, '_>) -> Result<Site, ClerkErr>
+    ensures { result ≡ site_in (data_of body.now) }
 {
     let server = address(body, Name::Server)?;
     let secret = secret(body, Name::Secret)?;
@@ -55,8 +55,8 @@ pub(crate) fn site_of(body: &Value) -> Result<Site, ClerkErr>
     })
 }
 
-pub(crate) fn subscriber_of(body: &Value) -> Result<Subscriber, ClerkErr>
-    ensures exact { result ≡ subscriber_in (view body.now) }
+pub(crate) fn subscriber_of(body: &Part<'_, '_>) -> Result<Subscriber, ClerkErr>
+    ensures exact { result ≡ subscriber_in (data_of body.now) }
     ensures sound { IfOk result (λ subscriber. IsTrue (is_sound_subscriber subscriber)) }
 {
     let active = flag(body, Name::Active)?;
@@ -65,14 +65,14 @@ pub(crate) fn subscriber_of(body: &Value) -> Result<Subscriber, ClerkErr>
     Ok(Subscriber { active, cpes, name })
 }
 
-pub(crate) fn add_on_of(alloc: Global, body: &Value) -> Result<Settings, CommandErr>
-    ensures { GivesWanted (add_on_in (view body.now)) result }
+pub(crate) fn add_on_of(alloc: Global, body: &Part<'_, '_>) -> Result<Settings, CommandErr>
+    ensures { GivesWanted (add_on_in (data_of body.now)) result }
 {
     settings(alloc, body, Name::Settings)
 }
 
-pub(crate) fn modem_of(body: &Value) -> Result<Modem, ClerkErr>
-    ensures { result ≡ modem_in (view body.now) }
+pub(crate) fn modem_of(body: &Part<'_, '_>) -> Result<Modem, ClerkErr>
+    ensures { result ≡ modem_in (data_of body.now) }
 {
     let subscriber = number(body, Name::Subscriber)?;
     let class = number(body, Name::Class)?;
@@ -84,16 +84,16 @@ pub(crate) fn modem_of(body: &Value) -> Result<Modem, ClerkErr>
     })
 }
 
-pub(crate) fn class_of(alloc: Global, body: &Value) -> Result<Class, CommandErr>
-    ensures { GivesWanted (class_in (view body.now)) result }
+pub(crate) fn class_of(alloc: Global, body: &Part<'_, '_>) -> Result<Class, CommandErr>
+    ensures { GivesWanted (class_in (data_of body.now)) result }
 {
     let name = text(body, Name::Name)?;
     let settings = settings(alloc, body, Name::Settings)?;
     Ok(Class { name, settings })
 }
 
-pub(crate) fn pool_of(body: &Value) -> Result<Pool, ClerkErr>
-    ensures exact { result ≡ pool_in (view body.now) }
+pub(crate) fn pool_of(body: &Part<'_, '_>) -> Result<Pool, ClerkErr>
+    ensures exact { result ≡ pool_in (data_of body.now) }
     ensures sound { IfOk result (λ pool. IsTrue (is_sound_pool pool)) }
 {
     let first = address(body, Name::First)?;
@@ -111,8 +111,8 @@ pub(crate) fn pool_of(body: &Value) -> Result<Pool, ClerkErr>
 }
 
 // The pool's hub, which is the hub 0 where the body names none.
-pub(crate) fn hub_of_pool(body: &Value) -> Result<u32, ClerkErr>
-    ensures { result ≡ hub_of_pool_in (view body.now) }
+pub(crate) fn hub_of_pool(body: &Part<'_, '_>) -> Result<u32, ClerkErr>
+    ensures { result ≡ hub_of_pool_in (data_of body.now) }
 {
     number_or(0, body, Name::Hub)
 }

@@ -10,6 +10,7 @@ use crate::bodies::{
     add_on_of, class_of, hub_of_pool, modem_of, object_of, pool_of, site_of, subscriber_of,
 };
 use crate::paths::{path_of, place_at};
+use json::Scratch;
 use off_base::Mac;
 use off_clerk_rules::{ClerkErr, CommandErr, Place};
 use off_defs::{ImportKind, Key};
@@ -85,14 +86,28 @@ fn put(alloc: Global, key: Key, body: &[u8]) -> Result<Command, CommandErr>
     ensures exact { GivesWanted (put_read key body.now) result }
     ensures sound { IfOk result (λ command. IsTrue (is_sound command)) }
 {
+    let mut scratch = Scratch::new(alloc);
+    put_row(alloc, key, body, &mut scratch)
+}
+
+fn put_row(
+    alloc: Global,
+    key: Key,
+    body: &[u8],
+    scratch: &mut Scratch,
+) -> Result<Command, CommandErr>
+    requires { IsTrue (is_shown key) }
+    ensures exact { GivesWanted (put_read key body.now) result }
+    ensures sound { IfOk result (λ command. IsTrue (is_sound command)) }
+{
     match key {
-        Key::Hub(number) => put_hub(alloc, number, body),
-        Key::Subscriber(number) => put_subscriber(alloc, number, body),
-        Key::AddOn(owner, number) => put_add_on(alloc, owner, number, body),
-        Key::Modem(mac) => put_modem(alloc, mac, body),
-        Key::Class(number) => put_class(alloc, number, body),
-        Key::Pool(number) => put_pool(alloc, number, body),
-        Key::DevicePool(number) => put_device_pool(alloc, number, body),
+        Key::Hub(number) => put_hub(alloc, number, body, scratch),
+        Key::Subscriber(number) => put_subscriber(alloc, number, body, scratch),
+        Key::AddOn(owner, number) => put_add_on(alloc, owner, number, body, scratch),
+        Key::Modem(mac) => put_modem(alloc, mac, body, scratch),
+        Key::Class(number) => put_class(alloc, number, body, scratch),
+        Key::Pool(number) => put_pool(alloc, number, body, scratch),
+        Key::DevicePool(number) => put_device_pool(alloc, number, body, scratch),
         Key::Site => Err(CommandErr::Fault(ClerkErr::NoMethod)),
         Key::Lease(_) => Err(CommandErr::Fault(ClerkErr::NoMethod)),
         Key::Held(_) => Err(CommandErr::Fault(ClerkErr::NoMethod)),
@@ -102,67 +117,110 @@ fn put(alloc: Global, key: Key, body: &[u8]) -> Result<Command, CommandErr>
     }
 }
 
-fn put_hub(alloc: Global, number: u32, body: &[u8]) -> Result<Command, CommandErr>
+fn put_hub(
+    alloc: Global,
+    number: u32,
+    body: &[u8],
+    scratch: &mut Scratch,
+) -> Result<Command, CommandErr>
     ensures exact { GivesWanted (put_read (key.Hub number) body.now) result }
     ensures sound { IfOk result (λ command. IsTrue (is_sound command)) }
 {
-    let fields = object_of(alloc, body)?;
+    let document = object_of(alloc, body, scratch)?;
+    let fields = document.root();
     let site = site_of(&fields)?;
     Ok(Command::PutHub(number, site))
 }
 
-fn put_subscriber(alloc: Global, number: u32, body: &[u8]) -> Result<Command, CommandErr>
+fn put_subscriber(
+    alloc: Global,
+    number: u32,
+    body: &[u8],
+    scratch: &mut Scratch,
+) -> Result<Command, CommandErr>
     ensures exact { GivesWanted (put_read (key.Subscriber number) body.now) result }
     ensures sound { IfOk result (λ command. IsTrue (is_sound command)) }
 {
-    let fields = object_of(alloc, body)?;
+    let document = object_of(alloc, body, scratch)?;
+    let fields = document.root();
     let subscriber = subscriber_of(&fields)?;
     Ok(Command::PutSubscriber(number, subscriber))
 }
 
-fn put_add_on(alloc: Global, owner: u32, number: u8, body: &[u8]) -> Result<Command, CommandErr>
+fn put_add_on(
+    alloc: Global,
+    owner: u32,
+    number: u8,
+    body: &[u8],
+    scratch: &mut Scratch,
+) -> Result<Command, CommandErr>
     requires { IsTrue (is_add_on_number number) }
     ensures exact { GivesWanted (put_read (key.AddOn owner number) body.now) result }
     ensures sound { IfOk result (λ command. IsTrue (is_sound command)) }
 {
-    let fields = object_of(alloc, body)?;
+    let document = object_of(alloc, body, scratch)?;
+    let fields = document.root();
     let settings = add_on_of(alloc, &fields)?;
     Ok(Command::PutAddOn(owner, number, settings))
 }
 
-fn put_modem(alloc: Global, mac: Mac, body: &[u8]) -> Result<Command, CommandErr>
+fn put_modem(
+    alloc: Global,
+    mac: Mac,
+    body: &[u8],
+    scratch: &mut Scratch,
+) -> Result<Command, CommandErr>
     ensures exact { GivesWanted (put_read (key.Modem mac) body.now) result }
     ensures sound { IfOk result (λ command. IsTrue (is_sound command)) }
 {
-    let fields = object_of(alloc, body)?;
+    let document = object_of(alloc, body, scratch)?;
+    let fields = document.root();
     let modem = modem_of(&fields)?;
     Ok(Command::PutModem(mac, modem))
 }
 
-fn put_class(alloc: Global, number: u32, body: &[u8]) -> Result<Command, CommandErr>
+fn put_class(
+    alloc: Global,
+    number: u32,
+    body: &[u8],
+    scratch: &mut Scratch,
+) -> Result<Command, CommandErr>
     ensures exact { GivesWanted (put_read (key.Class number) body.now) result }
     ensures sound { IfOk result (λ command. IsTrue (is_sound command)) }
 {
-    let fields = object_of(alloc, body)?;
+    let document = object_of(alloc, body, scratch)?;
+    let fields = document.root();
     let class = class_of(alloc, &fields)?;
     Ok(Command::PutClass(number, class))
 }
 
-fn put_pool(alloc: Global, number: u32, body: &[u8]) -> Result<Command, CommandErr>
+fn put_pool(
+    alloc: Global,
+    number: u32,
+    body: &[u8],
+    scratch: &mut Scratch,
+) -> Result<Command, CommandErr>
     ensures exact { GivesWanted (put_read (key.Pool number) body.now) result }
     ensures sound { IfOk result (λ command. IsTrue (is_sound command)) }
 {
-    let fields = object_of(alloc, body)?;
+    let document = object_of(alloc, body, scratch)?;
+    let fields = document.root();
     let pool = pool_of(&fields)?;
     let hub = hub_of_pool(&fields)?;
     Ok(Command::PutPool(number, pool, hub))
 }
 
-fn put_device_pool(alloc: Global, number: u32, body: &[u8]) -> Result<Command, CommandErr>
+fn put_device_pool(
+    alloc: Global,
+    number: u32,
+    body: &[u8],
+    scratch: &mut Scratch,
+) -> Result<Command, CommandErr>
     ensures exact { GivesWanted (put_read (key.DevicePool number) body.now) result }
     ensures sound { IfOk result (λ command. IsTrue (is_sound command)) }
 {
-    let fields = object_of(alloc, body)?;
+    let document = object_of(alloc, body, scratch)?;
+    let fields = document.root();
     let pool = pool_of(&fields)?;
     Ok(Command::PutDevicePool(number, pool))
 }

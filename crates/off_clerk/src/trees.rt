@@ -1,5 +1,5 @@
 ghost use Rattle.std.specs.Prelude.{◌≡◌, codes, option_map, option_and_then, IfOk};
-ghost use Rattle.serde_json.specs.View.{view};
+ghost use Rattle.off_documents.specs.Documents.{data_of};
 ghost use Rattle.serde_json.specs.Find.{get};
 ghost use Rattle.off_base.specs.Tree.{leaf};
 ghost use Rattle.off_base.specs.Setting.{tree_of};
@@ -11,18 +11,22 @@ use crate::fields::member;
 use crate::values::{hex_into, number_of};
 use off_base::{Bytes, NoMemory, Setting, Settings};
 use off_clerk_rules::{ClerkErr, CommandErr, Name};
-use serde_json::Value;
+use off_documents::Part;
 use std::alloc::Global;
 
 // How many settings may stand within one another.
 const DEPTH: u8 = 3;
 
 // Reads the field of a body that has settings.
-pub(crate) fn settings(alloc: Global, body: &Value, name: Name) -> Result<Settings, CommandErr>
-    ensures { GivesWanted (field_in name settings_in (view body.now)) result }
+pub(crate) fn settings(
+    alloc: Global,
+    body: &Part<'_, '_>,
+    name: Name,
+) -> Result<Settings, CommandErr>
+    ensures { GivesWanted (field_in name settings_in (data_of body.now)) result }
 {
     let value = member(body, name)?;
-    match settings_within(alloc, DEPTH, value) {
+    match settings_within(alloc, DEPTH, &value) {
         Ok(Some(settings)) => Ok(settings),
         Ok(None) => Err(CommandErr::Fault(ClerkErr::Value(name))),
         Err(NoMemory) => Err(CommandErr::Memory),
@@ -32,15 +36,19 @@ pub(crate) fn settings(alloc: Global, body: &Value, name: Name) -> Result<Settin
 // The settings of an array, or None where some element is none. They have at most so many settings
 // within one another.
 #[cycle(trees)]
-fn settings_within(alloc: Global, depth: u8, value: &Value) -> Result<Option<Settings>, NoMemory>
-    ensures { IfOk result (λ read. read ≡ list_in (tree_in depth) (view value.now)) }
+fn settings_within(
+    alloc: Global,
+    depth: u8,
+    value: &Part<'_, '_>,
+) -> Result<Option<Settings>, NoMemory>
+    ensures { IfOk result (λ read. read ≡ list_in (tree_in depth) (data_of value.now)) }
 {
-    let Some(elements) = value.as_array() else {
+    let Some(mut elements) = value.elements() else {
         return Ok(None);
     };
     let mut settings = Settings::new(alloc);
-    for element in elements {
-        match setting_within(alloc, depth, element)? {
+    while let Some(element) = elements.next() {
+        match setting_within(alloc, depth, &element)? {
             Some(setting) => settings.push(setting)?,
             None => return Ok(None),
         }
@@ -49,8 +57,12 @@ fn settings_within(alloc: Global, depth: u8, value: &Value) -> Result<Option<Set
 }
 
 #[cycle(trees)]
-fn setting_within(alloc: Global, depth: u8, value: &Value) -> Result<Option<Setting>, NoMemory>
-    ensures { IfOk result (λ read. option_map tree_of read ≡ tree_in depth (view value.now)) }
+fn setting_within(
+    alloc: Global,
+    depth: u8,
+    value: &Part<'_, '_>,
+) -> Result<Option<Setting>, NoMemory>
+    ensures { IfOk result (λ read. option_map tree_of read ≡ tree_in depth (data_of value.now)) }
 {
     if depth == 0 {
         return Ok(None);
@@ -62,10 +74,10 @@ fn setting_within(alloc: Global, depth: u8, value: &Value) -> Result<Option<Sett
     match value.get("hex") {
         Some(hex) => match parts {
             Some(_) => Ok(None),
-            None => leaf(alloc, code, hex),
+            None => leaf(alloc, code, &hex),
         },
         None => match parts {
-            Some(parts) => match settings_within(alloc, depth - 1, parts)? {
+            Some(parts) => match settings_within(alloc, depth - 1, &parts)? {
                 Some(parts) => Ok(Some(Setting::Group { code, parts })),
                 None => Ok(None),
             },
@@ -74,21 +86,21 @@ fn setting_within(alloc: Global, depth: u8, value: &Value) -> Result<Option<Sett
     }
 }
 
-fn code_of(value: &Value) -> Option<u8>
-    ensures { result ≡ option_and_then (number_in 0 255) (get (codes "code") (view value.now)) }
+fn code_of(value: &Part<'_, '_>) -> Option<u8>
+    ensures { result ≡ option_and_then (number_in 0 255) (get (codes "code") (data_of value.now)) }
 {
     let Some(code) = value.get("code") else {
         return None;
     };
-    match number_of(code, 0, 255) {
+    match number_of(&code, 0, 255) {
         Some(code) => Some(code as u8),
         None => None,
     }
 }
 
-fn leaf(alloc: Global, code: u8, hex: &Value) -> Result<Option<Setting>, NoMemory>
+fn leaf(alloc: Global, code: u8, hex: &Part<'_, '_>) -> Result<Option<Setting>, NoMemory>
     ensures { IfOk result (λ read.
-        option_map tree_of read ≡ option_map (leaf code) (hex_in 255 (view hex.now))) }
+        option_map tree_of read ≡ option_map (leaf code) (hex_in 255 (data_of hex.now))) }
 {
     let mut room = [0; 255];
     let Some(count) = hex_into(hex, &mut room) else {

@@ -1,22 +1,22 @@
 ghost use Rattle.std.specs.Prelude.{◌≡◌, ◌≢◌, ◌≤◌, ◌-◌, take, length, option_map, IfSome};
-ghost use Rattle.serde_json.specs.View.{view};
+ghost use Rattle.off_documents.specs.Documents.{data_of};
 ghost use Rattle.serde_json.specs.Find.{as_bool};
 ghost use Rattle.off_clerk_rules.specs.Fields.{number_in, offset_in, text_in, address_in, relay_in};
 ghost use Rattle.off_clerk_rules.specs.Fields.{hex_of, hex_in};
 
 use off_base::{Ip4, Secret, Short, read_ip};
-use serde_json::Value;
+use off_documents::Part;
 
 // Each of these reads a JSON value of one kind and range.
 
-pub(crate) fn flag_of(value: &Value) -> Option<bool>
-    ensures { result ≡ as_bool (view value.now) }
+pub(crate) fn flag_of(value: &Part<'_, '_>) -> Option<bool>
+    ensures { result ≡ as_bool (data_of value.now) }
 {
     value.as_bool()
 }
 
-pub(crate) fn number_of(value: &Value, least: u64, most: u64) -> Option<u64>
-    ensures exact { result ≡ number_in least most (view value.now) }
+pub(crate) fn number_of(value: &Part<'_, '_>, least: u64, most: u64) -> Option<u64>
+    ensures exact { result ≡ number_in least most (data_of value.now) }
     ensures least { IfSome result (λ number. least ≤ number) }
     ensures most { IfSome result (λ number. number ≤ most) }
 {
@@ -26,8 +26,8 @@ pub(crate) fn number_of(value: &Value, least: u64, most: u64) -> Option<u64>
     }
 }
 
-pub(crate) fn offset_of(value: &Value) -> Option<i32>
-    ensures { result ≡ offset_in (view value.now) }
+pub(crate) fn offset_of(value: &Part<'_, '_>) -> Option<i32>
+    ensures { result ≡ offset_in (data_of value.now) }
 {
     match value.as_i64() {
         Some(number) => i32::try_from(number).ok(),
@@ -35,8 +35,8 @@ pub(crate) fn offset_of(value: &Value) -> Option<i32>
     }
 }
 
-pub(crate) fn text_of(value: &Value) -> Option<Short>
-    ensures { result ≡ text_in (view value.now) }
+pub(crate) fn text_of(value: &Part<'_, '_>) -> Option<Short>
+    ensures { result ≡ text_in (data_of value.now) }
 {
     match value.as_str() {
         Some(text) => Short::read(text.as_bytes()).ok(),
@@ -44,8 +44,8 @@ pub(crate) fn text_of(value: &Value) -> Option<Short>
     }
 }
 
-pub(crate) fn address_of(value: &Value) -> Option<Ip4>
-    ensures { result ≡ address_in (view value.now) }
+pub(crate) fn address_of(value: &Part<'_, '_>) -> Option<Ip4>
+    ensures { result ≡ address_in (data_of value.now) }
 {
     match value.as_str() {
         Some(text) => read_ip(text.as_bytes()).ok(),
@@ -53,8 +53,8 @@ pub(crate) fn address_of(value: &Value) -> Option<Ip4>
     }
 }
 
-pub(crate) fn relay_of(value: &Value) -> Option<Ip4>
-    ensures exact { result ≡ relay_in (view value.now) }
+pub(crate) fn relay_of(value: &Part<'_, '_>) -> Option<Ip4>
+    ensures exact { result ≡ relay_in (data_of value.now) }
     ensures given { IfSome result (λ address. address.0 ≢ 0) }
 {
     match address_of(value) {
@@ -63,8 +63,8 @@ pub(crate) fn relay_of(value: &Value) -> Option<Ip4>
     }
 }
 
-pub(crate) fn secret_of(value: &Value) -> Option<Secret>
-    ensures { result ≡ hex_in 64 (view value.now) }
+pub(crate) fn secret_of(value: &Part<'_, '_>) -> Option<Secret>
+    ensures { result ≡ hex_in 64 (data_of value.now) }
 {
     let mut room = [0; 64];
     let Some(length) = hex_into(value, &mut room) else {
@@ -74,9 +74,9 @@ pub(crate) fn secret_of(value: &Value) -> Option<Secret>
 }
 
 // Reads hexadecimal into the front of some room, and tells how many bytes there are.
-pub(crate) fn hex_into(value: &Value, room: &mut [u8]) -> Option<usize>
+pub(crate) fn hex_into(value: &Part<'_, '_>, room: &mut [u8]) -> Option<usize>
     ensures value { option_map (λ count. take count room.new) result
-        ≡ hex_in (length room.old) (view value.now) }
+        ≡ hex_in (length room.old) (data_of value.now) }
     ensures within { IfSome result (λ count. count ≤ length room.old) }
 {
     match value.as_str() {

@@ -1,6 +1,6 @@
-use Rattle.std.proofs.Common.{◌≡◌, ◌+◌, ◌*◌, ◌++◌, List, drop, option_map}
-use Rattle.serde_json.specs.View.{items_view}
+use Rattle.std.proofs.Common.{◌≡◌, ◌+◌, ◌*◌, ◌++◌, List, length, option_map}
 use Rattle.off_base.specs.Tree.{Tree}
+use Rattle.off_documents.specs.Documents.{elements_of}
 use Rattle.off_clerk_rules.specs.Fields.{items_in, tree_in}
 use Rattle.off_clerk.proofs.trees.+trees.Given as goal
 
@@ -12,4 +12,7 @@ decreases-settings_within l = 2 * l.depth + 1
 
 abbrev pub invariant-settings_within-loop-element : goal.invariant-settings_within-loop-element
 invariant-settings_within-loop-element l =
-    items_in (tree_in l.depth) (items_view l.element-items) ≡ option_map (λ (more : List Tree). l.settings ++ more) (items_in (tree_in l.depth) (items_view (drop l.element-index l.element-items)))
+    items_in (tree_in l.depth) (elements_of l.initial.elements) ≡ option_map (λ (more : List Tree). l.settings ++ more) (items_in (tree_in l.depth) (elements_of l.elements))
+
+abbrev pub decreases-settings_within-loop-element : goal.decreases-settings_within-loop-element
+decreases-settings_within-loop-element l = length l.elements
