@@ -9,6 +9,7 @@ import ipaddress
 import json
 import re
 import sys
+from itertools import accumulate
 
 from examples import Script, compact, escaped, quoted, reply
 from imports import HEADERS, MARK, MOST_ROWS, ImportFault, rows_of
@@ -32,14 +33,20 @@ class Whole(int):
     """A number that is written without a fraction, an exponent and a sign before 0."""
 
 
-def whole_of(text):
-    return "minus nothing" if text == "-0" else Whole(text)
-
-
 def fraction_of(text):
     if float(text) in (float("inf"), float("-inf")):
         raise ValueError("a number past all doubles is no number of this reader")
     return float(text)
+
+
+def whole_of(text):
+    return "minus nothing" if text == "-0" or fraction_of(text) is None else Whole(text)
+
+
+def levels_of(text):
+    """How many arrays and objects stand within one another, at most."""
+    marks = re.sub(r'"(\\.|[^"\\])*"', "", text)
+    return max(accumulate((each in "[{") - (each in "]}") for each in marks), default=0)
 
 
 def told(status, word, at=None):
@@ -134,9 +141,10 @@ def key_of(path):
 def read_json(body):
     try:
         value = json.loads(body.decode(), parse_int=whole_of, parse_float=fraction_of)
+        compact(value).encode()  # a surrogate alone is no text
     except ValueError:
         raise Wrong(told(400, "not-json")) from None
-    if not isinstance(value, dict):
+    if not isinstance(value, dict) or levels_of(body.decode()) > 127:
         raise Wrong(told(400, "not-json"))
     return value
 
@@ -242,6 +250,7 @@ def bodies():
     bytes_asked("/subscribers/7", "'{\"active\":\"\\t\"}'", b'{"active":"\t"}')
     bytes_asked("/subscribers/7", "'{\"name\":\"' ff '\"}'", b'{"name":"\xff"}')
     bytes_asked("/subscribers/7", "' {\\n} '", b" {\n} ")
+    passed_over()
     section("a hub's fields are read in order", "The first that lacks or is wrong is named; by the path of a site the hub 0 is put.")
     site = '{"server":"10.0.0.2","secret":"736563726574","offset":3600'
     for body in ('{"log":1}', '{"log":1,"server":"10.0.0.2"}', '{"server":"10.0.0.2","secret":""}', '{"log":1,"server":"10.0.0.2","secret":"","offset":0}',
@@ -298,6 +307,34 @@ def bodies():
         asked("PUT", "/device-pools/4294967295", pool + rest)
 
 
+def passed_over():
+    front = '{"active":true,"cpes":2,"name":"Ann","more":'
+    section("what is passed over is JSON too", "Every number, also one that nobody reads, is at most the largest double, to which it may be rounded.")
+    for more in ("1e308", "1e309", "-1e309", "1e-999", '[0,{"more":[1,1e999]}]', "1" + 308 * "0", "1" + 309 * "0", "-1" + 309 * "0", "1797693134862315807" + 290 * "0",
+                 "1797693134862315808" + 290 * "0", "1.797693134862315807e308", "1.797693134862315808e308", "01", "1.", '"\\ud800"', "tru", "[1,]"):
+        asked("PUT", "/subscribers/7", front + more + "}")
+    for cpes in ("1e308", "1e309", "1" + 309 * "0", "1e309,\"cpes\":2", "[1e309]"):
+        asked("PUT", "/subscribers/7", f'{{"active":true,"name":"Ann","cpes":{cpes}}}')
+    section("arrays and objects stand 127 within one another", "The body's own object is one of them.")
+    for count in (126, 127):
+        for opens, inner, closes in (("[", "", "]"), ('{"":', "null", "}"), ("[0,", "0", ",0]"), ('{"":0,"":', "1e9", "}"), ('{"":[],"":', "0", "}")):
+            asked("PUT", "/subscribers/7", front + count * opens + inner + count * closes + "}")
+        asked("PUT", "/subscribers/7", '{"active":true,"cpes":2,"name":' + count * "[" + count * "]" + "}")
+        asked("PUT", "/subscribers/7", front + "[" + 2 * ((count - 1) * "[" + (count - 1) * "]" + ",") + "0]}")
+    section("the last of several fields with one name counts", "Escaped or not (RFC 8259, section 7).")
+    for fields in ('"name":7,"name":"Ann"', '"name":"Ann","name":7', '"name":7,"\\u006eame":"Ann"', '"\\u006eame":7,"name":"Ann"', '"name":"Ann","n\\u0061m\\u0065":null',
+                   '"name":"Ann","Name":7', '"name":"Ann","name\\u0000":7', '"name":{"name":"Bob"},"name":"Ann"', '"name":1e999,"name":"Ann"'):
+        asked("PUT", "/subscribers/7", '{"active":true,"cpes":2,' + fields + "}")
+    section("a body is deep and wide", "Some 80,000 bytes of values that nobody reads.")
+    for count, each in ((20000, "[0],"), (20000, "[],"), (40000, "0,"), (1500, 25 * "[" + 25 * "]" + ","), (8000, '{"a":0},'), (13000, '"\\n",')):
+        bytes_asked("/subscribers/7", f"{quoted(front.encode())} '[' {count}* {quoted(each.encode())} '0]}}'", (front + "[" + count * each + "0]}").encode())
+        bytes_asked("/subscribers/7", f"{quoted(front.encode())} '[' {count}* {quoted(each.encode())} '1e999]}}'", (front + "[" + count * each + "1e999]}").encode())
+    for each in ('"":0,', '"name":7,', '"cpes":[],', '"active":{"active":0},'):
+        rest = '"active":true,"cpes":2,"name":"Ann"}'
+        bytes_asked("/subscribers/7", f"'{{' 8000* {quoted(each.encode())} {quoted(rest.encode())}", ("{" + 8000 * each + rest).encode())
+        bytes_asked("/subscribers/7", f"'{{' {quoted(rest[:-1].encode())} ',' 8000* {quoted(each.encode())} '\"more\":0}}'", ("{" + rest[:-1] + "," + 8000 * each + '"more":0}').encode())
+
+
 def trees():
     path = "/subscribers/7/addons/1"
     section("settings are an array of leaves and groups", "A leaf has a code and `hex`, a group a code and `parts`.")
@@ -306,7 +343,9 @@ def trees():
                  '[{"code":1,"hex":null}]', '[{"code":1,"hex":null,"parts":[]}]', '[{"code":1,"parts":null}]', '[{"code":1,"parts":{}}]',
                  '[{"code":1,"hex":"00"},{"code":1}]', "[]", '[{"hex":"","code":0},{"parts":[],"code":255,"x":1}]',
                  '[{"code":24,"parts":[{"code":1,"hex":"0001"},{"code":6,"hex":"aF"}]}]',
-                 '[{"code":22,"parts":[{"code":9,"parts":[{"code":3,"hex":"0A"},{"code":4,"parts":[]}]}]}]'):
+                 '[{"code":22,"parts":[{"code":9,"parts":[{"code":3,"hex":"0A"},{"code":4,"parts":[]}]}]}]',
+                 '[{"code":256,"hex":"00","code":1}]', '[{"code":1,"hex":"00","cod\\u0065":256}]', '[{"code":1,"hex":0,"h\\u0065x":"01"}]', '[{"code":1,"hex":"01","hex":null}]',
+                 '[{"code":1,"parts":0,"parts":[{"code":2,"hex":"","more":[{"code":1,"hex":"zz"}]}]}]', '[{"code":1,"hex":"00","more":1e309}]', '[{"code":1,"hex":"00"},[]]'):
         asked("PUT", path, '{"settings":' + rest + "}")
     asked("PUT", path, "{}")
     section("settings go three deep", "")
