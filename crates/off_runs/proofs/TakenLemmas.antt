@@ -8,7 +8,7 @@ use Rattle.off_defs.specs.declared.tables.Pool.{Pool}
 use Rattle.off_runs.specs.declared.runs.Run.{Run}
 use Rattle.off_runs.specs.Runs.{address, in_run, covers, Apart, AreRuns, in_pool, is_open, listed}
 use Rattle.off_runs.specs.Held.{Laid}
-use Rattle.off_runs.specs.Changes.{but_address, with_expiry, ends_before, pieces_by, pieces_without, cut_at}
+use Rattle.off_runs.specs.Changes.{but_address, with_expiry, ends_before, pieces_by, pieces_without, runs_without}
 
 -- runs from a bound on have no address below it, and those that end before an address not that one
 none_below : (low : ℕ) (runs : List Run) (high a : ℕ) → Apart low runs high → a < low → covers runs a ≡ false
@@ -110,13 +110,13 @@ module _ (xs : List Run) (place : ℕ) (inside : place < length xs) where
     left_is : (b c : Bool) → nat_lt run.first.0 out ≡ b → nat_lt out run.last.0 ≡ c → pieces_without out run ≡ pieces_by b c out run
     left_is b c eb ec = ap (λ v. pieces_by v (nat_lt out run.last.0) out run) eb ∙ ap (λ v. pieces_by b v out run) ec
 
-    cut_by : (b c : Bool) → nat_lt run.first.0 out ≡ b → nat_lt out run.last.0 ≡ c → take place xs ++ (pieces_by b c out run ++ drop (suc place) xs) ≡ cut_at out place run xs
+    cut_by : (b c : Bool) → nat_lt run.first.0 out ≡ b → nat_lt out run.last.0 ≡ c → take place xs ++ (pieces_by b c out run ++ drop (suc place) xs) ≡ runs_without out place run xs
     cut_by b c eb ec = ap (λ l. take place xs ++ (l ++ drop (suc place) xs)) (sym (left_is b c eb ec))
 
-    pub cut_last : run.first.0 < out → run.last.0 ≤ out → slice_set xs place (record run { last = address (out - 1) }) ≡ cut_at out place run xs
+    pub cut_last : run.first.0 < out → run.last.0 ≤ out → slice_set xs place (record run { last = address (out - 1) }) ≡ runs_without out place run xs
     cut_last f l = set_split xs place (record run { last = address (out - 1) }) inside ∙ cut_by true false (grind (arith, nat_tests)) (grind (arith, nat_tests))
 
-    pub cut_first : out ≤ run.first.0 → out < run.last.0 → slice_set xs place (record run { first = address (out + 1) }) ≡ cut_at out place run xs
+    pub cut_first : out ≤ run.first.0 → out < run.last.0 → slice_set xs place (record run { first = address (out + 1) }) ≡ runs_without out place run xs
     cut_first f l = set_split xs place (record run { first = address (out + 1) }) inside ∙ cut_by false true (grind (arith, nat_tests)) (grind (arith, nat_tests))
 
 -- a list is what stands in front of a place, what stands there, and what stands behind it
@@ -138,7 +138,7 @@ inside_at (y ∷ xs) (suc place) x is = let k = inside_at xs place x is in omega
 
 module _ (pool : Pool) (free : ℕ → Bool) where
   pub cut_runs : (runs : List Run) (place out : ℕ) (run : Run) → AreRuns pool free runs → All (ends_before out) (take place runs) → slice_get runs place ≡ Some run
-      → run.first.0 ≤ out → out ≤ run.last.0 → AreRuns pool (but_address out free) (cut_at out place run runs)
+      → run.first.0 ≤ out → out ≤ run.last.0 → AreRuns pool (but_address out free) (runs_without out place run runs)
   cut_runs runs place out run are all at f l =
       let is = parted_at runs place run at in
       let cut = cut_behind pool.first.0 (take place runs) run (drop (suc place) runs) (pool.last.0 + 2) out (subst (λ xs. Apart pool.first.0 xs (pool.last.0 + 2)) is are.apart) all f l in

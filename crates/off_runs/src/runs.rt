@@ -9,7 +9,7 @@ ghost use Rattle.off_account_rules.specs.Rows.{has_pool_size};
 ghost use Rattle.off_runs.specs.Runs.{AreRuns, in_pool, is_open, listed, with_run};
 ghost use Rattle.off_runs.specs.Held.{NoneOpen, IsLeastOpen};
 ghost use Rattle.off_runs.specs.Changes.{first_of, but_address, with_expiry};
-ghost use Rattle.off_runs.specs.Changes.{ends_before, cut_at};
+ghost use Rattle.off_runs.specs.Changes.{ends_before, runs_without};
 
 use off_base::{Ip4, Moment};
 use off_defs::Pool;
@@ -132,7 +132,7 @@ fn cut(runs: &mut Vec<Run>, place: usize, run: Run, address: Ip4) -> bool
     requires at { slice_get runs.old.items place ≡ Some run }
     requires low { run.first.0 ≤ address.0 }
     requires high { address.0 ≤ run.last.0 }
-    ensures done { result ≡ true → runs.new.items ≡ cut_at address.0 place run runs.old.items }
+    ensures done { result ≡ true → runs.new.items ≡ runs_without address.0 place run runs.old.items }
     ensures capacity { vec_capacity runs.old ≤ vec_capacity runs.new }
 {
     if run.first.0 < address.0 {
