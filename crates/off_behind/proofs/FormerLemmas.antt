@@ -19,6 +19,7 @@ use Rattle.off_outside.specs.KeeperSeen.{KeeperSeen}
 use Rattle.off_outside.specs.KeeperCalls.{Spent}
 use Rattle.off_outside.proofs.KeeperLemmas.{reads_as, reads_none, spent_none, spent_one, spent_then, spent_within}
 use Rattle.off_cpe_laws.proofs.RowLemmas.{device_read, device_without}
+use Rattle.off_base.proofs.TreeLemmas.{taken}
 use Rattle.off_behind.specs.Changes.{change_of, old_at, olds_of, by_address}
 use Rattle.off_behind.specs.Neighbours.{is_elsewhere, elsewhere}
 use Rattle.off_behind.proofs.WriteLemmas.{written_more}
@@ -122,17 +123,6 @@ length-filter-append p (x ∷ xs) ys =
 length-filter-one : {A : Type 0} (p : A → Bool) (x : A) → length (filter p (x ∷ [])) ≡ cond (p x) 1 0
 length-filter-one p x = elim (p x) as (λ b. length (cond b (x ∷ []) []) ≡ cond b 1 0) [ true ↦ refl | false ↦ refl ]
 
-take_more : {A : Type 0} (xs : List A) (i : ℕ) (x : A) → slice_get xs i ≡ Some x → take (i + 1) xs ≡ take i xs ++ x ∷ []
-take_more {A} xs i x is = ap (λ n. take n xs) (next i) ∙ go xs i is
-  where
-    next : (n : ℕ) → n + 1 ≡ suc n
-    next n = omega arith
-
-    go : (ys : List A) (k : ℕ) → slice_get ys k ≡ Some x → take (suc k) ys ≡ take k ys ++ x ∷ []
-    go [] k e = cc
-    go (y ∷ ys) zero e = let same : y ≡ x = cc in ap (λ z. z ∷ []) same
-    go (y ∷ ys) (suc k) e = ap (λ zs. y ∷ zs) (go ys k e)
-
 few_taken : {A : Type 0} (p : A → Bool) (xs : List A) (k : ℕ) → length (filter p (take k xs)) ≤ length (filter p xs)
 few_taken p xs zero = omega arith
 few_taken p [] (suc k) = omega arith
@@ -149,7 +139,7 @@ spent_grows known ws i within so_far one =
     spent_within (spent_then so_far (one there.0 there.1))
     (omega (
       arith,
-      ap (λ (xs : List Write). length (elsewhere known xs)) (take_more ws i there.0 there.1),
+      ap (λ (xs : List Write). length (elsewhere known xs)) (taken ws i there.0 there.1),
       length-filter-append (is_elsewhere known) (take i ws) (there.0 ∷ []),
       length-filter-one (is_elsewhere known) there.0,
     ))

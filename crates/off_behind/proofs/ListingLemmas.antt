@@ -24,8 +24,8 @@ use Rattle.off_defs.proofs.TableLemmas.{entries_with, entries_without}
 use Rattle.off_account_rules.specs.Rows.{device_of, devices}
 use Rattle.off_table_laws.proofs.ListLemmas.{In, made_in}
 use Rattle.off_table_laws.proofs.EntryRows.{below_in}
+use Rattle.off_table_laws.proofs.Judging.{raw_device_made}
 use Rattle.off_behind.specs.Changes.{by_address}
-use Rattle.off_cpe_laws.proofs.RowLemmas.{made}
 
 module _ {K X N Y : Type 0} (R : K → K → Ordering) (o : IsTotalOrder R) (exact : (a b : K) → R a b ≡ Equal → a ≡ b) (give : K × X → Option (N × Y)) (key_of : N → K) (row_of : Y → X)
     (gives : (n : N) (y : Y) → give (key_of n, row_of y) ≡ Some (n, y))
@@ -145,7 +145,7 @@ module _ {K X N Y : Type 0} (R : K → K → Ordering) (o : IsTotalOrder R) (exa
 
 -- the leases of devices
 named_device : (e : Key × Row) (a : Ip4) (lease : DeviceLease) → device_of e ≡ Some (a, lease) → e.0 ≡ key.Device a
-named_device e a lease is = (made e.0 e.1 a lease is).0
+named_device e a lease is = (raw_device_made e.0 e.1 a lease is).0
 
 pub devices_with : (t : Tables) (a : Ip4) (lease : DeviceLease) → devices (with_row t (key.Device a) (row.Device lease)) ≡ list.put by_address a lease (devices t)
 devices_with t a lease =

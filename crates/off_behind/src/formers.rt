@@ -21,8 +21,8 @@ use off_outside::{KeepErr, Keeper};
 use off_readers::read_device;
 use std::alloc::Global;
 
-/// The leases that the addresses of writes have, each before its own write, where one lease is known
-/// that stands in the tables. It's a call for each other address of a device's lease that is
+/// The leases that the addresses of writes have, each before its own write, where one lease is
+/// known that stands in the tables. It's a call for each other address of a device's lease that is
 /// written, and none for other writes.
 pub fn read_olds<K: Keeper>(
     alloc: Global,

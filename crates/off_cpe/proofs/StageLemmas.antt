@@ -16,11 +16,6 @@ use Rattle.off_cpe.specs.declared.answering.DeviceAnswer.{DeviceAnswer}
 abbrev WithLease : Result DeviceStep NoMemory → Option (Ip4 × DeviceLease) → Result DeviceAnswer KeepErr → Type 0
 WithLease step own answer = MatchResult answer (λ x. (step ≡ Ok x.step) × (x.own ≡ own)) (λ err. err ≡ Memory)
 
--- a look by which something weaker is told
-pub looks_as : {A : Type 0} (a b : KeeperSeen) (result : Result A KeepErr) (P Q : A → Tables → Type 0) → Looks result a b P → ((x : A) (t : Tables) → P x t → Q x t) → Looks result a b Q
-looks_as a b (Ok x) P Q looks weaker = reads_as looks (weaker x)
-looks_as a b (Err err) P Q looks weaker = looks
-
 -- a reading, and what is settled behind it
 pub looks_settled : {P : Tables → Type 0} {a b : KeeperSeen} (step : Result DeviceStep NoMemory) (answer : Result DeviceAnswer KeepErr) (own : Option (Ip4 × DeviceLease)) (Q : DeviceStep → Tables → Type 0)
     → WithLease step own answer → Reads P a b → ((t : Tables) → P t → IfOk step (λ s. Q s t)) → Looks answer a b (λ x t. Q x.step t)

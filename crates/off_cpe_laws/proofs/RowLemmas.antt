@@ -18,7 +18,7 @@ use Rattle.off_defs.proofs.KeyLemmas.{key_exact}
 use Rattle.off_defs.proofs.TableLemmas.{same_key, own_key, row_with, row_without, entries_with, entries_without}
 use Rattle.off_account_rules.specs.Rows.{passes, possible, as_device, device_in, device_of, devices}
 use Rattle.off_table_laws.proofs.ListLemmas.{In, Distinct}
-use Rattle.off_table_laws.proofs.Judging.{row_listed, listed_row, distinct_listed}
+use Rattle.off_table_laws.proofs.Judging.{row_listed, listed_row, distinct_listed, raw_device_made}
 use Rattle.off_table_laws.proofs.Reading.{device_row, row_device}
 use Rattle.off_cpe_laws.proofs.CountLemmas.{count_made, count_put, count_kept}
 
@@ -56,20 +56,14 @@ device_without t address other =
     ]
 
 -- leases of the list are those that are read
-pub made : (q : Key) (held : Row) (address : Ip4) (lease : DeviceLease) → device_of (q, held) ≡ Some (address, lease) → (q ≡ key.Device address) × (held ≡ row.Device lease)
-made (key.Device other) (row.Device own) address lease e =
-    let pair : (other, own) ≡ (address, lease) = cc in
-    (ap (λ (p : Ip4 × DeviceLease). key.Device p.0) pair, ap (λ (p : Ip4 × DeviceLease). row.Device p.1) pair)
-made q held address lease e = cc
-
 pub device_listed : (t : Tables) (address : Ip4) (lease : DeviceLease) → device_in t address ≡ Some lease → In (address, lease) (devices t)
-device_listed t address lease e = row_listed device_of key.Device row.Device (λ a l. refl) made t address lease (device_row t address lease e)
+device_listed t address lease e = row_listed device_of key.Device row.Device (λ a l. refl) raw_device_made t address lease (device_row t address lease e)
 
 pub listed_device : (t : Tables) (address : Ip4) (lease : DeviceLease) → In (address, lease) (devices t) → device_in t address ≡ Some lease
-listed_device t address lease i = row_device t address lease (listed_row device_of key.Device row.Device (λ a l. refl) made t address lease i)
+listed_device t address lease i = row_device t address lease (listed_row device_of key.Device row.Device (λ a l. refl) raw_device_made t address lease i)
 
 pub distinct_devices : (t : Tables) → Distinct (devices t)
-distinct_devices t = distinct_listed device_of key.Device row.Device (λ a l. refl) made t
+distinct_devices t = distinct_listed device_of key.Device row.Device (λ a l. refl) raw_device_made t
 
 -- a lease that doesn't count is put, or one is dropped: no more count
 module _ (p : Ip4 × DeviceLease → Bool) where

@@ -158,7 +158,7 @@ module _ (now : ℕ) (modem : Mac) (m : Received) (c : DeviceCase) (chosen : Opt
         | Some w ↦ λ broken. nothing refl
       ] refl
 
-chosen_fits : (t : Tables) (now : ℕ) (m : Received) (c : DeviceCase) → is_discover m ≡ false → chosen_in t now m c ≡ claimed m
+pub chosen_fits : (t : Tables) (now : ℕ) (m : Received) (c : DeviceCase) → is_discover m ≡ false → chosen_in t now m c ≡ claimed m
 chosen_fits t now m c d = ap (λ b. cond b (option_and_then (λ (pool : Pool). choice_by (is_free t now pool) pool c.own (at_address (named_address m))) c.pool) (claimed m)) d
 
 chosen_lies : (t : Tables) (now : ℕ) (m : Received) (c : DeviceCase) → is_discover m ≡ true → (address : Ip4) → chosen_in t now m c ≡ Some address → lies_in c.pool address ≡ true

@@ -27,6 +27,7 @@ use Rattle.off_runs.specs.Runs.{address}
 use Rattle.off_runs.specs.Leases.{fitting, pools_by, pools_after, numbers_by, numbers_after, expiries_after, hubs_after, lease_write, hub_write, Moves}
 use Rattle.off_runs.specs.Reading.{no_ground}
 use Rattle.off_runs.proofs.WriteLemmas.{same_number}
+use Rattle.off_runs.proofs.ReadLemmas.{after_append}
 use Rattle.off_device_runs.specs.Ground.{expiry_in, end_held, ending, device_ground}
 use Rattle.off_device_runs.specs.Reading.{pool_put, lease_put, pools_put, leases_put}
 use Rattle.off_device_runs.proofs.SeenLemmas.{pools_sorted, pool_seen}
@@ -107,10 +108,6 @@ pools_append : (by : ℕ → Option Pool) (ws vs : List Write) → pools_after b
 pools_append by [] vs = refl
 pools_append by (w ∷ ws) vs = pools_append (pools_by _ by) ws vs
 
-numbers_append : (put : Write → Option (ℕ × ℕ)) (was : ℕ → ℕ) (ws vs : List Write) → numbers_after put was (ws ++ vs) ≡ numbers_after put (numbers_after put was ws) vs
-numbers_append put was [] vs = refl
-numbers_append put was (w ∷ ws) vs = numbers_append put (numbers_by (put w) was) ws vs
-
 -- what is taken for a lease is of no pool
 no_pool_first : (k : Key) (held : Row) (by : ℕ → Option Pool) (es : List (Key × Row)) → pools_after by (filter_map lease_put es) ≡ by
     → pools_after by (filter_map lease_put ((k, held) ∷ es)) ≡ by
@@ -150,7 +147,7 @@ pools_read t n =
 
 leases_read : (t : Tables) (a : ℕ) → expiries_after (λ b. 0) (pools_put t ++ leases_put t) a ≡ expiry_in t a
 leases_read t a =
-    ap (λ (e : ℕ → ℕ). e a) (numbers_append lease_write (λ b. 0) (pools_put t) (leases_put t))
+    ap (λ (e : ℕ → ℕ). e a) (after_append lease_write (λ b. 0) (pools_put t) (leases_put t))
     ∙ ap (λ (e : ℕ → ℕ). expiries_after e (leases_put t) a) (aside_pools lease_write (λ n held. refl) (λ b. 0) (map.entries t))
     ∙ by_leases (λ b. 0) (map.entries t) (map.entries_sorted t) a
     ∙ ap (λ (o : Option Row). expiry_kept o 0) (sym (map.get-entries t (key.Device (address a))))
@@ -158,7 +155,7 @@ leases_read t a =
 
 hubs_read : (t : Tables) → hubs_after (λ q. 0) (pools_put t ++ leases_put t) ≡ (λ q. 0)
 hubs_read t =
-    numbers_append hub_write (λ q. 0) (pools_put t) (leases_put t)
+    after_append hub_write (λ q. 0) (pools_put t) (leases_put t)
     ∙ aside_leases hub_write (λ a held. refl) (hubs_after (λ q. 0) (pools_put t)) (map.entries t)
     ∙ aside_pools hub_write (λ n held. refl) (λ q. 0) (map.entries t)
 

@@ -1,5 +1,5 @@
 -- What writes make of the tables' pools for devices and of the leases of devices, by what is taken for them.
-use Rattle.std.proofs.Common.{◌≡◌, ℕ, Bool, true, false, cond, List, [], ◌∷◌, Option, Some, None, option_and_then, refl, sym, ap, ◌∙◌}
+use Rattle.std.proofs.Common.{◌≡◌, ℕ, true, false, cond, List, [], ◌∷◌, Option, Some, None, option_and_then, refl, sym, ap, ◌∙◌}
 use Rattle.std.specs.List.{cons_option}
 use Rattle.std.specs.Ordering.{nat_cmp, eq_by_cmp}
 use Rattle.off_defs.proofs.TableLemmas.{row_with, row_without}
@@ -14,7 +14,7 @@ use Rattle.off_defs.specs.Tables.{row_at, written, write_all}
 use Rattle.off_account_rules.specs.Rows.{possible, as_pool, as_device, pool_fits, device_pool_in}
 use Rattle.off_runs.specs.Runs.{address}
 use Rattle.off_runs.specs.Leases.{fitting, pool_write, lease_write, pools_by, pools_after, numbers_by, expiries_after, hubs_after}
-use Rattle.off_runs.proofs.WriteLemmas.{same_number}
+use Rattle.off_runs.proofs.WriteLemmas.{same_number, read_if}
 use Rattle.off_device_runs.specs.Ground.{expiry_of, expiry_in, end_held, taken_for, taken_all}
 
 -- ---- pools
@@ -25,10 +25,6 @@ read_pool n o = option_and_then as_pool (possible (key.DevicePool n) o)
 pub put_pool : (n : ℕ) (held : Row) → read_pool n (Some held) ≡ fitting held
 put_pool n (row.Pool pool) = elim (pool_fits pool) as (λ b. option_and_then as_pool (cond b (Some (row.Pool pool)) None) ≡ cond b (Some pool) None) [ true ↦ refl | false ↦ refl ]
 put_pool n held = refl
-
-pool_at : (n : ℕ) (b : Bool) (o : Option Row) (pool : Option Pool) (was : Option Row) → read_pool n o ≡ pool → read_pool n (cond b o was) ≡ cond b pool (read_pool n was)
-pool_at n true o pool was is = is
-pool_at n false o pool was is = refl
 
 abbrev pools_taken : Option Write → (ℕ → Option Pool) → ℕ → Option Pool
 pools_taken None by = by
@@ -41,9 +37,9 @@ pools_then (Some w) by ws = refl
 pool_written : (t : Tables) (w : Write) (n : ℕ) → device_pool_in (written t w) n ≡ pools_taken (taken_for w) (device_pool_in t) n
 pool_written t (Put (key.DevicePool m) held) n =
     ap (read_pool n) (row_with t (key.DevicePool m) held (key.DevicePool n))
-    ∙ pool_at n (eq_by_cmp nat_cmp n m) (Some held) (fitting held) (row_at t (key.DevicePool n)) (put_pool n held)
+    ∙ read_if (read_pool n) (eq_by_cmp nat_cmp n m) (Some held) (fitting held) (row_at t (key.DevicePool n)) (put_pool n held)
 pool_written t (Drop (key.DevicePool m)) n =
-    ap (read_pool n) (row_without t (key.DevicePool m) (key.DevicePool n)) ∙ pool_at n (eq_by_cmp nat_cmp n m) None None (row_at t (key.DevicePool n)) refl
+    ap (read_pool n) (row_without t (key.DevicePool m) (key.DevicePool n)) ∙ read_if (read_pool n) (eq_by_cmp nat_cmp n m) None None (row_at t (key.DevicePool n)) refl
 pool_written t (Put k held) n = ap (read_pool n) (row_with t k held (key.DevicePool n))
 pool_written t (Drop k) n = ap (read_pool n) (row_without t k (key.DevicePool n))
 
@@ -63,10 +59,6 @@ pub put_expiry : (a : ℕ) (held : Row) → read_expiry a (Some held) ≡ end_he
 put_expiry a (row.Device lease) = refl
 put_expiry a held = refl
 
-expiry_at : (a : ℕ) (b : Bool) (o : Option Row) (ends : ℕ) (was : Option Row) → read_expiry a o ≡ ends → read_expiry a (cond b o was) ≡ cond b ends (read_expiry a was)
-expiry_at a true o ends was is = is
-expiry_at a false o ends was is = refl
-
 abbrev expiries_taken : Option Write → (ℕ → ℕ) → ℕ → ℕ
 expiries_taken None was = was
 expiries_taken (Some w) was = numbers_by (lease_write w) was
@@ -78,11 +70,11 @@ expiries_then (Some w) was ws = refl
 expiry_written : (t : Tables) (w : Write) (n : ℕ) → expiry_in (written t w) n ≡ expiries_taken (taken_for w) (expiry_in t) n
 expiry_written t (Put (key.Device m) held) n =
     ap (read_expiry n) (row_with t (key.Device m) held (key.Device (address n)))
-    ∙ expiry_at n (eq_by_cmp nat_cmp n m.0) (Some held) (end_held held) (row_at t (key.Device (address n))) (put_expiry n held)
+    ∙ read_if (read_expiry n) (eq_by_cmp nat_cmp n m.0) (Some held) (end_held held) (row_at t (key.Device (address n))) (put_expiry n held)
     ∙ ap (λ b. cond b (end_held held) (expiry_in t n)) (same_number n m.0)
 expiry_written t (Drop (key.Device m)) n =
     ap (read_expiry n) (row_without t (key.Device m) (key.Device (address n)))
-    ∙ expiry_at n (eq_by_cmp nat_cmp n m.0) None 0 (row_at t (key.Device (address n))) refl
+    ∙ read_if (read_expiry n) (eq_by_cmp nat_cmp n m.0) None 0 (row_at t (key.Device (address n))) refl
     ∙ ap (λ b. cond b 0 (expiry_in t n)) (same_number n m.0)
 expiry_written t (Put k held) n = ap (read_expiry n) (row_with t k held (key.Device (address n)))
 expiry_written t (Drop k) n = ap (read_expiry n) (row_without t k (key.Device (address n)))

@@ -53,4 +53,5 @@ taken_all writes = filter_map taken_for writes
 abbrev pub DevicesMove : Type 0
 DevicesMove =
     (t : Tables) → Opens t → (writes : List Write) →
-    Moves (taken_all writes) (device_pool_in t) (device_ground t) (device_ground (write_all t writes))
+    Moves (taken_all writes) (device_pool_in t) (device_ground t)
+    (device_ground (write_all t writes))

@@ -132,7 +132,7 @@ found_right t mac kept es right found =
 
 -- ---- a modem's profile, by its row
 
-profile_by : (t : Tables) (mac : Mac) (modem : Modem) → modem_in t mac ≡ Some modem → profile_in t mac ≡ profile_at t modem.subscriber modem.class
+pub profile_by : (t : Tables) (mac : Mac) (modem : Modem) → modem_in t mac ≡ Some modem → profile_in t mac ≡ profile_at t modem.subscriber modem.class
 unfolding profile_in
 profile_by t mac modem is = ap (λ (o : Option Modem). option_and_then (λ m. profile_at t m.subscriber m.class) o) is
 

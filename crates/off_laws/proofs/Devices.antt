@@ -46,7 +46,12 @@ module _ (t : Tables) (now : ℕ) (bytes : List ℕ) (step : DeviceStep) where
   unfolding device_of
   device_told e = read_told (message_of bytes) refl e
 
--- a message without a modem that it's behind is no device's
+-- a message that names the modem that it's behind is a device's, and one without is no device's
+pub device_is : (t : Tables) (now : ℕ) (bytes : List ℕ) (m : Received) (modem : Mac) → message_of bytes ≡ Ok m → modem_behind t m ≡ Some modem
+    → device_of t now bytes ≡ Some (step_behind t now m modem)
+unfolding device_of device_step
+device_is t now bytes m modem read behind = ap (device_read t now) read ∙ ap (option_map (step_behind t now m)) behind
+
 none_read : (t : Tables) (now : ℕ) (m : Received) (read : Result Received DhcpFault) → read ≡ Ok m → modem_behind t m ≡ None → device_read t now read ≡ None
 unfolding device_step
 none_read t now m read is none = ap (device_read t now) is ∙ ap (option_map (step_behind t now m)) none

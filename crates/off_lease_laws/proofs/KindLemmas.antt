@@ -10,8 +10,6 @@ use Rattle.off_defs.specs.declared.keys.Key.{Key}
 use Rattle.off_defs.specs.declared.keys.Key.TheVariants as key
 use Rattle.off_defs.specs.declared.tables.Row.TheVariants as row
 use Rattle.off_defs.specs.declared.tables.Lease.{Lease}
-use Rattle.off_defs.specs.declared.kinds.Kind.{Kind}
-use Rattle.off_defs.specs.declared.kinds.Kind.TheVariants.{Subscribers, AddOns, Modems, Classes, Pools, Batches, Hubs, DevicePools}
 use Rattle.off_defs.specs.declared.writes.Write.{Write}
 use Rattle.off_defs.specs.declared.writes.Write.TheVariants.{Put, Drop}
 use Rattle.off_defs.specs.Keys.{key_cmp}
@@ -19,15 +17,15 @@ use Rattle.off_defs.specs.Kinds.{kind_of}
 use Rattle.off_defs.specs.State.{Tables}
 use Rattle.off_defs.specs.Tables.{row_at, written, write_all}
 use Rattle.off_dhcp.specs.Datagram.{Received}
-use Rattle.off_account_rules.specs.Rows.{passes, is_of_kind, counts_of, lease_in}
+use Rattle.off_account_rules.specs.Rows.{passes, counts_of, lease_in}
 use Rattle.off_table_laws.proofs.Rows.{Rows, row_written, rows_after, all_written}
 use Rattle.off_table_laws.proofs.GoodRows.{Possible}
 use Rattle.off_table_laws.proofs.RowChanges.{possible_put, possible_drop}
+use Rattle.off_table_laws.proofs.CountLemmas.{counts_with_other, counts_without_other}
 use Rattle.off_asking.specs.Asking.{client}
 use Rattle.off_lease_rules.specs.Steps.{is_live_bound, lease_step}
 use Rattle.off_lease_rules.specs.declared.results.LeaseStep.{LeaseStep}
 use Rattle.off_lease_laws.specs.Outcomes.{Outcome, refusal, offering, binding, declining, releasing}
-use Rattle.off_lease_laws.proofs.CountLemmas.{counts_with_other, counts_without_other}
 use Rattle.off_lease_laws.proofs.OutcomeLemmas.{outcome}
 use Rattle.off_lease_laws.proofs.WriteLemmas.{offer_writes}
 
@@ -63,32 +61,12 @@ one_possible rows (Drop (key.Lease address)) h p = possible_drop rows (key.Lease
 one_possible rows (Drop (key.Held mac)) h p = possible_drop rows (key.Held mac) p
 one_possible rows write h p = cc
 
-no_kind_lease : (address : Ip4) (kind : Kind) → is_of_kind kind (key.Lease address) ≡ false
-no_kind_lease address Subscribers = refl
-no_kind_lease address AddOns = refl
-no_kind_lease address Modems = refl
-no_kind_lease address Classes = refl
-no_kind_lease address Pools = refl
-no_kind_lease address Batches = refl
-no_kind_lease address Hubs = refl
-no_kind_lease address DevicePools = refl
-
-no_kind_held : (mac : Mac) (kind : Kind) → is_of_kind kind (key.Held mac) ≡ false
-no_kind_held mac Subscribers = refl
-no_kind_held mac AddOns = refl
-no_kind_held mac Modems = refl
-no_kind_held mac Classes = refl
-no_kind_held mac Pools = refl
-no_kind_held mac Batches = refl
-no_kind_held mac Hubs = refl
-no_kind_held mac DevicePools = refl
-
 one_count : (t : Tables) (write : Write) → is_lease_write write ≡ true → counts_of (written t write) ≡ counts_of t
 unfolding is_lease_write
-one_count t (Put (key.Lease address) (row.Lease lease)) h = counts_with_other (key.Lease address) (row.Lease lease) t (no_kind_lease address)
-one_count t (Put (key.Held mac) (row.Held address)) h = counts_with_other (key.Held mac) (row.Held address) t (no_kind_held mac)
-one_count t (Drop (key.Lease address)) h = counts_without_other (key.Lease address) t (no_kind_lease address)
-one_count t (Drop (key.Held mac)) h = counts_without_other (key.Held mac) t (no_kind_held mac)
+one_count t (Put (key.Lease address) (row.Lease lease)) h = counts_with_other (key.Lease address) (row.Lease lease) t (λ kind. refl)
+one_count t (Put (key.Held mac) (row.Held address)) h = counts_with_other (key.Held mac) (row.Held address) t (λ kind. refl)
+one_count t (Drop (key.Lease address)) h = counts_without_other (key.Lease address) t (λ kind. refl)
+one_count t (Drop (key.Held mac)) h = counts_without_other (key.Held mac) t (λ kind. refl)
 one_count t write h = cc
 
 -- of several writes

@@ -5,7 +5,6 @@ pub mod ChoiceLemmas
 pub mod WriteLemmas
 pub mod ChangeLemmas
 pub mod AgreeLemmas
-pub mod CountLemmas
 pub mod KindLemmas
 pub mod GoodLemmas
 pub mod FreeLemmas

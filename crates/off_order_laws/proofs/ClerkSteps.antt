@@ -47,7 +47,7 @@ unbroken [] e = tt
 unbroken (None ∷ rules) e = (refl, unbroken rules e)
 unbroken (Some broken ∷ rules) e = cc
 
-not_when : (b : Bool) (broken : Rule) → when b broken ≡ None → b ≡ false
+pub not_when : (b : Bool) (broken : Rule) → when b broken ≡ None → b ≡ false
 not_when true broken e = cc
 not_when false broken e = refl
 

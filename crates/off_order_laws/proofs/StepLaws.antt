@@ -42,7 +42,8 @@ seen_good : (t : Tables) (o : Option Reply) → Good t → Good (stepped_by t (s
 seen_good t None good = good
 seen_good t (Some reply) good = good
 
-writes_append : (t : Tables) (one other : List Write) → write_all t (one ++ other) ≡ write_all (write_all t one) other
+-- writes in two parts
+pub writes_append : (t : Tables) (one other : List Write) → write_all t (one ++ other) ≡ write_all (write_all t one) other
 writes_append t [] other = refl
 writes_append t (write ∷ one) other = writes_append (written t write) one other
 

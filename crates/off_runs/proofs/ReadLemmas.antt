@@ -57,18 +57,7 @@ lease_first : (k : Key) (held : Row) (expiry : ℕ → ℕ) (es : List (Key × R
     → ((was : ℕ → ℕ) → expiries_after was (filter_map lease_put es) a ≡ expiry_kept (lease_row es a) (was a))
     → expiries_after expiry (filter_map lease_put ((k, held) ∷ es)) a ≡ expiry_kept (lease_row ((k, held) ∷ es) a) (expiry a)
 lease_first (key.Lease m) held expiry es a h rest = rest (λ b. cond (b == m.0) (expiry_held held) (expiry b)) ∙ at_lease expiry m held es h a
-lease_first key.Site held expiry es a h rest = rest expiry
-lease_first (key.Subscriber n) held expiry es a h rest = rest expiry
-lease_first (key.AddOn n i) held expiry es a h rest = rest expiry
-lease_first (key.Modem mac) held expiry es a h rest = rest expiry
-lease_first (key.Class n) held expiry es a h rest = rest expiry
-lease_first (key.Pool n) held expiry es a h rest = rest expiry
-lease_first (key.Held mac) held expiry es a h rest = rest expiry
-lease_first (key.Batch n) held expiry es a h rest = rest expiry
-lease_first (key.Hub n) held expiry es a h rest = rest expiry
-lease_first (key.PoolHub n) held expiry es a h rest = rest expiry
-lease_first (key.DevicePool n) held expiry es a h rest = rest expiry
-lease_first (key.Device n) held expiry es a h rest = rest expiry
+lease_first k held expiry es a h rest = rest expiry
 
 by_leases : (expiry : ℕ → ℕ) (es : List (Key × Row)) → T (list.is_sorted key_cmp es) → (a : ℕ) → expiries_after expiry (filter_map lease_put es) a ≡ expiry_kept (lease_row es a) (expiry a)
 by_leases expiry [] s a = refl
@@ -107,18 +96,7 @@ pool_first : (k : Key) (held : Row) (by : ℕ → Option Pool) (es : List (Key �
     → ((was : ℕ → Option Pool) → pools_after was (filter_map pool_put es) n ≡ pool_kept (pool_row es n) (was n))
     → pools_after by (filter_map pool_put ((k, held) ∷ es)) n ≡ pool_kept (pool_row ((k, held) ∷ es) n) (by n)
 pool_first (key.Pool m) held by es n h rest = rest (λ q. cond (eq_by_cmp nat_cmp q m) (fitting held) (by q)) ∙ at_pool by m held es h n
-pool_first key.Site held by es n h rest = rest by
-pool_first (key.Subscriber m) held by es n h rest = rest by
-pool_first (key.AddOn m i) held by es n h rest = rest by
-pool_first (key.Modem mac) held by es n h rest = rest by
-pool_first (key.Class m) held by es n h rest = rest by
-pool_first (key.Lease m) held by es n h rest = rest by
-pool_first (key.Held mac) held by es n h rest = rest by
-pool_first (key.Batch m) held by es n h rest = rest by
-pool_first (key.Hub m) held by es n h rest = rest by
-pool_first (key.PoolHub m) held by es n h rest = rest by
-pool_first (key.DevicePool m) held by es n h rest = rest by
-pool_first (key.Device m) held by es n h rest = rest by
+pool_first k held by es n h rest = rest by
 
 by_pools : (by : ℕ → Option Pool) (es : List (Key × Row)) → T (list.is_sorted key_cmp es) → (n : ℕ) → pools_after by (filter_map pool_put es) n ≡ pool_kept (pool_row es n) (by n)
 by_pools by [] s n = refl
@@ -137,18 +115,7 @@ pools_read t n =
 no_number_first : (put : Write → Option (ℕ × ℕ)) → ((n : ℕ) (held : Row) → put (Put (key.Pool n) held) ≡ None) → (k : Key) (held : Row) (was : ℕ → ℕ) (es : List (Key × Row))
     → numbers_after put was (filter_map pool_put es) ≡ was → numbers_after put was (filter_map pool_put ((k, held) ∷ es)) ≡ was
 no_number_first put none (key.Pool n) held was es rest = ap (λ o. numbers_after put (numbers_by o was) (filter_map pool_put es)) (none n held) ∙ rest
-no_number_first put none key.Site held was es rest = rest
-no_number_first put none (key.Subscriber n) held was es rest = rest
-no_number_first put none (key.AddOn n i) held was es rest = rest
-no_number_first put none (key.Modem mac) held was es rest = rest
-no_number_first put none (key.Class n) held was es rest = rest
-no_number_first put none (key.Lease n) held was es rest = rest
-no_number_first put none (key.Held mac) held was es rest = rest
-no_number_first put none (key.Batch n) held was es rest = rest
-no_number_first put none (key.Hub n) held was es rest = rest
-no_number_first put none (key.PoolHub n) held was es rest = rest
-no_number_first put none (key.DevicePool n) held was es rest = rest
-no_number_first put none (key.Device n) held was es rest = rest
+no_number_first put none k held was es rest = rest
 
 no_numbers : (put : Write → Option (ℕ × ℕ)) → ((n : ℕ) (held : Row) → put (Put (key.Pool n) held) ≡ None) → (was : ℕ → ℕ) (es : List (Key × Row))
     → numbers_after put was (filter_map pool_put es) ≡ was
@@ -192,18 +159,7 @@ hub_first : (k : Key) (held : Row) (hub : ℕ → ℕ) (es : List (Key × Row)) 
     → ((was : ℕ → ℕ) → hubs_after was (filter_map hub_put es) n ≡ hub_kept (hub_row es n) (was n))
     → hubs_after hub (filter_map hub_put ((k, held) ∷ es)) n ≡ hub_kept (hub_row ((k, held) ∷ es) n) (hub n)
 hub_first (key.PoolHub m) held hub es n h rest = rest (λ q. cond (q == m) (hub_held held) (hub q)) ∙ at_hub hub m held es h n
-hub_first key.Site held hub es n h rest = rest hub
-hub_first (key.Subscriber a) held hub es n h rest = rest hub
-hub_first (key.AddOn a i) held hub es n h rest = rest hub
-hub_first (key.Modem mac) held hub es n h rest = rest hub
-hub_first (key.Class a) held hub es n h rest = rest hub
-hub_first (key.Pool a) held hub es n h rest = rest hub
-hub_first (key.Lease a) held hub es n h rest = rest hub
-hub_first (key.Held mac) held hub es n h rest = rest hub
-hub_first (key.Batch a) held hub es n h rest = rest hub
-hub_first (key.Hub a) held hub es n h rest = rest hub
-hub_first (key.DevicePool a) held hub es n h rest = rest hub
-hub_first (key.Device a) held hub es n h rest = rest hub
+hub_first k held hub es n h rest = rest hub
 
 by_hubs : (hub : ℕ → ℕ) (es : List (Key × Row)) → T (list.is_sorted key_cmp es) → (n : ℕ) → hubs_after hub (filter_map hub_put es) n ≡ hub_kept (hub_row es n) (hub n)
 by_hubs hub [] s n = refl
@@ -248,7 +204,7 @@ pub no_pools_yet : (place : Key) (found : List Write) (a : KeeperSeen) → kind_
 no_pools_yet place found a lower none = reads_none (λ t.
     sym (ap (λ (v : List Write). v ++ left_of pool_put (Some place) t) none ∙ kind_begins only_pools place t lower))
 
-after_append : (put : Write → Option (ℕ × ℕ)) (was : ℕ → ℕ) (ws vs : List Write) → numbers_after put was (ws ++ vs) ≡ numbers_after put (numbers_after put was ws) vs
+pub after_append : (put : Write → Option (ℕ × ℕ)) (was : ℕ → ℕ) (ws vs : List Write) → numbers_after put was (ws ++ vs) ≡ numbers_after put (numbers_after put was ws) vs
 after_append put was [] vs = refl
 after_append put was (w ∷ ws) vs = after_append put (numbers_by (put w) was) ws vs
 

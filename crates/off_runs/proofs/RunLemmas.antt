@@ -41,9 +41,6 @@ skipped_at true a at closed = grind (arith, nat_tests)
 skipped_at false a at closed = refl
 
 module _ (expiry : ℕ → ℕ) (now : ℕ) (pool : Pool) where
-  open_at : ℕ → Bool
-  open_at a = is_open expiry now pool a
-
   closed_at : (at a : ℕ) → is_open expiry now pool at ≡ false → a ≡ at → is_open expiry now pool a ≡ false
   closed_at at a closed same = ap (is_open expiry now pool) same ∙ closed
 

@@ -20,6 +20,11 @@ use Rattle.off_runs.specs.Runs.{address}
 use Rattle.off_runs.specs.Leases.{expiry_of, expiry_in, expiry_held, hub_held, fitting, pool_write, lease_write, hub_write, pools_by, pools_after, numbers_by, expiries_after, hubs_after}
 
 -- two numbers are equal by their order as by the test
+-- what is read of one row or another
+pub read_if : {V : Type 0} (read : Option Row → V) (b : Bool) (o : Option Row) (v : V) (was : Option Row) → read o ≡ v → read (cond b o was) ≡ cond b v (read was)
+read_if read true o v was is = is
+read_if read false o v was is = refl
+
 pub same_number : (a b : ℕ) → eq_by_cmp nat_cmp a b ≡ (a == b)
 same_number a b =
     elim (eq_by_cmp nat_cmp a b) as (λ t. eq_by_cmp nat_cmp a b ≡ t → t ≡ (a == b)) [
@@ -43,39 +48,13 @@ pub put_pool : (n : ℕ) (held : Row) → read_pool n (Some held) ≡ fitting he
 put_pool n (row.Pool pool) = elim (pool_fits pool) as (λ b. option_and_then as_pool (cond b (Some (row.Pool pool)) None) ≡ cond b (Some pool) None) [ true ↦ refl | false ↦ refl ]
 put_pool n held = refl
 
-pool_at : (n : ℕ) (b : Bool) (o : Option Row) (pool : Option Pool) (was : Option Row) → read_pool n o ≡ pool → read_pool n (cond b o was) ≡ cond b pool (read_pool n was)
-pool_at n true o pool was is = is
-pool_at n false o pool was is = refl
-
 pub pool_written : (t : Tables) (w : Write) (n : ℕ) → pool_in (written t w) n ≡ pools_by (pool_write w) (pool_in t) n
 pool_written t (Put (key.Pool m) held) n =
-    ap (read_pool n) (row_with t (key.Pool m) held (key.Pool n)) ∙ pool_at n (eq_by_cmp nat_cmp n m) (Some held) (fitting held) (row_at t (key.Pool n)) (put_pool n held)
+    ap (read_pool n) (row_with t (key.Pool m) held (key.Pool n)) ∙ read_if (read_pool n) (eq_by_cmp nat_cmp n m) (Some held) (fitting held) (row_at t (key.Pool n)) (put_pool n held)
 pool_written t (Drop (key.Pool m)) n =
-    ap (read_pool n) (row_without t (key.Pool m) (key.Pool n)) ∙ pool_at n (eq_by_cmp nat_cmp n m) None None (row_at t (key.Pool n)) refl
-pool_written t (Put key.Site held) n = ap (read_pool n) (row_with t key.Site held (key.Pool n))
-pool_written t (Drop key.Site) n = ap (read_pool n) (row_without t key.Site (key.Pool n))
-pool_written t (Put (key.Subscriber a) held) n = ap (read_pool n) (row_with t (key.Subscriber a) held (key.Pool n))
-pool_written t (Drop (key.Subscriber a)) n = ap (read_pool n) (row_without t (key.Subscriber a) (key.Pool n))
-pool_written t (Put (key.AddOn a i) held) n = ap (read_pool n) (row_with t (key.AddOn a i) held (key.Pool n))
-pool_written t (Drop (key.AddOn a i)) n = ap (read_pool n) (row_without t (key.AddOn a i) (key.Pool n))
-pool_written t (Put (key.Modem a) held) n = ap (read_pool n) (row_with t (key.Modem a) held (key.Pool n))
-pool_written t (Drop (key.Modem a)) n = ap (read_pool n) (row_without t (key.Modem a) (key.Pool n))
-pool_written t (Put (key.Class a) held) n = ap (read_pool n) (row_with t (key.Class a) held (key.Pool n))
-pool_written t (Drop (key.Class a)) n = ap (read_pool n) (row_without t (key.Class a) (key.Pool n))
-pool_written t (Put (key.Lease a) held) n = ap (read_pool n) (row_with t (key.Lease a) held (key.Pool n))
-pool_written t (Drop (key.Lease a)) n = ap (read_pool n) (row_without t (key.Lease a) (key.Pool n))
-pool_written t (Put (key.Held a) held) n = ap (read_pool n) (row_with t (key.Held a) held (key.Pool n))
-pool_written t (Drop (key.Held a)) n = ap (read_pool n) (row_without t (key.Held a) (key.Pool n))
-pool_written t (Put (key.Batch a) held) n = ap (read_pool n) (row_with t (key.Batch a) held (key.Pool n))
-pool_written t (Put (key.Hub a) held) n = ap (read_pool n) (row_with t (key.Hub a) held (key.Pool n))
-pool_written t (Put (key.PoolHub a) held) n = ap (read_pool n) (row_with t (key.PoolHub a) held (key.Pool n))
-pool_written t (Put (key.DevicePool a) held) n = ap (read_pool n) (row_with t (key.DevicePool a) held (key.Pool n))
-pool_written t (Put (key.Device a) held) n = ap (read_pool n) (row_with t (key.Device a) held (key.Pool n))
-pool_written t (Drop (key.Batch a)) n = ap (read_pool n) (row_without t (key.Batch a) (key.Pool n))
-pool_written t (Drop (key.Hub a)) n = ap (read_pool n) (row_without t (key.Hub a) (key.Pool n))
-pool_written t (Drop (key.PoolHub a)) n = ap (read_pool n) (row_without t (key.PoolHub a) (key.Pool n))
-pool_written t (Drop (key.DevicePool a)) n = ap (read_pool n) (row_without t (key.DevicePool a) (key.Pool n))
-pool_written t (Drop (key.Device a)) n = ap (read_pool n) (row_without t (key.Device a) (key.Pool n))
+    ap (read_pool n) (row_without t (key.Pool m) (key.Pool n)) ∙ read_if (read_pool n) (eq_by_cmp nat_cmp n m) None None (row_at t (key.Pool n)) refl
+pool_written t (Put k held) n = ap (read_pool n) (row_with t k held (key.Pool n))
+pool_written t (Drop k) n = ap (read_pool n) (row_without t k (key.Pool n))
 
 pub pools_written : (t : Tables) (ws : List Write) (n : ℕ) → pools_after (pool_in t) ws n ≡ pool_in (write_all t ws) n
 pools_written t [] n = refl
@@ -90,43 +69,17 @@ pub put_expiry : (a : ℕ) (held : Row) → read_expiry a (Some held) ≡ expiry
 put_expiry a (row.Lease lease) = refl
 put_expiry a held = refl
 
-expiry_at : (a : ℕ) (b : Bool) (o : Option Row) (ends : ℕ) (was : Option Row) → read_expiry a o ≡ ends → read_expiry a (cond b o was) ≡ cond b ends (read_expiry a was)
-expiry_at a true o ends was is = is
-expiry_at a false o ends was is = refl
-
 pub expiry_written : (t : Tables) (w : Write) (n : ℕ) → expiry_in (written t w) n ≡ numbers_by (lease_write w) (expiry_in t) n
 expiry_written t (Put (key.Lease m) held) n =
     ap (read_expiry n) (row_with t (key.Lease m) held (key.Lease (address n)))
-    ∙ expiry_at n (eq_by_cmp nat_cmp n m.0) (Some held) (expiry_held held) (row_at t (key.Lease (address n))) (put_expiry n held)
+    ∙ read_if (read_expiry n) (eq_by_cmp nat_cmp n m.0) (Some held) (expiry_held held) (row_at t (key.Lease (address n))) (put_expiry n held)
     ∙ ap (λ b. cond b (expiry_held held) (expiry_in t n)) (same_number n m.0)
 expiry_written t (Drop (key.Lease m)) n =
     ap (read_expiry n) (row_without t (key.Lease m) (key.Lease (address n)))
-    ∙ expiry_at n (eq_by_cmp nat_cmp n m.0) None 0 (row_at t (key.Lease (address n))) refl
+    ∙ read_if (read_expiry n) (eq_by_cmp nat_cmp n m.0) None 0 (row_at t (key.Lease (address n))) refl
     ∙ ap (λ b. cond b 0 (expiry_in t n)) (same_number n m.0)
-expiry_written t (Put key.Site held) n = ap (read_expiry n) (row_with t key.Site held (key.Lease (address n)))
-expiry_written t (Drop key.Site) n = ap (read_expiry n) (row_without t key.Site (key.Lease (address n)))
-expiry_written t (Put (key.Subscriber a) held) n = ap (read_expiry n) (row_with t (key.Subscriber a) held (key.Lease (address n)))
-expiry_written t (Drop (key.Subscriber a)) n = ap (read_expiry n) (row_without t (key.Subscriber a) (key.Lease (address n)))
-expiry_written t (Put (key.AddOn a i) held) n = ap (read_expiry n) (row_with t (key.AddOn a i) held (key.Lease (address n)))
-expiry_written t (Drop (key.AddOn a i)) n = ap (read_expiry n) (row_without t (key.AddOn a i) (key.Lease (address n)))
-expiry_written t (Put (key.Modem a) held) n = ap (read_expiry n) (row_with t (key.Modem a) held (key.Lease (address n)))
-expiry_written t (Drop (key.Modem a)) n = ap (read_expiry n) (row_without t (key.Modem a) (key.Lease (address n)))
-expiry_written t (Put (key.Class a) held) n = ap (read_expiry n) (row_with t (key.Class a) held (key.Lease (address n)))
-expiry_written t (Drop (key.Class a)) n = ap (read_expiry n) (row_without t (key.Class a) (key.Lease (address n)))
-expiry_written t (Put (key.Pool a) held) n = ap (read_expiry n) (row_with t (key.Pool a) held (key.Lease (address n)))
-expiry_written t (Drop (key.Pool a)) n = ap (read_expiry n) (row_without t (key.Pool a) (key.Lease (address n)))
-expiry_written t (Put (key.Held a) held) n = ap (read_expiry n) (row_with t (key.Held a) held (key.Lease (address n)))
-expiry_written t (Drop (key.Held a)) n = ap (read_expiry n) (row_without t (key.Held a) (key.Lease (address n)))
-expiry_written t (Put (key.Batch a) held) n = ap (read_expiry n) (row_with t (key.Batch a) held (key.Lease (address n)))
-expiry_written t (Put (key.Hub a) held) n = ap (read_expiry n) (row_with t (key.Hub a) held (key.Lease (address n)))
-expiry_written t (Put (key.PoolHub a) held) n = ap (read_expiry n) (row_with t (key.PoolHub a) held (key.Lease (address n)))
-expiry_written t (Put (key.DevicePool a) held) n = ap (read_expiry n) (row_with t (key.DevicePool a) held (key.Lease (address n)))
-expiry_written t (Put (key.Device a) held) n = ap (read_expiry n) (row_with t (key.Device a) held (key.Lease (address n)))
-expiry_written t (Drop (key.Batch a)) n = ap (read_expiry n) (row_without t (key.Batch a) (key.Lease (address n)))
-expiry_written t (Drop (key.Hub a)) n = ap (read_expiry n) (row_without t (key.Hub a) (key.Lease (address n)))
-expiry_written t (Drop (key.PoolHub a)) n = ap (read_expiry n) (row_without t (key.PoolHub a) (key.Lease (address n)))
-expiry_written t (Drop (key.DevicePool a)) n = ap (read_expiry n) (row_without t (key.DevicePool a) (key.Lease (address n)))
-expiry_written t (Drop (key.Device a)) n = ap (read_expiry n) (row_without t (key.Device a) (key.Lease (address n)))
+expiry_written t (Put k held) n = ap (read_expiry n) (row_with t k held (key.Lease (address n)))
+expiry_written t (Drop k) n = ap (read_expiry n) (row_without t k (key.Lease (address n)))
 
 pub expiries_written : (t : Tables) (ws : List Write) (n : ℕ) → expiries_after (expiry_in t) ws n ≡ expiry_in (write_all t ws) n
 expiries_written t [] n = refl
@@ -146,43 +99,17 @@ pub put_hub : (n : ℕ) (held : Row) → read_hub n (Some held) ≡ hub_held hel
 put_hub n (row.PoolHub hub) = named_hub hub (hub == 0) refl
 put_hub n held = refl
 
-hub_at : (n : ℕ) (b : Bool) (o : Option Row) (hub : ℕ) (was : Option Row) → read_hub n o ≡ hub → read_hub n (cond b o was) ≡ cond b hub (read_hub n was)
-hub_at n true o hub was is = is
-hub_at n false o hub was is = refl
-
 pub hub_written : (t : Tables) (w : Write) (n : ℕ) → pool_hub_in (written t w) n ≡ numbers_by (hub_write w) (pool_hub_in t) n
 hub_written t (Put (key.PoolHub m) held) n =
     ap (read_hub n) (row_with t (key.PoolHub m) held (key.PoolHub n))
-    ∙ hub_at n (eq_by_cmp nat_cmp n m) (Some held) (hub_held held) (row_at t (key.PoolHub n)) (put_hub n held)
+    ∙ read_if (read_hub n) (eq_by_cmp nat_cmp n m) (Some held) (hub_held held) (row_at t (key.PoolHub n)) (put_hub n held)
     ∙ ap (λ b. cond b (hub_held held) (pool_hub_in t n)) (same_number n m)
 hub_written t (Drop (key.PoolHub m)) n =
     ap (read_hub n) (row_without t (key.PoolHub m) (key.PoolHub n))
-    ∙ hub_at n (eq_by_cmp nat_cmp n m) None 0 (row_at t (key.PoolHub n)) refl
+    ∙ read_if (read_hub n) (eq_by_cmp nat_cmp n m) None 0 (row_at t (key.PoolHub n)) refl
     ∙ ap (λ b. cond b 0 (pool_hub_in t n)) (same_number n m)
-hub_written t (Put key.Site held) n = ap (read_hub n) (row_with t key.Site held (key.PoolHub n))
-hub_written t (Drop key.Site) n = ap (read_hub n) (row_without t key.Site (key.PoolHub n))
-hub_written t (Put (key.Subscriber a) held) n = ap (read_hub n) (row_with t (key.Subscriber a) held (key.PoolHub n))
-hub_written t (Drop (key.Subscriber a)) n = ap (read_hub n) (row_without t (key.Subscriber a) (key.PoolHub n))
-hub_written t (Put (key.AddOn a i) held) n = ap (read_hub n) (row_with t (key.AddOn a i) held (key.PoolHub n))
-hub_written t (Drop (key.AddOn a i)) n = ap (read_hub n) (row_without t (key.AddOn a i) (key.PoolHub n))
-hub_written t (Put (key.Modem a) held) n = ap (read_hub n) (row_with t (key.Modem a) held (key.PoolHub n))
-hub_written t (Drop (key.Modem a)) n = ap (read_hub n) (row_without t (key.Modem a) (key.PoolHub n))
-hub_written t (Put (key.Class a) held) n = ap (read_hub n) (row_with t (key.Class a) held (key.PoolHub n))
-hub_written t (Drop (key.Class a)) n = ap (read_hub n) (row_without t (key.Class a) (key.PoolHub n))
-hub_written t (Put (key.Pool a) held) n = ap (read_hub n) (row_with t (key.Pool a) held (key.PoolHub n))
-hub_written t (Drop (key.Pool a)) n = ap (read_hub n) (row_without t (key.Pool a) (key.PoolHub n))
-hub_written t (Put (key.Held a) held) n = ap (read_hub n) (row_with t (key.Held a) held (key.PoolHub n))
-hub_written t (Drop (key.Held a)) n = ap (read_hub n) (row_without t (key.Held a) (key.PoolHub n))
-hub_written t (Put (key.Batch a) held) n = ap (read_hub n) (row_with t (key.Batch a) held (key.PoolHub n))
-hub_written t (Put (key.Hub a) held) n = ap (read_hub n) (row_with t (key.Hub a) held (key.PoolHub n))
-hub_written t (Put (key.DevicePool a) held) n = ap (read_hub n) (row_with t (key.DevicePool a) held (key.PoolHub n))
-hub_written t (Put (key.Device a) held) n = ap (read_hub n) (row_with t (key.Device a) held (key.PoolHub n))
-hub_written t (Drop (key.Batch a)) n = ap (read_hub n) (row_without t (key.Batch a) (key.PoolHub n))
-hub_written t (Drop (key.Hub a)) n = ap (read_hub n) (row_without t (key.Hub a) (key.PoolHub n))
-hub_written t (Drop (key.DevicePool a)) n = ap (read_hub n) (row_without t (key.DevicePool a) (key.PoolHub n))
-hub_written t (Drop (key.Device a)) n = ap (read_hub n) (row_without t (key.Device a) (key.PoolHub n))
-hub_written t (Put (key.Lease a) held) n = ap (read_hub n) (row_with t (key.Lease a) held (key.PoolHub n))
-hub_written t (Drop (key.Lease a)) n = ap (read_hub n) (row_without t (key.Lease a) (key.PoolHub n))
+hub_written t (Put k held) n = ap (read_hub n) (row_with t k held (key.PoolHub n))
+hub_written t (Drop k) n = ap (read_hub n) (row_without t k (key.PoolHub n))
 
 pub hubs_written : (t : Tables) (ws : List Write) (n : ℕ) → hubs_after (pool_hub_in t) ws n ≡ pool_hub_in (write_all t ws) n
 hubs_written t [] n = refl

@@ -35,7 +35,8 @@ leases_put t = filter_map lease_put (map.entries t)
 abbrev pub hubs_put : Tables → List Write
 hubs_put t = filter_map hub_put (map.entries t)
 
--- so many walks over all rows: for each a call for each row at most, and one more that finds the end
+-- so many walks over all rows: for each a call for each row at most, and one more that finds the
+-- end
 abbrev pub Walks : ℕ → KeeperSeen → KeeperSeen → Type 0
 Walks n old new = (t : Tables) → old.tables t → Spent (n * (map.len t + 1)) old new
 

@@ -74,8 +74,8 @@ impl FreeRuns {
     /// The pools of a keeper's tables, each with its hub and with the leases of its addresses, at
     /// moment 0. A row that no pool, lease or pool's hub may have is passed over.
     ///
-    /// It walks over the pools, over the leases and over the pools' hubs, and commits nothing. After
-    /// an error there is nothing; `Failed` comes only where the keeper counted a fault.
+    /// It walks over the pools, over the leases and over the pools' hubs, and commits nothing.
+    /// After an error there is nothing; `Failed` comes only where the keeper counted a fault.
     pub fn of<K: Keeper>(alloc: Global, keeper: &mut K) -> Result<FreeRuns, KeepErr>
         ensures told { Looks result (K.seen keeper.old) (K.seen keeper.new)
             (λ runs t. StandsFor runs (ground t) 0) }

@@ -53,7 +53,7 @@ raw_device_pool_made (key.DevicePool m) (row.Pool other) n pool e =
     (ap (λ (p : ℕ × Pool). key.DevicePool p.0) pair, ap (λ (p : ℕ × Pool). row.Pool p.1) pair)
 raw_device_pool_made q held n pool e = cc
 
-raw_device_made : (q : Key) (held : Row) (address : Ip4) (lease : DeviceLease) → device_of (q, held) ≡ Some (address, lease) → (q ≡ key.Device address) × (held ≡ row.Device lease)
+pub raw_device_made : (q : Key) (held : Row) (address : Ip4) (lease : DeviceLease) → device_of (q, held) ≡ Some (address, lease) → (q ≡ key.Device address) × (held ≡ row.Device lease)
 raw_device_made (key.Device other) (row.Device own) address lease e =
     let pair : (other, own) ≡ (address, lease) = cc in
     (ap (λ (p : Ip4 × DeviceLease). key.Device p.0) pair, ap (λ (p : Ip4 × DeviceLease). row.Device p.1) pair)

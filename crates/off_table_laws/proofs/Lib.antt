@@ -9,5 +9,6 @@ pub mod DropLemmas
 pub mod PoolLemmas
 pub mod Reading
 pub mod MadeLemmas
+pub mod CountLemmas
 pub mod MigrationLemmas
 pub mod TableLaws

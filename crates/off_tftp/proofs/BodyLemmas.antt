@@ -18,7 +18,7 @@ use Rattle.off_lease_rules.specs.Free.{has_ended}
 use Rattle.off_kept.specs.declared.bodies.KeptBody.{KeptBody}
 use Rattle.off_kept.specs.Entries.{Entries, kept_of}
 use Rattle.off_kept.specs.Right.{IsRight, AllRight}
-use Rattle.off_kept.proofs.RightLemmas.{first_right, found_right, right_profile, right_by}
+use Rattle.off_kept.proofs.RightLemmas.{first_right, found_right, right_profile, right_by, profile_by}
 use Rattle.off_outside.specs.KeeperSeen.{KeeperSeen}
 use Rattle.off_outside.specs.KeeperCalls.{Looks, Reads, NotDone, Spent}
 use Rattle.off_outside.specs.declared.keeper.KeepErr.{KeepErr}
@@ -37,10 +37,6 @@ use Rattle.off_tftp.specs.Keeping.{BeginsFor, is_kept, entry_of, entry_for, kept
 use Rattle.off_tftp.specs.Stages.{repeats}
 
 -- ---- what is kept of a modem
-
-profile_by_row : (t : Tables) (mac : Mac) (modem : Modem) → modem_in t mac ≡ Some modem → profile_in t mac ≡ profile_at t modem.subscriber modem.class
-unfolding profile_in
-profile_by_row t mac modem there = ap (option_and_then (λ (m : Modem). profile_at t m.subscriber m.class)) there
 
 abbrev entry_with : ℕ → ℕ → List ℕ → Option KeptBody
 entry_with subscriber class body = Some (record { subscriber = subscriber; class = class; body = body })
@@ -81,7 +77,7 @@ pub built_is : (t : Tables) (mac : Mac) (modem : Modem) (profile : Option (List 
     → IfOk result (λ body. modem_in t mac ≡ Some modem → body ≡ option_map (entry_of modem) (profile_in t mac))
 built_is t mac modem profile (Err err) is made = tt
 built_is t mac modem profile (Ok body) is made = λ there.
-    let same : profile ≡ profile_in t mac = is ∙ sym (profile_by_row t mac modem there) in
+    let same : profile ≡ profile_in t mac = is ∙ sym (profile_by t mac modem there) in
     made (fit_where_there profile (λ p at. (profiles_spell t mac p (sym same ∙ at)).fits)) ∙ ap (option_map (entry_of modem)) same
 
 -- where there is no owner, or no row of a modem, there is no body

@@ -11,7 +11,7 @@ use Rattle.off_defs.specs.State.{Transfer, peer_cmp}
 use Rattle.off_transfer_rules.specs.Transfers.{Transfers, has_no_room}
 use Rattle.off_transfer_rules.proofs.PeerLemmas.{peer_total, same_peer, same_transfers, removed}
 use Rattle.off_tftp.specs.Kept.{Entries, AreKept, place_of, is_in_front, HasRoomFor, changed, changed_by}
-use Rattle.off_tftp.proofs.KeptLemmas.{value_at, put_at, less_at, put_there, found_there, removed_there}
+use Rattle.off_defs.proofs.PlaceLemmas.{value_at, put_at, less_at, put_there, found_there, removed_there}
 
 pub true_T : (b : Bool) → IsTrue b → T b
 true_T true p = tt

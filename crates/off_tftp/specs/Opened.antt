@@ -1,5 +1,5 @@
--- A read request that didn't come before: what was found for it, or why it's refused, and the file of
--- what was read.
+-- A read request that didn't come before: what was found for it, or why it's refused, and the file
+-- of what was read.
 use Rattle.std.specs.Prelude.{◌≡◌, ℕ, ◌&&◌, Bool, false, List, Option, Some, is_some, option_map, IfSome, MatchOption}
 use Rattle.off_base.specs.Tree.{Tree, spelling}
 use Rattle.off_base.specs.declared.addresses.Ip4.{Ip4}

@@ -1,5 +1,5 @@
--- Where a peer's transfer stands among those that are live, in ascending order of peers, or is to be
--- put.
+-- Where a peer's transfer stands among those that are live, in ascending order of peers, or is to
+-- be put.
 use Rattle.std.specs.Prelude.{◌≡◌}
 use Rattle.std.specs.FinMap as map
 use Rattle.off_base.specs.declared.addresses.Peer.{Peer}

@@ -1,7 +1,7 @@
 use Rattle.std.proofs.Common.{◌≡◌, ℕ, Option, Some, IfSome, option_map, subst}
 use Rattle.off_defs.specs.declared.tables.Modem.{Modem}
 use Rattle.off_account_rules.specs.Rows.{modem_in}
-use Rattle.off_cpe.proofs.StageLemmas.{looks_as}
+use Rattle.off_readers.proofs.LooksLemmas.{looks_as}
 use Rattle.off_cpe.proofs.RowLemmas.{by_number}
 use Rattle.off_cpe.proofs.gathering.subscriber_of.Goals as goal
 
