@@ -1,6 +1,6 @@
 ghost use Rattle.std.specs.Prelude.{◌≡◌, ◌++◌, codes, option_map, IfOk, OnOk};
-ghost use Rattle.off_clerk_rules.specs.Faults.{fault_text, detail_of, clerk_detail};
-ghost use Rattle.off_clerk_rules.specs.Faults.{rule_detail, tree_number};
+ghost use Rattle.off_clerk_rules.specs.Faults.{fault_text, detail_of, request_answer};
+ghost use Rattle.off_clerk_rules.specs.Faults.{rule_answer, tree_number};
 ghost use Rattle.off_import_rules.specs.Faults.{fault_detail};
 ghost use Rattle.off_clerk.specs.Details.{detail_text};
 
@@ -87,7 +87,7 @@ fn place_of(f: &Fault) -> Option<Detail>
 }
 
 fn field_of(err: ClerkErr) -> Option<Detail>
-    ensures { option_map detail_text result ≡ clerk_detail err }
+    ensures { option_map detail_text result ≡ (request_answer err).about }
 {
     match err {
         ClerkErr::Field(name) => Some(Detail::Field(name)),
@@ -109,7 +109,7 @@ fn place_in_import(fault: ImportFault) -> Option<Detail>
 }
 
 fn cause_of(rule: Rule) -> Option<Detail>
-    ensures { option_map detail_text result ≡ rule_detail rule }
+    ensures { option_map detail_text result ≡ (rule_answer rule).about }
 {
     match rule {
         Rule::PoolOverlap(pool) => Some(Detail::Number(u64::from(pool))),

@@ -1,7 +1,7 @@
 ghost use Rattle.std.specs.Prelude.{◌≡◌, ◌≤◌, length, IsTrue};
 ghost use Rattle.off_http.specs.Reply.{is_reply_status};
-ghost use Rattle.off_clerk_rules.specs.Faults.{word_of, clerk_word, http_word, rule_word};
-ghost use Rattle.off_clerk_rules.specs.Faults.{status_of, clerk_status, http_status, rule_status};
+ghost use Rattle.off_clerk_rules.specs.Faults.{word_of, status_of};
+ghost use Rattle.off_clerk_rules.specs.Faults.{request_answer, http_answer, rule_answer};
 
 use off_clerk_rules::{ClerkErr, Fault};
 use off_http::HttpFault;
@@ -37,7 +37,7 @@ fn answer_to(f: &Fault) -> Told
     ensures short { length result.word.now ≤ 40 }
 {
     match *f {
-        Fault::Clerk(err) => clerk_answer(err),
+        Fault::Clerk(err) => request_answer(err),
         Fault::Http(fault) => http_answer(fault),
         Fault::Rule { rule, .. } => rule_answer(rule),
     }
@@ -50,9 +50,9 @@ fn answer(status: u16, word: &'static [u8]) -> Told
     Told { status, word }
 }
 
-fn clerk_answer(err: ClerkErr) -> Told
-    ensures status { result.status ≡ clerk_status err }
-    ensures word { result.word.now ≡ clerk_word err }
+fn request_answer(err: ClerkErr) -> Told
+    ensures status { result.status ≡ (request_answer err).status }
+    ensures word { result.word.now ≡ (request_answer err).word }
     ensures known { IsTrue (is_reply_status result.status) }
     ensures short { length result.word.now ≤ 40 }
 {
@@ -67,8 +67,8 @@ fn clerk_answer(err: ClerkErr) -> Told
 }
 
 fn http_answer(fault: HttpFault) -> Told
-    ensures status { result.status ≡ http_status fault }
-    ensures word { result.word.now ≡ http_word fault }
+    ensures status { result.status ≡ (http_answer fault).status }
+    ensures word { result.word.now ≡ (http_answer fault).word }
     ensures known { IsTrue (is_reply_status result.status) }
     ensures short { length result.word.now ≤ 40 }
 {
@@ -80,8 +80,8 @@ fn http_answer(fault: HttpFault) -> Told
 }
 
 fn rule_answer(rule: Rule) -> Told
-    ensures status { result.status ≡ rule_status rule }
-    ensures word { result.word.now ≡ rule_word rule }
+    ensures status { result.status ≡ (rule_answer rule).status }
+    ensures word { result.word.now ≡ (rule_answer rule).word }
     ensures known { IsTrue (is_reply_status result.status) }
     ensures short { length result.word.now ≤ 40 }
 {

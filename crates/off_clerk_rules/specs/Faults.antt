@@ -1,6 +1,6 @@
--- What a clerk is told of a fault: its word, where it is, and the status of the answer (RFC 9110,
--- section 15).
-use Rattle.std.specs.Prelude.{ℕ, ◌==◌, List, [], ◌++◌, codes, decimal, Option, Some, None, if◌then◌else◌}
+-- What a clerk is told of a fault: the status of the answer (RFC 9110, section 15), the word of the
+-- fault, and where it is.
+use Rattle.std.specs.Prelude.{ℕ, ◌==◌, List, ◌++◌, codes, decimal, Option, Some, None, if◌then◌else◌}
 use Rattle.off_base.specs.AddressText.{ip_text_of}
 use Rattle.off_tree.specs.declared.paths.TreeFault.{TreeFault}
 use Rattle.off_tree.specs.declared.paths.TreeFault.TheVariants as tree
@@ -15,79 +15,30 @@ use Rattle.off_clerk_rules.specs.declared.faults.Fault.TheVariants as fault
 use Rattle.off_import_rules.specs.Faults.{fault_word, fault_detail, fault_status}
 use Rattle.off_clerk_rules.specs.Names.{name_text}
 
-abbrev pub clerk_word : ClerkErr → List ℕ
-clerk_word clerk.NoPath = codes "no-path"
-clerk_word clerk.NoMethod = codes "no-method"
-clerk_word clerk.NotJson = codes "not-json"
-clerk_word (clerk.Field missing) = codes "field"
-clerk_word (clerk.Value wrong) = codes "value"
-clerk_word (clerk.Import f) = fault_word f
+-- an answer: its status, the word in it, and what the fault is about, if that is told
+pub record Answer : Type 0 where
+  pub status : ℕ
+  pub word : List ℕ
+  pub about : Option (List ℕ)
 
-abbrev pub http_word : HttpFault → List ℕ
-http_word http.Head = codes "head"
-http_word http.Body = codes "body"
-http_word http.TooLong = codes "too-long"
+abbrev pub answer : ℕ → List ℕ → Option (List ℕ) → Answer
+answer status word about = record { status = status; word = word; about = about }
 
-abbrev pub rule_word : Rule → List ℕ
-rule_word rule.NoSubscriber = codes "no-subscriber"
-rule_word rule.NoClass = codes "no-class"
-rule_word rule.HasModems = codes "has-modems"
-rule_word rule.ClassInUse = codes "class-in-use"
-rule_word (rule.PoolOverlap pool) = codes "pool-overlap"
-rule_word rule.PoolSize = codes "pool-size"
-rule_word (rule.RelayTaken pool) = codes "relay-taken"
-rule_word (rule.PoolHasLeases address) = codes "pool-has-leases"
-rule_word (rule.Tree f) = codes "tree"
-rule_word (rule.BatchDiffers batch) = codes "batch-differs"
-rule_word rule.NoRow = codes "no-row"
-rule_word (rule.Limit kind most) = codes "limit"
-rule_word (rule.Site field) = codes "site"
-rule_word rule.NoHub = codes "no-hub"
-rule_word (rule.HubInUse pool) = codes "hub-in-use"
-rule_word (rule.DeviceOverlap pool) = codes "device-overlap"
+-- a request that can't be read as a command; it's about a field, by its name, or about a row of an
+-- import and the column in it
+abbrev pub request_answer : ClerkErr → Answer
+request_answer clerk.NoPath = answer 404 (codes "no-path") None
+request_answer clerk.NoMethod = answer 405 (codes "no-method") None
+request_answer clerk.NotJson = answer 400 (codes "not-json") None
+request_answer (clerk.Field missing) = answer 400 (codes "field") (Some (name_text missing))
+request_answer (clerk.Value wrong) = answer 400 (codes "value") (Some (name_text wrong))
+request_answer (clerk.Import f) = answer (fault_status f) (fault_word f) (fault_detail f)
 
-abbrev pub word_of : Fault → List ℕ
-word_of (fault.Clerk err) = clerk_word err
-word_of (fault.Http f) = http_word f
-word_of (fault.Rule row broken) = rule_word broken
-
-abbrev pub clerk_status : ClerkErr → ℕ
-clerk_status clerk.NoPath = 404
-clerk_status clerk.NoMethod = 405
-clerk_status clerk.NotJson = 400
-clerk_status (clerk.Field missing) = 400
-clerk_status (clerk.Value wrong) = 400
-clerk_status (clerk.Import f) = fault_status f
-
-abbrev pub http_status : HttpFault → ℕ
-http_status http.Head = 400
-http_status http.Body = 400
-http_status http.TooLong = 413
-
--- 404 where there is no such row, 409 where other rows stand against it, 422 where the row itself
--- can't be
-abbrev pub rule_status : Rule → ℕ
-rule_status rule.NoRow = 404
-rule_status rule.HasModems = 409
-rule_status rule.ClassInUse = 409
-rule_status (rule.PoolOverlap pool) = 409
-rule_status (rule.RelayTaken pool) = 409
-rule_status (rule.PoolHasLeases address) = 409
-rule_status (rule.BatchDiffers batch) = 409
-rule_status (rule.HubInUse pool) = 409
-rule_status (rule.DeviceOverlap pool) = 409
-rule_status rule.NoSubscriber = 422
-rule_status rule.NoClass = 422
-rule_status rule.PoolSize = 422
-rule_status (rule.Tree f) = 422
-rule_status (rule.Limit kind most) = 422
-rule_status (rule.Site field) = 422
-rule_status rule.NoHub = 422
-
-abbrev pub status_of : Fault → ℕ
-status_of (fault.Clerk err) = clerk_status err
-status_of (fault.Http f) = http_status f
-status_of (fault.Rule row broken) = rule_status broken
+-- what isn't a request
+abbrev pub http_answer : HttpFault → Answer
+http_answer http.Head = answer 400 (codes "head") None
+http_answer http.Body = answer 400 (codes "body") None
+http_answer http.TooLong = answer 413 (codes "too-long") None
 
 -- the rules of settings, and the fields of a site, have numbers
 abbrev pub tree_number : TreeFault → ℕ
@@ -100,40 +51,48 @@ tree_number (tree.FlowReference flow) = 6
 tree_number (tree.ClassifierReference classifier) = 7
 tree_number (tree.TooLong length) = 8
 
--- where a request is wrong: a field's name, or a row of an import and the column in it
-abbrev pub clerk_detail : ClerkErr → Option (List ℕ)
-clerk_detail clerk.NoPath = None
-clerk_detail clerk.NoMethod = None
-clerk_detail clerk.NotJson = None
-clerk_detail (clerk.Field missing) = Some (name_text missing)
-clerk_detail (clerk.Value wrong) = Some (name_text wrong)
-clerk_detail (clerk.Import f) = fault_detail f
+-- A rule of commands that is broken: 404 where there is no such row, 409 where other rows stand
+-- against it, 422 where the row itself can't be. It's about what stands against the command:
+-- another pool, a leased address, a batch, a rule of settings, a limit, a field.
+abbrev pub rule_answer : Rule → Answer
+rule_answer rule.NoRow = answer 404 (codes "no-row") None
+rule_answer rule.HasModems = answer 409 (codes "has-modems") None
+rule_answer rule.ClassInUse = answer 409 (codes "class-in-use") None
+rule_answer (rule.PoolOverlap pool) = answer 409 (codes "pool-overlap") (Some (decimal pool))
+rule_answer (rule.RelayTaken pool) = answer 409 (codes "relay-taken") (Some (decimal pool))
+rule_answer (rule.PoolHasLeases leased) =
+    answer 409 (codes "pool-has-leases") (Some (ip_text_of leased.0))
+rule_answer (rule.BatchDiffers batch) = answer 409 (codes "batch-differs") (Some (decimal batch))
+rule_answer (rule.HubInUse pool) = answer 409 (codes "hub-in-use") (Some (decimal pool))
+rule_answer (rule.DeviceOverlap pool) = answer 409 (codes "device-overlap") (Some (decimal pool))
+rule_answer rule.NoSubscriber = answer 422 (codes "no-subscriber") None
+rule_answer rule.NoClass = answer 422 (codes "no-class") None
+rule_answer rule.NoHub = answer 422 (codes "no-hub") None
+rule_answer rule.PoolSize = answer 422 (codes "pool-size") None
+rule_answer (rule.Tree f) = answer 422 (codes "tree") (Some (decimal (tree_number f)))
+rule_answer (rule.Limit kind most) = answer 422 (codes "limit") (Some (decimal most))
+rule_answer (rule.Site field) = answer 422 (codes "site") (Some (decimal field))
 
--- what stands against a command: another pool, a leased address, a batch, a rule of settings, a
--- limit, a field
-abbrev pub rule_detail : Rule → Option (List ℕ)
-rule_detail rule.NoSubscriber = None
-rule_detail rule.NoClass = None
-rule_detail rule.HasModems = None
-rule_detail rule.ClassInUse = None
-rule_detail (rule.PoolOverlap pool) = Some (decimal pool)
-rule_detail rule.PoolSize = None
-rule_detail (rule.RelayTaken pool) = Some (decimal pool)
-rule_detail (rule.PoolHasLeases address) = Some (ip_text_of address.0)
-rule_detail (rule.Tree f) = Some (decimal (tree_number f))
-rule_detail (rule.BatchDiffers batch) = Some (decimal batch)
-rule_detail rule.NoRow = None
-rule_detail (rule.Limit kind most) = Some (decimal most)
-rule_detail (rule.Site field) = Some (decimal field)
-rule_detail rule.NoHub = None
-rule_detail (rule.HubInUse pool) = Some (decimal pool)
-rule_detail (rule.DeviceOverlap pool) = Some (decimal pool)
+-- the word of a rule by itself, which imports tell too
+abbrev pub rule_word : Rule → List ℕ
+rule_word broken = (rule_answer broken).word
+
+abbrev pub word_of : Fault → List ℕ
+word_of (fault.Clerk err) = (request_answer err).word
+word_of (fault.Http f) = (http_answer f).word
+word_of (fault.Rule row broken) = (rule_answer broken).word
+
+abbrev pub status_of : Fault → ℕ
+status_of (fault.Clerk err) = (request_answer err).status
+status_of (fault.Http f) = (http_answer f).status
+status_of (fault.Rule row broken) = (rule_answer broken).status
 
 -- a row of an import comes before what stands against it
 abbrev pub detail_of : Fault → Option (List ℕ)
-detail_of (fault.Clerk err) = clerk_detail err
+detail_of (fault.Clerk err) = (request_answer err).about
 detail_of (fault.Http f) = None
-detail_of (fault.Rule row broken) = if row == 0 then rule_detail broken else Some (decimal row)
+detail_of (fault.Rule row broken) =
+    if row == 0 then (rule_answer broken).about else Some (decimal row)
 
 -- the JSON object of a fault. No word and no detail has a character that JSON escapes
 abbrev pub with_detail : Option (List ℕ) → List ℕ → List ℕ

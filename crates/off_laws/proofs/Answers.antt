@@ -19,7 +19,7 @@ use Rattle.off_clerk_rules.specs.declared.faults.ClerkErr.{ClerkErr}
 use Rattle.off_clerk_rules.specs.declared.faults.ClerkErr.TheVariants as clerk
 use Rattle.off_clerk_rules.specs.declared.faults.Fault.{Fault}
 use Rattle.off_clerk_rules.specs.declared.faults.Fault.TheVariants as fault
-use Rattle.off_clerk_rules.specs.Faults.{status_of, clerk_status, http_status, rule_status, word_of}
+use Rattle.off_clerk_rules.specs.Faults.{status_of, request_answer, http_answer, rule_answer, word_of}
 use Rattle.off_clerk_rules.specs.Commands.{command_read}
 use Rattle.off_order_laws.proofs.StepLaws.{step_keeps_good}
 use Rattle.off_book.specs.Http.{Answered, answer_fault, answer_result, answer_command, answer_request}
@@ -33,7 +33,7 @@ digits_first : (digits space word : List ℕ) → IsNumeral 10 digits → Begins
 digits_first [] space word is = absurd (omega (arith, is.0))
 digits_first (d ∷ digits) space word is = is.1.0
 
-clerk_small : (err : ClerkErr) → clerk_status err < 1000
+clerk_small : (err : ClerkErr) → (request_answer err).status < 1000
 clerk_small clerk.NoPath = omega arith
 clerk_small clerk.NoMethod = omega arith
 clerk_small clerk.NotJson = omega arith
@@ -41,12 +41,12 @@ clerk_small (clerk.Field missing) = omega arith
 clerk_small (clerk.Value wrong) = omega arith
 clerk_small (clerk.Import f) = omega arith
 
-http_small : (f : HttpFault) → http_status f < 1000
+http_small : (f : HttpFault) → (http_answer f).status < 1000
 http_small http.Head = omega arith
 http_small http.Body = omega arith
 http_small http.TooLong = omega arith
 
-rule_small : (broken : Rule) → rule_status broken < 1000
+rule_small : (broken : Rule) → (rule_answer broken).status < 1000
 rule_small rule.NoRow = omega arith
 rule_small rule.HasModems = omega arith
 rule_small rule.ClassInUse = omega arith

@@ -98,7 +98,8 @@ ChangesItsPart =
     (s : State) (event : Event) (outcome : Outcome) (effect : Effect) → Step s event outcome effect
     → Changes (part_of event.what outcome) (at_moment s event.at.0) effect
 
--- A relay's query changes nothing of the office: its turn commits nothing, and leaves all as it was.
+-- A relay's query changes nothing of the office: its turn commits nothing, and leaves all as it
+-- was.
 abbrev pub QueriesChangeNothing : Type 0
 QueriesChangeNothing =
     (s : State) (event : Event) (outcome : Outcome) (effect : Effect) (from : Peer)

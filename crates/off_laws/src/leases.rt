@@ -46,8 +46,8 @@ pub fn a_devices_line_is_no_modems()
     ensures { DevicesSayNone }
 {}
 
-/// What is offered or bound to a client stays so: until it ends, its lease is the same in every later
-/// state of a run in which no turn has served the client.
+/// What is offered or bound to a client stays so: until it ends, its lease is the same in every
+/// later state of a run in which no turn has served the client.
 pub fn what_is_offered_or_bound_stays_so()
     ensures { LeasesOutlast }
 {}
