@@ -1,17 +1,9 @@
 -- A run with one more turn at its end.
-use Rattle.std.proofs.Common.{◌≡◌, ℕ, suc, ◌+◌, Bool, true, false, not, cond, List, [], ◌∷◌, ◌++◌, length, count_by, refl, sym, ap, ◌∙◌, subst, arith, append_assoc, append-nil}
+use Rattle.std.proofs.Common.{◌≡◌, ℕ, suc, ◌+◌, Bool, true, false, not, cond, List, [], ◌∷◌, ◌++◌, length, count_by, refl, sym, ap, ◌∙◌, arith, append_assoc, append-nil}
 use Rattle.std.proofs.lemmas.List.Sums.{sum_by-append}
 use Rattle.off_defs.specs.declared.results.Sent.{Sent}
-use Rattle.off_defs.specs.State.{State}
-use Rattle.off_book.specs.Step.{Step}
 use Rattle.off_defs.specs.Counts.{commits_after, calls_after}
-use Rattle.off_book.specs.Run.{Turn, Run, effect_of, marked, sent_in, sent_by, lost_in, lost_by, keeper_failures, failures_by, trouble, troubles_by, commits_by, writes_by, line_of, lines_from, events_of, all_went}
-
-pub run_push : (s : State) (turns : List Turn) (mid last : State) (turn : Turn) → Run s turns mid
-    → Step mid turn.event turn.outcome (effect_of turn last) → Run s (turns ++ turn ∷ []) last
-run_push s [] mid last turn run step =
-    (last, (subst (λ v. Step v turn.event turn.outcome (effect_of turn last)) run step, refl))
-run_push s (first ∷ turns) mid last turn run step = (run.0, (run.1.0, run_push run.0 turns mid last turn run.1.1 step))
+use Rattle.off_book.specs.Run.{Turn, marked, sent_in, sent_by, lost_in, lost_by, keeper_failures, failures_by, trouble, troubles_by, commits_by, writes_by, line_of, lines_from, all_went}
 
 pub sent_by_push : (turns : List Turn) (turn : Turn) → sent_by (turns ++ turn ∷ []) ≡ sent_by turns ++ sent_in turn
 sent_by_push [] turn = append-nil (sent_in turn)
@@ -36,14 +28,6 @@ commits_by_push (first ∷ turns) turn n = commits_by_push turns turn (commits_a
 pub writes_by_push : (turns : List Turn) (turn : Turn) (n : ℕ) → writes_by (turns ++ turn ∷ []) n ≡ calls_after turn.said.line (writes_by turns n)
 writes_by_push [] turn n = refl
 writes_by_push (first ∷ turns) turn n = writes_by_push turns turn (calls_after first.said.line n)
-
-pub events_of_push : (turns : List Turn) (turn : Turn) → events_of (turns ++ turn ∷ []) ≡ events_of turns ++ turn.event ∷ []
-events_of_push [] turn = refl
-events_of_push (first ∷ turns) turn = ap (λ v. first.event ∷ v) (events_of_push turns turn)
-
-pub length_events_of : (turns : List Turn) → length (events_of turns) ≡ length turns
-length_events_of [] = refl
-length_events_of (first ∷ turns) = ap (λ v. suc v) (length_events_of turns)
 
 pub lines_from_push : (n : ℕ) (turns : List Turn) (turn : Turn) → lines_from n (turns ++ turn ∷ []) ≡ lines_from n turns ++ line_of (n + length turns) turn
 lines_from_push n [] turn =

@@ -11,6 +11,7 @@ use Rattle.off_defs.specs.State.{State, Effect}
 use Rattle.off_book.specs.Step.{Step, Does, TellsOutcome, service_word}
 use Rattle.off_book.specs.Run.{Turn, SaysMemory, TellsItsOutcome, keeper_failures, failures_by}
 
+-- want of memory is said
 does_memory : (s : State) (what : What) (effect : Effect) → Does s what Memory effect → effect.said.line ≡ service_word what ++ codes " memory"
 does_memory s (Datagram Dhcp from bytes) effect does = ap (λ (e : Effect). e.said.line) does
 does_memory s (Datagram Time from bytes) effect does = ap (λ (e : Effect). e.said.line) does
@@ -19,11 +20,6 @@ does_memory s (Piece conn bytes) effect does = ap (λ (e : Effect). e.said.line)
 does_memory s (Closed conn) effect does = absurd does
 does_memory s Tick effect does = ap (λ (e : Effect). e.said.line) does
 does_memory s End effect does = absurd does
-
--- want of memory is said
-pub memory_says : (s : State) (event : Event) (effect : Effect) → Step s event Memory effect → effect.said.line ≡ service_word event.what ++ codes " memory"
-unfolding Step
-memory_says s event effect step = does_memory _ event.what effect step
 
 does_keeper : (s : State) (what : What) (effect : Effect) → Does s what Keeper effect → effect.said.line ≡ service_word what ++ codes " keeper"
 does_keeper s (Datagram Dhcp from bytes) effect does = ap (λ (e : Effect). e.said.line) does

@@ -27,8 +27,8 @@ Doubt doubt s turn u =
 
 -- A run of these turns from a state, `doubt` being in doubt there at the moment `from`, to a state
 -- at the moment `to`, with `ends` in doubt. A crash within a turn opens as the tables before it, as
--- the one commit in doubt, or as the turn itself would leave them: so at every moment the commits of
--- so many of the first turns are there, never fewer than a moment before, and at most one more.
+-- the one commit in doubt, or as the turn itself would leave them: so at every moment the commits
+-- of so many of the first turns are there, never fewer than a moment before, and at most one more.
 abbrev pub Lasts : (ℕ → Tables → Type 0) → (Tables → Type 0) → (Tables → Type 0) → ℕ → State
     → List Turn → ℕ → State → Type 0
 Lasts opened ends doubt from s [] to last =
