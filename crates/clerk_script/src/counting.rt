@@ -1,8 +1,8 @@
 use off_account_rules::Counts;
-use off_accounts::count_rows;
 use off_base::NoMemory;
 use off_defs::{Key, Writes};
 use off_keepmem::MemKeeper;
+use off_opening::count_rows;
 use off_outside::{Calls, Keeper};
 use script_words::{Line, Page, Unread, read_write, show_row};
 use std::alloc::Global;

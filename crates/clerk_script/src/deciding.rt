@@ -3,11 +3,13 @@ ghost use Rattle.off_accounts.specs.Deciding.{is_import};
 
 use crate::counting::{keeper_of, show_counts};
 use crate::faults::show_fault;
-use off_accounts::{AccountErr, Planned, count_rows, decide, read_users};
+use off_accounts::{AccountErr, Planned};
 use off_base::{Moment, NoMemory};
 use off_clerk::Fault;
+use off_commands::decide;
 use off_defs::Write;
 use off_keepmem::MemKeeper;
+use off_opening::{count_rows, read_users};
 use off_orders::{Command, Reply, sound};
 use script_words::{
     Line, Page, Unread, read_command, show_key, show_row, show_seen, show_seen_pool,

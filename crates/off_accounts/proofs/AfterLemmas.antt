@@ -22,15 +22,16 @@ use Rattle.off_account_rules.specs.declared.counts.Counts.{Counts}
 use Rattle.off_account_rules.specs.Rows.{seen_at, is_possible, is_of_kind, counts_of}
 use Rattle.off_account_rules.specs.Changes.{add_on_keys}
 use Rattle.off_orders.specs.Clerk.{limit, rules_of, lost_leases, lost_devices, lease_drops}
+use Rattle.off_table_laws.proofs.CountLemmas.{counts_without_other}
 use Rattle.off_accounts.specs.declared.subject.Subject.{Subject}
 use Rattle.off_accounts.specs.Changes.{count_in, with_count, counts_put, counts_drop}
 use Rattle.off_accounts.specs.Tests.{limit_rule}
 use Rattle.off_accounts.specs.After.{CountsAfter, CountsAfterRemoval}
-use Rattle.off_accounts.proofs.CountsLemmas.{kept, counts_with, counts_without_other}
+use Rattle.off_accounts.proofs.CountsLemmas.{kept, counts_with}
 use Rattle.off_accounts.proofs.LimitLemmas.{limit_is}
 use Rattle.std.specs.List.{flat_map}
 use Rattle.off_accounts.proofs.RemovalLemmas.{drop_counts, lease_counts, device_counts, subscriber_counts}
-use Rattle.off_accounts.proofs.PlanLemmas.{no_kind, hub_counts, good_add_on, good_class, good_hub, good_pool, good_device_pool}
+use Rattle.off_accounts.proofs.PlanLemmas.{hub_counts, good_add_on, good_class, good_hub, good_pool, good_device_pool}
 use Rattle.off_order_laws.proofs.ClerkSteps.{unbroken}
 
 -- what the function of a put says of the counts
@@ -96,7 +97,7 @@ module _ (counts after : Counts) (t : Tables) where
   pub pool_removed : (n : ℕ) → after ≡ counts_drop Pools true counts → CountsAfterRemoval counts (key.Pool n) t after
   pool_removed n less agree there =
       drop_counts Pools (key.Pool n) t counts after (λ m. refl) refl there less agree
-      ∙ sym (lease_counts (lost_leases t n None) (without (without t (key.Pool n)) (key.PoolHub n)) ∙ counts_without_other (key.PoolHub n) (without t (key.Pool n)) (no_kind n))
+      ∙ sym (lease_counts (lost_leases t n None) (without (without t (key.Pool n)) (key.PoolHub n)) ∙ counts_without_other (key.PoolHub n) (without t (key.Pool n)) (λ kind. refl))
 
   pub device_pool_removed : (n : ℕ) → after ≡ counts_drop DevicePools true counts → CountsAfterRemoval counts (key.DevicePool n) t after
   device_pool_removed n less agree there =

@@ -4,8 +4,6 @@ use Rattle.off_defs.specs.declared.keys.Key.{Key}
 use Rattle.off_defs.specs.declared.keys.Key.TheVariants as key
 use Rattle.off_defs.specs.declared.tables.Pool.{Pool}
 use Rattle.off_orders.specs.declared.orders.Command.{Command}
-use Rattle.off_orders.specs.declared.orders.ImportRow.{ImportRow}
-use Rattle.off_defs.specs.declared.tables.ImportKind.{ImportKind}
 use Rattle.off_orders.specs.declared.orders.Command.TheVariants.{PutHub, PutSubscriber, PutAddOn, PutModem, PutClass, PutPool, PutDevicePool, Remove, Show, Import}
 use Rattle.off_defs.specs.State.{Tables}
 use Rattle.off_outside.specs.KeeperSeen.{KeeperSeen}
@@ -201,6 +199,3 @@ module _ (counts : Counts) (at : Moment) (subject : Subject) where
 -- commands that walk over no pools and leases
 pub show_walks : (c : Command) (shown : Key) (a b : KeeperSeen) → c ≡ Show shown → WalksWithin c a b
 show_walks c shown a b is = subst (λ (d : Command). WalksWithin d a b) (sym is) (λ t told. tt)
-
-pub import_walks : (c : Command) (kind : ImportKind) (batch : ℕ) (digest : List ℕ) (rows : List ImportRow) (a b : KeeperSeen) → c ≡ Import kind batch digest rows → WalksWithin c a b
-import_walks c kind batch digest rows a b is = subst (λ (d : Command). WalksWithin d a b) (sym is) (λ t told. tt)

@@ -194,19 +194,3 @@ counts_without kind key t whole is = sym (same_counts (counts_drop kind (is_some
     drop_one kind other (seen_at t key) (count_of other t) (count_of other (without t key)) (counts_of t) whole (counted_of other t)
     (subst (λ b. count_of other (without t key) + cond b (cond (is_some (seen_at t key)) 1 0) 0 ≡ count_of other t) (own_kind kind other key is) e)
     ∙ sym (counted_of other (without t key))))
-
--- A key of which there is no count
-pub counts_with_other : (key : Key) (row : Row) (t : Tables) → ((kind : Kind) → is_of_kind kind key ≡ false) → counts_of (with_row t key row) ≡ counts_of t
-counts_with_other key row t none = same_counts (counts_of (with_row t key row)) (counts_of t) (λ other.
-    let put = count-put key_cmp (is_counted other) key_total key_exact key row (map.entries t) (map.entries_sorted t) in
-    let entries : count_of other (with_row t key row) ≡ count_by (is_counted other) (list.put key_cmp key row (map.entries t)) = ap (count_by (is_counted other)) (entries_with t key row) in
-    let old = found_here other key t ∙ ap (λ b. cond b (cond (is_some (seen_at t key)) 1 0) 0) (none other) in
-    let new : counts_it key_cmp (is_counted other) (key, row) ≡ 0 = ap (λ b. cond (b && is_possible key row) 1 0) (none other) in
-    let same : count_of other (with_row t key row) ≡ count_of other t = omega (arith, put, entries, old, new) in
-    counted_of other (with_row t key row) ∙ ap (kept other) same ∙ sym (counted_of other t))
-
-pub counts_without_other : (key : Key) (t : Tables) → ((kind : Kind) → is_of_kind kind key ≡ false) → counts_of (without t key) ≡ counts_of t
-counts_without_other key t none = same_counts (counts_of (without t key)) (counts_of t) (λ other.
-    let e = subst (λ b. count_of other (without t key) + cond b (cond (is_some (seen_at t key)) 1 0) 0 ≡ count_of other t) (none other) (count_without other key t) in
-    let same : count_of other (without t key) ≡ count_of other t = omega (arith, e) in
-    counted_of other (without t key) ∙ ap (kept other) same ∙ sym (counted_of other t))

@@ -12,11 +12,6 @@ pub mod RemovalLemmas
 pub mod SearchLemmas
 pub mod TestLemmas
 pub mod TriedLemmas
-mod ProgressLemmas
-mod JudgeLemmas
-mod RowsLemmas
-mod ImportLemmas
-pub mod GoodLemmas
 pub mod WalkedLemmas
 pub mod HubLemmas
 pub mod ShowLemmas

@@ -57,7 +57,7 @@ low_limit Batches = omega arith
 low_limit Hubs = omega arith
 low_limit DevicePools = omega arith
 
-below_most : (most n : ℕ) (broken : Rule) → when (nat_le most n) broken ≡ None → n < most
+pub below_most : (most n : ℕ) (broken : Rule) → when (nat_le most n) broken ≡ None → n < most
 below_most most n broken none = elim (nat_le most n) as (λ b. nat_le most n ≡ b → when b broken ≡ None → n < most) [
   | true ↦ λ is e. cc
   | false ↦ λ is e. leb-false most n is

@@ -9,7 +9,7 @@ use Rattle.off_defs.specs.declared.keys.Key.TheVariants.{Subscriber, AddOn, Leas
 use Rattle.off_defs.specs.declared.tables.Lease.{Lease as LeaseRow}
 use Rattle.off_defs.specs.declared.tables.DeviceLease.{DeviceLease}
 use Rattle.off_defs.specs.declared.kinds.Kind.{Kind}
-use Rattle.off_defs.specs.declared.kinds.Kind.TheVariants.{Subscribers, AddOns, Modems, Classes, Pools, Batches, Hubs, DevicePools}
+use Rattle.off_defs.specs.declared.kinds.Kind.TheVariants.{Subscribers, AddOns}
 use Rattle.off_defs.specs.declared.writes.Write.{Write}
 use Rattle.off_defs.specs.declared.writes.Write.TheVariants.{Drop}
 use Rattle.off_defs.specs.Keys.{key_cmp}
@@ -21,8 +21,9 @@ use Rattle.off_account_rules.specs.Rows.{possible, seen_at, is_of_kind, counts_o
 use Rattle.off_account_rules.specs.Good.{owner_of}
 use Rattle.off_account_rules.specs.Changes.{held_drop, add_on_keys}
 use Rattle.off_orders.specs.Clerk.{no_row, lease_drops, device_drop}
+use Rattle.off_table_laws.proofs.CountLemmas.{counts_without_other}
 use Rattle.off_accounts.specs.Changes.{count_in, with_count, counts_drop}
-use Rattle.off_accounts.proofs.CountsLemmas.{kept, counts_without, counts_without_other}
+use Rattle.off_accounts.proofs.CountsLemmas.{kept, counts_without}
 use Rattle.off_accounts.proofs.PresentLemmas.{row_present}
 use Rattle.std.proofs.lemmas.Bool.{false_from_ne_true}
 
@@ -32,50 +33,20 @@ pub drop_counts : (kind : Kind) (key : Key) (t : Tables) (counts after : Counts)
 drop_counts kind key t counts after whole is there after_is agree =
     after_is ∙ ap (counts_drop kind true) agree ∙ ap (λ b. counts_drop kind b (counts_of t)) (sym (row_present key t there)) ∙ sym (counts_without kind key t whole is)
 
-no_kind_of_lease : (address : Ip4) (kind : Kind) → is_of_kind kind (Lease address) ≡ false
-no_kind_of_lease a Subscribers = refl
-no_kind_of_lease a AddOns = refl
-no_kind_of_lease a Modems = refl
-no_kind_of_lease a Classes = refl
-no_kind_of_lease a Pools = refl
-no_kind_of_lease a Batches = refl
-no_kind_of_lease a Hubs = refl
-no_kind_of_lease a DevicePools = refl
-
-no_kind_of_held : (mac : Mac) (kind : Kind) → is_of_kind kind (Held mac) ≡ false
-no_kind_of_held a Subscribers = refl
-no_kind_of_held a AddOns = refl
-no_kind_of_held a Modems = refl
-no_kind_of_held a Classes = refl
-no_kind_of_held a Pools = refl
-no_kind_of_held a Batches = refl
-no_kind_of_held a Hubs = refl
-no_kind_of_held a DevicePools = refl
-
-no_kind_of_device : (address : Ip4) (kind : Kind) → is_of_kind kind (Device address) ≡ false
-no_kind_of_device a Subscribers = refl
-no_kind_of_device a AddOns = refl
-no_kind_of_device a Modems = refl
-no_kind_of_device a Classes = refl
-no_kind_of_device a Pools = refl
-no_kind_of_device a Batches = refl
-no_kind_of_device a Hubs = refl
-no_kind_of_device a DevicePools = refl
-
 held_counts : (owner : Option Mac) (t : Tables) (more : List Write) → ((u : Tables) → counts_of (write_all u more) ≡ counts_of u) → counts_of (write_all t (held_drop owner ++ more)) ≡ counts_of t
 held_counts None t more rest = rest t
-held_counts (Some mac) t more rest = rest (without t (Held mac)) ∙ counts_without_other (Held mac) t (no_kind_of_held mac)
+held_counts (Some mac) t more rest = rest (without t (Held mac)) ∙ counts_without_other (Held mac) t (λ kind. refl)
 
 -- leases and the rows of who holds them aren't counted
 pub lease_counts : (leases : List (Ip4 × LeaseRow)) (t : Tables) → counts_of (write_all t (flat_map lease_drops leases)) ≡ counts_of t
 lease_counts [] t = refl
 lease_counts (lease ∷ leases) t =
     held_counts (owner_of lease.1.hold) (without t (Lease lease.0)) (flat_map lease_drops leases) (lease_counts leases)
-    ∙ counts_without_other (Lease lease.0) t (no_kind_of_lease lease.0)
+    ∙ counts_without_other (Lease lease.0) t (λ kind. refl)
 
 pub device_counts : (leases : List (Ip4 × DeviceLease)) (t : Tables) → counts_of (write_all t (map device_drop leases)) ≡ counts_of t
 device_counts [] t = refl
-device_counts (lease ∷ leases) t = device_counts leases (without t (Device lease.0)) ∙ counts_without_other (Device lease.0) t (no_kind_of_device lease.0)
+device_counts (lease ∷ leases) t = device_counts leases (without t (Device lease.0)) ∙ counts_without_other (Device lease.0) t (λ kind. refl)
 
 -- the subscriber's add-ons of lesser numbers: how many have rows, their drops, and the tables without them
 abbrev pub add_ons_below : Tables → ℕ → ℕ → ℕ

@@ -27,7 +27,7 @@ use Rattle.off_accounts.specs.declared.results.Planned.{Planned}
 use Rattle.off_accounts.specs.declared.results.AccountErr.{AccountErr}
 use Rattle.off_accounts.specs.declared.results.AccountErr.TheVariants.{Refused, Failed, Memory}
 
--- imports are decided elsewhere
+-- imports are decided in off_commands
 abbrev pub is_import : Command → Bool
 is_import (Import kind batch digest rows) = true
 is_import (PutHub n site) = false
@@ -163,8 +163,8 @@ ShowsAt (key.Pool n) reply = ShowsPool n reply
 ShowsAt other reply = ShowsRow other reply
 
 -- What a command is answered that is done, whatever the tables: one that shows a row shows it, and
--- then nothing is written; any other just says that it was done. What an import answers, the crate
--- of imports says.
+-- then nothing is written; any other just says that it was done. What an import answers,
+-- off_commands says.
 abbrev pub AnswersCommand : Command → Planned → Type 0
 AnswersCommand (Show key) planned = ShowsAt key planned.reply × (planned.writes ≡ [])
 AnswersCommand (Import kind batch digest rows) planned = Unit {0}

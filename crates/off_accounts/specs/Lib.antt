@@ -3,6 +3,4 @@ pub mod Changes
 pub mod Deciding
 pub mod Searches
 pub mod Tests
-pub mod Commands
-pub mod Imports
 pub mod Walking

@@ -35,7 +35,7 @@ use std::alloc::Global;
 /// round. One that removes a pool, or puts one where another was, goes over the leases in the range
 /// of the pool that was there twice at most. One that removes a hub goes over the pools once, and
 /// looks up the hub of each. How many calls that makes is known over tables that are told.
-pub fn decide<K: Keeper>(
+pub fn decide_single<K: Keeper>(
     alloc: Global,
     keeper: &mut K,
     counts: &Counts,

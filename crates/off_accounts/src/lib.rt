@@ -1,4 +1,4 @@
-//! What a clerk's commands do to the tables, and the test of the tables when the office opens.
+//! What a single command of a clerk does to the tables. Imports of many rows are in `off_commands`.
 //!
 //! A command is decided in three steps: what the tables have at its key (`subject`), the first of
 //! its rules that is broken (`ruling` lists them, `testing` walks them), and what it writes and how
@@ -7,27 +7,16 @@
 //! hub of each pool is in `hubs`. One that shows a row has no other rule than that there is one
 //! (`showing`).
 //!
-//! An import stands for the commands that put its rows, each over the tables that those before it
-//! left. Its rows aren't sorted, and the tables aren't written meanwhile: which keys the rows so
-//! far have put is kept in order (`progress`), and a row's rules ask there before they ask the
-//! keeper (`judging`). Last comes the row of the batch itself (`importing`).
-//!
-//! `commands` takes either to its place. The opening is tested by `off_opening`.
+//! `deciding` takes a command through these steps.
 #![tactic(auto)]
 
-mod commands;
 mod counting;
 mod deciding;
 mod dropping;
 mod hubs;
-mod import_counting;
-mod importing;
-mod judging;
 mod limits;
 mod lost;
 mod planning;
-mod progress;
-mod putting;
 mod results;
 mod ruling;
 mod searching;
@@ -38,8 +27,6 @@ mod values;
 mod wanted;
 mod whose;
 
-pub use commands::decide;
-pub use off_account_rules::Counts;
-pub use off_opening::{Opening, count_rows, first_bad, open_tables, read_users};
-pub use off_users::Users;
+pub use deciding::decide_single;
+pub use limits::{counts_put, limit_rule};
 pub use results::{AccountErr, Planned};

@@ -24,7 +24,7 @@ use Rattle.off_accounts.specs.declared.results.Planned.{Planned}
 use Rattle.off_accounts.specs.declared.results.AccountErr.{AccountErr}
 use Rattle.off_accounts.specs.declared.results.AccountErr.TheVariants.{Refused, Failed, Memory}
 use Rattle.off_accounts.specs.Deciding.{IsDecided, NotDecided, AnswersCommand, not_kept}
-use Rattle.off_accounts.specs.Commands.{AnswersImport}
+use Rattle.off_commands.specs.Commands.{AnswersImport}
 use Rattle.off_kept.specs.Entries.{without_written}
 use Rattle.off_users.specs.Users.{UsersHeld, StandsFor}
 use Rattle.off_users.specs.Kept.{NamedMap, Knows, map_of}

@@ -40,7 +40,7 @@ use Rattle.off_cpe_laws.proofs.WriteLemmas.{Wrote, nothing, gives, rests as asid
 use Rattle.off_asking.specs.Asking.{client, asks, is_discover}
 use Rattle.off_asking.specs.Claims.{refused_by}
 use Rattle.off_asking.specs.Choice.{pool_among}
-use Rattle.off_accounts.proofs.CountsLemmas.{counts_with_other, counts_without_other}
+use Rattle.off_table_laws.proofs.CountLemmas.{counts_with_other, counts_without_other}
 use Rattle.off_base.specs.declared.addresses.Ip4.{Ip4}
 use Rattle.off_base.specs.declared.macs.Mac.{Mac}
 use Rattle.off_defs.specs.declared.tables.Pool.{Pool}

@@ -22,7 +22,8 @@ use Rattle.off_table_laws.proofs.GoodRows.{GoodRows}
 use Rattle.off_table_laws.proofs.Judging.{good_rows}
 use Rattle.off_table_laws.proofs.MigrationLemmas.{migrated_are_good}
 use Rattle.off_accounts.specs.Changes.{counts_put}
-use Rattle.off_accounts.proofs.CountsLemmas.{counts_with, counts_without_other}
+use Rattle.off_accounts.proofs.CountsLemmas.{counts_with}
+use Rattle.off_table_laws.proofs.CountLemmas.{counts_without_other}
 use Rattle.off_kept.specs.Right.{AllRight}
 use Rattle.off_kept.proofs.RightLemmas.{kept_stays_right}
 use Rattle.off_users.specs.Users.{UsersHeld}

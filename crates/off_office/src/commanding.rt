@@ -14,8 +14,9 @@ ghost use Rattle.off_office.specs.Answering.{CountsRows};
 
 use crate::office::Office;
 use off_account_rules::Counts;
-use off_accounts::{AccountErr, Planned, decide};
+use off_accounts::{AccountErr, Planned};
 use off_base::Moment;
+use off_commands::decide;
 use off_defs::Writes;
 use off_orders::{Command, Reply};
 use off_outside::{KeepErr, Keeper};

@@ -204,8 +204,8 @@ fn both_answers_are_one(rt: HostRuntime) -> Result<(), Fail> {
 }
 
 // Each call of the keeper that fails fails the answer, and one that isn't made does nothing. By the
-// index there are five: the rows of the modem and its subscriber, what the modem holds, the lease of
-// that, and the hub.
+// index there are five: the rows of the modem and its subscriber, what the modem holds, the lease
+// of that, and the hub.
 #[test]
 fn each_call_that_fails_fails_a_devices_answer(rt: HostRuntime) -> Result<(), Fail> {
     for by in [By::Keeper, By::Index] {

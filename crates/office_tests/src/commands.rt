@@ -1,13 +1,13 @@
 use crate::desk::{Answer, NOW, answered, answers, is_import, keeper_of};
-use off_accounts::count_rows;
 use off_base::{Ip4, Mac, Moment};
 use off_defs::Key;
 use off_office::Office;
+use off_opening::count_rows;
 use off_orders::{Command, Reply, Rule, sound};
 use std::test::Fail;
 
-// Class 1 has bad settings, pool 2 no relay, and pool 2 for devices too short a prefix: whoever reads
-// them takes them as none. No opening lets them in.
+// Class 1 has bad settings, pool 2 no relay, and pool 2 for devices too short a prefix: whoever
+// reads them takes them as none. No opening lets them in.
 #[test]
 fn an_impossible_row_is_none(rt: HostRuntime) -> Result<(), Fail> {
     let alloc = rt.alloc();

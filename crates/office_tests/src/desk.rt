@@ -1,10 +1,13 @@
 ghost use Rattle.std.specs.Prelude.{◌≡◌, false, IfOk, IfSome};
 ghost use Rattle.off_accounts.specs.Deciding.{is_import};
 
-use off_accounts::{AccountErr, Counts, Planned, decide, read_users};
+use off_account_rules::Counts;
+use off_accounts::{AccountErr, Planned};
 use off_base::Moment;
+use off_commands::decide;
 use off_defs::{Key, Row, Write, Writes};
 use off_keepmem::MemKeeper;
+use off_opening::read_users;
 use off_orders::{Command, Reply, Rule, sound};
 use off_outside::{Calls, Keeper};
 use script_words::{Line, Unread, read_write};

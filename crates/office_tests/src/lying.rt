@@ -1,7 +1,7 @@
 use crate::silence::{Answers, Silent, unasked};
-use off_accounts::{count_rows, first_bad};
 use off_base::Ip4;
 use off_defs::{Batch, ImportKind, Key, Row, Writes};
+use off_opening::{count_rows, first_bad};
 use std::alloc::Global;
 use std::test::Fail;
 

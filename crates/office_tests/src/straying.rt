@@ -14,8 +14,9 @@ const AT: Moment = Moment(1_700_000_000);
 
 const RELAY: Ip4 = Ip4(0x0a40_0001);
 
-// It has each hub; every other row that is asked for is of a wrong kind. Whatever the place, its next
-// entry is a pool of the relay with one address too many, and each has the number below the last.
+// It has each hub; every other row that is asked for is of a wrong kind. Whatever the place, its
+// next entry is a pool of the relay with one address too many, and each has the number below the
+// last.
 #[derive(Drop)]
 struct Stray {
     number: u32,

@@ -1,0 +1,5 @@
+mod ProgressLemmas
+mod JudgeLemmas
+mod RowsLemmas
+mod ImportLemmas
+mod GoodLemmas
