@@ -26,7 +26,8 @@ use Rattle.off_office.specs.Desk.{Desk}
 use Rattle.off_office.specs.Conditions.{Mirrors, any_tables}
 use Rattle.off_office.proofs.MirrorLemmas.{follows_mirrors}
 use Rattle.off_office.proofs.StepLemmas.{kept_unwritten}
-use Rattle.off_office.specs.Answering.{said_to, fault_said, IsPlanned, NotPlanned, AnsweredBy, NotAnswered, AnswerBegins, IsAnswered, CarriedOut, NotCarriedOut, Refuses, answer_to}
+use Rattle.off_sessions.specs.Answers.{said_to, fault_said}
+use Rattle.off_office.specs.Answering.{IsPlanned, NotPlanned, AnsweredBy, NotAnswered, AnswerBegins, IsAnswered, CarriedOut, NotCarriedOut, Refuses, answer_to}
 
 -- what was planned was answered and done
 carried_done : (command : Command) (planned : Planned) (conn : ℕ) (said : Said) (before after : Desk) (a b c : KeeperSeen) → Rests a

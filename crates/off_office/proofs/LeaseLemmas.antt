@@ -34,7 +34,7 @@ use Rattle.off_cpe.specs.Calls.{is_own, LooksOnce, FindsNone, most_deciding, mos
 use Rattle.off_cpe.specs.declared.answering.DeviceAnswer.{DeviceAnswer}
 use Rattle.off_behind.specs.Neighbours.{elsewhere}
 use Rattle.off_cpe_rules.specs.declared.results.DeviceStep.{DeviceStep}
-use Rattle.off_cpe_rules.specs.Behind.{own_among, modem_behind}
+use Rattle.off_cpe_rules.specs.Behind.{own_among}
 use Rattle.off_cpe_rules.specs.Steps.{device_step, own_drop, own_elsewhere}
 use Rattle.off_cpe_laws.proofs.WriteLemmas.{Wrote, nothing, gives, rests as aside, frees, wrote}
 use Rattle.off_asking.specs.Asking.{client, asks, is_discover}
@@ -54,7 +54,7 @@ use Rattle.off_office.proofs.MirrorLemmas.{follows_mirrors, follows_told, follow
 use Rattle.off_office.specs.Acting.{Handled, DoingBegins, effect_of}
 use Rattle.off_office.specs.Asking.{DhcpAsks, ReadAsks, MessageAsks, commit_calls}
 use Rattle.off_kept.proofs.RightLemmas.{nothing_written}
-use Rattle.off_office.specs.Answering.{failed_said}
+use Rattle.off_sessions.specs.Answers.{failed_said}
 use Rattle.off_office.specs.Leasing.{DidMessage, MessageBegins, ServesMessage, DidModem, ServesModem, DidStep, DidDevice, FailsMessage, IsSaid, writes_by, HasWord}
 use Rattle.off_office.proofs.CommandLemmas.{at_most_one}
 use Rattle.off_office.proofs.StepLemmas.{memory_leaves, keeper_leaves}

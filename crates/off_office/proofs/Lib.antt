@@ -2,7 +2,6 @@ pub mod StepLemmas
 pub mod LeaseLemmas
 pub mod QueryLemmas
 pub mod TransferLemmas
-pub mod ConnectionLemmas
 pub mod CommandLemmas
 pub mod AnswerLemmas
 pub mod RequestLemmas

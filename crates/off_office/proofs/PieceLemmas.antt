@@ -28,7 +28,8 @@ use Rattle.off_office.proofs.StepLemmas.{kept_unwritten}
 use Rattle.off_office.proofs.MirrorLemmas.{stays_self, stays_by, mirrors_as, fits_as}
 use Rattle.off_laws.proofs.Lines.{does_line}
 use Rattle.off_office.specs.Acting.{forgets}
-use Rattle.off_office.specs.Answering.{said_to, fault_said, busy_said, failed_said, IsSaid, answer_asked, IsAnswered, WaitsFor, PieceOn, HeardPiece, NotHeard}
+use Rattle.off_sessions.specs.Answers.{said_to, fault_said, busy_said, failed_said, IsSaid}
+use Rattle.off_office.specs.Answering.{answer_asked, IsAnswered, WaitsFor, PieceOn, HeardPiece, NotHeard}
 
 abbrev Connections : Type 0
 Connections = map.FinMap nat_cmp (List ℕ)

@@ -14,7 +14,8 @@ use Rattle.off_office.specs.Desk.{Desk}
 use Rattle.off_http.specs.Request.{Meaning, Waits, Refused, Asked}
 use Rattle.off_http.specs.Heard.{IsAsked, asked_method, asked_target, asked_body}
 use Rattle.off_office.specs.Asking.{SpentWithin, command_calls, request_calls, meaning_calls}
-use Rattle.off_office.specs.Answering.{fault_said, IsSaid, NotAnswered, IsAnswered, answer_to}
+use Rattle.off_sessions.specs.Answers.{fault_said, IsSaid}
+use Rattle.off_office.specs.Answering.{NotAnswered, IsAnswered, answer_to}
 use Rattle.off_outside.proofs.KeeperLemmas.{settled_none, nothing_begun}
 use Rattle.off_office.proofs.AnswerLemmas.{not_answered, fault_tells}
 use Rattle.off_office.proofs.StepLemmas.{kept_unwritten}

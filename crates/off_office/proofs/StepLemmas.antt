@@ -33,7 +33,8 @@ use Rattle.off_office.proofs.MirrorLemmas.{stays_self, stays_by, stays_then, mir
 use Rattle.off_office.specs.Acting.{Acts, Handled, forgets, desk_undone, IsUndone, StepOn, DoesOn, CountsFaults, LeavesNothing, EventBegins, DoingBegins, begun_in, is_quiet, desk_at, effect_of, kept_behind, KeepsBodies}
 use Rattle.off_office.specs.Asking.{Asks, AsksFew}
 use Rattle.off_office.specs.Saying.{SaysTime}
-use Rattle.off_office.specs.Answering.{failed_said, Fails, HeardPiece, NotHeard}
+use Rattle.off_sessions.specs.Answers.{failed_said, Fails}
+use Rattle.off_office.specs.Answering.{HeardPiece, NotHeard}
 
 -- nothing is added to what a piece did
 as_said : (conn : ℕ) (piece : List ℕ) (said : Said) → completed (Piece conn piece) Did said ≡ said

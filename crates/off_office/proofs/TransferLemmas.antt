@@ -42,7 +42,7 @@ use Rattle.off_behind.specs.Buckets.{Leases}
 use Rattle.off_office.specs.Desk.{Desk}
 use Rattle.off_office.specs.Conditions.{Mirrors, Begun, KnowsDevices}
 use Rattle.off_office.specs.Acting.{Handled, DoesOn, NotStarted, effect_of}
-use Rattle.off_office.specs.Answering.{failed_said}
+use Rattle.off_sessions.specs.Answers.{failed_said}
 use Rattle.off_office.specs.Transferring.{moved, moved_with, MovesTransfers, CarriesPacket, DidPacket, SaysPacket, FailsPacket, DidTick, MissedTick, TakesTick}
 use Rattle.off_office.specs.declared.office.StartErr.{StartErr}
 use Rattle.off_office.specs.declared.office.StartErr.TheVariants as start

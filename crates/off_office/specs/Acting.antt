@@ -193,9 +193,10 @@ pub record ActsQuietly (event : Event) (outcome : Outcome) (said : Said) (before
 
 -- One event. `commit` is what it wrote to the tables, in one commit, which the keeper has counted.
 -- Where the office mirrored the tables, it's the step of the book, and it keeps of the bodies what
--- `kept_behind` says; where they were good, they stay so, and the office mirrors them again. A crash meanwhile
--- leaves the tables before it, the commit in doubt, or what the event would leave. What of it is
--- said of tables that are told has no say in `undone` and `tells`, which hold over any keeper.
+-- `kept_behind` says; where they were good, they stay so, and the office mirrors them again. A
+-- crash meanwhile leaves the tables before it, the commit in doubt, or what the event would leave.
+-- What of it is said of tables that are told has no say in `undone` and `tells`, which hold over
+-- any keeper.
 pub record Acts (event : Event) (outcome : Outcome) (said : Said) (before after : Desk)
     (old new : KeeperSeen) : Type 0 where
   pub commit : List Write

@@ -1,6 +1,5 @@
 -- What a clerk is told, and what comes of a piece of a clerk's connection.
-use Rattle.std.specs.Prelude.{◌≡◌, ℕ, List, [], ◌∷◌, ◌++◌, codes, decimal, Result, Err, MatchResult}
-use Rattle.off_http.specs.Reply.{reply}
+use Rattle.std.specs.Prelude.{◌≡◌, ℕ, List, [], codes, Result, Err, MatchResult}
 use Rattle.off_http.specs.Request.{Meaning}
 use Rattle.off_http.specs.Heard.{asked_method, asked_target, asked_body}
 use Rattle.off_orders.specs.declared.orders.Command.{Command}
@@ -8,8 +7,6 @@ use Rattle.off_orders.specs.declared.orders.Command.TheVariants.{PutHub, PutSubs
 use Rattle.off_defs.specs.declared.writes.Write.{Write}
 use Rattle.off_orders.specs.declared.orders.Reply.{Reply}
 use Rattle.off_orders.specs.declared.orders.Reply.TheVariants.{Rows}
-use Rattle.off_defs.specs.declared.results.Sent.TheVariants.{Close}
-use Rattle.off_defs.specs.declared.results.Outcome.{Outcome}
 use Rattle.off_defs.specs.declared.results.Outcome.TheVariants as end
 use Rattle.off_defs.specs.declared.events.What.TheVariants.{Piece}
 use Rattle.off_defs.specs.Told.{Told}
@@ -17,11 +14,8 @@ use Rattle.off_defs.specs.State.{Tables, Said, state_of}
 use Rattle.off_defs.specs.Tables.{write_all}
 use Rattle.off_account_rules.specs.Rows.{counts_of}
 use Rattle.off_orders.specs.Clerk.{clerk_step, step_done, step_refused}
-use Rattle.off_clerk_rules.specs.declared.faults.Fault.{Fault}
 use Rattle.off_clerk_rules.specs.declared.faults.Fault.TheVariants as fault
-use Rattle.off_clerk_rules.specs.Faults.{word_of, status_of, fault_text}
-use Rattle.off_clerk_rules.specs.Replies.{reply_text}
-use Rattle.off_book.specs.Http.{Answered, answer_step, answer_request, answer_and_close, with_connection, PieceDid}
+use Rattle.off_book.specs.Http.{Answered, answer_step, answer_request, with_connection, PieceDid}
 use Rattle.off_outside.specs.declared.keeper.KeepErr.{KeepErr}
 use Rattle.off_outside.specs.declared.keeper.KeepErr.TheVariants as keep
 use Rattle.off_outside.specs.KeeperSeen.{KeeperSeen}
@@ -30,30 +24,11 @@ use Rattle.off_accounts.specs.declared.results.Planned.{Planned}
 use Rattle.off_accounts.specs.declared.results.AccountErr.{AccountErr}
 use Rattle.off_accounts.specs.declared.results.AccountErr.TheVariants.{Refused, Failed, Memory}
 use Rattle.off_kept.specs.Entries.{without_written}
+use Rattle.off_sessions.specs.Answers.{said_to, fault_said, reply_said, failed_said, IsSaid}
 use Rattle.off_office.specs.Desk.{Desk}
 use Rattle.off_office.specs.Conditions.{Mirrors, Under, Follows, any_tables}
 use Rattle.off_office.specs.Acting.{forgets, DoingBegins}
 use Rattle.off_book.specs.Step.{TellsOutcome}
-
--- an answer on a connection, its end, and the line of the log
-abbrev pub said_as : ℕ → ℕ → List ℕ → List ℕ → Said
-said_as conn status body line =
-    record { items = answer_and_close conn (reply status body); line = line }
-
-abbrev pub said_to : ℕ → Answered → Said
-said_to conn answer = said_as conn answer.status answer.body (codes "http " ++ answer.words)
-
-abbrev pub fault_line : ℕ → List ℕ → List ℕ
-fault_line status word = codes "http " ++ (decimal status ++ codes " " ++ word)
-
-abbrev pub fault_said : ℕ → Fault → Said
-fault_said conn f = said_as conn (status_of f) (fault_text f) (fault_line (status_of f) (word_of f))
-
-abbrev pub reply_said : ℕ → Reply → Said
-reply_said conn done = said_as conn 200 (reply_text done) (codes "http 200")
-
-abbrev pub busy_said : ℕ → Said
-busy_said conn = record { items = Close conn ∷ []; line = codes "http busy" }
 
 -- an import that is done is answered with a number of rows
 abbrev pub CountsRows : Command → Reply → Type 0
@@ -184,14 +159,6 @@ pub record NotHeard (err : KeepErr) (conn : ℕ) (piece : List ℕ) (before afte
   pub forgotten : after ≡ forgets before conn
   pub keeper : NotCommitted (DoingBegins (Piece conn piece) before) err old new
 
--- a line alone
-abbrev pub failed_said : List ℕ → Said
-failed_said line = record { items = []; line = line }
-
--- this was said, or memory was wanted
-abbrev pub IsSaid : Result (Unit {0}) KeepErr → Said → Said → Type 0
-IsSaid result said what = MatchResult result (λ _. said ≡ what) (λ err. err ≡ keep.Memory)
-
 -- a connection of which more must come was kept, or memory was wanted and nothing changed
 abbrev pub WaitsFor : ℕ → List ℕ → Result (Unit {0}) KeepErr → Said → Desk → Desk → Type 0
 WaitsFor conn bytes result said before after =
@@ -206,8 +173,3 @@ Refuses conn (Refused row rule) result said =
     IsSaid result said (fault_said conn (fault.Rule row rule))
 Refuses conn Failed result said = result ≡ Err keep.Failed
 Refuses conn Memory result said = result ≡ Err keep.Memory
-
--- why a piece couldn't be acted on is said
-abbrev pub Fails : KeepErr → Outcome → Said → Type 0
-Fails keep.Memory outcome said = (outcome ≡ end.Memory) × (said ≡ failed_said (codes "http memory"))
-Fails keep.Failed outcome said = (outcome ≡ end.Keeper) × (said ≡ failed_said (codes "http keeper"))

@@ -79,8 +79,8 @@ PieceAsks false bytes old new =
     (meaning : Meaning) → RequestIs bytes meaning → SpentWithin (meaning_calls meaning) old new
 
 -- A message that says by itself that it's no device's asks what deciding it does, and one call for
--- the commit. Each other one that by the tables is no device's asks one call more, which tells that.
--- None asks more than a device's may, which is seven, whatever the tables.
+-- the commit. Each other one that by the tables is no device's asks one call more, which tells
+-- that. None asks more than a device's may, which is seven, whatever the tables.
 pub record MessageAsks (m : Received) (old new : KeeperSeen) : Type 0 where
   pub own : is_own m ≡ true → Spent (message_calls m + 1) old new
   pub others : (t : Tables) → old.tables t → modem_behind t m ≡ None →

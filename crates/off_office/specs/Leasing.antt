@@ -20,7 +20,7 @@ use Rattle.off_outside.specs.KeeperSeen.{KeeperSeen}
 use Rattle.off_outside.specs.KeeperCalls.{IsWritten, Settled, NotCommitted}
 use Rattle.off_office.specs.Desk.{Desk}
 use Rattle.off_office.specs.Conditions.{Mirrors, Follows, any_tables}
-use Rattle.off_office.specs.Answering.{failed_said}
+use Rattle.off_sessions.specs.Answers.{failed_said}
 use Rattle.off_office.specs.Querying.{ServesQuery}
 
 -- what is said and written of a device's message, and of each other one
@@ -37,7 +37,8 @@ writes_by t now read None = (step_of t now read).writes
 -- the line of a modem's message, or of a device's
 abbrev pub HasWord : List ℕ → Type 0
 HasWord line =
-    ((word : DhcpWord) × (line ≡ dhcp_line word)) ⊎ ((word : DeviceWord) × (line ≡ device_line word))
+    ((word : DhcpWord) × (line ≡ dhcp_line word))
+    ⊎ ((word : DeviceWord) × (line ≡ device_line word))
 
 -- what was read of it is done and said at a moment, as the book has it where the office mirrors the
 -- tables

@@ -2,7 +2,6 @@ pub mod Desk
 pub mod Opening
 pub mod Conditions
 pub mod Answering
-pub mod Connections
 pub mod Asking
 pub mod Saying
 pub mod Querying

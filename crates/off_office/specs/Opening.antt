@@ -41,7 +41,8 @@ abbrev pub counts_behind : Counts → List Write → Counts
 counts_behind counts [] = counts
 counts_behind counts (write ∷ writes) = record counts { hubs = 1 }
 
--- so many walks over all rows at most, one call for the site of earlier days, and one for the commit
+-- so many walks over all rows at most, one call for the site of earlier days, and one for the
+-- commit
 abbrev pub WalksAndMigrates : ℕ → KeeperSeen → KeeperSeen → Type 0
 WalksAndMigrates n old new =
     (t : Tables) → old.tables t → Spent (n * (map.len t + 1) + 2) old new

@@ -20,7 +20,7 @@ use Rattle.off_tftp.specs.Deciding.{after_change, kept_behind, items_of}
 use Rattle.off_tftp.specs.Keeping.{kept_after}
 use Rattle.off_tftp.specs.declared.deciding.Decision.{Decision}
 use Rattle.off_office.specs.Desk.{Desk}
-use Rattle.off_office.specs.Answering.{failed_said}
+use Rattle.off_sessions.specs.Answers.{failed_said}
 
 -- of what the office keeps nothing but the transfers has changed
 abbrev pub moved : Desk → Transfers → Desk

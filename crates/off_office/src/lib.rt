@@ -3,9 +3,7 @@
 //! (`sending`). An item that doesn't go out is passed over, and counted by the link.
 #![tactic(auto)]
 
-mod answers;
 mod commanding;
-mod connections;
 mod messages;
 mod office;
 mod pieces;

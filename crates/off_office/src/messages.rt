@@ -11,7 +11,8 @@ ghost use Rattle.off_office.specs.Conditions.{Follows, KnowsDevices};
 ghost use Rattle.off_lease.specs.Calls.{message_calls};
 ghost use Rattle.off_office.specs.Acting.{Handled};
 ghost use Rattle.off_office.specs.Asking.{DhcpAsks, ReadAsks, MessageAsks, commit_calls};
-ghost use Rattle.off_office.specs.Leasing.{ServesDatagram, ServesMessage, ServesModem, DidStep, DidDevice, FailsMessage};
+ghost use Rattle.off_office.specs.Leasing.{ServesDatagram, ServesMessage, ServesModem, DidStep};
+ghost use Rattle.off_office.specs.Leasing.{DidDevice, FailsMessage};
 
 use crate::commanding::commit_all;
 use crate::office::Office;

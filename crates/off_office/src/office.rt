@@ -13,7 +13,6 @@ ghost use Rattle.off_behind.specs.Buckets.{leases_in};
 ghost use Rattle.off_office.specs.Saying.{SaysTime};
 ghost use Rattle.off_office.specs.declared.office.StartErr.TheVariants as start;
 
-use crate::connections::Connections;
 use off_account_rules::Counts;
 use off_base::{Bytes, Moment, NoMemory, Peer};
 use off_behind::Devices;
@@ -23,6 +22,7 @@ use off_kept::Kept;
 use off_opening::{Opening, open_tables, read_migration};
 use off_outside::{Event, KeepErr, Keeper, Outcome, Replies, Sent, Service, What};
 use off_runs::FreeRuns;
+use off_sessions::Connections;
 use off_tftp::Transfers;
 use off_users::Users;
 use std::alloc::Global;

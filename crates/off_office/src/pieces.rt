@@ -12,13 +12,13 @@ ghost use Rattle.off_office.specs.Asking.{Asks, SpentWithin, commit_calls, comma
 ghost use Rattle.off_office.specs.Asking.{meaning_calls};
 ghost use Rattle.off_outside.specs.KeeperCalls.{Spent};
 
-use crate::answers::{answer_fault, answer_reply, close_busy, fail};
 use crate::office::Office;
 use off_accounts::{AccountErr, Planned};
 use off_clerk::{CommandErr, Fault, command_of};
 use off_http::{Fed, Session};
 use off_orders::Command;
 use off_outside::{KeepErr, Keeper, Outcome, Replies, What};
+use off_sessions::{answer_fault, answer_reply, close_busy, fail};
 
 impl Office {
     // Takes a piece of a clerk's connection.

@@ -2,7 +2,7 @@ ghost use Rattle.std.specs.Prelude.{◌≡◌, [], OnOk, OnErr, IfSome, option_m
 ghost use Rattle.std.specs.FinMap as map;
 ghost use Rattle.off_http.specs.Request.{Waits};
 ghost use Rattle.off_book.specs.Http.{is_full};
-ghost use Rattle.off_office.specs.Connections.{bytes_of};
+ghost use Rattle.off_sessions.specs.Connections.{bytes_of};
 
 use off_base::NoMemory;
 use off_http::Session;
@@ -24,7 +24,7 @@ impl Model for Connections {
     ghost use Rattle.std.specs.Prelude.{List, ℕ};
     ghost use Rattle.std.specs.FinMap as map;
     ghost use Rattle.std.specs.Ordering.{nat_cmp};
-    ghost use Rattle.off_office.specs.Connections.{heard_in, AreLive, connections_code};
+    ghost use Rattle.off_sessions.specs.Connections.{heard_in, AreLive, connections_code};
 
     ghost Value = { map.FinMap nat_cmp (List ℕ) };
 

@@ -15,7 +15,7 @@ use Rattle.off_defs.proofs.EntryLemmas.{both}
 use Rattle.off_http.specs.Request.{Waits}
 use Rattle.off_http.specs.Heard.{Heard}
 use Rattle.off_book.specs.Http.{is_full}
-use Rattle.off_office.specs.Connections.{bytes_of, heard_entry, heard_in, AllWait, AreLive}
+use Rattle.off_sessions.specs.Connections.{bytes_of, heard_entry, heard_in, AllWait, AreLive}
 
 below_heard : (x : ℕ) (es : List (ℕ × Heard)) → AllByRecursion (λ y. nat_cmp x y ≡ Less) (keys_of es) → T (list.below_all nat_cmp x (map heard_entry es))
 below_heard x [] all = tt

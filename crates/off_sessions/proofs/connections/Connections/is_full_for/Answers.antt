@@ -1,5 +1,5 @@
-use Rattle.off_office.proofs.ConnectionLemmas.{full_by, not_full}
-use Rattle.off_office.proofs.connections.Connections.is_full_for.Goals as goal
+use Rattle.off_sessions.proofs.ConnectionLemmas.{full_by, not_full}
+use Rattle.off_sessions.proofs.connections.Connections.is_full_for.Goals as goal
 
 pub returns-then-not-contains_key : goal.returns-then-not-contains_key
 returns-then-not-contains_key c =

@@ -1,8 +1,8 @@
 ghost use Rattle.std.specs.Prelude.{◌≡◌, ◌≤◌, ◌<◌, ◌^◌, length, IsTrue, codes};
 ghost use Rattle.off_defs.specs.State.{says_nothing};
 ghost use Rattle.off_http.specs.Reply.{is_reply_status};
-ghost use Rattle.off_office.specs.Answering.{said_as, fault_said, fault_line, reply_said};
-ghost use Rattle.off_office.specs.Answering.{busy_said, IsSaid, Fails};
+ghost use Rattle.off_sessions.specs.Answers.{said_as, fault_said, fault_line, reply_said};
+ghost use Rattle.off_sessions.specs.Answers.{busy_said, IsSaid, Fails};
 
 use arrayvec::ArrayVec;
 use itoa::Buffer;
@@ -13,12 +13,7 @@ use off_outside::{KeepErr, Outcome, Replies, Sent};
 use std::alloc::Global;
 
 /// Answers a connection that a request is at fault, and closes it.
-pub(crate) fn answer_fault(
-    alloc: Global,
-    conn: u32,
-    f: &Fault,
-    out: &mut Replies,
-) -> Result<(), KeepErr>
+pub fn answer_fault(alloc: Global, conn: u32, f: &Fault, out: &mut Replies) -> Result<(), KeepErr>
     requires { out.old ≡ says_nothing }
     ensures { IsSaid result out.new (fault_said conn f.now) }
 {
@@ -29,12 +24,7 @@ pub(crate) fn answer_fault(
 }
 
 /// Answers a connection that a command was done, and closes it.
-pub(crate) fn answer_reply(
-    alloc: Global,
-    conn: u32,
-    r: &Reply,
-    out: &mut Replies,
-) -> Result<(), KeepErr>
+pub fn answer_reply(alloc: Global, conn: u32, r: &Reply, out: &mut Replies) -> Result<(), KeepErr>
     requires { out.old ≡ says_nothing }
     ensures { IsSaid result out.new (reply_said conn r.now) }
 {
@@ -43,7 +33,7 @@ pub(crate) fn answer_reply(
 }
 
 /// Closes a connection that is one too many.
-pub(crate) fn close_busy(conn: u32, out: &mut Replies) -> Result<(), KeepErr>
+pub fn close_busy(conn: u32, out: &mut Replies) -> Result<(), KeepErr>
     requires clean { out.old ≡ says_nothing }
     ensures { IsSaid result out.new (busy_said conn) }
 {
@@ -89,7 +79,7 @@ fn line_of_fault(status: u16, word: &[u8]) -> ArrayVec<u8, 80>
 }
 
 /// Says that a piece couldn't be acted on, and nothing else.
-pub(crate) fn fail(err: KeepErr, out: &mut Replies) -> Outcome
+pub fn fail(err: KeepErr, out: &mut Replies) -> Outcome
     ensures { Fails err result out.new }
 {
     out.clear();

@@ -1,8 +1,8 @@
 use Rattle.std.proofs.Common.{sym, ap, ◌∙◌, subst, option_map}
 use Rattle.std.specs.FinMap as map
-use Rattle.off_office.specs.Connections.{bytes_of, AllWait}
-use Rattle.off_office.proofs.ConnectionLemmas.{get_heard, removed, wait_less, waits_at}
-use Rattle.off_office.proofs.connections.Connections.take.Goals as goal
+use Rattle.off_sessions.specs.Connections.{bytes_of, AllWait}
+use Rattle.off_sessions.proofs.ConnectionLemmas.{get_heard, removed, wait_less, waits_at}
+use Rattle.off_sessions.proofs.connections.Connections.take.Goals as goal
 
 pub invariant_of-self : goal.invariant_of-self
 invariant_of-self c =

@@ -1,7 +1,0 @@
-use Rattle.std.proofs.Common.{ap, ◌∙◌}
-use Rattle.off_office.specs.Connections.{heard_in}
-use Rattle.off_office.proofs.ConnectionLemmas.{none_heard}
-use Rattle.off_office.proofs.connections.Connections.new.Goals as goal
-
-pub returns : goal.returns
-returns c = ap heard_in c.new.ensures.empty ∙ none_heard
