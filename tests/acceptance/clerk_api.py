@@ -117,9 +117,7 @@ def check_faults(text, api):
                 check("content" not in resolved(api, response), f"{status} of {key} has no body")
     check(set(told) - used == {"no-method"}, "each fault is one of an operation")
     definition = text_of("crates", "off_clerk_rules", "specs", "Faults.antt")
-    words = dict(re.findall(r'^\w+_word \(?([\w.]+).*= codes "([^"]*)"$', definition, re.M))
-    statuses = dict(re.findall(r"^\w+_status \(?([\w.]+).*= (\d+)$", definition, re.M))
-    defined = {(word, statuses.get(name)) for name, word in words.items()}
+    defined = {(word, status) for status, word in re.findall(r'answer (\d+) \(codes "([^"]*)"\)', definition)}
     imports = text_of("crates", "off_import_rules", "specs", "Faults.antt")
     for status in re.findall(r"^fault_status \w+ = (\d+)$", imports, re.M):
         defined.update((word, status) for word in re.findall(r'^fault_word .*= codes "([^"]*)"$', imports, re.M))

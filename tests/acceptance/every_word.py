@@ -71,8 +71,8 @@ DEFINED = {
                          ("off_import_job", "Telling", r'codes " (row) "'),
                          ("off_drill_job", "Telling", r'refused_as 9 \(codes "([^"]*)"\)'),
                          ("off_import_job", "Telling", r'^broken_words .*codes "([^"]*)"'),
-                         ("off_clerk_rules", "Faults", r'Limit kind most\) = codes "([^"]*)"')],
-    "Faults of clerks": [("off_clerk_rules", "Faults", r'_word [^=]*= codes "([^"]*)"'),
+                         ("off_clerk_rules", "Faults", r'Limit kind most\) = answer \d+ \(codes "([^"]*)"')],
+    "Faults of clerks": [("off_clerk_rules", "Faults", r'answer \d+ \(codes "([^"]*)"'),
                          ("off_import_rules", "Faults", r'^fault_word [^=]*= codes "([^"]*)"')],
     "Keys of rows": [("off_defs", "KeyText", r'^key_text_of .*?codes "([^"]*)"')],
 }
