@@ -60,7 +60,7 @@ abbrev pub first_of : List Run → Option Ip4
 first_of [] = None
 first_of (run ∷ runs) = Some run.first
 
--- the addresses but one, and the runs with that one taken out of the run that has it
+-- the addresses but one; and below, what is left of a run without one of its addresses
 abbrev pub but_address : ℕ → (ℕ → Bool) → ℕ → Bool
 but_address out free a = not (a == out) && free a
 

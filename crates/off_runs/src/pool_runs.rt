@@ -21,9 +21,9 @@ const MOST_RUNS: usize = 2_048;
 /// A pool by its number, with the expiry of each of its addresses by its place from the first, 0
 /// where there's no lease. Contracts see these.
 ///
-/// Beside them stand the runs that were laid out of them at a moment, and the soonest expiry that
-/// was ahead then: until that comes, and as long as no lease is written, they are the runs of the
-/// free addresses.
+/// Beside them stand the runs that were laid out of them at a moment, and a time that no expiry
+/// ahead comes before. Until then they are the runs of the free addresses: they follow each lease
+/// that is written, or are stale.
 #[derive(Drop)]
 pub(crate) struct PoolRuns {
     number: u32,
