@@ -1,4 +1,4 @@
--- How many boxes writes want.
+-- How many shelves writes may take out of the stock: one for each row that is put.
 use Rattle.std.specs.Prelude.{ℕ, Bool, true, false, List, count_by}
 use Rattle.off_defs.specs.declared.writes.Write.{Write}
 use Rattle.off_defs.specs.declared.writes.Write.TheVariants.{Put, Drop}

@@ -1,15 +1,15 @@
 ghost use Rattle.std.specs.Prelude.{◌≡◌};
 
-use off_defs::{Key, Row};
+use crate::kept_row::KeptRow;
+use off_defs::Key;
 use std::marker::Model;
 use std::mem;
 
-/// A key, and its row in a box of its own: what moves when entries are shifted is small, and
-/// a shelf that is empty takes little. Contracts see the key with the row.
+/// A key and its row. Contracts see the two as a pair.
 #[derive(Drop)]
 pub(crate) struct Entry {
     key: Key,
-    row: Box<Row>,
+    row: KeptRow,
 }
 
 impl Model for Entry {
@@ -23,13 +23,13 @@ impl Model for Entry {
 
     ghost coded = { Prim.hlevel (codes, keys.the_row.coded, rows.the_row.coded) };
 
-    ghost view = { λ e. (e.key, e.row.value) };
+    ghost view = { λ e. (e.key, e.row) };
 }
 
 impl Entry {
     /// An entry of this key and row.
-    pub(crate) fn new(key: Key, row: Box<Row>) -> Entry
-        ensures { result ≡ (key, row.value) }
+    pub(crate) fn new(key: Key, row: KeptRow) -> Entry
+        ensures { result ≡ (key, row) }
     {
         Entry { key, row }
     }
@@ -42,19 +42,19 @@ impl Entry {
     }
 
     /// Its row.
-    pub(crate) fn row(&self) -> &Row
+    pub(crate) fn row(&self) -> &KeptRow
         ensures { result.now ≡ self.now.1 }
     {
         &self.row
     }
 
     /// Gives the key this row.
-    pub(crate) fn replace(&mut self, row: Box<Row>)
-        ensures { self.new ≡ (self.old.0, row.value) }
+    pub(crate) fn replace(&mut self, row: KeptRow)
+        ensures { self.new ≡ (self.old.0, row) }
     {
         give_back(mem::replace(&mut self.row, row));
     }
 }
 
 // A row whose place another one has taken.
-fn give_back(_older: Box<Row>) {}
+fn give_back(_older: KeptRow) {}

@@ -4,7 +4,10 @@
 //! does all of its writes or none.
 #![tactic(auto)]
 
+mod brief;
+mod brief_rows;
 mod entry;
+mod kept_row;
 mod mem_keeper;
 mod order;
 mod planned;

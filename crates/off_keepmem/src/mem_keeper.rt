@@ -14,7 +14,6 @@ use crate::table::Table;
 use off_base::NoMemory;
 use off_defs::{Key, Row, Write, Writes};
 use off_outside::{Calls, Failing, KeepErr, Keeper, one_more};
-use off_rows::copy_row;
 use std::alloc::Global;
 use std::marker::Model;
 
@@ -108,11 +107,11 @@ impl MemKeeper {
         ensures room { OnOk result (puts_in writes.items ≤ self.new.spare) }
         ensures rest { SameButSpare (puts_in writes.items) self.old self.new }
     {
-        let planned = boxed(alloc, writes)?;
+        let planned = moved(alloc, writes)?;
         self.ready(alloc, planned)
     }
 
-    /// The same where the rows have their boxes.
+    /// The same where the rows are as they will be kept.
     fn ready(&mut self, alloc: Global, writes: Vec<Planned>) -> Result<Plan, NoMemory>
         ensures plan { IfOk result (λ plan. plan ≡ writes.items) }
         ensures room { OnOk result (puts_in writes.items ≤ self.new.spare) }
@@ -159,7 +158,7 @@ impl MemKeeper {
         ensures { IfOk result (λ row. row ≡ row_at self.now.tables key) }
     {
         match self.rows.find(&key) {
-            Some(row) => Ok(Some(copy_row(alloc, row)?)),
+            Some(row) => Ok(Some(row.copy(alloc)?)),
             None => Ok(None),
         }
     }
@@ -174,7 +173,7 @@ impl MemKeeper {
         ensures { IfOk result (λ entry. entry ≡ next_entry place self.now.tables) }
     {
         match self.rows.next(place) {
-            Some(entry) => Ok(Some((entry.key, copy_row(alloc, entry.row)?))),
+            Some(entry) => Ok(Some((entry.key, entry.row.copy(alloc)?))),
             None => Ok(None),
         }
     }
@@ -241,7 +240,7 @@ impl Keeper for MemKeeper {
     ghost rests = { λ m tables told opened might. absurd might };
 }
 
-// The same writes again, with a box for each row.
+// The same writes again, with their rows as they will be kept.
 fn copied(alloc: Global, writes: &Writes) -> Result<Vec<Planned>, NoMemory>
     ensures { IfOk result (λ copies. copies.items ≡ writes.now) }
 {
@@ -253,8 +252,8 @@ fn copied(alloc: Global, writes: &Writes) -> Result<Vec<Planned>, NoMemory>
     Ok(copies)
 }
 
-// Writes that are given away, with a box for each row.
-fn boxed(alloc: Global, writes: Vec<Write>) -> Result<Vec<Planned>, NoMemory>
+// Writes that are given away, with their rows as they will be kept.
+fn moved(alloc: Global, writes: Vec<Write>) -> Result<Vec<Planned>, NoMemory>
     ensures { IfOk result (λ planned. planned.items ≡ writes.items) }
 {
     let mut planned = Vec::new(alloc);

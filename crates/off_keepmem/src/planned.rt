@@ -1,15 +1,15 @@
 ghost use Rattle.std.specs.Prelude.{◌≡◌, IfOk};
-ghost use Rattle.off_defs.specs.declared.writes.Write.TheVariants.{Put};
 ghost use Rattle.off_keepmem.specs.Plans.{write_of};
 ghost use Rattle.off_keepmem.specs.Puts.{is_put};
 
+use crate::kept_row::KeptRow;
 use off_base::NoMemory;
-use off_defs::{Key, Row, Write};
-use off_rows::copy_row;
+use off_defs::{Key, Write};
 use std::alloc::Global;
 use std::marker::Model;
 
-/// A write whose row has its box, so that it's done without memory. Contracts see the write.
+/// A write whose row is as it will be kept, so that it's done without memory. Contracts see the
+/// write.
 #[derive(Drop)]
 pub(crate) struct Planned {
     change: Change,
@@ -18,7 +18,7 @@ pub(crate) struct Planned {
 /// What a write does.
 #[derive(Drop)]
 pub(crate) enum Change {
-    Put(Key, Box<Row>),
+    Put(Key, KeptRow),
     Drop(Key),
 }
 
@@ -35,38 +35,31 @@ impl Model for Planned {
 }
 
 impl Planned {
-    /// A write that is given away: its row is moved into a box.
+    /// A write that is given away, with its row.
     pub(crate) fn new(alloc: Global, write: Write) -> Result<Planned, NoMemory>
         ensures { IfOk result (λ planned. planned ≡ write) }
     {
         match write {
-            Write::Put(key, row) => Planned::with_row(alloc, key, row),
+            Write::Put(key, row) => Ok(Planned {
+                change: Change::Put(key, KeptRow::new(alloc, row)?),
+            }),
             Write::Drop(key) => Ok(Planned {
                 change: Change::Drop(key),
             }),
         }
     }
 
-    /// The same write again, whose row is copied into a box.
+    /// The same write again, whose row is copied.
     pub(crate) fn copy(alloc: Global, write: &Write) -> Result<Planned, NoMemory>
         ensures { IfOk result (λ planned. planned ≡ write.now) }
     {
         match write {
-            Write::Put(key, row) => Planned::with_row(alloc, *key, copy_row(alloc, row)?),
+            Write::Put(key, row) => Ok(Planned {
+                change: Change::Put(*key, KeptRow::copy_of(alloc, row)?),
+            }),
             Write::Drop(key) => Ok(Planned {
                 change: Change::Drop(*key),
             }),
-        }
-    }
-
-    fn with_row(alloc: Global, key: Key, row: Row) -> Result<Planned, NoMemory>
-        ensures { IfOk result (λ planned. planned ≡ Put key row) }
-    {
-        match Box::new(alloc, row) {
-            Ok(boxed) => Ok(Planned {
-                change: Change::Put(key, boxed),
-            }),
-            Err(_refused) => Err(NoMemory),
         }
     }
 

@@ -9,9 +9,10 @@ ghost use Rattle.off_keepmem.specs.Entries.{compared, AreBelow, NoneBelow, is_in
 ghost use Rattle.off_keepmem.specs.Shelves.{starts_by};
 
 use crate::entry::Entry;
+use crate::kept_row::KeptRow;
 use crate::order::compared;
 use off_base::NoMemory;
-use off_defs::{Key, Row};
+use off_defs::Key;
 use std::alloc::Global;
 use std::cmp::Ordering;
 use std::marker::Model;
@@ -52,7 +53,7 @@ impl Model for Shelf {
 #[derive(Clone, Copy)]
 pub(crate) struct EntryRef<'a> {
     pub(crate) key: Key,
-    pub(crate) row: &'a Row,
+    pub(crate) row: &'a KeptRow,
 }
 
 impl Shelf {
@@ -88,7 +89,7 @@ impl Shelf {
 
     /// The row of a key.
     #[tactic(auto, using(crate::proofs::EntryLemmas::place_rules))]
-    pub(crate) fn get(&self, key: &Key) -> Option<&Row>
+    pub(crate) fn get(&self, key: &Key) -> Option<&KeptRow>
         requires { Rises self.now }
         ensures { option_map (λ row. row.now) result ≡ row_in key.now self.now }
     {
@@ -123,10 +124,10 @@ impl Shelf {
 
     /// Gives the key this row. Says at which place.
     #[tactic(auto, using(crate::proofs::EntryLemmas::place_rules))]
-    pub(crate) fn put(&mut self, key: Key, row: Box<Row>) -> usize
+    pub(crate) fn put(&mut self, key: Key, row: KeptRow) -> usize
         requires rises { Rises self.old }
         requires room { length self.old < 64 }
-        ensures entries { self.new ≡ put_entry key row.value self.old }
+        ensures entries { self.new ≡ put_entry key row self.old }
         ensures within { result ≤ 64 }
         ensures grows { length self.new ≤ length self.old + 1 }
     {

@@ -9,17 +9,18 @@ ghost use Rattle.off_keepmem.specs.Entries.{entries_written, rows_after};
 ghost use Rattle.off_keepmem.specs.Shelves.{entries_on, IsStocked, ShelvesHeld, cut_at};
 ghost use Rattle.off_keepmem.specs.Puts.{puts_in};
 
+use crate::kept_row::KeptRow;
 use crate::planned::{Change, Planned};
 use crate::shelf::{EntryRef, ROOM, Shelf};
 use off_base::NoMemory;
-use off_defs::{Key, Row};
+use off_defs::Key;
 use std::alloc::Global;
 use std::marker::Model;
 
-/// A shelf that is split keeps so many entries at least, and so many at most.
-const FEWEST_KEPT: usize = ROOM / 4;
+/// A full shelf that is split keeps so many entries at least, and so many at most.
+const FEWEST_KEPT: usize = ROOM / 2;
 
-const MOST_KEPT: usize = ROOM - FEWEST_KEPT;
+const MOST_KEPT: usize = ROOM - 2;
 
 /// So many empty shelves stay in stock at most.
 const STOCK_KEPT: usize = 8;
@@ -80,7 +81,7 @@ impl Table {
 
     /// The row of a key.
     #[tactic(auto, using(crate::proofs::ShelfLemmas::look_rules))]
-    pub(crate) fn find(&self, key: &Key) -> Option<&Row>
+    pub(crate) fn find(&self, key: &Key) -> Option<&KeptRow>
         requires { Rises self.now.entries }
         ensures { option_map (λ row. row.now) result ≡ row_in key.now self.now.entries }
     {
@@ -120,10 +121,10 @@ impl Table {
     }
 
     /// Gives the key this row.
-    pub(crate) fn put(&mut self, key: Key, row: Box<Row>)
+    pub(crate) fn put(&mut self, key: Key, row: KeptRow)
         requires room { 0 < self.old.spare }
         requires rises { Rises self.old.entries }
-        ensures entries { self.new.entries ≡ put_entry key row.value self.old.entries }
+        ensures entries { self.new.entries ≡ put_entry key row self.old.entries }
         ensures spent { self.old.spare ≤ self.new.spare + 1 }
     {
         if self.shelves.is_empty() {
@@ -239,12 +240,12 @@ fn front_of(shelves: &Vec<Shelf>, at: usize) -> Option<EntryRef<'_>>
 
 // Puts the first entry of all.
 #[tactic(auto, using(crate::proofs::ShelfLemmas::begin_rules))]
-fn begin(shelves: &mut Vec<Shelf>, stock: &mut Vec<Shelf>, key: Key, row: Box<Row>)
+fn begin(shelves: &mut Vec<Shelf>, stock: &mut Vec<Shelf>, key: Key, row: KeptRow)
     requires none { vec_len shelves.old ≡ 0 }
     requires some { 0 < vec_len stock.old }
     requires held { ShelvesHeld shelves.old.items stock.old.items (vec_capacity shelves.old) }
     ensures entries { entries_on shelves.new.items
-        ≡ put_entry key row.value (entries_on shelves.old.items) }
+        ≡ put_entry key row (entries_on shelves.old.items) }
     ensures spent { vec_len stock.new + 1 ≡ vec_len stock.old }
     ensures held { ShelvesHeld shelves.new.items stock.new.items (vec_capacity shelves.new) }
 {
@@ -255,22 +256,33 @@ fn begin(shelves: &mut Vec<Shelf>, stock: &mut Vec<Shelf>, key: Key, row: Box<Ro
 
 // Gives the key this row, on one of the shelves.
 #[tactic(auto, using(crate::proofs::ShelfLemmas::put_rules))]
-fn put_on(shelves: &mut Vec<Shelf>, stock: &mut Vec<Shelf>, key: Key, row: Box<Row>)
+fn put_on(shelves: &mut Vec<Shelf>, stock: &mut Vec<Shelf>, key: Key, row: KeptRow)
     requires used { 0 < vec_len shelves.old }
     requires some { 0 < vec_len stock.old }
     requires rises { Rises (entries_on shelves.old.items) }
     requires held { ShelvesHeld shelves.old.items stock.old.items (vec_capacity shelves.old) }
     ensures entries { entries_on shelves.new.items
-        ≡ put_entry key row.value (entries_on shelves.old.items) }
+        ≡ put_entry key row (entries_on shelves.old.items) }
     ensures spent { vec_len stock.old ≤ vec_len stock.new + 1 }
     ensures held { ShelvesHeld shelves.new.items stock.new.items (vec_capacity shelves.new) }
 {
     let at = shelf_of(shelves, &key);
     let place = shelves[at].put(key, row);
     if shelves[at].len() == ROOM {
-        let cut = (place + 1).max(FEWEST_KEPT).min(MOST_KEPT);
+        let cut = cut_for(place);
         split(shelves, stock, at, cut);
     }
+}
+
+// How many entries a full shelf keeps, of which the newest stands at a place: those up to it. So
+// rows that come in the order of their keys, as at a start and in an import, leave full shelves
+// behind them, also where the rows of other kinds stand behind theirs.
+fn cut_for(place: usize) -> usize
+    requires { place ≤ 64 }
+    ensures some { 0 < result }
+    ensures fewer { result < 64 }
+{
+    (place + 1).max(FEWEST_KEPT).min(MOST_KEPT)
 }
 
 // Moves the entries of a full shelf from a place on to an empty one behind it.

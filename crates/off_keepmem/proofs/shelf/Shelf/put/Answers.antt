@@ -13,12 +13,12 @@ index_mut-requires c =
 pub returns-then-is_at-clause-entries : goal.returns-then-is_at-clause-entries
 returns-then-is_at-clause-entries c =
     ap (λ (e : Key × Row). set c.self.inside.entries.items c.place_of-place.result e) c.replace.ensures
-    ∙ own_put c.args.key c.self.inside.entries.items c.place_of-place.result c.index_mut.result.now (subst Rises (sym c.self.view_is) c.requires.rises) (sym c.is_at.ensures ∙ c.if-is_at.true) c.index_mut.ensures.value c.args.row.value
-    ∙ ap (λ (es : List (Key × Row)). put_entry c.args.key c.args.row.value es) c.self.view_is
+    ∙ own_put c.args.key c.self.inside.entries.items c.place_of-place.result c.index_mut.result.now (subst Rises (sym c.self.view_is) c.requires.rises) (sym c.is_at.ensures ∙ c.if-is_at.true) c.index_mut.ensures.value c.args.row
+    ∙ ap (λ (es : List (Key × Row)). put_entry c.args.key c.args.row es) c.self.view_is
 
 pub returns-else-is_at-clause-entries : goal.returns-else-is_at-clause-entries
 returns-else-is_at-clause-entries c =
     c.insert_at.ensures.items
     ∙ ap (λ (e : Key × Row). insert c.self.inside.entries.items c.place_of-place.result e) c.new.ensures
-    ∙ new_put c.args.key c.self.inside.entries.items c.place_of-place.result (subst Rises (sym c.self.view_is) c.requires.rises) c.place_of-place.ensures.front c.place_of-place.ensures.behind (sym c.is_at.ensures ∙ c.if-is_at.false) c.args.row.value
-    ∙ ap (λ (es : List (Key × Row)). put_entry c.args.key c.args.row.value es) c.self.view_is
+    ∙ new_put c.args.key c.self.inside.entries.items c.place_of-place.result (subst Rises (sym c.self.view_is) c.requires.rises) c.place_of-place.ensures.front c.place_of-place.ensures.behind (sym c.is_at.ensures ∙ c.if-is_at.false) c.args.row
+    ∙ ap (λ (es : List (Key × Row)). put_entry c.args.key c.args.row es) c.self.view_is
