@@ -55,7 +55,7 @@ def refused_memory():
         answers, time_sent = [], 0
         with socket.socket(socket.AF_INET, socket.SOCK_DGRAM) as client:
             client.settimeout(0.2)
-            for number in range(20_000):
+            for number in range(100_000):
                 answers.append(clerk.ask("PUT", f"/subscribers/{number}", ANN).status)
                 client.sendto(b"x" * 1400, ("127.0.0.1", ports[1]))
                 try:

@@ -37,7 +37,7 @@ RELAYS, IN_POOL, EACH, DEVICES_AT, ROUNDS = 64, 4096, 2, 0x0A500000, 5
 MODEMS, DEVICES = 131_072, (1_000, 250_000, 262_144)
 START = (200_000, 262_144)
 # How much dearer a message may be with the most leases than with the fewest.
-GOAL = 1.5
+GOAL = 1.3
 FAR, BOUND = 2_000_000_000, 2
 KINDS = {"device-discover": "DISCOVERs", "device-request": "REQUESTs", "device-renew": "DORA"}
 

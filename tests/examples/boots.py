@@ -225,8 +225,8 @@ def many(number):
 # Each message of the boot, and the same again, as a modem sends it that has no answer; what comes too late for anything is silent.
 TWICE = [event for own, again in zip(BOOT, (OFFER[0], ACK[0], "again", "stale-ack", "stale-ack", "stale-ack", "unknown"))
          for event in (own, (again, own[1]))]
-# Those that look into the tables; a message that comes again behind its answer does so in DHCP alone.
-LOOKING = (1, 2, 3, 4, 5, 7, 9, 11)
+# Those that look into the tables; a message that comes again behind its answer does so in DHCP alone, and an acknowledgement where nothing is remembered.
+LOOKING = (1, 2, 3, 4, 5)
 # The modem waits; what it isn't answered comes again with a Tick, of a transfer, or by its own asking.
 PATIENT = [*((f"t+{number}", word, what) for number, (word, what) in enumerate(TWICE[:6])),
            *(event for number, own in enumerate(FILE) for event in ((f"t+{7 + 2 * number}", "again 1 closed 0", TICK), (f"t+{7 + 2 * number}", *own)))]

@@ -63,10 +63,10 @@ def sections(script, office):
     for count in (1, 9, 10, 23, 100):
         made = played(rows(count), events(count))
         run("", ["show tables", f"words drill {count}"], outcome(wrote=[summary(count)], sent=made.sent, tables=made.office.rows()))
-    section("what fails in a drill", "Each call of the keeper fails in turn: status 3, and what was sent by then; a lost item is passed over; each call of the sink.")
+    section("what fails in a drill", "Each call of the keeper fails in turn: status 3, and what was sent by then, of which the blocks need no call; a lost item is passed over; each call of the sink.")
     sent = played(rows(1), events(1)).sent
     run("", ["words drill 1", "fails each keeper"], outcome(wrote=[summary(1)], sent=sent),
-        *(outcome(3, ["keeper refused"], sent=sent[:count]) for count in range(len(sent))))
+        *(outcome(3, ["keeper refused"], sent=sent[:count]) for count in range(3)))
     run("", ["words drill 1", "fails each link"], outcome(wrote=[summary(1)], sent=sent),
         *(outcome(wrote=[summary(1)], sent=sent[:lost] + sent[lost + 1:]) for lost in range(len(sent))))
     run("the link has room for three items", ["words drill 1", "room link 3 3000"], outcome(wrote=[summary(1)], sent=sent[:3]))

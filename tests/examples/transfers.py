@@ -689,9 +689,11 @@ def crowding(player):
     player.play("all are closed", [*everyone, *ends], rows=[*many, *wide], model_rows=[*single, *wide], lines=["room link 2000 200000"])
 
 
-# A request reads the lease of its address, the modem and the hub; for a body that isn't kept the subscriber, the class and eight add-ons besides. So does the
-# acknowledgement of a block that isn't the last, but for the latter.
+# A request reads the lease of its address, the modem and the hub; for a body that isn't kept the subscriber, the class and eight add-ons besides. The
+# acknowledgement of a block that isn't the last reads the first three, where it isn't remembered that they agree: so none behind its request.
 JUDGED, BUILT = 3, 10
+# A renewal reads whether a device has the address, what the modem holds, the hub and the modem, and is committed.
+RENEWED = 5
 
 
 def keeping(player):
@@ -699,7 +701,7 @@ def keeping(player):
         return [(moment, word, reads(44, port=port) if word == "oack" else acks(int(word[-1]) - 1, port=port)) for _, word, _ in WHOLE[:-1]]
     player.section("a body is kept for the next request of its modem",
                    "Only its moment is new: the rows of which it is made aren't read again. A command that changes one of them has it built anew.")
-    made = player.play("five seconds later", [*WHOLE, *again(PORT + 1)], calls=2 * len(WHOLE[:-1]) * JUDGED + BUILT)
+    made = player.play("five seconds later", [*WHOLE, *again(PORT + 1)], calls=2 * JUDGED + BUILT)
     first, second = (b"".join(bytes.fromhex(each.split(" ")[-1])[4:] for each in got(made, f"{A}:{port}")[1:]) for port in (PORT, PORT + 1))
     later_front = FRONT.replace(bytes.fromhex("e8fe6f80"), bytes.fromhex("e8fe6f85"))
     if first != FILE or second[:len(FRONT)] != later_front or second == first:
@@ -720,6 +722,10 @@ def keeping(player):
     player.play("at another address", [*WHOLE, ("t", "released", releases()), ("t", "offer", discover()), ("t", "ack", selects()), *again(PORT + 1, "t")])
     player.play("a request that is refused", [("t", "name", reads(name=name(held=B))), ("t", "name", reads(name=name(held=B))), WHOLE[0]],
                 calls=3 * JUDGED + BUILT)
+    player.section("that the tables agree is remembered until a row is written on which it rests", "Acknowledgements read nothing meanwhile, and one of them behind that.")
+    player.play("a whole file", WHOLE, calls=JUDGED + BUILT)
+    player.play("its modem renews", [*WHOLE[:2], ("t", "ack", renews()), *WHOLE[2:]], calls=JUDGED + BUILT + RENEWED + JUDGED)
+    player.play("another modem renews", [*WHOLE[:2], ("t", "ack", renews(client=B, last=1)), *WHOLE[2:]], rows=BOTH, calls=JUDGED + BUILT + RENEWED)
     player.section("the bodies of 512 modems are kept", "Those that asked last. Each gives up its file, so that there is room for the transfer of the next one.")
     folded = [row for high, last in ((0, 255), (1, 255), (2, 0)) for row in (
         f'repeat 0 {last} modem 030{high}% 7 1 ""', f"repeat 0 {last} lease 10.64.{high + 1}.# bound 030{high}% t+1000", f"repeat 0 {last} held 030{high}% 10.64.{high + 1}.#")]
@@ -783,8 +789,8 @@ def failing(player):
     player.section("a packet in which the keeper fails changes nothing, and has no reply",
                    "Each call of the keeper fails in turn: of the opening, status 3; of a packet that must read rows, which comes again and is answered then.")
     twice = [event for pair in (((moment, word, what), (moment, None, what)) for moment, word, what in WHOLE) for event in pair]
-    # A read request, and the acknowledgement of a block that isn't the last, are judged by the rows.
-    player.fails_each("", twice, reading=(1, 3, 5, 7))
+    # A read request is judged by the rows, and that they agree is remembered for the acknowledgements.
+    player.fails_each("", twice, reading=(1,))
     player.fails_each("eight add-ons", [("t", "block 1", reads()), ("t", None, reads()), ("t", "done", acks(1))], reading=(1,),
                       rows=[*(f"add-on 7 {number} {BOOST}" for number in range(8)), *HELD])
     player.fails_each("one that has no transfer yet, or no more", [

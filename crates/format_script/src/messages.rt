@@ -1,7 +1,7 @@
 use off_base::{Joined, NoMemory, first_cut};
 use off_dhcp::{DhcpFault, Message};
 use off_docsis::{DeviceParts, PartCut, RelayParts, Span, device, is_modem, relay};
-use off_query::Query;
+use off_query::query_or_message;
 use script_words::{Line, Page, Unread};
 use std::alloc::Global;
 
@@ -162,8 +162,8 @@ pub fn dhcp_option(alloc: Global, page: &mut Page, line: Line<'_>) -> Result<(),
 pub fn query(alloc: Global, page: &mut Page, line: Line<'_>) -> Result<(), Unread> {
     let mut line = line;
     let bytes = line.bytes(alloc)?;
-    match Query::read(bytes.as_slice()) {
-        Some(_query) => Ok(page.text("query")?),
-        None => Ok(page.text("none")?),
+    match query_or_message(bytes.as_slice()) {
+        Ok(_query) => Ok(page.text("query")?),
+        Err(_read) => Ok(page.text("none")?),
     }
 }

@@ -5,7 +5,7 @@ use off_base::{Bytes, Ip4, Moment, NoMemory, Peer};
 use off_defs::{Hold, Key, Lease, Row, Sent, Write, Writes};
 use off_keepmem::MemKeeper;
 use off_outside::{Calls, KeepErr, Keeper};
-use off_query::{Query, QueryStep, QueryWord, reply, reply_by};
+use off_query::{QueryStep, QueryWord, query_or_message, reply, reply_by};
 use off_runs::FreeRuns;
 use std::alloc::Global;
 use std::test::Fail;
@@ -69,7 +69,7 @@ fn step_by(
     datagram: Result<Bytes, NoMemory>,
 ) -> Result<QueryStep, KeepErr> {
     let datagram = datagram?;
-    let Some(q) = Query::read(datagram.as_slice()) else {
+    let Ok(q) = query_or_message(datagram.as_slice()) else {
         return Err(KeepErr::Failed);
     };
     let now = Moment(AT.0 + 400);

@@ -1,13 +1,12 @@
 -- When tables open, and when they are good: each key's row is possible and stands in the right
 -- relations to the other rows. Here rows are read as they are, also impossible ones, so that the
 -- least bad key is named and not one that stands on it.
-use Rattle.std.specs.Prelude.{◌≡◌, ◌==◌, Bool, true, false, not, ◌&&◌, ◌||◌, IsTrue, List, Option, Some, None, is_some, option_map, option_and_then}
+use Rattle.std.specs.Prelude.{◌≡◌, ℕ, ◌==◌, nat_lt, Bool, true, false, not, ◌&&◌, ◌||◌, IsTrue, List, Option, Some, None, is_some, option_map, option_and_then}
 use Rattle.std.specs.List.{filter_map, find, list_all, list_any, count_by}
 use Rattle.std.specs.Ordering.{eq_by_cmp, nat_cmp}
 use Rattle.std.specs.Cmp.Lexicographic.{slice_cmp}
 use Rattle.std.specs.declared.cmp.Ordering.TheVariants.{Less}
 use Rattle.std.specs.FinMap as map
-use Rattle.std.specs.Prelude.{ℕ}
 use Rattle.off_base.specs.declared.addresses.Ip4.{Ip4}
 use Rattle.off_base.specs.declared.macs.Mac.{Mac}
 use Rattle.off_defs.specs.declared.keys.Key.{Key}
@@ -96,6 +95,14 @@ abbrev pub owner_of : Hold → Option Mac
 owner_of (Offered mac) = Some mac
 owner_of (Bound mac) = Some mac
 owner_of Declined = None
+
+-- a modem is bound to the address, and at a moment is so still
+abbrev pub is_bound : Hold → Bool
+is_bound (Bound mac) = true
+is_bound hold = false
+
+abbrev pub is_live_bound : ℕ → Lease → Bool
+is_live_bound now lease = is_bound lease.hold && nat_lt now lease.expiry.0
 
 abbrev pub is_mac : Mac → Mac → Bool
 is_mac mac other = eq_by_cmp (slice_cmp nat_cmp) mac.0 other.0

@@ -17,9 +17,9 @@ use Rattle.off_orders.specs.declared.orders.Command.{Command}
 use Rattle.off_orders.specs.declared.orders.Command.TheVariants.{PutHub, PutSubscriber, PutAddOn, PutModem, PutClass, PutPool, PutDevicePool, Remove}
 use Rattle.off_defs.specs.State.{Tables}
 use Rattle.off_defs.specs.Tables.{with_row, without}
-use Rattle.off_orders.specs.Sound.{is_add_on_number, is_sound_pool, is_sound_subscriber}
+use Rattle.off_orders.specs.Sound.{is_add_on_number, is_sound_pool}
 use Rattle.off_account_rules.specs.declared.counts.Counts.{Counts}
-use Rattle.off_account_rules.specs.Rows.{seen_at, is_possible, is_of_kind, counts_of}
+use Rattle.off_account_rules.specs.Rows.{seen_at, is_possible, is_of_kind, counts_of, subscriber_fits}
 use Rattle.off_account_rules.specs.Changes.{add_on_keys}
 use Rattle.off_orders.specs.Clerk.{limit, rules_of, lost_leases, lost_devices, lease_drops}
 use Rattle.off_table_laws.proofs.CountLemmas.{counts_without_other}
@@ -47,7 +47,7 @@ put_after kind key row t counts after there whole is fits says agree passed put 
     ∙ sym (counts_with kind key row t whole is fits)
 
 module _ (counts after : Counts) (subject : Subject) (t : Tables) where
-  pub subscriber_put : (n : ℕ) (subscriber : Subscriber) → is_sound_subscriber subscriber ≡ true → PutSays counts Subscribers subject.is_there after → CountsAfter counts subject (PutSubscriber n subscriber) t after
+  pub subscriber_put : (n : ℕ) (subscriber : Subscriber) → subscriber_fits subscriber ≡ true → PutSays counts Subscribers subject.is_there after → CountsAfter counts subject (PutSubscriber n subscriber) t after
   subscriber_put n subscriber sound put now agree stands none =
       let passed = unbroken (rules_of t now (PutSubscriber n subscriber)) none in
       put_after Subscribers (key.Subscriber n) (row.Subscriber subscriber) t counts after subject.is_there (λ m. refl) refl sound stands.0 agree passed.0 put

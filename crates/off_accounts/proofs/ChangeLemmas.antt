@@ -1,5 +1,5 @@
 -- How one write changes the counts of rows.
-use Rattle.std.proofs.Common.{◌≡◌, ℕ, ◌+◌, Bool, cond, not, ◌&&◌, Option, Some, None, List, [], ◌∷◌, count_by, refl, sym, ap, subst, ◌∙◌, arith}
+use Rattle.std.proofs.Common.{◌≡◌, ℕ, ◌+◌, Bool, cond, not, ◌&&◌, Option, Some, None, List, [], ◌∷◌, count_by, refl, sym, ap, subst, arith}
 use Rattle.std.proofs.lemmas.List.Sums.{sum_by-cons}
 use lib.Dec.{T}
 use Rattle.std.specs.List.{filter}
@@ -8,7 +8,7 @@ use Rattle.std.specs.Cmp.{IsTotalOrder}
 use Rattle.std.specs.declared.cmp.Ordering.{Ordering}
 use Rattle.std.specs.declared.cmp.Ordering.TheVariants.{Less, Equal, Greater}
 use Rattle.std.specs.FinMap.Entries as list
-use Rattle.off_defs.proofs.EntryLemmas.{is_less, holds, first, second}
+use Rattle.off_defs.proofs.EntryLemmas.{is_less, holds, first, second, none_below}
 
 module _ {K X : Type 0} (R : K → K → Ordering) (p : K × X → Bool) where
   abbrev pub counts_it : K × X → ℕ
@@ -23,11 +23,6 @@ module _ {K X : Type 0} (R : K → K → Ordering) (p : K × X → Bool) where
   count_first e es = sum_by-cons counts_it e es
 
   module _ (o : IsTotalOrder R) (exact : (a b : K) → R a b ≡ Equal → a ≡ b) where
-    not_below : (key : K) (es : List (K × X)) → T (list.below_all R key es) → list.find R key es ≡ None
-    not_below key [] h = refl
-    not_below key (e ∷ es) h =
-        ap (λ r. cond (is_eq r) (Some e.1) (list.find R key es)) (is_less (R key e.0) (holds _ (first _ _ h))) ∙ not_below key es (second _ _ h)
-
     below_less : (x y : K) (es : List (K × X)) → R x y ≡ Less → T (list.below_all R y es) → T (list.below_all R x es)
     below_less x y [] p h = tt
     below_less x y (e ∷ es) p h =
@@ -42,7 +37,7 @@ module _ {K X : Type 0} (R : K → K → Ordering) (p : K × X → Bool) where
         → count_by p (list.by_order r ((key, x) ∷ e ∷ es) ((e.0, x) ∷ es) (e ∷ list.put R key x es)) + counted_at key (cond (is_eq r) (Some e.1) (list.find R key es))
         ≡ count_by p (e ∷ es) + counts_it (key, x)) [
           | Less ↦ λ less.
-              let none : list.find R key es ≡ None = not_below key es (below_less key e.0 es less (first _ _ h)) in
+              let none : list.find R key es ≡ None = none_below R key es (below_less key e.0 es less (first _ _ h)) in
               let n : counted_at key (list.find R key es) ≡ 0 = ap (counted_at key) none in
               omega (arith, n, count_first (key, x) (e ∷ es))
           | Equal ↦ λ same.
@@ -65,7 +60,7 @@ module _ {K X : Type 0} (R : K → K → Ordering) (p : K × X → Bool) where
           | Equal ↦ λ same.
               let is : key ≡ e.0 = exact key e.0 same in
               let a : counts_it (key, e.1) ≡ counts_it e = ap (λ k. counts_it (k, e.1)) is in
-              let none : list.find R key es ≡ None = not_below key es (subst (λ k. T (list.below_all R k es)) (sym is) (first _ _ h)) in
+              let none : list.find R key es ≡ None = none_below R key es (subst (λ k. T (list.below_all R k es)) (sym is) (first _ _ h)) in
               let n : counted_at key (list.find R key es) ≡ 0 = ap (counted_at key) none in
               omega (arith, rest, a, n, count_first e es)
           | Greater ↦ λ more. omega (arith, rest, count_first e left, count_first e es)

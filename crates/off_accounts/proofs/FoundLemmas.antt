@@ -24,26 +24,26 @@ use Rattle.off_accounts.specs.declared.searching.Sought.TheVariants.{Overlapping
 use Rattle.off_accounts.specs.Tests.{found_rule, overlap_in, relay_in, sought_rule}
 use Rattle.off_accounts.specs.Searches.{pool_number, lease_address, pool_given, is_overlapping, is_live_lost, least_wanted, live_lost}
 
+abbrev pub key_found : Option (Key × Row) → Option Key
+key_found found = option_map (λ (entry : Key × Row). entry.0) found
+
 module _ {X : Type 0} (give : Key × Row → Option X) (test : X → Bool) where
   abbrev tested : Key × Row → Bool
   tested e = passes test (give e)
 
   module _ {Y : Type 0} (said : X → Y) (read : Option Key → Option Y) (reads : (e : Key × Row) (x : X) → give e ≡ Some x → read (Some e.0) ≡ Some (said x)) (reads_none : read None ≡ None) where
-    abbrev key_of_found : Option (Key × Row) → Option Key
-    key_of_found found = option_map (λ (entry : Key × Row). entry.0) found
-
     said_first : (e : Key × Row) (given : Option X) (es : List (Key × Row)) → give e ≡ given
-        → option_map said (find test (filter_map give es)) ≡ read (key_of_found (find tested es))
-        → option_map said (find test (cons_option given (filter_map give es))) ≡ read (key_of_found (cond (passes test given) (Some e) (find tested es)))
+        → option_map said (find test (filter_map give es)) ≡ read (key_found (find tested es))
+        → option_map said (find test (cons_option given (filter_map give es))) ≡ read (key_found (cond (passes test given) (Some e) (find tested es)))
     said_first e None es is rest = rest
     said_first e (Some x) es is rest =
-        elim (test x) as (λ b. option_map said (cond b (Some x) (find test (filter_map give es))) ≡ read (key_of_found (cond b (Some e) (find tested es)))) [
+        elim (test x) as (λ b. option_map said (cond b (Some x) (find test (filter_map give es))) ≡ read (key_found (cond b (Some e) (find tested es)))) [
           | true ↦ sym (reads e x is)
           | false ↦ rest
         ]
 
     -- what is said of the first value that passes is read off the key that is found
-    pub said_found : (es : List (Key × Row)) → option_map said (find test (filter_map give es)) ≡ read (key_of_found (find tested es))
+    pub said_found : (es : List (Key × Row)) → option_map said (find test (filter_map give es)) ≡ read (key_found (find tested es))
     said_found [] = sym reads_none
     said_found (e ∷ es) = said_first e (give e) es refl (said_found es)
 

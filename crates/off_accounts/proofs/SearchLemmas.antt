@@ -1,5 +1,5 @@
 -- A search for the least key that is wanted.
-use Rattle.std.proofs.Common.{◌≡◌, ℕ, true, false, cond, Option, Some, None, option_map, refl, sym, ap, subst, ◌∙◌}
+use Rattle.std.proofs.Common.{◌≡◌, ℕ, true, false, cond, Option, Some, None, refl, sym, ap, subst, ◌∙◌}
 use Rattle.std.specs.List.{find}
 use Rattle.std.specs.FinMap as map
 use Rattle.off_base.specs.declared.moments.Moment.{Moment}
@@ -17,6 +17,7 @@ use Rattle.off_accounts.specs.Searches.{before_pools, is_overlapping, is_given_u
 use Rattle.off_accounts.specs.Walking.{AllBehind, is_reached, is_passed, is_past_first}
 use Rattle.off_readers.proofs.FoldLemmas.{fold_next, fold_none, fold_begin, fold_past}
 use Rattle.off_accounts.proofs.LostLemmas.{pools_before, pools_here, pools_later, pools_begin_at, not_live, none_here, none_later}
+use Rattle.off_accounts.proofs.FoundLemmas.{key_found}
 
 -- what is wanted of all entries is what is wanted of those behind the place
 abbrev pub IsLeft : Sought → Key → Tables → Type 0
@@ -24,9 +25,6 @@ IsLeft sought place t = find (is_wanted sought) (map.entries t) ≡ find (is_wan
 
 abbrev add_found : Sought → Key × Row → Option (Key × Row) → Option (Key × Row)
 add_found sought e found = cond (is_wanted sought e) (Some e) found
-
-abbrev key_found : Option (Key × Row) → Option Key
-key_found found = option_map (λ (entry : Key × Row). entry.0) found
 
 found_here : (sought : Sought) (e : Key × Row) (found : Option (Key × Row)) → is_wanted sought e ≡ true → add_found sought e found ≡ Some e
 found_here sought e found is = ap (λ b. cond b (Some e) found) is

@@ -1,5 +1,6 @@
 -- Rules that are tested one by one: what is left of them, and how many keys were looked up.
-use Rattle.std.proofs.Common.{◌≡◌, ◌+◌, ◌-◌, ◌≤◌, Bool, true, false, ◌||◌, Option, Some, None, is_some, List, [], ◌∷◌, map, refl, sym, ap, ◌∙◌, arith}
+use Rattle.std.proofs.Common.{◌≡◌, ◌+◌, ◌-◌, ◌≤◌, true, false, Option, Some, None, is_some, List, [], ◌∷◌, map, refl, sym, ap, ◌∙◌, arith}
+use Rattle.std.proofs.lemmas.Bool.{or_parts}
 use Rattle.off_base.specs.Choices.{first_there}
 use Rattle.off_orders.specs.declared.rules.Rule.{Rule}
 use Rattle.off_defs.specs.State.{Tables}
@@ -49,12 +50,8 @@ one_found all left rest test broken is so_far one some = reads_then so_far one (
 pub none_found : {a b : KeeperSeen} (all left : List Test) → left ≡ [] → Reads (IsLeft all left) a b → Reads (λ t. None ≡ first_there (map (says t) all)) a b
 none_found all left none so_far = reads_then so_far (reads_none {P = λ t. Unit {0}} (λ t. tt)) (λ t p q. sym (p ∙ ap (λ (v : List Test). first_there (map (says t) v)) none))
 
-or_none : (a b : Bool) → (a || b) ≡ false → (a ≡ false) × (b ≡ false)
-or_none true b e = cc
-or_none false b e = (refl, e)
-
 few_first : (left rest : List Test) (test : Test) → left ≡ test ∷ rest → any_searches left ≡ false → (searches test ≡ false) × (any_searches rest ≡ false)
-few_first left rest test is few = or_none (searches test) (any_searches rest) (sym (ap any_searches is) ∙ few)
+few_first left rest test is few = or_parts (searches test) (any_searches rest) (sym (ap any_searches is) ∙ few)
 
 pub is_direct : {a b : KeeperSeen} (all left rest : List Test) (test : Test) → left ≡ test ∷ rest → Tried all left a b → searches test ≡ false
 is_direct all left rest test is tried = (few_first left rest test is tried.few).0

@@ -143,8 +143,8 @@ NotDecided counts users now command (Refused row broken) old new =
 NotDecided counts users now command Failed old new = NotDone keeper.Failed old new
 NotDecided counts users now command Memory old new = NotDone keeper.Memory old new
 
--- the row of a key as a clerk is shown it, which is of the key's kind; a pool with the number of its
--- hub
+-- the row of a key as a clerk is shown it, which is of the key's kind; a pool with the number of
+-- its hub
 pub record ShowsRow (key : Key) (reply : Reply) : Type 0 where
   pub held : Row
   pub seen : ShownRow

@@ -1,10 +1,11 @@
 -- The pool of a message, and how an address of it is chosen, whichever client it is for: by the
 -- addresses that are free, and the client's own.
-use Rattle.std.specs.Prelude.{ℕ, ◌+◌, ◌-◌, ◌==◌, Bool, ◌&&◌, List, map, Option, Some, None, option_map, option_and_then, if◌then◌else◌}
+use Rattle.std.specs.Prelude.{ℕ, ◌+◌, ◌-◌, ◌==◌, Bool, ◌&&◌, List, [], map, Option, Some, None, option_map, option_and_then, if◌then◌else◌}
 use Rattle.std.specs.Option.{option_or}
 use Rattle.std.specs.List.{find, range_with_len}
 use Rattle.off_base.specs.declared.addresses.Ip4.{Ip4}
 use Rattle.off_defs.specs.declared.tables.Pool.{Pool}
+use Rattle.off_defs.specs.declared.writes.Write.{Write}
 use Rattle.off_dhcp.specs.Datagram.{Received}
 use Rattle.off_account_rules.specs.Rows.{has_address}
 use Rattle.off_asking.specs.Asking.{ip, is_request, is_discover, is_renewing, form_of, named_address, at_address, claimed}
@@ -37,6 +38,11 @@ least_of is_free pool = find is_free (addresses pool)
 abbrev pub provided : {A : Type 0} → (A → Bool) → Option A → Option A
 provided test None = None
 provided test (Some x) = if test x then Some x else None
+
+-- the writes for what there is
+abbrev pub for_some : {X : Type 0} → (X → List Write) → Option X → List Write
+for_some writes None = []
+for_some writes (Some x) = writes x
 
 -- The address for a client of the pool (RFC 2131 section 4.3.1): its own; else the one that it asks
 -- for, where that is free; else the least that is free

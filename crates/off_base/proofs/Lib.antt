@@ -1,8 +1,11 @@
 pub mod AddressExamples
+pub mod ByteLemmas
 pub mod ExtentLemmas
 pub mod IpTextLemmas
+pub mod MacLemmas
 pub mod MacTextLemmas
 pub mod NumberLemmas
 pub mod PartExamples
 pub mod PartLemmas
+pub mod ResultLemmas
 pub mod TreeLemmas

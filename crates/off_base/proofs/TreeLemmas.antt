@@ -3,11 +3,8 @@ use Rattle.std.proofs.Common.{◌≡◌, ℕ, zero, suc, ◌+◌, ◌*◌, ◌�
 use Rattle.std.specs.List.{slice_get}
 use Rattle.std.proofs.lemmas.List.{take_more, drop_more}
 use Rattle.std.proofs.lemmas.Option.{slice_get_within, get_or_from_slice_get}
-use Rattle.off_base.specs.Tree.{Tree, Row, leaf, group, no_more, followed, row_items, row_of, spelled, spelled_row, spelling, RowFits, AllFit, tree_length, row_length, trees_length, row_size, tree_size, trees_size}
-
-pub row_items-row_of : (ts : List Tree) → row_items (row_of ts) ≡ ts
-row_items-row_of [] = refl
-row_items-row_of (t ∷ ts) = ap (λ (x : List Tree). t ∷ x) (row_items-row_of ts)
+use Rattle.off_base.specs.Tree.{Tree, Row, leaf, group, no_more, followed, row_items, row_of, spelled, spelled_row, spelling, RowFits, AllFit, tree_length, row_length, trees_length, tree_size, trees_size}
+use Rattle.off_base.specs.SettingFalls.{row_size-row_of}
 
 pub row_of-row_items : (r : Row) → row_of (row_items r) ≡ r
 row_of-row_items no_more = refl
@@ -24,10 +21,6 @@ RowFits-row_of (t ∷ ts) fits = (fits.0, RowFits-row_of ts fits.1)
 pub AllFit-row_items : (r : Row) → RowFits r → AllFit (row_items r)
 AllFit-row_items no_more fits = tt
 AllFit-row_items (followed t r) fits = (fits.0, AllFit-row_items r fits.1)
-
-pub row_size-row_of : (ts : List Tree) → row_size (row_of ts) ≡ trees_size ts
-row_size-row_of [] = refl
-row_size-row_of (t ∷ ts) = omega (arith, row_size-row_of ts)
 
 pub row_length-row_of : (ts : List Tree) → row_length (row_of ts) ≡ trees_length ts
 row_length-row_of [] = refl

@@ -1,5 +1,6 @@
 pub mod Choices
 pub mod AddressText
+pub mod Macs
 pub mod Dotted
 pub mod Number
 pub mod Parts

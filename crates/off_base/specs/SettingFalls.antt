@@ -8,7 +8,7 @@ use Rattle.off_base.specs.declared.trees.Setting.TheVariants.{Leaf, Group}
 use Rattle.off_base.specs.declared.trees.Settings.TheDeep.{deep-Setting}
 use Rattle.off_base.specs.Setting.{tree_of}
 
-row_size-row_of : (ts : List Tree) → row_size (row_of ts) ≡ trees_size ts
+pub row_size-row_of : (ts : List Tree) → row_size (row_of ts) ≡ trees_size ts
 row_size-row_of [] = refl
 row_size-row_of (t ∷ ts) = omega (arith, row_size-row_of ts)
 

@@ -55,7 +55,7 @@ mutual
   row_read (followed t p) more rows e = tree_read t (row_marks p more) p rows
       (row_read p more rows e)
 
-row_items-row_of : (ts : List Tree) → row_items (row_of ts) ≡ ts
+pub row_items-row_of : (ts : List Tree) → row_items (row_of ts) ≡ ts
 row_items-row_of [] = refl
 row_items-row_of (t ∷ ts) = ap (λ (x : List Tree). t ∷ x) (row_items-row_of ts)
 

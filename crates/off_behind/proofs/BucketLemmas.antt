@@ -1,19 +1,18 @@
 -- What a modem's bucket says is what all leases say.
-use Rattle.std.proofs.Common.{◌≡◌, ℕ, ◌+◌, ◌<◌, Bool, true, false, cond, not, ◌&&◌, eqb, Option, Some, None, List, [], ◌∷◌, refl, sym, ap, ◌∙◌, arith, true≢false}
+use Rattle.std.proofs.Common.{◌≡◌, ℕ, ◌<◌, Bool, true, false, cond, not, ◌&&◌, eqb, Option, Some, None, List, [], ◌∷◌, refl, sym, ap, ◌∙◌, arith, true≢false}
 use Rattle.std.proofs.lemmas.Bool.{and_parts, eq-eqb}
-use Rattle.std.proofs.lemmas.List.Sums.{sum_by-cons}
 use Rattle.std.specs.List.{filter, find, count_by}
 use Rattle.off_base.specs.declared.addresses.Ip4.{Ip4}
 use Rattle.off_base.specs.declared.macs.Mac.{Mac}
-use Rattle.off_defs.specs.declared.keys.Key.TheVariants as key
 use Rattle.off_defs.specs.declared.tables.DeviceLease.{DeviceLease}
 use Rattle.off_account_rules.specs.Rows.{passes}
 use Rattle.off_account_rules.specs.Good.{is_mac, is_same_owner, device_owner}
 use Rattle.off_cpe_rules.specs.Behind.{is_live, is_owned, is_behind, is_other, others_among}
 use Rattle.off_behind.specs.Buckets.{bucket_of, is_in}
-use Rattle.off_table_laws.proofs.Judging.{mac_same}
+use Rattle.off_account_rules.proofs.OwnerLemmas.{mac_same}
 use Rattle.off_behind.specs.Neighbours.{AreNeighbours}
 use Rattle.off_behind.specs.declared.leases.Neighbours.{Neighbours}
+use Rattle.off_table_laws.proofs.ListLemmas.{count_first}
 
 module _ {A : Type 0} (p q : A → Bool) (inside : (x : A) → p x ≡ true → q x ≡ true) where
   pub find_kept : (xs : List A) → find p (filter q xs) ≡ find p xs
@@ -28,15 +27,12 @@ module _ {A : Type 0} (p q : A → Bool) (inside : (x : A) → p x ≡ true → 
             ]
       ] refl
 
-  count_first : (x : A) (xs : List A) → count_by p (x ∷ xs) ≡ cond (p x) 1 0 + count_by p xs
-  count_first x xs = sum_by-cons (λ y. cond (p y) 1 0) x xs
-
   pub count_kept : (xs : List A) → count_by p (filter q xs) ≡ count_by p xs
   count_kept [] = refl
   count_kept (x ∷ xs) =
       elim (q x) as (λ b. q x ≡ b → count_by p (cond b (x ∷ filter q xs) (filter q xs)) ≡ count_by p (x ∷ xs)) [
-        | true ↦ λ h. omega (arith, count_first x (filter q xs), count_first x xs, count_kept xs)
-        | false ↦ λ h. omega (arith, count_first x xs, count_kept xs, uncounted x h (p x) refl)
+        | true ↦ λ h. omega (arith, count_first p x (filter q xs), count_first p x xs, count_kept xs)
+        | false ↦ λ h. omega (arith, count_first p x xs, count_kept xs, uncounted x h (p x) refl)
       ] refl
     where
       uncounted : (x : A) → q x ≡ false → (b : Bool) → p x ≡ b → ◌≡◌ {A = ℕ} (cond (p x) 1 0) 0

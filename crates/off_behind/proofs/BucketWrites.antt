@@ -1,5 +1,5 @@
 -- What a put and a drop make of a bucket: of those elements of a list in order that pass a test.
-use Rattle.std.proofs.Common.{◌≡◌, ℕ, suc, ◌+◌, Bool, true, false, cond, not, List, [], ◌∷◌, inl, inr, refl, sym, ap, subst, ◌∙◌, arith}
+use Rattle.std.proofs.Common.{◌≡◌, ℕ, ◌+◌, Bool, true, false, cond, not, List, [], ◌∷◌, inl, inr, refl, sym, ap, subst, ◌∙◌, one-add}
 use lib.Dec.{T}
 use Rattle.std.specs.Ordering.{is_eq, is_gt, eq_by_cmp}
 use Rattle.std.specs.List.{filter, insert, prefix_len}
@@ -86,9 +86,6 @@ module _ {N Y : Type 0} (R : N → N → Ordering) (o : IsTotalOrder R) (exact :
   abbrev pub place_among : N → List (N × Y) → ℕ
   place_among n ys = prefix_len (λ (e : N × Y). is_gt (R n e.0)) ys
 
-  one_more : (n : ℕ) → suc n ≡ 1 + n
-  one_more n = omega arith
-
   pub put_fresh : (n : N) (y : Y) (es : List (N × Y)) → T (list.is_sorted R es) → list.put R n y es ≡ insert (filter (keeps n) es) (place_among n (filter (keeps n) es)) (n, y)
   put_fresh n y [] s = refl
   put_fresh n y (e ∷ es) s =
@@ -103,7 +100,7 @@ module _ {N Y : Type 0} (R : N → N → Ordering) (o : IsTotalOrder R) (exact :
             ∙ sym (ap (λ (zs : List (N × Y)). insert zs (place_among n zs) (n, y)) (all_kept n es below) ∙ ap (λ (m : ℕ). insert es m (n, y)) (none_before n es below))
         | Greater ↦ λ more.
             ap (λ zs. e ∷ zs) (put_fresh n y es (second _ _ s))
-            ∙ subst (λ (m : ℕ). e ∷ insert (filter (keeps n) es) (place_among n (filter (keeps n) es)) (n, y) ≡ insert (e ∷ filter (keeps n) es) m (n, y)) (one_more (place_among n (filter (keeps n) es))) refl
+            ∙ subst (λ (m : ℕ). e ∷ insert (filter (keeps n) es) (place_among n (filter (keeps n) es)) (n, y) ≡ insert (e ∷ filter (keeps n) es) m (n, y)) (sym (one-add (place_among n (filter (keeps n) es)))) refl
             ∙ sym (ap (λ r. insert (e ∷ filter (keeps n) es) (cond (is_gt r) (1 + place_among n (filter (keeps n) es)) 0) (n, y)) more)
       ] refl
     where

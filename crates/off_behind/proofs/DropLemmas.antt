@@ -1,7 +1,6 @@
 -- Writes of which none puts a lease: what all of them together drop.
 use Rattle.std.proofs.Common.{◌≡◌, ℕ, ◌+◌, ◌<◌, Bool, true, false, cond, not, ◌&&◌, ◌||◌, inl, inr, Option, Some, None, List, [], ◌∷◌, take, arith, refl, sym, ap, ◌∙◌, true≢false}
-use Rattle.std.proofs.lemmas.Bool.{cases_Bool, false_from_ne_true, ne_eqb}
-use Rattle.std.proofs.lemmas.Bool.Decides.{nat_tests}
+use Rattle.std.proofs.lemmas.Bool.{cases_Bool, false_from_ne_true, ne_eqb, ltb-true}
 use Rattle.std.specs.Prelude.{◌==◌, nat_lt, is_some}
 use Rattle.std.specs.List.{filter, list_any, slice_get}
 use Rattle.std.specs.Ordering.{nat_cmp, is_eq, eq_by_cmp}
@@ -51,13 +50,10 @@ not_rest : (a b : Bool) → (a || b) ≡ false → b ≡ false
 not_rest true b none = absurd (true≢false none)
 not_rest false b none = none
 
-below : (m n : ℕ) → nat_lt m n ≡ true → m < n
-below m n less = grind (arith, nat_tests)
-
 tied : (m n : ℕ) → is_eq (nat_cmp m n) ≡ (m == n)
 tied m n =
     elim (nat_lt m n) as (λ b. nat_lt m n ≡ b → is_eq (cond b Less (cond (m == n) Equal Greater)) ≡ (m == n)) [
-      | true ↦ λ less. sym (ne_eqb m n (λ same. omega (arith, same, below m n less)))
+      | true ↦ λ less. sym (ne_eqb m n (λ same. omega (arith, same, ltb-true m n less)))
       | false ↦ λ more. elim (m == n) as (λ b. is_eq (cond b Equal Greater) ≡ b) [ true ↦ refl | false ↦ refl ]
     ] refl
 

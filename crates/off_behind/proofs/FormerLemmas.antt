@@ -22,7 +22,7 @@ use Rattle.off_cpe_laws.proofs.RowLemmas.{device_read, device_without}
 use Rattle.off_base.proofs.TreeLemmas.{taken}
 use Rattle.off_behind.specs.Changes.{change_of, old_at, olds_of, by_address}
 use Rattle.off_behind.specs.Neighbours.{is_elsewhere, elsewhere}
-use Rattle.off_behind.proofs.WriteLemmas.{written_more}
+use Rattle.off_defs.proofs.TableLemmas.{written_more}
 
 -- what a change leaves to an address
 abbrev pub left_to : Ip4 → Option (Ip4 × Option DeviceLease) → Option DeviceLease → Option DeviceLease

@@ -1,5 +1,5 @@
 -- Writes one after another.
-use Rattle.std.proofs.Common.{◌≡◌, inl, inr, ℕ, zero, suc, ◌+◌, ◌-◌, ◌<◌, ◌≤◌, Bool, true, false, ◌||◌, Option, Some, List, [], ◌∷◌, length, take, get_or, refl, sym, ap, ◌∙◌, arith}
+use Rattle.std.proofs.Common.{◌≡◌, inl, inr, ℕ, zero, suc, ◌+◌, ◌-◌, ◌<◌, ◌≤◌, Bool, true, false, ◌||◌, Option, Some, List, [], ◌∷◌, length, take, get_or, refl, sym, ap, ◌∙◌, arith, add-one}
 use Rattle.std.proofs.lemmas.Bool.{or_left, or_right, cases_Bool}
 use Rattle.std.specs.List.{list_any, slice_get}
 use Rattle.off_defs.specs.declared.tables.DeviceLease.{DeviceLease}
@@ -8,18 +8,6 @@ use Rattle.off_defs.specs.State.{Tables}
 use Rattle.off_defs.specs.Tables.{written, write_all}
 use Rattle.off_behind.specs.Buckets.{Bucket, bucket_at, room_at}
 use Rattle.off_behind.specs.Changes.{old_at, olds_of, puts_in, HasRoomFor}
-
-next : (n : ℕ) → n + 1 ≡ suc n
-next n = omega arith
-
--- the tables behind one write more
-pub written_more : (t : Tables) (ws : List Write) (i : ℕ) (w : Write) → slice_get ws i ≡ Some w → write_all t (take (i + 1) ws) ≡ written (write_all t (take i ws)) w
-written_more t ws i w is = ap (λ n. write_all t (take n ws)) (next i) ∙ go t ws i is
-  where
-    go : (u : Tables) (xs : List Write) (k : ℕ) → slice_get xs k ≡ Some w → write_all u (take (suc k) xs) ≡ written (write_all u (take k xs)) w
-    go u [] k e = cc
-    go u (x ∷ xs) zero e = let same : x ≡ w = cc in ap (written u) same
-    go u (x ∷ xs) (suc k) e = go (written u x) xs k e
 
 -- the lease that its address had
 pub old_there : (t : Tables) (ws : List Write) (i : ℕ) (w : Write) (former : Option DeviceLease) → slice_get ws i ≡ Some w → former ≡ get_or (olds_of t ws) i former
@@ -36,7 +24,7 @@ any_there test (x ∷ xs) (suc i) w is passes = or_right (test x) (list_any test
 
 -- those so far and one more
 any_more : (test : Write → Bool) (ws : List Write) (i : ℕ) (w : Write) → slice_get ws i ≡ Some w → list_any test (take (i + 1) ws) ≡ (list_any test (take i ws) || test w)
-any_more test ws i w is = ap (λ n. list_any test (take n ws)) (next i) ∙ go ws i is
+any_more test ws i w is = ap (λ n. list_any test (take n ws)) (add-one i) ∙ go ws i is
   where
     or_none : (b : Bool) → (b || false) ≡ b
     or_none true = refl

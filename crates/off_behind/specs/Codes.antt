@@ -39,7 +39,8 @@ abbrev lease_code : Coded (Ip4 × DeviceLease)
 lease_code =
     code_by (ℕ × (Parts × ℕ))
     (coded× coded_ℕ
-    (coded× (coded× (coded× coded_bool coded_bool) (coded× (coded_list coded_ℕ) (coded_list coded_ℕ)))
+    (coded× (coded× (coded× coded_bool coded_bool)
+    (coded× (coded_list coded_ℕ) (coded_list coded_ℕ)))
     coded_ℕ))
     (λ e. (e.0.0, (parts_of e.1.hold, e.1.expiry.0)))
     (λ p. (record { 0 = p.0 }, record { hold = hold_of p.1.0; expiry = record { 0 = p.1.1 } }))

@@ -1,7 +1,6 @@
 -- Each modem of a drill acknowledges all of its file.
-use Rattle.std.proofs.Common.{◌≡◌, ℕ, zero, suc, ◌+◌, ◌≤◌, max, Bool, true, false, if◌then◌else◌, List, [], ◌∷◌, Ok, refl, sym, ap, subst, ◌∙◌, inl, arith}
+use Rattle.std.proofs.Common.{◌≡◌, ℕ, zero, suc, ◌+◌, ◌≤◌, max, Bool, true, false, if◌then◌else◌, List, [], ◌∷◌, refl, sym, ap, subst, ◌∙◌, inl, arith}
 use Rattle.std.proofs.lemmas.List.Elements.{All-head, All-tail}
-use Rattle.std.proofs.lemmas.Nat.{from_be_bytes-to_be_bytes_2}
 use Rattle.std.specs.List.{range_with_len}
 use Rattle.off_base.specs.declared.addresses.Peer.{Peer}
 use Rattle.off_defs.specs.declared.events.Event.{Event}
@@ -13,7 +12,6 @@ use Rattle.off_defs.specs.declared.results.Outcome.TheVariants.{Did}
 use Rattle.off_defs.specs.declared.writes.Write.{Write}
 use Rattle.off_defs.specs.State.{Tables, State, at_moment}
 use Rattle.off_defs.specs.Tables.{write_all}
-use Rattle.off_packets.specs.Packets.{Acknowledges, packet_of}
 use Rattle.off_transfer_rules.proofs.PeerLemmas.{own_peer}
 use Rattle.off_book.specs.Step.{Step}
 use Rattle.off_book.specs.Run.{Turn, Run, effect_of, events_of}
@@ -26,11 +24,8 @@ use Rattle.off_drill_rules.specs.Law.{AllDid}
 use Rattle.off_drill_laws.proofs.RowLemmas.{drill_rows, address_within, site_read_at, modem_read}
 use Rattle.off_transfer_runs.specs.Answering.{Ask, Speaks, Aside, ask, AnswersBy, AnswersUpTo}
 use Rattle.off_boot_laws.specs.Boot.{KeepsName}
+use Rattle.off_drill_laws.proofs.PacketLemmas.{acknowledgement_says}
 use Rattle.off_boot_drill.specs.Met.{EachAcknowledgesAll}
-
-says_number : (number : ℕ) → number ≤ 3 → packet_of (acknowledgement number) ≡ Ok (Acknowledges number)
-unfolding packet_of acknowledgement
-says_number number few = ap (λ (n : ℕ). Ok (Acknowledges n)) (from_be_bytes-to_be_bytes_2 number (omega (arith, few)))
 
 speaks : (peer : Peer) (bytes : List ℕ) → ask peer (Datagram Tftp peer bytes) ≡ Speaks bytes
 speaks peer bytes = ap (λ b. if b then Speaks bytes else Aside) (own_peer peer)
@@ -83,7 +78,7 @@ module _ (i : ℕ) (t : Tables) where
       (sym (ap (ask (by_modem i)) came ∙ speaks (by_modem i) (acknowledgement number)))
       (inl (
         record {
-          read = says_number number (omega (arith, few));
+          read = acknowledgement_says number (omega (arith, few));
           agree = subst (λ (u : Tables). KeepsName u (mac i) i (address i) (name i)) (sym is) named;
         },
         later,

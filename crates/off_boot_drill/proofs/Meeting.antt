@@ -1,5 +1,5 @@
 -- Each modem of a drill meets what booting asks.
-use Rattle.std.proofs.Common.{codes, ◌≡◌, ◌≢◌, ◌⊎◌, ℕ, suc, ◌<◌, ◌≤◌, true, List, [], ◌∷◌, ◌++◌, Option, Some, None, MatchOption, option_and_then, refl, sym, ap, subst, ◌∙◌, inl, inr, arith}
+use Rattle.std.proofs.Common.{codes, ◌≡◌, ◌≢◌, ◌⊎◌, ℕ, suc, ◌<◌, ◌≤◌, true, List, [], Option, Some, None, MatchOption, option_and_then, refl, sym, ap, subst, ◌∙◌, inl, inr, arith}
 use Rattle.std.specs.FinMap as map
 use Rattle.off_base.specs.declared.addresses.Ip4.{Ip4}
 use Rattle.off_base.specs.declared.macs.Mac.{Mac}
@@ -32,13 +32,10 @@ use Rattle.off_drill_laws.proofs.TurnLemmas.{discover_turn, request_turn}
 use Rattle.off_boot_laws.specs.Known.{IsOfModem}
 use Rattle.off_boot_laws.specs.Stages.{Discovers, Requests, HasPlace, AsksForFile}
 use Rattle.off_boot_laws.specs.Waiting.{LeaseLasts, WaitsThrough}
+use Rattle.off_boot_laws.proofs.Booting.{no_turn}
 use Rattle.off_boot_drill.specs.Met.{EachMeetsAll}
 
 -- nothing comes between
-no_turn : (before later : List Turn) (turn : Turn) → [] ≡ before ++ turn ∷ later → ⊥
-no_turn [] later turn e = cc
-no_turn (first ∷ before) later turn e = cc
-
 waits_none : (mac : Mac) (address : Ip4) (s : State) → WaitsThrough mac address s []
 waits_none mac address s before later turn from parts up_to = absurd (no_turn before later turn parts)
 

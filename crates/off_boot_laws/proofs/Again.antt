@@ -16,7 +16,7 @@ use Rattle.off_defs.specs.State.{Tables, State, Effect, at_moment}
 use Rattle.off_defs.specs.Tables.{write_all}
 use Rattle.off_dhcp.specs.Datagram.{Received}
 use Rattle.off_account_rules.specs.Rows.{passes, lease_in, held_in, has_address}
-use Rattle.off_account_rules.specs.Good.{Good, owner_of}
+use Rattle.off_account_rules.specs.Good.{Good, owner_of, is_live_bound}
 use Rattle.off_table_laws.specs.Laws.{owner_in}
 use Rattle.off_lease_rules.specs.declared.cases.Case.{Case}
 use Rattle.off_lease_rules.specs.declared.results.LeaseStep.{LeaseStep}
@@ -26,7 +26,7 @@ use Rattle.off_asking.specs.Asking.{client, claimed}
 use Rattle.off_lease_rules.specs.Free.{pool_for, case_of, chosen_in}
 use Rattle.off_asking.specs.Claims.{refused_by}
 use Rattle.off_lease_rules.specs.Rules.{rules_for}
-use Rattle.off_lease_rules.specs.Steps.{is_live_bound, accepts, unless_refused, settled, lease_step, dhcp_step}
+use Rattle.off_lease_rules.specs.Steps.{accepts, unless_refused, settled, lease_step, dhcp_step}
 use Rattle.off_lease_laws.specs.Outcomes.{WasOffered}
 use Rattle.off_lease_laws.specs.Effects.{bound_until, IsBoundBy}
 use Rattle.off_lease_laws.proofs.EffectLemmas.{acks_bind}

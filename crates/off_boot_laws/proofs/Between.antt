@@ -10,13 +10,13 @@ use Rattle.off_defs.specs.declared.writes.Write.{Write}
 use Rattle.off_defs.specs.declared.writes.Write.TheVariants.{Put, Drop}
 use Rattle.off_defs.specs.Keys.{key_cmp}
 use Rattle.off_defs.specs.State.{Tables, State}
-use Rattle.off_defs.specs.Tables.{row_at}
+use Rattle.off_defs.specs.Tables.{row_at, key_written}
 use Rattle.off_defs.proofs.TableLemmas.{same_key}
 use Rattle.off_account_rules.specs.Rows.{possible, as_site, as_modem, as_pool, as_pool_hub, number_or_0}
 use Rattle.off_table_laws.proofs.Rows.{Rows, row_written, rows_after, all_written}
 use Rattle.off_book.specs.Run.{Turn, Run, effect_of}
 use Rattle.off_laws.proofs.StepLaws.{tables_by_commit}
-use Rattle.off_boot_laws.specs.Between.{key_written, LeavesRow, LeavesModem, RowsStay}
+use Rattle.off_boot_laws.specs.Between.{LeavesRow, LeavesModem, RowsStay}
 
 one_stays : (rows : Rows) (write : Write) (q : Key) → key_written write ≢ q → row_written rows write q ≡ rows q
 one_stays rows (Put k held) q apart =

@@ -134,8 +134,13 @@ who_asks_gets_its_file s last turn soon rest mac peer name asked good run well r
 pub holds_own : (t : Tables) (mac : Mac) (address : Ip4) → Good t → owner_in t address ≡ Some mac → held_in t mac ≡ Some address
 holds_own t mac address good owned = (good_agree t good mac address).0 owned
 
+-- no turn stands in a run of none
+pub no_turn : (before later : List Turn) (turn : Turn) → [] ≡ before ++ turn ∷ later → ⊥
+no_turn [] later turn e = cc
+no_turn (first ∷ before) later turn e = cc
+
 -- where the three turns stand in the run
-second_place : (before one : List Turn) (a b : Turn) (later : List Turn) → before ++ a ∷ (one ++ b ∷ later) ≡ (before ++ a ∷ one) ++ b ∷ later
+pub second_place : (before one : List Turn) (a b : Turn) (later : List Turn) → before ++ a ∷ (one ++ b ∷ later) ≡ (before ++ a ∷ one) ++ b ∷ later
 second_place before one a b later = sym (append_assoc before (a ∷ one) (b ∷ later))
 
 third_place : (before one two : List Turn) (a b c : Turn) (later : List Turn)

@@ -24,7 +24,7 @@ use Rattle.off_defs.specs.State.{Tables, State, Effect, at_moment}
 use Rattle.off_defs.specs.Tables.{write_all}
 use Rattle.off_dhcp.specs.Datagram.{Received, mac_of_client, option_in}
 use Rattle.off_account_rules.specs.Rows.{passes, modem_in, lease_in, held_in, has_address}
-use Rattle.off_account_rules.specs.Good.{Good, owner_of, is_address}
+use Rattle.off_account_rules.specs.Good.{Good, owner_of, is_address, is_live_bound}
 use Rattle.off_table_laws.specs.Laws.{owner_in}
 use Rattle.off_asking.specs.Asking.{is_discover, is_request, asks, client, claimed, named_server, serial_number, remote_identifier, form_of, named_address, at_address, asked_by, is_formless, is_selecting}
 use Rattle.off_asking.specs.declared.forms.Named.TheVariants.{Absent, At}
@@ -34,7 +34,7 @@ use Rattle.off_asking.specs.Choice.{provided}
 use Rattle.off_lease_rules.specs.Free.{pool_for, site_for, case_of, has_ended, is_free, choice, chosen_in, least_free}
 use Rattle.off_asking.specs.Claims.{is_another, names_another_server, claims_own, claims_wrongly, refused_by}
 use Rattle.off_lease_rules.specs.Rules.{has_cut_part, relays_another, is_no_modem, has_other_serial, is_for_a_server, rules_for}
-use Rattle.off_lease_rules.specs.Steps.{is_live_bound, offer_to, accepts, unless_refused, settled, settled_in, lease_step}
+use Rattle.off_lease_rules.specs.Steps.{offer_to, accepts, unless_refused, settled, settled_in, lease_step}
 use Rattle.off_lease_rules.specs.declared.cases.Case.{Case}
 use Rattle.off_lease_rules.specs.declared.results.LeaseStep.{LeaseStep}
 use Rattle.off_lease_rules.specs.declared.words.DhcpWord.TheVariants as word
@@ -135,7 +135,7 @@ known_of t m good k asking told = record {
   serial = right_serial k.modem.serial (serial_number m) k.serial;
 }
 
-right_server : (m : Received) (site : Site) → (named_server m ≡ Absent) ⊎ (named_server m ≡ At site.server) → names_another_server m site ≡ false
+pub right_server : (m : Received) (site : Site) → (named_server m ≡ Absent) ⊎ (named_server m ≡ At site.server) → names_another_server m site ≡ false
 right_server m site (inl none) = ap (λ n. passes (is_another site) (at_address n)) none
 right_server m site (inr own) = ap (λ n. passes (is_another site) (at_address n)) own ∙ ap not (eq-eqb site.server.0 site.server.0 refl)
 

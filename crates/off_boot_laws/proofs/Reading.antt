@@ -2,10 +2,10 @@
 use Rattle.std.proofs.lemmas.Bool.{lt-leb, false_from_ne_true}
 use Rattle.std.proofs.lemmas.Slice.Eq.{bytes_eq-Decides}
 use Rattle.std.specs.Str.{bytes_eq}
+use Rattle.off_transfer_runs.proofs.Whole.{same_modem}
 use Rattle.off_boot_laws.proofs.Messages.{and_false}
-use Rattle.std.proofs.Common.{if◌then◌else◌, ◌≢◌, ◌⊎◌, inl, inr, ◌&&◌, nat_le, ◌≡◌, ℕ, ◌<◌, Bool, true, false, cond, not, List, Option, Some, None, MatchOption, Ok, refl, sym, ap, subst, ◌∙◌}
+use Rattle.std.proofs.Common.{if◌then◌else◌, ◌≢◌, ◌⊎◌, inl, inr, ◌&&◌, nat_le, ◌≡◌, ℕ, ◌<◌, Bool, true, false, cond, not, List, Option, Some, None, MatchOption, Ok, refl, ap, subst, ◌∙◌}
 use Rattle.std.specs.FinMap as map
-use Rattle.off_base.specs.declared.addresses.Ip4.{Ip4}
 use Rattle.off_base.specs.declared.addresses.Peer.{Peer}
 use Rattle.off_base.specs.declared.macs.Mac.{Mac}
 use Rattle.off_defs.specs.declared.events.Service.TheVariants.{Tftp}
@@ -13,8 +13,6 @@ use Rattle.off_defs.specs.declared.events.What.{What}
 use Rattle.off_defs.specs.declared.events.What.TheVariants.{Datagram}
 use Rattle.off_defs.specs.declared.results.Outcome.{Outcome}
 use Rattle.off_defs.specs.declared.results.Outcome.TheVariants.{Did}
-use Rattle.off_defs.specs.declared.tables.Lease.{Lease}
-use Rattle.off_defs.specs.declared.tables.Hold.TheVariants.{Bound}
 use Rattle.off_defs.specs.State.{Tables, State, Transfer, Effect, at_moment}
 use Rattle.off_account_rules.specs.Good.{Good}
 use Rattle.off_lease_laws.specs.Effects.{bound_until}
@@ -116,14 +114,6 @@ agreed_at s mac peer name asked turn now expiry r bound live = record {
   site_is = r.site_is;
   named = r.named;
 }
-
-pub same_modem : (t : Tables) (now : ℕ) (ip : Ip4) (name : List ℕ) (one other : Mac) (owner else_owner : ℕ) → Agreement t now ip name one owner
-    → Agreement t now ip name other else_owner → one ≡ other
-same_modem t now ip name one other owner else_owner a b =
-    let rows : Some a.lease ≡ Some b.lease = sym a.lease_is ∙ b.lease_is in
-    let row : a.lease ≡ b.lease = cc in
-    let bounds : Bound one ≡ Bound other = sym a.bound ∙ ap (λ (l : Lease). l.hold) row ∙ b.bound in
-    cc
 
 pub reads_are_accepted : ReadsAreAccepted
 reads_are_accepted s last turn later mac peer name asked expiry good run well r bound live =

@@ -5,15 +5,10 @@ use Rattle.std.specs.List.{AllByRecursion}
 use Rattle.off_base.specs.declared.macs.Mac.{Mac}
 use Rattle.off_defs.specs.declared.keys.Key.{Key}
 use Rattle.off_defs.specs.declared.keys.Key.TheVariants as key
-use Rattle.off_defs.specs.declared.writes.Write.{Write}
-use Rattle.off_defs.specs.declared.writes.Write.TheVariants.{Put, Drop}
 use Rattle.off_defs.specs.State.{Tables, State}
+use Rattle.off_defs.specs.Tables.{key_written}
 use Rattle.off_account_rules.specs.Rows.{hub_in, pool_hub_in, modem_in, pool_in}
 use Rattle.off_book.specs.Run.{Turn, Run}
-
-abbrev pub key_written : Write → Key
-key_written (Put key row) = key
-key_written (Drop key) = key
 
 abbrev pub LeavesRow : Key → Turn → Type 0
 LeavesRow key turn = AllByRecursion (λ write. key_written write ≢ key) turn.commit

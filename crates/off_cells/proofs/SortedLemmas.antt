@@ -13,13 +13,13 @@ use Rattle.off_cells.specs.CellsSeen.{Cell, CellMap, is_behind}
 use Rattle.off_cells.specs.SortedCells.{AreInOrder, place_of, is_in_front}
 use Rattle.off_defs.proofs.PlaceLemmas.{opened, set_opened, value_at, put_at, less_at, put_there, found_there, removed_there}
 
-abbrev bytes_cmp : List ℕ → List ℕ → Ordering
+abbrev pub bytes_cmp : List ℕ → List ℕ → Ordering
 bytes_cmp = slice_cmp nat_cmp
 
-exact : map.IsAntisymmetric bytes_cmp
+pub exact : map.IsAntisymmetric bytes_cmp
 exact = map.slice_cmp-IsAntisymmetric map.nat_cmp-IsAntisymmetric
 
-same_key : (a b : List ℕ) → eq_by_cmp bytes_cmp a b ≡ true → a ≡ b
+pub same_key : (a b : List ℕ) → eq_by_cmp bytes_cmp a b ≡ true → a ≡ b
 same_key a b e = exact a b (is_equal (bytes_cmp a b) e)
 
 same_cells : (xs ys : CellMap) → ((key : List ℕ) → map.get xs key ≡ map.get ys key) → xs ≡ ys

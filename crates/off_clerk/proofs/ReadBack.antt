@@ -28,7 +28,7 @@ use Rattle.off_defs.specs.declared.tables.Row.TheVariants as row
 use Rattle.off_orders.specs.declared.shown.ShownRow.TheVariants as seen
 use Rattle.off_orders.specs.declared.orders.Command.TheVariants.{PutSubscriber, PutModem}
 use Rattle.off_rows.specs.RowBytes.{RowRanged}
-use Rattle.off_orders.specs.Sound.{is_sound_subscriber}
+use Rattle.off_account_rules.specs.Rows.{subscriber_fits}
 use Rattle.off_clerk_rules.specs.declared.faults.ClerkErr.{ClerkErr}
 use Rattle.off_clerk_rules.specs.declared.faults.ClerkErr.TheVariants.{Value}
 use Rattle.off_clerk_rules.specs.declared.names.Name.TheVariants as field
@@ -160,12 +160,12 @@ subscriber_object held ranged =
     ∙ read_compact (subscriber_data held) (subscriber_printed held a) (subscriber_converted held a) (omega arith) in
     an_object _ (subscriber_data held) utf8 back refl
 
-subscriber_fields : (held : Subscriber) → RowRanged (row.Subscriber held) → IsTrue (is_sound_subscriber held) → subscriber_in (subscriber_data held) ≡ Ok held
+subscriber_fields : (held : Subscriber) → RowRanged (row.Subscriber held) → IsTrue (subscriber_fits held) → subscriber_in (subscriber_data held) ≡ Ok held
 subscriber_fields held ranged sound =
     three (λ a c t. record { active = a; cpes = c; name = t }) _ _ _ held.active held.cpes held.name refl
     (ap (λ (o : Option ℕ). ok_or o (Value field.Cpes)) (number_read 1 254 held.cpes sound)) (ap (λ (o : Option (List ℕ)). ok_or o (Value field.Name)) (text_read held.name ranged.1.0))
 
-subscriber_back : (n : ℕ) (held : Subscriber) → RowRanged (row.Subscriber held) → IsTrue (is_sound_subscriber held)
+subscriber_back : (n : ℕ) (held : Subscriber) → RowRanged (row.Subscriber held) → IsTrue (subscriber_fits held)
     → put_read (key.Subscriber n) (row_text (seen.Subscriber held)) ≡ Ok (PutSubscriber n held)
 subscriber_back n held ranged sound =
     ap (λ (r : Result Data ClerkErr). r >>= (λ fields. subscriber_in fields >>= (λ subscriber. Ok (PutSubscriber n subscriber)))) (subscriber_object held ranged)

@@ -8,7 +8,7 @@ use Rattle.off_defs.specs.declared.tables.Row.TheVariants as row
 use Rattle.off_orders.specs.declared.shown.ShownRow.TheVariants as seen
 use Rattle.off_orders.specs.declared.orders.Command.TheVariants.{PutSubscriber, PutModem}
 use Rattle.off_rows.specs.RowBytes.{RowRanged}
-use Rattle.off_orders.specs.Sound.{is_sound_subscriber}
+use Rattle.off_account_rules.specs.Rows.{subscriber_fits}
 use Rattle.off_clerk_rules.specs.Commands.{put_read}
 use Rattle.off_clerk_rules.specs.Replies.{row_text}
 
@@ -16,7 +16,7 @@ use Rattle.off_clerk_rules.specs.Replies.{row_text}
 pub record ShownReadBack : Type 0 where
   pub subscriber :
       (number : ℕ) (held : Subscriber) → RowRanged (row.Subscriber held) →
-      IsTrue (is_sound_subscriber held)
+      IsTrue (subscriber_fits held)
       → put_read (key.Subscriber number) (row_text (seen.Subscriber held))
       ≡ Ok (PutSubscriber number held)
   pub modem :

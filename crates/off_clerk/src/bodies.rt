@@ -1,9 +1,11 @@
 ghost use Rattle.std.specs.Prelude.{◌≡◌, MatchResult, Ok, IsTrue, IfOk};
 ghost use Rattle.off_documents.specs.Documents.{data_of};
-ghost use Rattle.off_orders.specs.Sound.{is_sound_subscriber, is_sound_pool};
+ghost use Rattle.off_orders.specs.Sound.{is_sound_pool};
+ghost use Rattle.off_account_rules.specs.Rows.{subscriber_fits};
 ghost use Rattle.off_clerk_rules.specs.Commands.{GivesWanted, GivesFault, object_in, site_in};
 ghost use Rattle.off_clerk_rules.specs.Commands.{subscriber_in};
-ghost use Rattle.off_clerk_rules.specs.Commands.{add_on_in, modem_in, class_in, pool_in, hub_of_pool_in};
+ghost use Rattle.off_clerk_rules.specs.Commands.{add_on_in, modem_in, class_in, pool_in};
+ghost use Rattle.off_clerk_rules.specs.Commands.{hub_of_pool_in};
 
 use crate::fields::{address, flag, number, number_or, offset, relay, secret, small, text};
 use crate::trees::settings;
@@ -57,7 +59,7 @@ pub(crate) fn site_of(body: &Part<'_, '_>) -> Result<Site, ClerkErr>
 
 pub(crate) fn subscriber_of(body: &Part<'_, '_>) -> Result<Subscriber, ClerkErr>
     ensures exact { result ≡ subscriber_in (data_of body.now) }
-    ensures sound { IfOk result (λ subscriber. IsTrue (is_sound_subscriber subscriber)) }
+    ensures sound { IfOk result (λ subscriber. IsTrue (subscriber_fits subscriber)) }
 {
     let active = flag(body, Name::Active)?;
     let cpes = small(body, Name::Cpes, 1, MOST_DEVICES)?;

@@ -8,7 +8,7 @@ ghost use Rattle.off_clerk_rules.specs.Fields.{field_in, field_or, number_in, of
 ghost use Rattle.off_clerk_rules.specs.Fields.{address_in, relay_in, hex_in};
 
 use crate::paths::LAST_NUMBER;
-use crate::values::{address_of, flag_of, number_of, offset_of, relay_of, secret_of, text_of};
+use crate::values::{address_of, number_of, offset_of, relay_of, secret_of, text_of};
 use off_base::{Ip4, Secret, Short};
 use off_clerk_rules::{ClerkErr, Name};
 use off_documents::Part;
@@ -19,7 +19,7 @@ pub(crate) fn flag(body: &Part<'_, '_>, name: Name) -> Result<bool, ClerkErr>
     ensures { result ≡ field_in name as_bool (data_of body.now) }
 {
     let value = member(body, name)?;
-    flag_of(&value).ok_or(ClerkErr::Value(name))
+    value.as_bool().ok_or(ClerkErr::Value(name))
 }
 
 // A number of 32 bits.

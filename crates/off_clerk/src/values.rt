@@ -1,6 +1,5 @@
 ghost use Rattle.std.specs.Prelude.{◌≡◌, ◌≢◌, ◌≤◌, ◌-◌, take, length, option_map, IfSome};
 ghost use Rattle.off_documents.specs.Documents.{data_of};
-ghost use Rattle.serde_json.specs.Find.{as_bool};
 ghost use Rattle.off_clerk_rules.specs.Fields.{number_in, offset_in, text_in, address_in, relay_in};
 ghost use Rattle.off_clerk_rules.specs.Fields.{hex_of, hex_in};
 
@@ -8,12 +7,6 @@ use off_base::{Ip4, Secret, Short, read_ip};
 use off_documents::Part;
 
 // Each of these reads a JSON value of one kind and range.
-
-pub(crate) fn flag_of(value: &Part<'_, '_>) -> Option<bool>
-    ensures { result ≡ as_bool (data_of value.now) }
-{
-    value.as_bool()
-}
 
 pub(crate) fn number_of(value: &Part<'_, '_>, least: u64, most: u64) -> Option<u64>
     ensures exact { result ≡ number_in least most (data_of value.now) }

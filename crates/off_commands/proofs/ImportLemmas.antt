@@ -4,6 +4,7 @@ use Rattle.std.specs.List.{list_all}
 use Rattle.std.specs.Ordering.{nat_cmp, eq_by_cmp}
 use Rattle.std.specs.Cmp.Lexicographic.{slice_cmp}
 use Rattle.std.proofs.lemmas.Map.Text.{is_eq-slice_cmp}
+use Rattle.std.proofs.lemmas.Bool.{and_parts}
 use Rattle.off_base.specs.Choices.{when}
 use Rattle.off_base.specs.Number.{greatest_u64}
 use Rattle.off_defs.specs.declared.keys.Key.TheVariants as key
@@ -47,7 +48,7 @@ use Rattle.off_outside.proofs.KeeperLemmas.{reads_then, reads_as, reads_forgotte
 use Rattle.off_commands.specs.declared.progress.Progress.{Progress}
 use Rattle.off_commands.specs.declared.putting.Refused.{Refused}
 use Rattle.off_commands.specs.Imports.{is_sound_row, is_same, import_answer, Stands, AreRowsPut, IsRepeated, Finished, IsFinished, IsImported}
-use Rattle.off_commands.proofs.RowsLemmas.{both, rows_sound}
+use Rattle.off_commands.proofs.RowsLemmas.{rows_sound}
 
 -- a batch that isn't there has no row
 absent_batch : (n : ℕ) (o : Option Row) → option_and_then as_batch (possible (key.Batch n) o) ≡ None → is_some (possible (key.Batch n) o) ≡ false
@@ -186,7 +187,7 @@ import_walks c kind batch digest rows a b is = subst (λ (d : Command). WalksWit
 
 -- the rows of a sound import are sound
 pub sound_rows : (c : Command) (kind : ImportKind) (number : ℕ) (digest : List ℕ) (rows : List ImportRow) → c ≡ Import kind number digest rows → IsTrue (is_sound c) → list_all is_sound_row rows ≡ true
-sound_rows c kind number digest rows means sound = rows_sound kind rows (both (nat_le (length rows) 2000) (list_all (is_row_of kind) rows) (sym (ap is_sound means) ∙ sound)).1
+sound_rows c kind number digest rows means sound = rows_sound kind rows (and_parts (nat_le (length rows) 2000) (list_all (is_row_of kind) rows) (sym (ap is_sound means) ∙ sound)).1
 
 -- whether a batch is the one that was done
 pub is_same_one : (batch old : Batch) (kinds bodies : Bool) → kinds ≡ is_kind batch.kind old.kind → kinds ≡ true → bodies ≡ bytes_eq batch.digest old.digest → bodies ≡ is_same batch old

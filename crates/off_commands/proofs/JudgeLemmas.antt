@@ -14,9 +14,8 @@ use Rattle.off_defs.specs.declared.kinds.Kind.TheVariants.{Subscribers, Modems}
 use Rattle.off_orders.specs.declared.rules.Rule.{Rule}
 use Rattle.off_defs.specs.State.{Tables}
 use Rattle.off_defs.specs.Tables.{with_row, write_all}
-use Rattle.off_orders.specs.Sound.{is_sound_subscriber}
 use Rattle.off_account_rules.specs.declared.counts.Counts.{Counts}
-use Rattle.off_account_rules.specs.Rows.{seen_at, is_possible, is_of_kind, counts_of}
+use Rattle.off_account_rules.specs.Rows.{seen_at, is_possible, is_of_kind, counts_of, subscriber_fits}
 use Rattle.off_orders.specs.Clerk.{limit, no_subscriber, no_class, row_breaks}
 use Rattle.off_accounts.specs.Changes.{counts_put}
 use Rattle.off_accounts.proofs.CountsLemmas.{kept, counts_with}
@@ -50,7 +49,7 @@ subscriber_says : (u : Tables) (n : ℕ) (subscriber : Subscriber) (verdict : Re
 subscriber_says u n subscriber (Ok after) says = (λ now. ap (λ (r : Option Rule). first_there (r ∷ [])) says.0, says.1)
 subscriber_says u n subscriber (Err broken) says = λ now. ap (λ (r : Option Rule). first_there (r ∷ [])) says
 
-pub subscriber_judged : (u : Tables) (counts : Counts) (n : ℕ) (subscriber : Subscriber) (there : Bool) (verdict : Result Counts Rule) → is_sound_subscriber subscriber ≡ true
+pub subscriber_judged : (u : Tables) (counts : Counts) (n : ℕ) (subscriber : Subscriber) (there : Bool) (verdict : Result Counts Rule) → subscriber_fits subscriber ≡ true
     → there ≡ is_some (seen_at u (key.Subscriber n)) → counts ≡ counts_of u → IsCounted counts Subscribers there verdict → IsJudged u (imported.Subscriber n subscriber) verdict
 subscriber_judged u counts n subscriber there verdict sound says agree c =
     subscriber_says u n subscriber verdict (counted u counts Subscribers (key.Subscriber n) (row.Subscriber subscriber) there verdict (λ m. refl) refl sound says agree c)

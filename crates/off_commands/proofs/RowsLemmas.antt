@@ -1,8 +1,9 @@
 -- The rows of an import, one after another.
-use Rattle.std.proofs.Common.{◌≡◌, ℕ, ◌+◌, ◌≤◌, Bool, true, false, ◌&&◌, Option, Some, None, Result, Ok, Err, OnOk, List, [], ◌∷◌, ◌++◌, length, drop, drop_of_length-le, refl, sym, ap, subst, ◌∙◌, append_assoc, append-nil}
+use Rattle.std.proofs.Common.{◌≡◌, ℕ, ◌+◌, ◌≤◌, true, false, Option, Some, None, Result, Ok, Err, OnOk, List, [], ◌∷◌, ◌++◌, length, drop, drop_of_length-le, refl, sym, ap, subst, ◌∙◌, append_assoc, append-nil}
 use Rattle.std.specs.List.{list_all, slice_get}
 use Rattle.std.proofs.lemmas.List.Folds.{list_all_at}
 use Rattle.std.proofs.lemmas.Option.{slice_get_within, get_or_from_slice_get}
+use Rattle.std.proofs.lemmas.Bool.{and_parts, and_from}
 use Rattle.off_base.proofs.TreeLemmas.{dropped}
 use Rattle.off_orders.specs.declared.orders.ImportRow.{ImportRow}
 use Rattle.off_orders.specs.declared.orders.ImportRow.TheVariants as imported
@@ -31,18 +32,11 @@ row_sound Subscribers (imported.Modem mac modem) is = cc
 row_sound Modems (imported.Subscriber n subscriber) is = cc
 row_sound Modems (imported.Modem mac modem) is = refl
 
-pub both : (a b : Bool) → (a && b) ≡ true → (a ≡ true) × (b ≡ true)
-both true b e = (refl, e)
-both false b e = cc
-
-joined : (a b : Bool) → a ≡ true → b ≡ true → (a && b) ≡ true
-joined a b e f = ap (λ c. c && b) e ∙ f
-
 pub rows_sound : (kind : ImportKind) (rows : List ImportRow) → list_all (is_row_of kind) rows ≡ true → list_all is_sound_row rows ≡ true
 rows_sound kind [] is = refl
 rows_sound kind (put ∷ rows) is =
-    let all = both (is_row_of kind put) (list_all (is_row_of kind) rows) is in
-    joined (is_sound_row put) (list_all is_sound_row rows) (row_sound kind put all.0) (rows_sound kind rows all.1)
+    let all = and_parts (is_row_of kind put) (list_all (is_row_of kind) rows) is in
+    and_from (is_sound_row put) (list_all is_sound_row rows) (row_sound kind put all.0) (rows_sound kind rows all.1)
 
 -- the row at a place is sound
 pub sound_at : (rows : List ImportRow) (i : ℕ) (put : ImportRow) → slice_get rows i ≡ Some put → list_all is_sound_row rows ≡ true → is_sound_row put ≡ true

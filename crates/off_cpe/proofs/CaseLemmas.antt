@@ -1,7 +1,5 @@
 -- What is decided by a part of the rules is what is decided by all.
-use Rattle.std.proofs.Common.{◌≡◌, ℕ, Bool, true, false, cond, List, [], ◌∷◌, ◌++◌, Option, Some, None, option_and_then, refl, sym, ap, ◌∙◌}
-use Rattle.std.proofs.lemmas.Bool.{and_parts}
-use Rattle.std.specs.List.{list_all}
+use Rattle.std.proofs.Common.{◌≡◌, ℕ, Bool, true, false, cond, [], ◌∷◌, ◌++◌, Option, Some, None, option_and_then, refl, sym, ap, ◌∙◌}
 use Rattle.off_base.specs.declared.addresses.Ip4.{Ip4}
 use Rattle.off_base.specs.declared.macs.Mac.{Mac}
 use Rattle.off_defs.specs.declared.tables.DeviceHold.TheVariants.{Offered}
@@ -10,32 +8,17 @@ use Rattle.off_defs.specs.State.{Tables}
 use Rattle.off_dhcp.specs.Datagram.{Received}
 use Rattle.off_account_rules.specs.Rows.{passes, device_in, device_pools}
 use Rattle.off_asking.specs.Asking.{client, is_discover, is_request, is_decline}
-use Rattle.off_asking.specs.Choice.{pool_among}
+use Rattle.off_asking.specs.Choice.{pool_among, for_some}
 use Rattle.off_asking.specs.Claims.{refused_by}
+use Rattle.off_asking.proofs.ClaimLemmas.{refused_none, refused_some, refused_passes}
 use Rattle.off_cpe_rules.specs.Behind.{device_case, chosen_in}
 use Rattle.off_cpe_rules.specs.Rules.{early, late, rules_for}
-use Rattle.off_cpe_rules.specs.Steps.{is_live_bound, own_drop, own_elsewhere, device_row, for_some, reply_for, settled, settled_in, step_behind, accepts, offers, acknowledges, declines, releases, refuses, reply_to_refused, step_by, unless_refused}
+use Rattle.off_cpe_rules.specs.Steps.{is_live_bound, own_drop, own_elsewhere, device_row, reply_for, settled, settled_in, step_behind, accepts, offers, acknowledges, declines, releases, refuses, reply_to_refused, step_by, unless_refused}
 use Rattle.off_cpe_rules.specs.declared.cases.DeviceCase.{DeviceCase}
 use Rattle.off_cpe_rules.specs.declared.results.DeviceStep.{DeviceStep}
 use Rattle.off_cpe_rules.specs.declared.words.DeviceWord.{DeviceWord}
 use Rattle.off_cpe_rules.specs.declared.words.DeviceWord.TheVariants as word
 use Rattle.off_cpe.specs.Stages.{own_rules, row_rules}
-
-pub refused_none : (xs ys : List (DeviceWord × Bool)) → refused_by xs ≡ None → refused_by (xs ++ ys) ≡ refused_by ys
-refused_none [] ys none = refl
-refused_none (x ∷ xs) ys none =
-    elim x.1 as (λ b. cond b (Some x.0) (refused_by xs) ≡ None → cond b (Some x.0) (refused_by (xs ++ ys)) ≡ refused_by ys) [
-      | true ↦ λ e. cc
-      | false ↦ λ e. refused_none xs ys e
-    ] none
-
-refused_some : (xs ys : List (DeviceWord × Bool)) (w : DeviceWord) → refused_by xs ≡ Some w → refused_by (xs ++ ys) ≡ Some w
-refused_some [] ys w some = cc
-refused_some (x ∷ xs) ys w some =
-    elim x.1 as (λ b. cond b (Some x.0) (refused_by xs) ≡ Some w → cond b (Some x.0) (refused_by (xs ++ ys)) ≡ Some w) [
-      | true ↦ λ e. e
-      | false ↦ λ e. refused_some xs ys w e
-    ] some
 
 -- who is refused by what it says itself gets no reply
 abbrev silent : DeviceWord → Bool
@@ -46,13 +29,8 @@ silent_reply : (m : Received) (c : DeviceCase) (w : DeviceWord) → silent w ≡
 silent_reply m c word.NotYours is = cc
 silent_reply m c w is = refl
 
-silent_of : (rules : List (DeviceWord × Bool)) (w : DeviceWord) → list_all (λ rule. silent rule.0) rules ≡ true → refused_by rules ≡ Some w → silent w ≡ true
-silent_of [] w all e = cc
-silent_of ((v, true) ∷ rules) w all e = let same : v ≡ w = cc in ap silent (sym same) ∙ (and_parts (silent v) (list_all (λ rule. silent rule.0) rules) all).0
-silent_of ((v, false) ∷ rules) w all e = silent_of rules w (and_parts (silent v) (list_all (λ rule. silent rule.0) rules) all).1 e
-
 own_refuses : (m : Received) (c : DeviceCase) (w : DeviceWord) → refused_by (own_rules m) ≡ Some w → step_by w [] None ≡ refuses m c w
-own_refuses m c w broken = ap (step_by w []) (sym (silent_reply m c w (silent_of (own_rules m) w refl broken)))
+own_refuses m c w broken = ap (step_by w []) (sym (silent_reply m c w (refused_passes silent (own_rules m) w refl broken)))
 
 -- the early rules, in their two parts
 early_broken : (m : Received) (c : DeviceCase) (w : DeviceWord) → refused_by (own_rules m) ≡ None → refused_by (row_rules m c) ≡ Some w → refused_by (early m c) ≡ Some w

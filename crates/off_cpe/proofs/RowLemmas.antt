@@ -1,5 +1,5 @@
 -- The rows that are read for a message are those by which it's judged.
-use Rattle.std.proofs.Common.{◌≡◌, ◌==◌, ℕ, Bool, true, cond, not, ◌&&◌, ◌||◌, is_some, Option, Some, None, IfSome, option_map, option_and_then, refl, sym, ap, subst, ◌∙◌, arith}
+use Rattle.std.proofs.Common.{◌≡◌, ℕ, true, cond, not, ◌&&◌, ◌||◌, is_some, Option, Some, None, IfSome, option_map, option_and_then, refl, sym, ap, subst, ◌∙◌, arith}
 use Rattle.std.proofs.lemmas.Bool.Decides.{nat_tests}
 use Rattle.off_base.specs.declared.addresses.Ip4.{Ip4}
 use Rattle.off_base.specs.declared.macs.Mac.{Mac}
@@ -14,7 +14,8 @@ use Rattle.off_outside.specs.KeeperCalls.{Reads}
 use Rattle.off_outside.proofs.KeeperLemmas.{reads_then}
 use Rattle.off_asking.specs.Asking.{ip, client, is_discover, is_request, is_release}
 use Rattle.off_asking.specs.Choice.{pool_among}
-use Rattle.off_cpe_rules.specs.Behind.{is_another, named_modem, modem_for, recorded_modem, is_live_bound, own_among, others_among, device_case}
+use Rattle.off_cpe_rules.specs.Behind.{is_another, named_modem, modem_for, recorded_modem, own_among, others_among, device_case}
+use Rattle.off_account_rules.specs.Good.{is_live_bound}
 use Rattle.off_cpe_rules.specs.declared.cases.DeviceCase.{DeviceCase}
 use Rattle.off_cpe.specs.declared.modems.FoundModem.{FoundModem}
 use Rattle.off_cpe.specs.Stages.{IsFound}

@@ -16,14 +16,15 @@ use Rattle.off_asking.specs.Asking.{client, is_discover, is_request, is_decline,
 use Rattle.off_asking.specs.Claims.{is_served, has_no_form, refused_by, claims_own, claims_in_pool, lacks_record, claims_wrongly}
 use Rattle.off_behind.specs.Neighbours.{is_elsewhere, elsewhere}
 use Rattle.off_cpe_rules.specs.Rules.{early, late, rules_for}
-use Rattle.off_cpe_rules.specs.Steps.{is_live_bound, device_row, own_drop, own_elsewhere, for_some, offered, bound, settled, accepts, refuses, offers, acknowledges, declines, releases, unless_refused}
+use Rattle.off_cpe_rules.specs.Steps.{is_live_bound, device_row, own_drop, own_elsewhere, offered, bound, settled, accepts, refuses, offers, acknowledges, declines, releases, unless_refused}
+use Rattle.off_asking.specs.Choice.{for_some}
 use Rattle.off_cpe_rules.specs.declared.cases.DeviceCase.{DeviceCase}
 use Rattle.off_cpe_rules.specs.declared.results.DeviceStep.{DeviceStep}
 use Rattle.off_cpe_rules.specs.declared.words.DeviceWord.{DeviceWord}
 use Rattle.off_cpe_rules.specs.declared.words.DeviceWord.TheVariants as word
 use Rattle.off_cpe.specs.Calls.{most_elsewhere}
 use Rattle.off_cpe.specs.Stages.{row_rules}
-use Rattle.off_cpe.proofs.CaseLemmas.{refused_none}
+use Rattle.off_asking.proofs.ClaimLemmas.{refused_none}
 
 abbrev pub IsFew : DeviceStep → Type 0
 IsFew step = length step.writes ≤ 2

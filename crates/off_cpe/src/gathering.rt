@@ -8,7 +8,8 @@ ghost use Rattle.off_account_rules.specs.Rows.{modem_in, subscriber_in, lease_in
 ghost use Rattle.off_asking.specs.Asking.{client};
 ghost use Rattle.off_asking.specs.Choice.{pool_among};
 ghost use Rattle.off_behind.specs.Neighbours.{AreNeighbours};
-ghost use Rattle.off_cpe_rules.specs.Behind.{is_bound, is_live_bound, device_case};
+ghost use Rattle.off_cpe_rules.specs.Behind.{device_case};
+ghost use Rattle.off_account_rules.specs.Good.{is_bound, is_live_bound};
 ghost use Rattle.off_runs.specs.Held.{KeepsPools};
 ghost use Rattle.off_runs.specs.Leases.{ground};
 ghost use Rattle.off_device_runs.specs.Ground.{device_ground};

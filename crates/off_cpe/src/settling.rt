@@ -5,7 +5,8 @@ ghost use Rattle.off_asking.specs.Asking.{client};
 ghost use Rattle.off_asking.specs.Claims.{refused_by};
 ghost use Rattle.off_cpe_rules.specs.Rules.{early};
 ghost use Rattle.off_cpe_rules.specs.Steps.{settled, accepts, refuses, reply_to_refused};
-ghost use Rattle.off_cpe_rules.specs.Steps.{step_by, for_some, offered, bound, set_aside};
+ghost use Rattle.off_cpe_rules.specs.Steps.{step_by, offered, bound, set_aside};
+ghost use Rattle.off_asking.specs.Choice.{for_some};
 ghost use Rattle.off_cpe_rules.specs.Steps.{given_up, offers, acknowledges, declines, releases};
 ghost use Rattle.off_cpe.specs.Stages.{HasGoodPool};
 

@@ -9,17 +9,18 @@ use Rattle.off_defs.specs.State.{Tables}
 use Rattle.off_dhcp.specs.Datagram.{Received}
 use Rattle.off_account_rules.specs.Rows.{device_in, device_pools, devices}
 use Rattle.off_asking.specs.Asking.{client, claimed, named_address, at_address, is_discover, is_request, is_decline, is_release, gives_back}
-use Rattle.off_asking.specs.Choice.{pool_among, choice_by}
+use Rattle.off_asking.specs.Choice.{pool_among, choice_by, for_some}
 use Rattle.off_asking.specs.Claims.{is_served, claims_own, claims_in_pool, refused_by}
 use Rattle.off_lease_laws.proofs.Tests.{held_claim, second_false}
 use Rattle.off_cpe_rules.specs.Behind.{is_free, own_among, device_case, chosen_in}
 use Rattle.off_cpe_rules.specs.Rules.{rules_for}
-use Rattle.off_cpe_rules.specs.Steps.{offered, bound, set_aside, given_up, for_some, offers, acknowledges, declines, releases, accepts, unless_refused, settled, step_behind}
+use Rattle.off_cpe_rules.specs.Steps.{offered, bound, set_aside, given_up, offers, acknowledges, declines, releases, accepts, unless_refused, settled, step_behind}
 use Rattle.off_cpe_rules.specs.declared.cases.DeviceCase.{DeviceCase}
 use Rattle.off_cpe_rules.specs.declared.results.DeviceStep.{DeviceStep}
 use Rattle.off_cpe_rules.specs.declared.words.DeviceWord.{DeviceWord}
 use Rattle.off_cpe_rules.specs.declared.words.DeviceWord.TheVariants as word
 use Rattle.off_cpe_laws.proofs.RuleLemmas.{unbroken}
+use Rattle.off_cpe_laws.proofs.WriteLemmas.{chosen_fits}
 
 -- by the pool of the message, and the address that is the device's own
 pub data Aims (t : Tables) (now : ℕ) (modem : Mac) (m : Received) (among : Option Pool) (own : Option Ip4) (step : DeviceStep) : Type 0 where
@@ -126,11 +127,8 @@ chooses_in : (t : Tables) (now : ℕ) (m : Received) (c : DeviceCase) → is_dis
     → chosen_in t now m c ≡ option_and_then (λ (pool : Pool). choice_by (is_free t now pool) pool c.own (at_address (named_address m))) c.pool
 chooses_in t now m c d = ap (λ b. cond b (option_and_then (λ (pool : Pool). choice_by (is_free t now pool) pool c.own (at_address (named_address m))) c.pool) (claimed m)) d
 
-claims_in : (t : Tables) (now : ℕ) (m : Received) (c : DeviceCase) → is_discover m ≡ false → chosen_in t now m c ≡ claimed m
-claims_in t now m c d = ap (λ b. cond b (option_and_then (λ (pool : Pool). choice_by (is_free t now pool) pool c.own (at_address (named_address m))) c.pool) (claimed m)) d
-
 pub aims : (t : Tables) (now : ℕ) (m : Received) (modem : Mac) → Aims t now modem m (pool_among (device_pools t) m) (own_among modem (client m) (devices t)) (step_behind t now m modem)
 unfolding step_behind device_case
 aims t now m modem =
     let c = device_case t now m modem in
-    settled_aims t now modem m c (chosen_in t now m c) (chooses_in t now m c) (claims_in t now m c)
+    settled_aims t now modem m c (chosen_in t now m c) (chooses_in t now m c) (chosen_fits t now m c)

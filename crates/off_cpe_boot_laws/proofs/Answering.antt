@@ -1,5 +1,5 @@
 -- What a device is offered or acknowledged, by the turn that took its message.
-use Rattle.std.proofs.Common.{◌≡◌, ◌⊎◌, inl, inr, ℕ, ◌<◌, ◌==◌, true, false, cond, List, [], Option, Some, None, option_map, option_and_then, Ok, refl, sym, ap, subst, ◌∙◌, arith}
+use Rattle.std.proofs.Common.{◌≡◌, ◌⊎◌, inl, inr, ℕ, ◌<◌, ◌==◌, true, false, cond, List, [], Option, Some, None, option_and_then, Ok, refl, sym, ap, subst, ◌∙◌, arith}
 use Rattle.std.proofs.lemmas.Bool.{and_parts, and_from, leb-true, le-leb, ltb-true}
 use Rattle.off_base.specs.declared.addresses.Ip4.{Ip4}
 use Rattle.off_base.specs.declared.macs.Mac.{Mac}
@@ -25,24 +25,21 @@ use Rattle.off_asking.specs.Asking.{client, named_address, at_address}
 use Rattle.off_asking.specs.Choice.{choice_by}
 use Rattle.off_query_laws.proofs.KindLemmas.{no_query}
 use Rattle.off_cpe_rules.specs.Behind.{has_ended, is_free, is_live, own_among, modem_behind}
-use Rattle.off_cpe_rules.specs.Steps.{lease_for, own_elsewhere, is_bound, is_live_bound, offered, step_behind, device_step}
+use Rattle.off_cpe_rules.specs.Steps.{lease_for, own_elsewhere, is_bound, is_live_bound, offered, step_behind}
 use Rattle.off_cpe_laws.proofs.WriteLemmas.{the_own}
-use Rattle.off_book.specs.Dhcp.{MessageDid, DatagramDid, DhcpDid, device_read, device_of, device_effect}
+use Rattle.off_book.specs.Dhcp.{MessageDid, DatagramDid, DhcpDid, device_effect}
 use Rattle.off_book.specs.Step.{Step, Does}
 use Rattle.off_book.specs.Run.{Turn, effect_of}
 use Rattle.off_laws.specs.Leases.{TakesMessage, moment_of}
+use Rattle.off_boot_laws.proofs.Messages.{right_server}
+use Rattle.off_laws.proofs.Devices.{device_is}
 use Rattle.off_cpe_boot_laws.specs.Stages.{device_until, IsFreeForAny, DevicesAreOffered, DevicesAreAcknowledged}
 use Rattle.off_cpe_boot_laws.proofs.Behind.{is_behind}
 use Rattle.off_cpe_boot_laws.proofs.Owning.{own_is, given_here}
 use Rattle.off_cpe_boot_laws.proofs.Choosing.{chosen_opens, own_chosen, is_chosen}
-use Rattle.off_cpe_boot_laws.proofs.Messages.{known_of, discover_is, request_is, right_server}
+use Rattle.off_cpe_boot_laws.proofs.Messages.{known_of, discover_is, request_is}
 
 -- ---- the turn does what the message asks
-
-pub device_is : (t : Tables) (now : ℕ) (bytes : List ℕ) (m : Received) (modem : Mac) → message_of bytes ≡ Ok m → modem_behind t m ≡ Some modem
-    → device_of t now bytes ≡ Some (step_behind t now m modem)
-unfolding device_of device_step
-device_is t now bytes m modem read behind = ap (device_read t now) read ∙ ap (option_map (step_behind t now m)) behind
 
 device_did : (s : State) (bytes : List ℕ) (effect : Effect) (m : Received) (modem : Mac) → message_of bytes ≡ Ok m → (m.kind == 10) ≡ false → modem_behind s.tables m ≡ Some modem
     → DhcpDid s bytes effect → effect ≡ device_effect s (step_behind s.tables s.held.now m modem)

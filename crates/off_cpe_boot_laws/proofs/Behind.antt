@@ -11,7 +11,7 @@ use Rattle.off_defs.specs.State.{Tables}
 use Rattle.off_dhcp.specs.Datagram.{Received, mac_of_client}
 use Rattle.off_account_rules.specs.Rows.{modem_in, device_in}
 use Rattle.off_account_rules.specs.Good.{is_mac, device_owner}
-use Rattle.off_table_laws.proofs.Judging.{mac_same, mac_own}
+use Rattle.off_account_rules.proofs.OwnerLemmas.{mac_same, mac_own}
 use Rattle.off_table_laws.proofs.TableLaws.{device_owned}
 use Rattle.off_asking.specs.Asking.{ip, mac, client, is_request, is_release, relay_parts, value_in, remote_identifier, relayed, six_bytes}
 use Rattle.off_asking.specs.Choice.{provided}

@@ -16,7 +16,7 @@ use Rattle.off_laws.specs.Leases.{moment_of}
 use Rattle.off_laws.proofs.StepLaws.{moment_is_greatest, step_good}
 use Rattle.off_laws.proofs.RunLaws.{run_keeps_good}
 use Rattle.off_boot_laws.specs.Went.{GoesWell, Anyhow}
-use Rattle.off_boot_laws.proofs.Booting.{SoWell}
+use Rattle.off_boot_laws.proofs.Booting.{SoWell, second_place}
 use Rattle.off_boot_laws.proofs.Went.{well_at}
 use Rattle.off_cpe_boot_laws.specs.Known.{AreFewOthers, IsOfDevice, IsBelowLimit}
 use Rattle.off_cpe_boot_laws.specs.Limit.{NeverMayHaveMore}
@@ -53,9 +53,6 @@ module _ (s : State) (m : Received) (turn : Turn) (d : DeviceDiscovers s m turn)
   own_after = ap (option_and_then (λ (lease : DeviceLease). device_owner lease.hold)) leased.is ∙ leased.owned
 
 -- ---- who asks is bound
-
-second_place : (before between : List Turn) (a b : Turn) (later : List Turn) → before ++ a ∷ (between ++ b ∷ later) ≡ (before ++ a ∷ between) ++ b ∷ later
-second_place before between a b later = sym (append_assoc before (a ∷ between) (b ∷ later))
 
 module _ (Well : Turn → Type 0) (s : State) (turns : List Turn) (good : Good s.tables) (so : SoWell Well turns) (c : DeviceCourse s turns)
     (m n : Received) (sender : client n ≡ client m) where

@@ -25,7 +25,7 @@ use Rattle.off_orders.specs.declared.rules.Rule.{Rule}
 use Rattle.off_defs.specs.State.{Tables}
 use Rattle.off_defs.specs.Tables.{row_at, write_all}
 use Rattle.off_orders.specs.Sound.{is_sound, is_removable}
-use Rattle.off_account_rules.specs.Rows.{possible, seen_at, as_device, device_in, device_pool_in, batch_in, devices}
+use Rattle.off_account_rules.specs.Rows.{seen_at, device_in, device_pool_in, batch_in, devices}
 use Rattle.off_account_rules.specs.Good.{Good}
 use Rattle.off_account_rules.specs.Changes.{gives_up}
 use Rattle.off_orders.specs.Clerk.{Refusal, Decision, Accepted, accepted, by_rule, shown_as, shown, limit, rules_of, removal_rules, writes_of, removal_writes, lost_leases, lost_devices, is_live_device, lease_drops, device_drop, pool_has_devices, row_writes, row_breaks, then_writes, unless_broken, rows_written, batch_row, imported_as, import_decided, decided, stepped_by, clerk_step}
@@ -39,14 +39,12 @@ use Rattle.off_table_laws.proofs.Judging.{good_rows}
 use Rattle.off_table_laws.proofs.PoolLemmas.{set_pool, set_hub}
 use Rattle.off_order_laws.proofs.LostLeases.{rows_append, drops_other, is_other}
 use Rattle.off_order_laws.proofs.DevicePools.{set_device_pool, devices_left}
-use Rattle.off_order_laws.proofs.ClerkSteps.{hub_written, unbroken, not_mapped}
-use Rattle.off_cpe_laws.proofs.RowLemmas.{device_listed}
+use Rattle.off_order_laws.proofs.ClerkSteps.{hub_written, unbroken}
+use Rattle.off_tree.proofs.GoodLemmas.{not_mapped}
+use Rattle.off_cpe_laws.proofs.RowLemmas.{device_listed, device_read}
 use Rattle.off_book.specs.Http.{answer_result, answer_command, answer_request}
 use Rattle.off_laws.proofs.Requests.{MayBe, request_may}
 use Rattle.off_laws.proofs.Answers.{step_tables}
-
-abbrev device_read : Ip4 → Option Row → Option DeviceLease
-device_read address o = option_and_then as_device (possible (key.Device address) o)
 
 module _ (address : Ip4) where
   -- writes that leave the row of the lease, over these rows, or over all

@@ -2,8 +2,7 @@
 use Rattle.std.proofs.Common.{◌≡◌, ◌≢◌, ◌≤◌, ◌+◌, Bool, true, cond, length, List, [], ◌∷◌, inl, inr, sym, ap, ◌∙◌, arith}
 use Rattle.std.specs.List.{AllByRecursion, count_by}
 use Rattle.off_base.specs.declared.addresses.Ip4.{Ip4}
-use Rattle.off_table_laws.proofs.ListLemmas.{In}
-use Rattle.off_cpe_laws.proofs.CountLemmas.{count_first}
+use Rattle.off_table_laws.proofs.ListLemmas.{In, count_first}
 use Rattle.off_cpe_boot_laws.specs.Known.{Differ}
 
 -- a list without one of its elements

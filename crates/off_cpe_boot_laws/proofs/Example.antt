@@ -36,8 +36,9 @@ use Rattle.off_book.specs.Step.{Step}
 use Rattle.off_book.specs.Run.{Turn, effect_of, marked}
 use Rattle.off_laws.specs.Leases.{TakesMessage, moment_of}
 use Rattle.off_boot_laws.specs.Went.{GoesWell}
-use Rattle.off_laws.proofs.Devices.{row_aside}
+use Rattle.off_laws.proofs.Devices.{row_aside, device_is}
 use Rattle.off_laws.proofs.StepLaws.{moment_is_greatest, step_good}
+use Rattle.off_boot_laws.proofs.Booting.{no_turn}
 use Rattle.off_cpe_boot_laws.specs.Known.{IsBehind, IsOfAnother, AreFewOthers, IsOfDevice, IsBelowLimit}
 use Rattle.off_cpe_boot_laws.specs.Stages.{device_until, DeviceDiscovers, DeviceRequests}
 use Rattle.off_cpe_boot_laws.specs.Limit.{NeverMayHaveMore}
@@ -45,7 +46,7 @@ use Rattle.off_cpe_boot_laws.specs.Example.{site, subscriber, modem, modem_row, 
 use Rattle.off_cpe_boot_laws.proofs.Behind.{is_behind}
 use Rattle.off_cpe_boot_laws.proofs.Owning.{given_here, given_other}
 use Rattle.off_cpe_boot_laws.proofs.Messages.{known_of, discover_is}
-use Rattle.off_cpe_boot_laws.proofs.Answering.{device_is, device_acts, devices_are_acknowledged}
+use Rattle.off_cpe_boot_laws.proofs.Answering.{device_acts, devices_are_acknowledged}
 use Rattle.off_cpe_boot_laws.proofs.ExampleRows.{all_rows, row_is, tables_are_good}
 
 -- ---- what the messages say
@@ -203,10 +204,6 @@ alone_again now x other =
           other.apart (ap (λ (w : Mac × Mac). w.1) pair)
       | inr aside ↦ let both : None ≡ Some other.lease = sym (others_again x aside) ∙ other.lease_is in cc
     ]
-
-no_turn : (before later : List Turn) (turn : Turn) → [] ≡ before ++ turn ∷ later → ⊥
-no_turn [] later turn e = cc
-no_turn (first ∷ before) later turn e = cc
 
 -- the subscriber may have two
 subscriber_there : (n : ℕ) (one : Subscriber) → n ≡ 7 → subscriber_in tables n ≡ Some one → one.cpes ≤ 2

@@ -18,7 +18,7 @@ use Rattle.off_defs.specs.Tables.{write_all}
 use Rattle.off_dhcp.specs.Datagram.{Received}
 use Rattle.off_account_rules.specs.Rows.{passes, subscriber_in, modem_in, device_in, device_pools, devices}
 use Rattle.off_account_rules.specs.Good.{Good, is_mac, device_owner}
-use Rattle.off_table_laws.proofs.Judging.{mac_own}
+use Rattle.off_account_rules.proofs.OwnerLemmas.{mac_own}
 use Rattle.off_table_laws.proofs.TableLaws.{device_owned, one_address_a_device}
 use Rattle.off_asking.specs.Asking.{client}
 use Rattle.off_asking.specs.Choice.{pool_among}

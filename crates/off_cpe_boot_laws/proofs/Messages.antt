@@ -1,5 +1,5 @@
 -- No rule refuses the DISCOVER or the REQUEST of a device that may have an address: so it's offered, or acknowledged.
-use Rattle.std.proofs.Common.{◌≡◌, ◌⊎◌, inl, inr, ℕ, ◌<◌, true, false, not, ◌&&◌, Option, Some, None, option_and_then, refl, ap, subst, ◌∙◌}
+use Rattle.std.proofs.Common.{◌≡◌, ℕ, ◌<◌, true, false, not, ◌&&◌, Option, Some, None, option_and_then, refl, ap, subst, ◌∙◌}
 use Rattle.std.proofs.lemmas.Bool.{and_from, eq-eqb, lt-leb, lt-ltb}
 use Rattle.off_base.specs.declared.addresses.Ip4.{Ip4}
 use Rattle.off_base.specs.declared.macs.Mac.{Mac}
@@ -11,14 +11,13 @@ use Rattle.off_defs.specs.declared.tables.Lease.{Lease}
 use Rattle.off_defs.specs.State.{Tables}
 use Rattle.off_dhcp.specs.Datagram.{Received}
 use Rattle.off_account_rules.specs.Rows.{passes, site_of, subscriber_in, modem_in, lease_in, held_in, device_in, device_pools, devices, has_address}
-use Rattle.off_account_rules.specs.Good.{Good, owner_of, is_address}
-use Rattle.off_asking.specs.Asking.{client, claimed, form_of, named_address, named_server, at_address, is_selecting}
+use Rattle.off_account_rules.specs.Good.{Good, owner_of, is_address, is_live_bound}
+use Rattle.off_asking.specs.Asking.{client, claimed, form_of, named_address, at_address, is_selecting}
 use Rattle.off_asking.specs.Choice.{pool_among, choice_by}
-use Rattle.off_asking.specs.Claims.{is_another, names_another_server, claims_own, claims_wrongly, refused_by}
-use Rattle.off_asking.specs.declared.forms.Named.TheVariants.{Absent, At}
+use Rattle.off_asking.specs.Claims.{names_another_server, claims_own, claims_wrongly, refused_by}
 use Rattle.off_asking.proofs.ClaimLemmas.{none_broken}
 use Rattle.off_lease_laws.proofs.GoodLemmas.{good_agree}
-use Rattle.off_cpe_rules.specs.Behind.{is_free, is_live_bound, is_online, own_among, others_among, device_case, chosen_in}
+use Rattle.off_cpe_rules.specs.Behind.{is_free, is_online, own_among, others_among, device_case, chosen_in}
 use Rattle.off_cpe_rules.specs.Rules.{rules_for}
 use Rattle.off_cpe_rules.specs.Steps.{offers, acknowledges, accepts, unless_refused, settled, settled_in, step_behind}
 use Rattle.off_cpe_rules.specs.declared.cases.DeviceCase.{DeviceCase}
@@ -114,10 +113,6 @@ module _ (t : Tables) (now : ℕ) (modem : Mac) where
       (discover_of m)
 
 -- ---- a REQUEST
-
-pub right_server : (m : Received) (site : Site) → (named_server m ≡ Absent) ⊎ (named_server m ≡ At site.server) → names_another_server m site ≡ false
-right_server m site (inl none) = ap (λ n. passes (is_another site) (at_address n)) none
-right_server m site (inr own) = ap (λ n. passes (is_another site) (at_address n)) own ∙ ap not (eq-eqb site.server.0 site.server.0 refl)
 
 module _ (t : Tables) (now : ℕ) (modem : Mac) where
   own_claim : (m : Received) (pool : Pool) (a : Ip4) → claimed (of_kind 3 m) ≡ Some a → has_address pool a ≡ true → claims_wrongly (of_kind 3 m) (Some a) (Some pool) ≡ false

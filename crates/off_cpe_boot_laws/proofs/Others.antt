@@ -8,10 +8,9 @@ use Rattle.off_defs.specs.declared.tables.DeviceLease.{DeviceLease}
 use Rattle.off_defs.specs.State.{Tables}
 use Rattle.off_account_rules.specs.Rows.{passes, device_in, devices}
 use Rattle.off_account_rules.specs.Good.{is_mac, is_same_owner, device_owner}
-use Rattle.off_table_laws.proofs.ListLemmas.{In, Distinct}
-use Rattle.off_table_laws.proofs.Judging.{mac_same, owner_own}
+use Rattle.off_table_laws.proofs.ListLemmas.{In, Distinct, count_first}
+use Rattle.off_account_rules.proofs.OwnerLemmas.{mac_same, owner_own}
 use Rattle.off_cpe_rules.specs.Behind.{is_live, is_owned, is_behind, is_other, others_among}
-use Rattle.off_cpe_laws.proofs.CountLemmas.{count_first}
 use Rattle.off_cpe_laws.proofs.RowLemmas.{distinct_devices, listed_device}
 use Rattle.off_cpe_boot_laws.specs.Known.{IsOfAnother, Differ, AreFewOthers}
 

@@ -12,7 +12,7 @@ use Rattle.off_account_rules.specs.Rows.{passes, device_in, devices}
 use Rattle.off_account_rules.specs.Good.{is_same_owner}
 use Rattle.off_table_laws.specs.Laws.{device_owner_in, OneAddress}
 use Rattle.off_table_laws.proofs.ListLemmas.{some_found}
-use Rattle.off_table_laws.proofs.Judging.{owner_own}
+use Rattle.off_account_rules.proofs.OwnerLemmas.{owner_own}
 use Rattle.off_table_laws.proofs.TableLaws.{device_owned}
 use Rattle.off_cpe_rules.specs.Behind.{is_owned, own_among}
 use Rattle.off_cpe_rules.specs.Steps.{own_drop}

@@ -1,5 +1,5 @@
 -- What a turn makes of a device's lease that lasts.
-use Rattle.std.proofs.Common.{◌≡◌, inl, inr, ℕ, ◌<◌, true, false, List, Option, Some, option_and_then, Result, Ok, refl, sym, ap, subst, ◌∙◌, arith}
+use Rattle.std.proofs.Common.{◌≡◌, inl, inr, ℕ, ◌<◌, true, false, List, Some, Result, Ok, refl, sym, ap, subst, ◌∙◌, arith}
 use Rattle.off_base.specs.declared.addresses.Ip4.{Ip4}
 use Rattle.off_base.specs.declared.addresses.Peer.{Peer}
 use Rattle.off_base.specs.declared.macs.Mac.{Mac}
@@ -8,13 +8,12 @@ use Rattle.off_defs.specs.declared.events.What.TheVariants.{Datagram}
 use Rattle.off_defs.specs.declared.keys.Key.TheVariants as key
 use Rattle.off_defs.specs.declared.writes.Write.{Write}
 use Rattle.off_defs.specs.declared.results.Outcome.{Outcome}
-use Rattle.off_defs.specs.declared.tables.Row.{Row}
 use Rattle.off_defs.specs.declared.tables.DeviceLease.{DeviceLease}
 use Rattle.off_defs.specs.State.{Tables, State, Effect, at_moment}
 use Rattle.off_defs.specs.Tables.{write_all}
 use Rattle.off_dhcp.specs.declared.faults.DhcpFault.{DhcpFault}
 use Rattle.off_dhcp.specs.Datagram.{Received, message_of}
-use Rattle.off_account_rules.specs.Rows.{possible, as_device, device_in}
+use Rattle.off_account_rules.specs.Rows.{device_in}
 use Rattle.off_account_rules.specs.Good.{Good, device_owner}
 use Rattle.off_asking.specs.Asking.{client}
 use Rattle.off_lease_rules.specs.Steps.{step_of, dhcp_step}
@@ -29,6 +28,7 @@ use Rattle.off_book.specs.Step.{Step}
 use Rattle.off_book.specs.Run.{Turn, effect_of}
 use Rattle.off_laws.specs.Leases.{TakesMessage, moment_of}
 use Rattle.off_laws.proofs.Ways.{Way, stays, serves, forgets, hears, answers, messages, devices, way}
+use Rattle.off_cpe_laws.proofs.RowLemmas.{device_read}
 use Rattle.off_cpe_boot_laws.specs.Known.{IsBehind}
 use Rattle.off_cpe_boot_laws.specs.Waiting.{ServesDevice, GivesUp, DeviceKeeps}
 use Rattle.off_cpe_boot_laws.proofs.Behind.{behind_is}
@@ -36,9 +36,6 @@ use Rattle.off_cpe_boot_laws.proofs.Fates as fates
 use Rattle.off_cpe_boot_laws.proofs.Clerks.{request_becomes}
 
 -- a modem's message leaves the rows of devices
-abbrev device_read : Ip4 → Option Row → Option DeviceLease
-device_read address o = option_and_then as_device (possible (key.Device address) o)
-
 message_leaves : (t : Tables) (now : ℕ) (read : Result Received DhcpFault) (address : Ip4) → device_in (write_all t (step_of t now read).writes) address ≡ device_in t address
 message_leaves t now (Ok m) address = ap (device_read address) (others_stay t now m (key.Device address) (λ e. omega (arith, e)) (λ e. omega (arith, e)))
 message_leaves t now read address = refl

@@ -7,19 +7,16 @@ use Rattle.std.specs.FinMap as map
 use Rattle.std.specs.FinMap.Entries as list
 use Rattle.off_account_rules.specs.Rows.{passes}
 use Rattle.std.proofs.lemmas.List.Sums.{sum_by-cons}
-use Rattle.off_table_laws.proofs.ListLemmas.{In, Distinct, counted_none}
+use Rattle.off_table_laws.proofs.ListLemmas.{In, Distinct, counted_none, count_first}
 
 module _ {A : Type 0} (p : A → Bool) where
-  pub count_first : (y : A) (ys : List A) → count_by p (y ∷ ys) ≡ cond (p y) 1 0 + count_by p ys
-  count_first y ys = sum_by-cons (λ x. cond (p x) 1 0) y ys
-
   -- fewer elements count no more
   pub count_kept : (f : A → Bool) (xs : List A) → count_by p (filter f xs) ≤ count_by p xs
   count_kept f [] = omega arith
   count_kept f (x ∷ xs) =
       elim (f x) as (λ b. count_by p (cond b (x ∷ filter f xs) (filter f xs)) ≤ count_by p (x ∷ xs)) [
-        | true ↦ omega (arith, count_kept f xs, count_first x (filter f xs), count_first x xs)
-        | false ↦ omega (arith, count_kept f xs, count_first x xs)
+        | true ↦ omega (arith, count_kept f xs, count_first p x (filter f xs), count_first p x xs)
+        | false ↦ omega (arith, count_kept f xs, count_first p x xs)
       ]
 
   -- where any two that count are one, one counts at most
@@ -29,11 +26,11 @@ module _ {A : Type 0} (p : A → Bool) where
       elim (p y) as (λ b. p y ≡ b → count_by p (y ∷ ys) ≤ 1) [
         | true ↦ λ e.
             let none : count_by p ys ≡ 0 = counted_none p ys (λ x i t. d.0 (subst (λ (w : A). In w ys) (one x y (inr i) (inl refl) t e) i)) in
-            let first : count_by p (y ∷ ys) ≡ 1 + count_by p ys = count_first y ys ∙ ap (λ b. cond b 1 0 + count_by p ys) e in
+            let first : count_by p (y ∷ ys) ≡ 1 + count_by p ys = count_first p y ys ∙ ap (λ b. cond b 1 0 + count_by p ys) e in
             omega arith
         | false ↦ λ e.
             let rest : count_by p ys ≤ 1 = count_one ys d.1 (λ x z i j. one x z (inr i) (inr j)) in
-            let first : count_by p (y ∷ ys) ≡ 0 + count_by p ys = count_first y ys ∙ ap (λ b. cond b 1 0 + count_by p ys) e in
+            let first : count_by p (y ∷ ys) ≡ 0 + count_by p ys = count_first p y ys ∙ ap (λ b. cond b 1 0 + count_by p ys) e in
             omega arith
       ] refl
 
@@ -41,7 +38,7 @@ module _ {A : Type 0} (p : A → Bool) where
   pub count_split : (r q : A → Bool) → ((x : A) → cond (p x) 1 0 ≡ cond (r x) 1 0 + cond (q x) 1 0) → (xs : List A) → count_by p xs ≡ count_by r xs + count_by q xs
   count_split r q each [] = refl
   count_split r q each (x ∷ xs) =
-      omega (arith, count_first x xs, each x, count_split r q each xs, sum_by-cons (λ y. cond (r y) 1 0) x xs, sum_by-cons (λ y. cond (q y) 1 0) x xs)
+      omega (arith, count_first p x xs, each x, count_split r q each xs, sum_by-cons (λ y. cond (r y) 1 0) x xs, sum_by-cons (λ y. cond (q y) 1 0) x xs)
 
 -- a count of what is made of elements
 pub count_made : {A B : Type 0} (f : A → Option B) (p : B → Bool) (xs : List A) → count_by p (filter_map f xs) ≡ count_by (λ x. passes p (f x)) xs

@@ -1,6 +1,6 @@
 -- The limit of devices behind a modem.
 use Rattle.std.proofs.Common.{◌≡◌, ◌≤◌, ◌<◌, ◌⊎◌, ℕ, ◌+◌, Bool, true, false, cond, not, ◌&&◌, ◌||◌, leb, Option, Some, None, option_and_then, List, [], ◌∷◌, ◌++◌, inl, inr, refl, sym, ap, subst, ◌∙◌, arith, true≢false}
-use Rattle.std.proofs.lemmas.Bool.{and_parts, leb-false}
+use Rattle.std.proofs.lemmas.Bool.{and_parts, leb-false, and_right}
 use Rattle.std.specs.Prelude.{nat_le}
 use Rattle.std.specs.List.{count_by}
 use Rattle.off_base.specs.declared.addresses.Ip4.{Ip4}
@@ -29,13 +29,9 @@ use Rattle.off_table_laws.specs.Laws.{device_owner_in, OneAddress}
 use Rattle.off_cpe_laws.specs.Laws.{after_step, OthersDontGrow, LimitHolds}
 use Rattle.off_cpe_laws.proofs.CountLemmas.{count_split, count_one}
 use Rattle.off_cpe_laws.proofs.RowLemmas.{count_with, count_without, distinct_devices, listed_device}
-use Rattle.off_table_laws.proofs.Judging.{owner_own, owner_same}
+use Rattle.off_account_rules.proofs.OwnerLemmas.{owner_own, owner_found}
 use Rattle.off_cpe_laws.proofs.RuleLemmas.{unbroken, refusals}
 use Rattle.off_cpe_laws.proofs.WriteLemmas.{nothing, gives, rests, frees, wrote, one_address_stays}
-
-and_false : (b : Bool) → (b && false) ≡ false
-and_false true = refl
-and_false false = refl
 
 module _ (now : ℕ) (modem device : Mac) where
   abbrev other : Ip4 × DeviceLease → Bool
@@ -44,7 +40,7 @@ module _ (now : ℕ) (modem device : Mac) where
   -- a lease of the device itself isn't another's, and one without an owner isn't
   own_no_other : (a : Ip4) (lease : DeviceLease) → device_owner lease.hold ≡ Some (modem, device) → other (a, lease) ≡ false
   own_no_other a lease is =
-      ap (λ b. is_behind modem lease && (not b && is_live now lease)) (ap (passes (is_same_owner (modem, device))) is ∙ owner_own (modem, device)) ∙ and_false (is_behind modem lease)
+      ap (λ b. is_behind modem lease && (not b && is_live now lease)) (ap (passes (is_same_owner (modem, device))) is ∙ owner_own (modem, device)) ∙ and_right (is_behind modem lease) false refl
 
   none_no_other : (a : Ip4) (lease : DeviceLease) → device_owner lease.hold ≡ None → other (a, lease) ≡ false
   none_no_other a lease is = ap (λ (o : Option (Mac × Mac)). passes (λ (w : Mac × Mac). is_mac modem w.0) o && (not (is_owned modem device lease) && is_live now lease)) is
@@ -86,17 +82,13 @@ module _ (now : ℕ) (modem device : Mac) where
   split : (xs : List (Ip4 × DeviceLease)) → behind_among now modem xs ≡ others_among now modem device xs + count_by mine xs
   split xs = count_split (λ (e : Ip4 × DeviceLease). is_behind modem e.1 && is_live now e.1) (other now modem device) mine (λ e. by_owner (device_owner e.1.hold) (is_live now e.1)) xs
 
-  owner_of_entry : (o : Option (Mac × Mac)) → passes (is_same_owner (modem, device)) o ≡ true → o ≡ Some (modem, device)
-  owner_of_entry None e = cc
-  owner_of_entry (Some w) e = ap Some (sym (owner_same (modem, device) w e))
-
   one_mine : (u : Tables) → OneAddress u → count_by mine (devices u) ≤ 1
   one_mine u one =
       count_one mine (devices u) (distinct_devices u) (λ x y i j p q.
       let f = listed_device u x.0 x.1 i in
       let g = listed_device u y.0 y.1 j in
-      let a : device_owner_in u x.0 ≡ Some (modem, device) = ap (option_and_then (λ (l : DeviceLease). device_owner l.hold)) f ∙ owner_of_entry (device_owner x.1.hold) (and_parts (is_owned modem device x.1) (is_live now x.1) p).0 in
-      let b : device_owner_in u y.0 ≡ Some (modem, device) = ap (option_and_then (λ (l : DeviceLease). device_owner l.hold)) g ∙ owner_of_entry (device_owner y.1.hold) (and_parts (is_owned modem device y.1) (is_live now y.1) q).0 in
+      let a : device_owner_in u x.0 ≡ Some (modem, device) = ap (option_and_then (λ (l : DeviceLease). device_owner l.hold)) f ∙ owner_found (device_owner x.1.hold) (modem, device) (and_parts (is_owned modem device x.1) (is_live now x.1) p).0 in
+      let b : device_owner_in u y.0 ≡ Some (modem, device) = ap (option_and_then (λ (l : DeviceLease). device_owner l.hold)) g ∙ owner_found (device_owner y.1.hold) (modem, device) (and_parts (is_owned modem device y.1) (is_live now y.1) q).0 in
       let same : x.0 ≡ y.0 = one x.0 y.0 (modem, device) a b in
       let both : Some x.1 ≡ Some y.1 = sym f ∙ ap (device_in u) same ∙ g in
       let lease : x.1 ≡ y.1 = cc in

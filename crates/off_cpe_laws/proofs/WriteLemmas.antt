@@ -1,6 +1,6 @@
 -- What a message writes, in four ways, and that a device keeps one address by each.
 use Rattle.std.proofs.Common.{◌≡◌, ℕ, Bool, true, false, cond, not, ◌&&◌, ◌||◌, eqb, Option, Some, None, is_none, option_map, option_and_then, List, [], ◌∷◌, ◌++◌, ◌⊎◌, inl, inr, refl, sym, ap, subst, ◌∙◌, true≢false}
-use Rattle.std.proofs.lemmas.Bool.{and_parts, or_parts, eqb-true}
+use Rattle.std.proofs.lemmas.Bool.{and_parts, or_parts, eqb-true, not-false}
 use Rattle.std.specs.List.{find}
 use Rattle.std.specs.Option.{option_or}
 use Rattle.off_base.specs.declared.addresses.Ip4.{Ip4}
@@ -17,20 +17,20 @@ use Rattle.off_defs.specs.Tables.{with_row, without, write_all}
 use Rattle.off_dhcp.specs.Datagram.{Received}
 use Rattle.off_account_rules.specs.Rows.{passes, has_address, device_in, device_pools, devices}
 use Rattle.off_account_rules.specs.Good.{is_address, is_same_owner, device_owner}
-use Rattle.off_asking.specs.Choice.{addresses, least_of, provided, choice_by, pool_among}
+use Rattle.off_asking.specs.Choice.{addresses, least_of, provided, choice_by, pool_among, for_some}
 use Rattle.off_asking.specs.Asking.{named_address, at_address, client, claimed, form_of, is_selecting, is_discover, is_request, is_decline, is_release, gives_back}
 use Rattle.off_asking.specs.Claims.{claims_own, claims_in_pool, refused_by}
 use Rattle.off_defs.specs.declared.tables.Pool.{Pool}
 use Rattle.off_cpe_rules.specs.Behind.{has_ended, is_free, is_owned, own_among, device_case, chosen_in}
 use Rattle.off_cpe_rules.specs.Rules.{rules_for}
-use Rattle.off_cpe_rules.specs.Steps.{lease_for, own_drop, own_elsewhere, is_live_bound, for_some, bound, accepts, offers, acknowledges, declines, releases, settled, step_behind, unless_refused}
+use Rattle.off_cpe_rules.specs.Steps.{lease_for, own_drop, own_elsewhere, is_live_bound, bound, accepts, offers, acknowledges, declines, releases, settled, step_behind, unless_refused}
 use Rattle.off_cpe_rules.specs.declared.cases.DeviceCase.{DeviceCase}
 use Rattle.off_cpe_rules.specs.declared.results.DeviceStep.{DeviceStep}
 use Rattle.off_table_laws.specs.Laws.{device_owner_in, OneAddress}
 use Rattle.off_cpe_laws.specs.Laws.{OneAddressStays, after_step}
 use Rattle.off_table_laws.proofs.ListLemmas.{none_found, found_passes}
 use Rattle.off_cpe_laws.proofs.RowLemmas.{is_ip, same_ip, own_ip, device_with, device_without, device_listed, listed_device}
-use Rattle.off_table_laws.proofs.Judging.{owner_own, owner_same}
+use Rattle.off_account_rules.proofs.OwnerLemmas.{owner_own, owner_found}
 use Rattle.off_table_laws.proofs.TableLaws.{device_owned}
 use Rattle.off_cpe_laws.proofs.RuleLemmas.{unbroken}
 
@@ -145,10 +145,6 @@ module _ (now : ℕ) (modem : Mac) (m : Received) (c : DeviceCase) (chosen : Opt
                   ] refl
             ] refl
       ] refl
-    where
-      not-false : (b : Bool) → not b ≡ false → b ≡ true
-      not-false true e = refl
-      not-false false e = cc
 
   settled_wrote : W (settled now modem m c chosen lease)
   unfolding settled
@@ -196,17 +192,13 @@ module _ (t : Tables) (modem device : Mac) where
   pub the_own : (y : Ip4) → own ≡ Some y → device_owner_in t y ≡ Some (modem, device)
   the_own y is = by_found (find (λ (entry : Ip4 × DeviceLease). is_owned modem device entry.1) (devices t)) refl is
     where
-      owner_of_entry : (o : Option (Mac × Mac)) → passes (is_same_owner (modem, device)) o ≡ true → o ≡ Some (modem, device)
-      owner_of_entry None e = cc
-      owner_of_entry (Some owner) e = ap Some (sym (owner_same (modem, device) owner e))
-
       by_found : (o : Option (Ip4 × DeviceLease)) → find (λ (entry : Ip4 × DeviceLease). is_owned modem device entry.1) (devices t) ≡ o
           → option_map (λ (entry : Ip4 × DeviceLease). entry.0) o ≡ Some y → device_owner_in t y ≡ Some (modem, device)
       by_found None f e = cc
       by_found (Some entry) f e =
           let there = found_passes (λ (other : Ip4 × DeviceLease). is_owned modem device other.1) (devices t) entry f in
           let same : entry.0 ≡ y = cc in
-          ap (device_owner_in t) (sym same) ∙ ap (option_and_then (λ (lease : DeviceLease). device_owner lease.hold)) (listed_device t entry.0 entry.1 there.0) ∙ owner_of_entry (device_owner entry.1.hold) there.1
+          ap (device_owner_in t) (sym same) ∙ ap (option_and_then (λ (lease : DeviceLease). device_owner lease.hold)) (listed_device t entry.0 entry.1 there.0) ∙ owner_found (device_owner entry.1.hold) (modem, device) there.1
 
 owner_with : (t : Tables) (a : Ip4) (lease : DeviceLease) (x : Ip4) → device_owner_in (with_row t (key.Device a) (row.Device lease)) x ≡ cond (is_ip a x) (device_owner lease.hold) (device_owner_in t x)
 owner_with t a lease x =

@@ -10,7 +10,8 @@ use Rattle.off_defs.specs.declared.tables.DeviceHold.TheVariants.{Declined}
 use Rattle.off_defs.specs.State.{Tables}
 use Rattle.off_account_rules.specs.Rows.{modem_in, lease_in, held_in, device_in}
 use Rattle.off_asking.specs.Asking.{ip, relayed}
-use Rattle.off_cpe_rules.specs.Behind.{is_another, modem_for, modem_behind, is_live_bound, is_online}
+use Rattle.off_cpe_rules.specs.Behind.{is_another, modem_for, modem_behind, is_online}
+use Rattle.off_account_rules.specs.Good.{is_live_bound}
 use Rattle.off_cpe_rules.proofs.Office.{address, mac, modem, device, direct, through, said, asked, lease_by, offered_to, bound_to}
 
 -- the modem that each of these options 82 names

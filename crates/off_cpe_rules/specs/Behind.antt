@@ -1,19 +1,16 @@
 -- Which modem a device is behind (RFC 3046 section 3.2: the remote identifier of option 82), and
 -- the leases of devices. All rows are read by kind: an impossible one is one that isn't there.
-use Rattle.std.specs.Prelude.{ℕ, Bool, true, false, not, ◌&&◌, ◌||◌, nat_le, nat_lt, List, Option, Some, None, is_some, is_err, option_map, option_and_then, if◌then◌else◌}
+use Rattle.std.specs.Prelude.{ℕ, Bool, true, not, ◌&&◌, ◌||◌, nat_le, nat_lt, List, Option, Some, None, is_some, is_err, option_map, option_and_then, if◌then◌else◌}
 use Rattle.std.specs.List.{find, count_by}
 use Rattle.std.specs.Str.{bytes_eq}
 use Rattle.off_base.specs.declared.addresses.Ip4.{Ip4}
 use Rattle.off_base.specs.declared.macs.Mac.{Mac}
 use Rattle.off_defs.specs.declared.tables.Pool.{Pool}
-use Rattle.off_defs.specs.declared.tables.Hold.{Hold}
-use Rattle.off_defs.specs.declared.tables.Hold.TheVariants as modem
-use Rattle.off_defs.specs.declared.tables.Lease.{Lease}
 use Rattle.off_defs.specs.declared.tables.DeviceLease.{DeviceLease}
 use Rattle.off_defs.specs.State.{Tables}
 use Rattle.off_dhcp.specs.Datagram.{Received, mac_of_client}
 use Rattle.off_account_rules.specs.Rows.{passes, site_of, subscriber_in, modem_in, lease_in, held_in, device_in, device_pools, devices, has_address}
-use Rattle.off_account_rules.specs.Good.{is_mac, device_owner, is_same_owner}
+use Rattle.off_account_rules.specs.Good.{is_mac, device_owner, is_same_owner, is_live_bound}
 use Rattle.off_asking.specs.Asking.{ip, client, is_request, is_release, relay_parts, relayed}
 use Rattle.off_asking.specs.Choice.{provided, pool_among, chosen_by}
 use Rattle.off_cpe_rules.specs.declared.cases.DeviceCase.{DeviceCase}
@@ -90,13 +87,6 @@ behind_among now modem leases =
     count_by (λ entry. is_behind modem entry.1 && is_live now entry.1) leases
 
 -- ---- the modem's own lease: a modem is online while it's bound to an address
-
-abbrev pub is_bound : Hold → Bool
-is_bound (modem.Bound mac) = true
-is_bound hold = false
-
-abbrev pub is_live_bound : ℕ → Lease → Bool
-is_live_bound now lease = is_bound lease.hold && nat_lt now lease.expiry.0
 
 abbrev pub is_online : Tables → ℕ → Mac → Bool
 is_online tables now modem =

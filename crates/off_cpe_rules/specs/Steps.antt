@@ -18,7 +18,7 @@ use Rattle.off_dhcp.specs.Datagram.{Received}
 use Rattle.off_account_rules.specs.Rows.{passes, device_in}
 use Rattle.off_account_rules.specs.Good.{is_address}
 use Rattle.off_asking.specs.Asking.{client, is_discover, is_request, is_decline}
-use Rattle.off_asking.specs.Choice.{provided}
+use Rattle.off_asking.specs.Choice.{provided, for_some}
 use Rattle.off_asking.specs.Claims.{refused_by}
 use Rattle.off_asking.specs.Sending.{nak_to, offer_named, reply_to}
 use Rattle.off_cpe_rules.specs.Behind.{is_live, modem_behind, device_case, chosen_in}
@@ -95,10 +95,6 @@ reply_to_refused m c word = None
 
 abbrev pub refuses : Received → DeviceCase → DeviceWord → DeviceStep
 refuses m c word = step_by word [] (reply_to_refused m c word)
-
-abbrev pub for_some : {X : Type 0} → (X → List Write) → Option X → List Write
-for_some writes None = []
-for_some writes (Some x) = writes x
 
 abbrev pub offers : ℕ → Mac → Received → DeviceCase → Option Ip4 → Option DeviceLease → DeviceStep
 offers now modem m c chosen lease =

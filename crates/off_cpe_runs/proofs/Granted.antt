@@ -1,5 +1,5 @@
 -- A line that tells of an address for a device is that of a device's message, and of no other event.
-use Rattle.std.proofs.Common.{◌≡◌, ◌⊎◌, inl, inr, ℕ, Bool, true, false, ◌==◌, ◌&&◌, if◌then◌else◌, decimal, List, [], ◌∷◌, ◌++◌, Option, Some, None, codes, nat_eq, true≢false, refl, sym, ap, ◌∙◌}
+use Rattle.std.proofs.Common.{◌≡◌, ◌⊎◌, inl, inr, ℕ, Bool, true, false, ◌==◌, ◌&&◌, List, [], ◌∷◌, Option, Some, None, codes, nat_eq, true≢false, refl, sym, ap, ◌∙◌}
 use Rattle.std.specs.Prelude.{slice_index, bytes_eq}
 use Rattle.std.specs.List.{find}
 use Rattle.off_base.specs.declared.addresses.Peer.{Peer}
@@ -23,7 +23,7 @@ use Rattle.off_transfer_rules.specs.declared.ticks.Ticked.{Ticked}
 use Rattle.off_book.specs.Dhcp.{MessageDid, DatagramDid, device_of, device_effect, device_line, dhcp_line, query_line}
 use Rattle.off_book.specs.Http.{by_meaning, is_full, TakesPiece}
 use Rattle.off_book.specs.Step.{Does}
-use Rattle.off_laws.proofs.Lines.{other_byte, line_is}
+use Rattle.off_laws.proofs.Lines.{other_byte, line_is, tick_text}
 use Rattle.off_laws.proofs.Acknowledged.{devices_say_none}
 use Rattle.off_cpe_runs.specs.Holding.{Grants}
 
@@ -107,11 +107,8 @@ pub same_grants : (one other : List ℕ) → one ≡ other → Grants one → Gr
 same_grants one other is (inl e) = inl (sym is ∙ e)
 same_grants one other is (inr e) = inr (sym is ∙ e)
 
-tick_text : Bool → Ticked → List ℕ
-tick_text silent ticked = if silent then [] else codes "tick again " ++ decimal ticked.again ++ codes " closed " ++ decimal ticked.closed
-
 no_tick_line : (silent : Bool) (ticked : Ticked) → looks_so (tick_text silent ticked) ≡ false
-unfolding looks_so tick_text
+unfolding looks_so
 no_tick_line true ticked = refl
 no_tick_line false ticked = refl
 
@@ -150,7 +147,7 @@ module _ (s : State) where
   piece_other conn piece effect false takes grants = meaning_other conn _ effect takes.meaning takes.does grants
 
   pub does_granted : (what : What) (outcome : Outcome) (effect : Effect) → Does s what outcome effect → Grants effect.said.line → WasGranted s what outcome effect
-  unfolding looks_so tick_text
+  unfolding looks_so
   does_granted (Datagram Dhcp from bytes) Did effect p grants = datagram_granted from bytes effect (query_of bytes) p grants
   does_granted (Datagram Dhcp from bytes) Memory effect p grants = absurd (other_line effect.said.line _ (line_is effect _ p) refl grants)
   does_granted (Datagram Dhcp from bytes) Keeper effect p grants = absurd (other_line effect.said.line _ (line_is effect _ p) refl grants)

@@ -1,5 +1,5 @@
 -- A turn that took a message of a device leaves every row but leases of devices.
-use Rattle.std.proofs.Common.{◌≡◌, ℕ, true, false, List, Option, Some, None, option_map, Ok, refl, ap, subst, ◌∙◌}
+use Rattle.std.proofs.Common.{◌≡◌, ℕ, true, false, List, Option, Some, None, Ok, refl, ap, subst, ◌∙◌}
 use Rattle.off_base.specs.declared.addresses.Peer.{Peer}
 use Rattle.off_base.specs.declared.macs.Mac.{Mac}
 use Rattle.off_defs.specs.declared.events.Service.TheVariants.{Dhcp}
@@ -9,24 +9,19 @@ use Rattle.off_defs.specs.declared.keys.Key.{Key}
 use Rattle.off_defs.specs.declared.keys.Key.TheVariants as key
 use Rattle.off_defs.specs.declared.results.Outcome.{Outcome}
 use Rattle.off_defs.specs.declared.results.Outcome.TheVariants.{Did, Memory, Keeper}
-use Rattle.off_defs.specs.State.{Tables, State, Effect, at_moment}
+use Rattle.off_defs.specs.State.{State, Effect, at_moment}
 use Rattle.off_defs.specs.Tables.{row_at}
 use Rattle.off_dhcp.specs.Datagram.{Received, message_of}
 use Rattle.off_order_laws.proofs.DevicePools.{is_no_device}
 use Rattle.off_query_rules.specs.Asked.{query_of}
 use Rattle.off_cpe_rules.specs.Behind.{modem_behind}
-use Rattle.off_cpe_rules.specs.Steps.{step_behind, device_step}
-use Rattle.off_book.specs.Dhcp.{MessageDid, DatagramDid, device_read, device_of, device_effect}
+use Rattle.off_cpe_rules.specs.Steps.{step_behind}
+use Rattle.off_book.specs.Dhcp.{MessageDid, DatagramDid, device_effect}
 use Rattle.off_book.specs.Step.{Step, Does}
 use Rattle.off_book.specs.Run.{effect_of}
-use Rattle.off_laws.proofs.Devices.{row_aside}
+use Rattle.off_laws.proofs.Devices.{row_aside, device_is}
 use Rattle.off_cpe_runs.specs.Holding.{is_device}
 use Rattle.off_cpe_runs.specs.Laws.{DevicesLeaveOthers}
-
-device_is : (t : Tables) (now : ℕ) (bytes : List ℕ) (m : Received) (modem : Mac) → message_of bytes ≡ Ok m → modem_behind t m ≡ Some modem
-    → device_of t now bytes ≡ Some (step_behind t now m modem)
-unfolding device_of device_step
-device_is t now bytes m modem read behind = ap (device_read t now) read ∙ ap (option_map (step_behind t now m)) behind
 
 no_device : (q : Key) → is_device q ≡ false → is_no_device q ≡ true
 unfolding is_no_device

@@ -14,6 +14,10 @@ grew_later p q = record { later = omega arith; grew = omega arith }
 pub later_grew : {n a b c : ℕ} → a ≤ b → Grew n b c → Grew n a c
 later_grew p q = record { later = omega arith; grew = omega arith }
 
+-- beside another count, which stays
+pub grew_beside : (n x y own same : ℕ) → Grew n x y → same ≡ own → Grew n (x + own) (y + same)
+grew_beside n x y own same grew is = record { later = omega (arith, grew.later, is); grew = omega (arith, grew.later, grew.grew, is) }
+
 pub tallied_none : (a : ℕ) → Tallied 0 a a
 tallied_none a = record { grew = grew_self a; stands = λ none. refl }
 

@@ -1,5 +1,5 @@
 -- Entries in order: what stands at a key's place, and what an insertion and a removal there make. For any keys, values and order.
-use Rattle.std.proofs.Common.{◌≡◌, ℕ, zero, suc, ◌+◌, ◌<◌, false, cond, not, T, List, [], ◌∷◌, ◌++◌, length, slice_index_or, slice_set, take, drop, Option, Some, None, refl, sym, ap, ◌∙◌, subst, arith}
+use Rattle.std.proofs.Common.{◌≡◌, ℕ, zero, suc, ◌+◌, ◌<◌, false, cond, not, T, List, [], ◌∷◌, ◌++◌, length, slice_index_or, slice_set, take, drop, Option, Some, None, refl, sym, ap, ◌∙◌, subst, arith, one-add}
 use Rattle.std.specs.List.{prefix_len}
 use Rattle.std.specs.Cmp.{IsTotalOrder}
 use Rattle.std.specs.Ordering.{is_gt, is_eq, eq_by_cmp}
@@ -7,9 +7,6 @@ use Rattle.std.specs.declared.cmp.Ordering.{Ordering}
 use Rattle.std.specs.declared.cmp.Ordering.TheVariants.{Less, Equal, Greater}
 use Rattle.std.specs.FinMap.Entries.{find, put, by_order, where_key, below_all, is_sorted}
 use Rattle.off_defs.proofs.EntryLemmas.{is_less, holds, first, second}
-
-one_more : (n : ℕ) → suc n ≡ 1 + n
-one_more n = omega arith
 
 pub lower : {K : Type 0} (R : K → K → Ordering) → IsTotalOrder R → (k key : K) (r : Ordering) → R k key ≡ r → is_gt r ≡ false → (other : K) → R key other ≡ Less → R k other ≡ Less
 lower R total k key Less is low other p = total.trans k key other is p
@@ -51,7 +48,7 @@ module _ {K X : Type 0} (R : K → K → Ordering) (k : K) where
       ≡ take (cond (is_gt r) (1 + place es) 0) (e ∷ es) ++ put_at v (drop (cond (is_gt r) (1 + place es) 0) (e ∷ es))) [
         | Less ↦ λ p. ap (λ r. cond (is_eq r) ((e.0, v) ∷ es) ((k, v) ∷ e ∷ es)) (sym p)
         | Equal ↦ λ p. ap (λ r. cond (is_eq r) ((e.0, v) ∷ es) ((k, v) ∷ e ∷ es)) (sym p)
-        | Greater ↦ λ p. subst (λ n. e ∷ put R k v es ≡ take n (e ∷ es) ++ put_at v (drop n (e ∷ es))) (one_more (place es)) (ap (λ (x : List (K × X)). e ∷ x) (put_there v es))
+        | Greater ↦ λ p. subst (λ n. e ∷ put R k v es ≡ take n (e ∷ es) ++ put_at v (drop n (e ∷ es))) (sym (one-add (place es))) (ap (λ (x : List (K × X)). e ∷ x) (put_there v es))
       ] refl
 
   module _ (total : IsTotalOrder R) where
@@ -74,7 +71,7 @@ module _ {K X : Type 0} (R : K → K → Ordering) (k : K) where
         elim (R k e.0) as (λ r. R k e.0 ≡ r → cond (is_eq r) (Some e.1) (find R k es) ≡ value_at (drop (cond (is_gt r) (1 + place es) 0) (e ∷ es))) [
           | Less ↦ λ p. none_above e.0 Less p refl es (first _ _ h) ∙ ap (λ r. cond (is_eq r) (Some e.1) None) (sym p)
           | Equal ↦ λ p. ap (λ r. cond (is_eq r) (Some e.1) None) (sym p)
-          | Greater ↦ λ p. subst (λ n. find R k es ≡ value_at (drop n (e ∷ es))) (one_more (place es)) (found_there es (second _ _ h))
+          | Greater ↦ λ p. subst (λ n. find R k es ≡ value_at (drop n (e ∷ es))) (sym (one-add (place es))) (found_there es (second _ _ h))
         ] refl
 
     pub removed_there : (es : List (K × X)) → T (is_sorted R es) → where_key R (λ x. not (eq_by_cmp R k x)) es ≡ take (place es) es ++ less_at (drop (place es) es)
@@ -84,5 +81,5 @@ module _ {K X : Type 0} (R : K → K → Ordering) (k : K) where
         ≡ take (cond (is_gt r) (1 + place es) 0) (e ∷ es) ++ less_at (drop (cond (is_gt r) (1 + place es) 0) (e ∷ es))) [
           | Less ↦ λ p. ap (λ (x : List (K × X)). e ∷ x) (all_above e.0 Less p refl es (first _ _ h)) ∙ ap (λ r. cond (is_eq r) es (e ∷ es)) (sym p)
           | Equal ↦ λ p. all_above e.0 Equal p refl es (first _ _ h) ∙ ap (λ r. cond (is_eq r) es (e ∷ es)) (sym p)
-          | Greater ↦ λ p. subst (λ n. e ∷ where_key R (λ x. not (eq_by_cmp R k x)) es ≡ take n (e ∷ es) ++ less_at (drop n (e ∷ es))) (one_more (place es)) (ap (λ (x : List (K × X)). e ∷ x) (removed_there es (second _ _ h)))
+          | Greater ↦ λ p. subst (λ n. e ∷ where_key R (λ x. not (eq_by_cmp R k x)) es ≡ take n (e ∷ es) ++ less_at (drop n (e ∷ es))) (sym (one-add (place es))) (ap (λ (x : List (K × X)). e ∷ x) (removed_there es (second _ _ h)))
         ] refl

@@ -1,5 +1,5 @@
 -- Laws of the tables: what a write makes of a row and of the entries, and how a walk goes on.
-use Rattle.std.proofs.Common.{◌≡◌, true, cond, not, Option, Some, None, List, [], ◌∷◌, ap, ◌∙◌}
+use Rattle.std.proofs.Common.{◌≡◌, ℕ, zero, suc, ◌+◌, true, cond, not, Option, Some, None, List, [], ◌∷◌, slice_get, take, ap, ◌∙◌, add-one}
 use Rattle.std.specs.List.{filter}
 use Rattle.std.specs.Ordering.{is_eq, eq_by_cmp}
 use Rattle.std.specs.Cmp.{tied_itself}
@@ -10,7 +10,7 @@ use Rattle.off_defs.specs.declared.tables.Row.{Row}
 use Rattle.off_defs.specs.declared.writes.Write.{Write}
 use Rattle.off_defs.specs.Keys.{key_cmp}
 use Rattle.off_defs.specs.State.{Tables}
-use Rattle.off_defs.specs.Tables.{with_row, without, row_at, is_after, behind, next_entry, doubt_behind}
+use Rattle.off_defs.specs.Tables.{with_row, without, row_at, written, write_all, is_after, behind, next_entry, doubt_behind}
 use Rattle.off_defs.proofs.KeyLemmas.{key_total, key_exact}
 use Rattle.off_defs.proofs.EntryLemmas.{is_equal, walk_goes, filter_none, entries_left}
 
@@ -57,3 +57,12 @@ next_none place t next = filter_none (is_after place) (map.entries t) next
 pub doubt_more : (writes : List Write) {old new : Type 0} → (new → old) → doubt_behind writes new → doubt_behind writes old
 doubt_more [] more doubt = more doubt
 doubt_more (write ∷ writes) more doubt = doubt
+
+-- the tables behind one write more
+pub written_more : (t : Tables) (ws : List Write) (i : ℕ) (w : Write) → slice_get ws i ≡ Some w → write_all t (take (i + 1) ws) ≡ written (write_all t (take i ws)) w
+written_more t ws i w is = ap (λ n. write_all t (take n ws)) (add-one i) ∙ go t ws i is
+  where
+    go : (b : Tables) (xs : List Write) (k : ℕ) → slice_get xs k ≡ Some w → write_all b (take (suc k) xs) ≡ written (write_all b (take k xs)) w
+    go b [] k e = cc
+    go b (x ∷ xs) zero e = let same : x ≡ w = cc in ap (λ (y : Write). written b y) same
+    go b (x ∷ xs) (suc k) e = go (written b x) xs k e

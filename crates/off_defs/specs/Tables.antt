@@ -22,6 +22,11 @@ with_row tables key row = map.insert tables key row
 abbrev pub without : Tables → Key → Tables
 without tables key = map.remove tables key
 
+-- the key whose row a write changes
+abbrev pub key_written : Write → Key
+key_written (Put key row) = key
+key_written (Drop key) = key
+
 -- the tables after one write
 abbrev pub written : Tables → Write → Tables
 written tables (Put key row) = with_row tables key row

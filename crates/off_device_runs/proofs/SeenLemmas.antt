@@ -22,17 +22,10 @@ use Rattle.off_table_laws.proofs.EntryRows.{row_in, in_row, found_in, in_found}
 use Rattle.off_table_laws.proofs.Judging.{good_rows}
 use Rattle.off_table_laws.proofs.Reading.{device_pool_row, row_device_pool, device_row}
 use Rattle.off_runs.specs.Runs.{address, in_pool}
+use Rattle.off_runs.proofs.SeenLemmas.{number_or, pool_or}
 use Rattle.off_device_runs.specs.Ground.{expiry_of, DevicesMove}
 use Rattle.off_defs.proofs.ListingLemmas.{listed_sorted}
 use Rattle.off_device_runs.proofs.WriteLemmas.{read_pool, pools_written, expiries_written, no_hubs}
-
-abbrev number_or : ℕ → Option (ℕ × Pool) → ℕ
-number_or d None = d
-number_or d (Some e) = e.0
-
-abbrev pool_or : Pool → Option (ℕ × Pool) → Pool
-pool_or d None = d
-pool_or d (Some e) = e.1
 
 -- a pool's entry has its number
 number_of : (k : Key) (held : Row) (n : ℕ) (pool : Pool) → device_pool_of (k, held) ≡ Some (n, pool) → k ≡ key.DevicePool n

@@ -1,6 +1,7 @@
 -- Whether a text has a value, by a walk over its tokens that counts what is open.
 use Rattle.std.proofs.Common.{◌≡◌, ℕ, suc, ◌+◌, ◌-◌, ◌≤◌, ◌<◌, max, Bool, true, false, cond, ◌&&◌, nat_lt, nat_le, List, [], ◌∷◌, ◌++◌, Option, Some, None, option_map, option_and_then, is_some, IsSome, IsTrue, true≢false, refl, sym, ap, ◌∙◌, arith, append_assoc, le-leb}
 use Rattle.std.proofs.lemmas.Bool.Decides.{nat_tests}
+use Rattle.std.proofs.lemmas.Bool.{and_parts}
 use Rattle.json.specs.Token.{Token}
 use Rattle.json.specs.Lex.{tokens}
 use Rattle.json.specs.Json as json
@@ -155,10 +156,6 @@ some_of : {A : Type 0} (o : Option A) → IsSome o → (a : A) × (o ≡ Some a)
 some_of None h = absurd (true≢false (sym h))
 some_of (Some a) h = (a, refl)
 
-both_true : (a b : Bool) → (a && b) ≡ true → (a ≡ true) × (b ≡ true)
-both_true true b e = (refl, e)
-both_true false b e = absurd (cc)
-
 some_true : {A : Type 0} (o : Option A) → is_some o ≡ true → (a : A) × (o ≡ Some a)
 some_true None e = absurd (cc)
 some_true (Some a) e = (a, refl)
@@ -167,7 +164,7 @@ pub convertible : (text : List ℕ) → IsSome (json.document text) → is_some 
     → IsTrue (is_some (value_at (tokens text))) × (read text ≡ Some (data_of (tokens text)))
 convertible text given e =
     let f = some_of (json.document text) given in
-    let parts = both_true (nat_le (0 + tree.depth f.0) max_depth) (is_some (of_json f.0)) (sym (tested text f.0 f.1) ∙ e) in
+    let parts = and_parts (nat_le (0 + tree.depth f.0) max_depth) (is_some (of_json f.0)) (sym (tested text f.0 f.1) ∙ e) in
     let flat : tree.depth f.0 ≤ max_depth = grind (arith, nat_tests, parts.0) in
     let d = some_true (of_json f.0) parts.1 in
     let begins : BeginsWith (tokens text) f.0 = (grammar_depth, [], read_whole text f.0 f.1) in

@@ -1,5 +1,5 @@
 -- One modem of a drill: what each of its events leads to.
-use Rattle.std.proofs.Common.{◌≡◌, ℕ, suc, ◌+◌, ◌<◌, ◌≤◌, Bool, true, false, Result, Ok, Err, MatchResult, List, [], sym, ap, subst, ◌∙◌, inl, arith}
+use Rattle.std.proofs.Common.{◌≡◌, ℕ, suc, ◌+◌, ◌<◌, ◌≤◌, Bool, true, false, Result, Ok, Err, MatchResult, List, [], sym, ap, subst, ◌∙◌, inl, arith, add-one}
 use Rattle.std.proofs.lemmas.Slice.Eq.{bytes_eq-Decides}
 use Rattle.std.specs.Str.{bytes_eq}
 use Rattle.off_defs.specs.declared.events.Event.{Event}
@@ -41,12 +41,9 @@ loses_at_once d k l rests = (
 said_so : (line words : List ℕ) (same : Bool) → same ≡ bytes_eq line words → line ≡ words → same ≡ false → ⊥
 said_so line words same says is never = let sure : bytes_eq line words ≡ true = (bytes_eq-Decides line words).1 is in let f : true ≡ false = sym sure ∙ sym says ∙ never in cc
 
-next_one : (k : ℕ) → k + 1 ≡ suc k
-next_one k = omega arith
-
 module _ (f : ℕ → Event) (k : ℕ) (words : List ℕ) (same : Bool) (d e : Desk) (i j : KeeperSeen) (l m : LinkSeen) (a b : Tally) where
   at_next : TookTurn (f (k + 1)) words same d e i j l m a b → TookTurn (f (suc k)) words same d e i j l m a b
-  at_next one = subst (λ (x : ℕ). TookTurn (f x) words same d e i j l m a b) (next_one k) one
+  at_next one = subst (λ (x : ℕ). TookTurn (f x) words same d e i j l m a b) (add-one k) one
 
 module _ (n k : ℕ) (more : k < n) (few : n ≤ 4000) (same : Bool) (d e : Desk) (i j : KeeperSeen) (l m : LinkSeen) (a b : Tally) where
   pub had_offer : TookTurn (asks_for_offer (k + 1)) offer_line same d e i j l m a b → Exercised n (Waits k) (HasOffer k) d e i j l m a b
@@ -109,7 +106,7 @@ module _ (n k : ℕ) (more : k < n) (few : n ≤ 4000) (same : Bool) (d e : Desk
   pub had_all : (number : ℕ) → TookTurn (acknowledges (k + 1) number) done_line same d e i j l m a b → same ≡ true → Exercised n (Gets k number) (Waits (k + 1)) d e i j l m a b
   had_all number one sure =
       let next = at_next (λ (x : ℕ). acknowledges x number) k done_line same d e i j l m a b one in
-      subst (λ (x : ℕ). Exercised n (Gets k number) (Waits x) d e i j l m a b) (sym (next_one k))
+      subst (λ (x : ℕ). Exercised n (Gets k number) (Waits x) d e i j l m a b) (sym (add-one k))
       (exercised_one n (Gets k number) (Waits (suc k)) (acknowledges (suc k) number) done_line same d e i j l m a b next
       (λ s u stands did. (done_line, end_moves number next.turn.said u sure next.says (gets_moves n k more few number s (effect_of next.turn u) stands did))))
 

@@ -49,8 +49,8 @@ pub record GaveAll (n : ℕ) (given : List Given) : Type 0 where
   pub did : AllGiven given
   pub are : commands_of given ≡ founding n
 
--- How far a drill came that was broken off: `given` were done, and where these are all, `turns` were
--- acted on. Behind them at most one command, or one event, wasn't.
+-- How far a drill came that was broken off: `given` were done, and where these are all, `turns`
+-- were acted on. Behind them at most one command, or one event, wasn't.
 pub record CameSoFar (n : ℕ) (given lost : List Given) (turns tried : List Turn) : Type 0 where
   pub gave : GaveFront (founding n) given lost
   pub did : AllDid turns
@@ -62,7 +62,8 @@ pub record CameSoFar (n : ℕ) (given lost : List Given) (turns tried : List Tur
 -- counts what they said, whatever the tables. The keeper has made one commit for each command and
 -- each turn that wrote anything, and none else. It asks the keeper as often as it takes to open the
 -- tables, once more, and as each command and each event asks; there is no bound of that over any
--- keeper, since a pool that is put, and an address that is asked for, are looked for among the rows.
+-- keeper, since a pool that is put, and an address that is asked for, are looked for among the
+-- rows.
 pub record CameToEnd (n : ℕ) (tally : Tally) (old new : KeeperSeen) (link link' : LinkSeen) :
     Type 0 where
   pub given : List Given

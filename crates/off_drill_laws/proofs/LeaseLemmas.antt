@@ -1,6 +1,6 @@
 -- What the office does with a modem's DISCOVER and with its REQUEST.
-use Rattle.std.proofs.Common.{◌≡◌, ℕ, suc, ◌+◌, ◌-◌, ◌<◌, ◌≤◌, Bool, true, false, cond, not, ◌&&◌, nat_le, leb, eqb, List, [], ◌∷◌, ◌++◌, Option, Some, None, is_some, is_err, Ok, MatchOption, refl, sym, ap, subst, ◌∙◌, inl, inr, arith}
-use Rattle.std.proofs.lemmas.Bool.{cases_lt, le-leb, lt-leb, leb-true, and_parts, and_from, eq-eqb}
+use Rattle.std.proofs.Common.{◌≡◌, ℕ, suc, ◌+◌, ◌-◌, ◌<◌, ◌≤◌, true, false, cond, not, ◌&&◌, nat_le, leb, eqb, List, [], ◌∷◌, ◌++◌, Option, Some, None, is_some, is_err, Ok, MatchOption, refl, sym, ap, subst, ◌∙◌, inl, inr, arith}
+use Rattle.std.proofs.lemmas.Bool.{cases_lt, le-leb, lt-leb, leb-true, and_parts, and_from, eq-eqb, and_right}
 use Rattle.std.proofs.lemmas.Slice.Eq.{bytes_eq-Decides}
 use Rattle.std.proofs.lemmas.Nat.{from_be_bytes-to_be_bytes_4}
 use Rattle.std.specs.Int.{w32, from_be_bytes}
@@ -127,11 +127,7 @@ module _ (n k : ℕ) (more : k < n) (few : n ≤ 4000) where
   taken j first within =
       ap (λ o. has_address pool (address j) && has_ended (moment (suc k)) o) (row_lease (drill_tables n k) (address j) (lease j) (lease_within n k j first within))
       ∙ ap (λ b. has_address pool (address j) && b) (live k j within (omega (arith, more, few)))
-      ∙ never (has_address pool (address j))
-    where
-      never : (b : Bool) → (b && false) ≡ false
-      never true = refl
-      never false = refl
+      ∙ and_right (has_address pool (address j)) false refl
 
   not_below : (a : ℕ) → is_free (drill_tables n k) (moment (suc k)) pool (record { 0 = a }) ≡ true → 0x0a400fff + suc k ≤ a
   not_below a free =

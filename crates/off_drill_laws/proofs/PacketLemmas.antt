@@ -166,7 +166,7 @@ request_says i =
       rest_free = refl;
     }) short
 
-acknowledgement_says : (number : ℕ) → number ≤ 3 → packet_of (acknowledgement number) ≡ Ok (Acknowledges number)
+pub acknowledgement_says : (number : ℕ) → number ≤ 3 → packet_of (acknowledgement number) ≡ Ok (Acknowledges number)
 unfolding packet_of acknowledgement
 acknowledgement_says number few = ap (λ (n : ℕ). Ok (Acknowledges n)) (from_be_bytes-to_be_bytes_2 number (omega (arith, few)))
 

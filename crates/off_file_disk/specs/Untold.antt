@@ -1,5 +1,5 @@
--- What a file shows as a disk: its length, and how many of its calls failed. What it holds, and what
--- a crash leaves of it, isn't told.
+-- What a file shows as a disk: its length, and how many of its calls failed. What it holds, and
+-- what a crash leaves of it, isn't told.
 use Rattle.std.specs.Prelude.{ℕ}
 use Rattle.off_disk.specs.DiskSeen.{DiskSeen}
 

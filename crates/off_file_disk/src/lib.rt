@@ -1,5 +1,5 @@
-//! A disk over a file of the system: how it's opened or made, and its calls. It tells its length and
-//! how often it failed, and nothing of what it holds.
+//! A disk over a file of the system: how it's opened or made, and its calls. It tells its length
+//! and how often it failed, and nothing of what it holds.
 #![tactic(auto)]
 
 mod file_disk;

@@ -1,6 +1,5 @@
 //! How a file is opened as a disk, or made.
 ghost use Rattle.std.specs.Prelude.{◌≡◌, IfOk};
-ghost use Rattle.off_disk.specs.DiskSeen.{DiskSeen};
 
 use crate::file_disk::{FileDisk, MOST_BYTES};
 use off_disk::Disk;
@@ -31,8 +30,8 @@ impl From<io::Error> for DiskErr {
     }
 }
 
-/// Opens the file at a path, or makes it, for this office alone. Who opens it meanwhile by this call
-/// is refused, until the disk is dropped.
+/// Opens the file at a path, or makes it, for this office alone. Who opens it meanwhile by this
+/// call is refused, until the disk is dropped.
 pub fn open_disk(rt: &HostRuntime, path: &str) -> Result<FileDisk, DiskErr>
     ensures { IfOk result (λ disk. (⟦<FileDisk as Disk>⟧.seen disk).faults ≡ 0) }
 {

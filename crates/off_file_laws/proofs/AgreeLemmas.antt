@@ -10,7 +10,7 @@ use Rattle.off_tree.specs.declared.tables.Kind.{Kind}
 use Rattle.off_tree.specs.declared.tables.Kind.TheVariants.{Class, AddOn}
 use Rattle.off_tree.specs.Fault.{as_list, contains, numbers, flow_number, both_directions, classifier_number, named_flow, direction_of}
 use Rattle.off_tree.specs.Good.{times_in, Stands, EachStands, IsServed, GoodSettings}
-use Rattle.off_tree.proofs.ReferenceLemmas.{contains_front, contains_back}
+use Rattle.off_tree.proofs.ReferenceLemmas.{contains_front, contains_back, front_by}
 use Rattle.off_file_rules.specs.Profile.{flow_rise, classifier_rise, raised, all_raised, access, devices, active_profile, profile_of}
 use Rattle.off_file_laws.specs.Laws.{Agree}
 use Rattle.off_tree.proofs.GoodLemmas.{count-cons}
@@ -120,15 +120,11 @@ served_in : (ts all us : List Tree) → Among ts all → AllByRecursion (IsServe
 served_in ts all [] among h = tt
 served_in ts all (u ∷ us) among h = ((λ n e. among (direction_of (code_of u) ∷ []) n (h.0 n e)), served_in ts all us among h.1)
 
-or_on : (b x y : Bool) → (b || x) ≡ true → (x ≡ true → y ≡ true) → (b || y) ≡ true
-or_on true x y h more = refl
-or_on false x y h more = more h
-
 contains_risen : (by n : ℕ) (ns : List ℕ) → contains n ns ≡ true → contains (n + by) (risen by ns) ≡ true
 contains_risen by n [] h = cc
 contains_risen by n (x ∷ xs) h =
     ap (λ (b : Bool). b || contains (n + by) (risen by xs)) (shifted_test x n by)
-    ∙ or_on (eqb x n) (contains n xs) (contains (n + by) (risen by xs)) h (contains_risen by n xs)
+    ∙ front_by (eqb x n) (contains n xs) (contains (n + by) (risen by xs)) h (contains_risen by n xs)
 
 unrisen : (by n : ℕ) (o : Option ℕ) (P : ℕ → Type 0) → option_map (λ (m : ℕ). m + by) o ≡ Some n → ((m : ℕ) → o ≡ Some m → P (m + by)) → P n
 unrisen by n None P e more = cc

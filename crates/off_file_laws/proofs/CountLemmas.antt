@@ -5,19 +5,11 @@ use Rattle.std.specs.List.{AllByRecursion}
 use Rattle.std.proofs.lemmas.Bool.Decides.{nat_tests}
 use Rattle.std.proofs.lemmas.List.{map-append}
 use Rattle.std.proofs.lemmas.List.Sums.{sum_by-append}
+use Rattle.std.proofs.lemmas.Bool.{ltb-true, ltb-false}
 use Rattle.off_base.specs.Tree.{Tree}
 use Rattle.off_tree.specs.Fault.{as_list, numbers}
 use Rattle.off_tree.specs.Good.{times_in}
 use Rattle.off_tree.proofs.GoodLemmas.{count-cons}
-
-pub test_same : (n m : ℕ) → eqb n m ≡ true → n ≡ m
-test_same n m e = grind (arith, nat_tests)
-
-test_lt : (n m : ℕ) → nat_lt n m ≡ true → n < m
-test_lt n m e = grind (arith, nat_tests)
-
-test_ge : (n m : ℕ) → nat_lt n m ≡ false → m ≤ n
-test_ge n m e = grind (arith, nat_tests)
 
 above_test : (m n : ℕ) → n < m → eqb m n ≡ false
 above_test m n lt = grind (arith, nat_tests)
@@ -48,8 +40,8 @@ apart_wider low high lower higher ns l h a =
     record { below = λ n lt. a.below n (omega arith); above = λ n le. a.above n (omega arith); once = a.once }
 
 once_by : (two n x y : ℕ) (b : Bool) → nat_lt n two ≡ b → (two ≤ n → x ≡ 0) → (n < two → y ≡ 0) → x ≤ 1 → y ≤ 1 → x + y ≤ 1
-once_by two n x y true e f g p q = let z : y ≡ 0 = g (test_lt n two e) in omega arith
-once_by two n x y false e f g p q = let z : x ≡ 0 = f (test_ge n two e) in omega arith
+once_by two n x y true e f g p q = let z : y ≡ 0 = g (ltb-true n two e) in omega arith
+once_by two n x y false e f g p q = let z : x ≡ 0 = f (ltb-false n two e) in omega arith
 
 both_none : (n : ℕ) (xs ys : List ℕ) → times_in n xs ≡ 0 → times_in n ys ≡ 0 → times_in n (xs ++ ys) ≡ 0
 both_none n xs ys p q = count-append n xs ys ∙ omega arith
@@ -82,9 +74,9 @@ count_under by n [] lt = refl
 count_under by n (x ∷ xs) lt = not_here n (x + by) (risen by xs) (above_test (x + by) n (omega arith)) (count_under by n xs lt)
 
 risen_by : (by n : ℕ) (ns : List ℕ) (P : ℕ → Type 0) (b : Bool) → nat_lt n by ≡ b → P 0 → ((m : ℕ) → n ≡ m + by → P (times_in m ns)) → P (times_in n (risen by ns))
-risen_by by n ns P true e none more = subst P (sym (count_under by n ns (test_lt n by e))) none
+risen_by by n ns P true e none more = subst P (sym (count_under by n ns (ltb-true n by e))) none
 risen_by by n ns P false e none more =
-    let le : by ≤ n = test_ge n by e in
+    let le : by ≤ n = ltb-false n by e in
     let is : n ≡ (n - by) + by = omega arith in
     subst P (sym (ap (λ (m : ℕ). times_in m (risen by ns)) is ∙ count_risen by (n - by) ns)) (more (n - by) is)
 

@@ -1,5 +1,6 @@
 -- The laws, from rows as they are read.
 use Rattle.std.proofs.Common.{◌≡◌, ℕ, ◌+◌, ◌-◌, ◌%◌, ◌<◌, ◌≤◌, Bool, true, false, cond, List, [], ◌∷◌, ◌++◌, length, take, refl, sym, ap, subst, ◌∙◌, arith, lit≤, Option, Some, None, Ok}
+use Rattle.std.proofs.lemmas.Bool.{and_parts}
 use Rattle.std.specs.Prelude.{◌&&◌, is_none, nat_le, option_map, option_and_then}
 use Rattle.std.specs.List.{filter_map, cons_option, AllByRecursion}
 use Rattle.off_base.specs.Tree.{Tree, spelling, trees_length}
@@ -29,7 +30,7 @@ use Rattle.off_file_rules.specs.Profile.{profile_of, numbered_add_on, add_ons_in
 use Rattle.off_file_rules.specs.File.{stamps, with_stamps, most_file_bytes, IsBuilt}
 use Rattle.off_file_laws.specs.Laws.{Agree, own_codes, ProfilesAgree, ProfilesSpell, SpellsProfile, OwnSettingsOnce, FileIsOne, FileIsThere, FilesAreShort, FilesBoot}
 use Rattle.off_file_laws.proofs.AgreeLemmas.{AllGood, profile_agrees}
-use Rattle.off_file_laws.proofs.ShapeLemmas.{both_right, profile_spells}
+use Rattle.off_file_laws.proofs.ShapeLemmas.{profile_spells}
 use Rattle.off_file_laws.proofs.OwnLemmas.{once_each}
 use Rattle.off_file_laws.proofs.SizeLemmas.{profile_short, file_short}
 
@@ -64,7 +65,7 @@ add_on_by settings found false good e = cc
 add_on_row : (n k : ℕ) (o : Option Row) (found : List Tree) → option_and_then as_add_on (possible (key.AddOn n k) o) ≡ Some found → add_on_is_good found ≡ true
 add_on_row n k None found e = cc
 add_on_row n k (Some (row.AddOn settings)) found e =
-    add_on_by settings found (nat_le k 7 && add_on_is_good settings) (λ both. both_right (nat_le k 7) (add_on_is_good settings) both) e
+    add_on_by settings found (nat_le k 7 && add_on_is_good settings) (λ both. (and_parts (nat_le k 7) (add_on_is_good settings) both).1) e
 add_on_row n k (Some other) found e = cc
 
 -- ---- a subscriber's add-ons

@@ -3,6 +3,7 @@ use Rattle.std.proofs.Common.{◌≡◌, ℕ, ◌+◌, Bool, true, false, cond, 
 use Rattle.std.specs.Prelude.{not}
 use Rattle.std.specs.List.{AllByRecursion, list_all}
 use Rattle.std.proofs.lemmas.List.Elements.{filter-append}
+use Rattle.std.proofs.lemmas.Bool.{eqb-true}
 use Rattle.off_base.specs.Tree.{Tree, leaf, code_of}
 use Rattle.off_base.specs.declared.addresses.Ip4.{Ip4}
 use Rattle.off_mic.specs.Mic.{of_code, cm_mic_of, cmts_mic_of, with_cm, with_both}
@@ -16,7 +17,6 @@ use Rattle.off_tree.specs.Good.{GoodSettings}
 use Rattle.off_file_rules.specs.Profile.{raised, all_raised, access, devices, active_profile, profile_of}
 use Rattle.off_file_rules.specs.File.{stamps, with_stamps}
 use Rattle.off_file_laws.specs.Laws.{own_codes}
-use Rattle.off_file_laws.proofs.CountLemmas.{test_same}
 use Rattle.off_file_laws.proofs.AgreeLemmas.{AllGood, all_join, each_standing}
 use Rattle.off_file_laws.proofs.RaiseLemmas.{code_raised}
 use Rattle.off_file_laws.proofs.ShapeLemmas.{never_stands}
@@ -46,7 +46,7 @@ add_ons_other least (a ∷ adds) good =
 
 skipped : (code : ℕ) (t : Tree) (ts : List Tree) (b : Bool) → eqb (code_of t) code ≡ b → is_own code ≡ true → Other t → of_code code ts ≡ [] → cond b (t ∷ of_code code ts) (of_code code ts) ≡ []
 skipped code t ts true e own other none =
-    let clash : false ≡ true = sym other ∙ ap is_own (test_same (code_of t) code e) ∙ own in
+    let clash : false ≡ true = sym other ∙ ap is_own (eqb-true (code_of t) code e) ∙ own in
     cc
 skipped code t ts false e own other none = none
 

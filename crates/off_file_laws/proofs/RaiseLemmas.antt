@@ -3,6 +3,7 @@ use Rattle.std.proofs.Common.{◌≡◌, ℕ, ◌+◌, ◌*◌, ◌/◌, ◌%◌
 use Rattle.std.specs.Prelude.{option_map, nat_le, IsTrue, ◌&&◌}
 use Rattle.std.specs.List.{AllByRecursion}
 use Rattle.std.proofs.lemmas.Bool.Decides.{nat_tests}
+use Rattle.std.proofs.lemmas.Bool.{eqb-true}
 use Rattle.off_base.specs.Tree.{Tree, Row, leaf, group, no_more, followed, code_of, row_items}
 use Rattle.off_tree.specs.declared.tables.Level.{Level}
 use Rattle.off_tree.specs.declared.tables.Level.TheVariants.{Top, Classifier, UpstreamFlow, DownstreamFlow}
@@ -16,13 +17,13 @@ use Rattle.std.specs.Option.{option_or}
 use Rattle.off_tree.specs.Fault.{contains, value_in, pair, single, flow_number, both_directions, is_classifier, classifier_number, named_flow}
 use Rattle.off_tree.specs.Good.{LeafFits, LeafStands, IsGroup, GroupStands, Stands, EachStands}
 use Rattle.off_file_rules.specs.Profile.{raised_pair, raised_single, flow_rise, classifier_rise, raised_value, raised_parts, raised}
-use Rattle.off_file_laws.proofs.CountLemmas.{Between, test_same}
+use Rattle.off_file_laws.proofs.CountLemmas.{Between}
 
 -- ---- a group's code is one of its table
 
 group_line : (code : ℕ) (rule : Rule) (rules : List Rule) (P : ℕ → Type 0) (b : Bool) → eqb rule.code code ≡ b → GroupStands (or_other (cond b (Some rule) (rule_with code rules)) None)
     → (IsGroup rule.form → P rule.code) → (GroupStands (or_other (rule_with code rules) None) → P code) → P code
-group_line code rule rules P true e g here more = subst P (test_same rule.code code e) (here g)
+group_line code rule rules P true e g here more = subst P (eqb-true rule.code code e) (here g)
 group_line code rule rules P false e g here more = more g
 
 pub group_code : (code : ℕ) (rules : List Rule) (P : ℕ → Type 0) → GroupStands (or_other (rule_with code rules) None) → AllByRecursion (λ rule. IsGroup rule.form → P rule.code) rules → P code
@@ -44,7 +45,7 @@ found_here : (level : Level) (c p : ℕ) (v value : List ℕ) (rest : Option (Li
     → (rest ≡ Some value → LeafStands (rule_of level c) value) → option_or (cond b (Some v) None) rest ≡ Some value → LeafStands (rule_of level c) value
 found_here level c p v value rest true is stands more e =
     let same : v ≡ value = cc in
-    subst (λ (x : ℕ). LeafStands (rule_of level x) value) (test_same p c is) (subst (λ (x : List ℕ). LeafStands (rule_of level p) x) same stands)
+    subst (λ (x : ℕ). LeafStands (rule_of level x) value) (eqb-true p c is) (subst (λ (x : List ℕ). LeafStands (rule_of level p) x) same stands)
 found_here level c p v value rest false is stands more e = more e
 
 -- what is found of a code among good parts is good there
@@ -56,7 +57,7 @@ stands_value level c (followed (group p q) parts) value stands e = stands_value 
 
 raised_here : (k code c p : ℕ) (v : List ℕ) (rest raised_rest : Option (List ℕ)) (b : Bool) → eqb p c ≡ b → raised_rest ≡ option_map (raised_value k code c) rest
     → option_or (cond b (Some (raised_value k code p v)) None) raised_rest ≡ option_map (raised_value k code c) (option_or (cond b (Some v) None) rest)
-raised_here k code c p v rest raised_rest true is e = ap (λ (x : ℕ). Some (raised_value k code x v)) (test_same p c is)
+raised_here k code c p v rest raised_rest true is e = ap (λ (x : ℕ). Some (raised_value k code x v)) (eqb-true p c is)
 raised_here k code c p v rest raised_rest false is e = e
 
 value_raised : (k code c : ℕ) (parts : Row) → value_in c (row_items (raised_parts k code parts)) ≡ option_map (raised_value k code c) (value_in c (row_items parts))

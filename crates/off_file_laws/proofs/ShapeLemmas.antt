@@ -17,9 +17,8 @@ use Rattle.off_tree.specs.Table.{table_of, rule_of, rule_with, or_other, others,
 use Rattle.off_tree.specs.Good.{LeafFits, LeafStands, IsGroup, GroupStands, Stands, EachStands, IsShort, EachIsShort, GoodSettings}
 use Rattle.off_file_rules.specs.Profile.{has_flow, has_classifier, flow_rise, classifier_rise, raised_pair, raised_single, raised_value, raised_parts, raised, all_raised, access, devices, plain_flow, profile_of}
 use Rattle.off_file_laws.specs.Laws.{SpellsProfile}
-use Rattle.off_file_laws.proofs.CountLemmas.{test_same}
 use Rattle.off_file_laws.proofs.AgreeLemmas.{AllGood, all_join}
-use Rattle.std.proofs.lemmas.Bool.{not-true}
+use Rattle.std.proofs.lemmas.Bool.{not-true, and_parts, eqb-true}
 
 -- ---- the lists of settings that a profile has, by the tables and by the grammar
 
@@ -73,27 +72,19 @@ tables_fit extension = refl
 
 -- ---- a line of a table
 
-both_left : (a b : Bool) → (a && b) ≡ true → a ≡ true
-both_left true b e = refl
-both_left false b e = e
-
-pub both_right : (a b : Bool) → (a && b) ≡ true → b ≡ true
-both_right true b e = e
-both_right false b e = cc
-
 -- what all lines pass, the line of a code does
 line_here : (test : Rule → Bool) (code : ℕ) (line rule : Rule) (lines : List Rule) (b : Bool) → eqb line.code code ≡ b → test line ≡ true
     → (rule_with code lines ≡ Some rule → (test rule ≡ true) × (rule.code ≡ code)) → cond b (Some line) (rule_with code lines) ≡ Some rule → (test rule ≡ true) × (rule.code ≡ code)
 line_here test code line rule lines true is passes more e =
     let same : line ≡ rule = cc in
-    (subst (λ (r : Rule). test r ≡ true) same passes, subst (λ (r : Rule). r.code ≡ code) same (test_same line.code code is))
+    (subst (λ (r : Rule). test r ≡ true) same passes, subst (λ (r : Rule). r.code ≡ code) same (eqb-true line.code code is))
 line_here test code line rule lines false is passes more e = more e
 
 line_passes : (test : Rule → Bool) (code : ℕ) (rule : Rule) (lines : List Rule) → list_all test lines ≡ true → rule_with code lines ≡ Some rule → (test rule ≡ true) × (rule.code ≡ code)
 line_passes test code rule [] all e = cc
 line_passes test code rule (line ∷ lines) all e =
-    line_here test code line rule lines (eqb line.code code) refl (both_left (test line) (list_all test lines) all)
-    (λ found. line_passes test code rule lines (both_right (test line) (list_all test lines) all) found) e
+    line_here test code line rule lines (eqb line.code code) refl (and_parts (test line) (list_all test lines) all).0
+    (λ found. line_passes test code rule lines (and_parts (test line) (list_all test lines) all).1 found) e
 
 -- the rule of a code is of a form that the grammar has there
 abbrev RuleFits : grammar.Level → ℕ → Rule → Type 0
@@ -102,9 +93,9 @@ RuleFits level code rule = (grammar.is_code level code ≡ true) × (form_fits (
 line_right : (s : Spot) (code : ℕ) (rule : Rule) → rule_with code (table_of (place_of s)) ≡ Some rule → RuleFits (level_of s) code rule
 line_right s code rule e =
     let p = line_passes (line_fits (level_of s)) code rule (table_of (place_of s)) (tables_fit s) e in (
-      subst (λ (c : ℕ). grammar.is_code (level_of s) c ≡ true) p.1 (both_left (grammar.is_code (level_of s) rule.code) (form_fits (grammar.is_group (level_of s) rule.code) rule.form) p.0),
+      subst (λ (c : ℕ). grammar.is_code (level_of s) c ≡ true) p.1 (and_parts (grammar.is_code (level_of s) rule.code) (form_fits (grammar.is_group (level_of s) rule.code) rule.form) p.0).0,
       subst (λ (c : ℕ). form_fits (grammar.is_group (level_of s) c) rule.form ≡ true) p.1
-          (both_right (grammar.is_code (level_of s) rule.code) (form_fits (grammar.is_group (level_of s) rule.code) rule.form) p.0),
+          (and_parts (grammar.is_code (level_of s) rule.code) (form_fits (grammar.is_group (level_of s) rule.code) rule.form) p.0).1,
     )
 
 no_rule : (rule : Rule) (P : Type 0) → None ≡ Some rule → P
@@ -160,7 +151,7 @@ group_shape level code (Some rule) right stands = group_form level code rule.for
 
 -- the codes of groups in a file
 group_here : (n code : ℕ) (rest : Bool) (P : ℕ → Type 0) (b : Bool) → eqb n code ≡ b → (b || rest) ≡ true → P n → (rest ≡ true → P code) → P code
-group_here n code rest P true is e here more = subst P (test_same n code is) here
+group_here n code rest P true is e here more = subst P (eqb-true n code is) here
 group_here n code rest P false is e here more = more e
 
 nothing : (P : Type 0) → false ≡ true → P

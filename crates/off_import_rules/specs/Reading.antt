@@ -61,7 +61,8 @@ rows_of_records kind row (fields ∷ more) =
       Ok (first ∷ rest)
 
 -- the records: the names of the columns, and then the rows, which count from 1
-abbrev pub table_of_records : ImportKind → List (List (List ℕ)) → Result (List ImportRow) ImportFault
+abbrev pub table_of_records : ImportKind → List (List (List ℕ))
+    → Result (List ImportRow) ImportFault
 table_of_records kind [] = Err Header
 table_of_records kind (header ∷ rows) =
     if pointwise bytes_eq header (columns kind) then rows_of_records kind 1 rows

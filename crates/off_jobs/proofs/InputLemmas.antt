@@ -1,5 +1,6 @@
 -- The input of a job, piece by piece.
-use Rattle.std.proofs.Common.{◌≡◌, ℕ, ◌+◌, ◌<◌, ◌≤◌, List, [], ◌∷◌, ◌++◌, length, take, refl, sym, ap, ◌∙◌, subst, arith, append_assoc, append-nil, length-append, length-take, inr}
+use Rattle.std.proofs.Common.{◌≡◌, ℕ, ◌+◌, ◌<◌, ◌≤◌, List, [], ◌++◌, length, take, refl, sym, ap, ◌∙◌, subst, arith, append_assoc, append-nil, length-append, length-take, inr}
+use Rattle.std.proofs.lemmas.List.{nil_from_length}
 use Rattle.off_defs.specs.Counts.{Grew, one_more}
 use Rattle.off_defs.proofs.ToldLemmas.{told_then, told_weaker, told_self, then_stays}
 use Rattle.off_defs.proofs.CountLemmas.{later_grew}
@@ -75,14 +76,10 @@ so_far_more {most} {count} {room} {bytes} {longer} {a} {b} {c} p q room_is some 
 pub longer_by : {count room : ℕ} {bytes longer : List ℕ} {b c : SourceSeen} → TookPiece count room bytes longer b c → length longer ≡ length bytes + count
 longer_by {count} {room} {bytes} {longer} q = omega (arith, ap length q.joined, length-append bytes q.piece, q.long)
 
-none_of : (xs : List ℕ) → length xs ≡ 0 → xs ≡ []
-none_of [] e = refl
-none_of (x ∷ xs) e = absurd (omega arith)
-
 -- the end of the source
 pub at_end : {most room : ℕ} {bytes longer : List ℕ} {a b c : SourceSeen} → SoFar most bytes a b → TookPiece 0 room bytes longer b c → length bytes ≤ most → 0 < room → TookAll most longer a c
 at_end {most} {room} {bytes} {longer} {a} {b} {c} p q short wanted =
-    let none : q.piece ≡ [] = none_of q.piece q.long in
+    let none : q.piece ≡ [] = nil_from_length q.piece q.long in
     let same : longer ≡ bytes = q.joined ∙ (ap (λ v. bytes ++ v) none ∙ append-nil bytes) in
     record {
       short = omega (arith, ap length same);

@@ -1,5 +1,5 @@
 -- Whether a job has its status with its cause.
-use Rattle.std.proofs.Common.{◌≡◌, ◌≢◌, ℕ, ◌≤◌, Bool, true, false, cond, ◌&&◌, List, [], ◌∷◌, length, Result, Ok, Err, refl, sym, ap, ◌∙◌, subst, arith, length-append}
+use Rattle.std.proofs.Common.{◌≡◌, ◌≢◌, ℕ, ◌≤◌, Bool, true, false, List, [], ◌∷◌, length, Result, Ok, Err, refl, sym, ap, ◌∙◌, subst, arith, length-append}
 use Rattle.std.specs.Prelude.{Contains}
 use Rattle.off_base.specs.Tree.{Tree}
 use Rattle.off_tlv.specs.declared.faults.ReadFault.{ReadFault}
@@ -22,7 +22,7 @@ use Rattle.off_jobs.specs.Ending.{Tells, ending_of}
 use Rattle.off_jobs.specs.Health.{NoFault}
 use Rattle.off_jobs.specs.Jobs.{Sealing, sealed_as, refused_by, unsealed, not_sealed, SealedBy, sealing_end, Checking, answered, refused_for, not_checked, CheckedBy, checking_end, Verifies, streams, SealsInput, AnswersGood, ChecksInput}
 use Rattle.off_jobs.proofs.EndingLemmas.{stands, told_whole, sink_kept, own_status, ends_by, source_kept, unread_status, unread_some}
-use Rattle.off_jobs.proofs.VerdictLemmas.{Good, sealed_right, good_verdict, right_verdict, never_refused}
+use Rattle.off_jobs.proofs.VerdictLemmas.{Good, sealed_right, good_verdict, right_verdict, never_refused, status_by}
 
 -- ---- where no count rose
 
@@ -83,9 +83,6 @@ seals_by way secret status s s' t t' by told = record {
   only = λ zero file held. seal_only way secret s s' t t' by (own_status told zero) file held;
   complete = λ file trees held spells short none other. seal_complete way secret status s s' t t' by (told_whole told none.1.0).0 file trees held spells short none other;
 }
-
-abbrev status_by : Bool → Bool → ℕ
-status_by cm cmts = cond (cm && cmts) 0 8
 
 verdict_is : (cm cmts : Bool) → Contains (0 ∷ 6 ∷ 8 ∷ []) (status_by cm cmts)
 verdict_is true true = (0, omega arith, refl)

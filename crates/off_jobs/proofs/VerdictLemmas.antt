@@ -66,7 +66,7 @@ fault_never (Err other) file secret fault reads is right =
 
 -- ---- and what is told
 
-abbrev status_by : Bool → Bool → ℕ
+abbrev pub status_by : Bool → Bool → ℕ
 status_by cm cmts = cond (cm && cmts) 0 8
 
 both_yes : (cm cmts : Bool) → status_by cm cmts ≡ 0 → IsTrue cm × IsTrue cmts

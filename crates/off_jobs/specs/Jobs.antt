@@ -88,9 +88,9 @@ pub record SealsInput (secret : List ℕ) (status : ℕ) (source source' : Sourc
 abbrev pub AnswersGood : ℕ → SinkSeen → SinkSeen → Type 0
 AnswersGood status old new = (status ≡ 0) × Wrote (codes "cm good\ncmts good\n") old new
 
--- What `check` did under a secret. Status 0 is of a file alone of which both values are right. Where
--- no count rose and no memory was wanted, every such file that is short enough is answered so, as is
--- what sealing any file under that secret gives; and a status other than 0 is 8.
+-- What `check` did under a secret. Status 0 is of a file alone of which both values are right.
+-- Where no count rose and no memory was wanted, every such file that is short enough is answered
+-- so, as is what sealing any file under that secret gives; and a status other than 0 is 8.
 pub record ChecksInput (secret : List ℕ) (status : ℕ) (source source' : SourceSeen)
     (sink sink' : SinkSeen) : Type 0 where
   pub ends : JobEnds (λ way. CheckedBy way secret source source') checking_end (0 ∷ 6 ∷ 8 ∷ [])

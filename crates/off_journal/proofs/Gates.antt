@@ -1,9 +1,8 @@
 -- What the bytes behind a gate are.
 use Rattle.std.proofs.Common.{◌≡◌, ◌≢◌, ℕ, ◌+◌, ◌<◌, ◌≤◌, ◌^◌, List, [], ◌∷◌, ◌++◌, length, take, drop, refl, sym, ap, subst, ◌∙◌, arith, append_assoc, length-append, length-drop, take-append-drop, ◌-◌}
-use Rattle.std.specs.Int.{to_be_bytes, from_be_bytes, w32}
-use Rattle.std.proofs.lemmas.Nat.{from_be_bytes-to_be_bytes_4}
+use Rattle.std.specs.Int.{to_be_bytes, w32}
 use Rattle.std.proofs.lemmas.List.{drop-drop}
-use Rattle.off_tlv.proofs.GrammarLemmas.{same_parts}
+use Rattle.off_base.proofs.ByteLemmas.{same_parts, tails, same_word}
 use Rattle.off_disk.specs.Records.{record_of, IsOpen}
 use Rattle.off_journal.specs.declared.begin.Gate.TheVariants.{Shut, Broken}
 use Rattle.off_disk.specs.DiskSeen.{DiskSeen}
@@ -27,18 +26,12 @@ look_short n rest front x e one few = (
   ),
 )
 
-tails : (x y : ℕ) (s t : List ℕ) → x ∷ s ≡ y ∷ t → s ≡ t
-tails x y s t e = cc
-
-same_length : (m n : ℕ) → m < 2 ^ 32 → n < 2 ^ 32 → to_be_bytes w32 m ≡ to_be_bytes w32 n → m ≡ n
-same_length m n p q e = sym (from_be_bytes-to_be_bytes_4 m p) ∙ (ap (λ (b : List ℕ). from_be_bytes w32 b) e ∙ from_be_bytes-to_be_bytes_4 n q)
-
 no_room : (rest head more payload tail : List ℕ) (len : ℕ) → rest ≡ 1 ∷ (head ++ more) → IsOpen rest payload tail → len < 2 ^ 32 → to_be_bytes w32 len ≡ head → length rest ≤ len + 5 → ⊥
 no_room rest head more payload tail len whole opened fits is few =
     let inner : (to_be_bytes w32 (length payload) ++ payload) ++ tail ≡ head ++ more = tails 1 1 (record_of payload ++ tail) (head ++ more) (sym opened.is ∙ whole) in
     let four : length (to_be_bytes w32 (length payload)) ≡ length head = ap length is in
     let both = same_parts (to_be_bytes w32 (length payload)) head (payload ++ tail) more four (sym (append_assoc (to_be_bytes w32 (length payload)) payload tail) ∙ inner) in
-    let same : length payload ≡ len = same_length (length payload) len opened.short fits (both.0 ∙ sym is) in
+    let same : length payload ≡ len = same_word (length payload) len opened.short fits (both.0 ∙ sym is) in
     absurd (omega (arith, same, few, ap length opened.is, length-append payload tail, opened.gate))
 
 -- a record of this length would not fit

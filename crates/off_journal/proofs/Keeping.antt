@@ -4,12 +4,13 @@ use Rattle.std.proofs.lemmas.Bool.{cases_lt}
 use Rattle.off_defs.specs.declared.writes.Write.{Write}
 use Rattle.off_defs.specs.State.{Tables}
 use Rattle.off_defs.specs.Tables.{write_all}
-use Rattle.off_defs.specs.Counts.{Grew, Tallied, one_more}
-use Rattle.off_defs.proofs.CountLemmas.{tallied_one}
+use Rattle.off_defs.specs.Counts.{Tallied, one_more}
+use Rattle.off_defs.proofs.CountLemmas.{tallied_one, grew_beside}
 use Rattle.off_outside.specs.KeeperSeen.{KeeperSeen}
 use Rattle.off_outside.specs.KeeperCalls.{Still, Crash, Reads, NotDone, Committed, NotCommitted, IsWritten, begun_by, keeper_faults_in}
 use Rattle.off_outside.specs.declared.keeper.KeepErr.{KeepErr}
 use Rattle.off_outside.specs.declared.keeper.KeepErr.TheVariants.{Memory, Failed}
+use Rattle.off_outside.proofs.KeeperLemmas.{up_either}
 use Rattle.off_disk.specs.DiskSeen.{DiskSeen}
 use Rattle.off_disk.specs.Records.{record_of, blocks, IsClosed}
 use Rattle.off_journal.specs.Payload.{payload_of}
@@ -24,9 +25,6 @@ use Rattle.off_journal.specs.declared.keeper.Counts.{Counts}
 use Rattle.off_disk.proofs.Images.{blocks_push}
 
 -- ---- counts
-
-pub grew_disk : (n x y own same : ℕ) → Grew n x y → same ≡ own → Grew n (x + own) (y + same)
-grew_disk n x y own same grew is = record { later = omega (arith, grew.later, is); grew = omega (arith, grew.later, grew.grew, is) }
 
 pub own_counted : (x own more : ℕ) → CountsOne own more → Tallied 1 (x + own) (x + more)
 own_counted x own more one = tallied_one (record { later = omega (arith, one.0, one.1); grew = omega (arith, one.0, one.1) })
@@ -99,10 +97,6 @@ opened_either : (rows : Tables) (commits : List (List Write)) (ws : List Write) 
 opened_either rows commits ws c u same are one (inl closed) opens = inl (closed_opens commits c u are closed opens ∙ sym same)
 opened_either rows commits ws c u same are one (inr doubtful) opens =
     either_rows rows (tables_of commits) u ws same (doubtful_opens commits ws c u are one doubtful opens)
-
-told_either : (t rows u : Tables) (ws : List Write) → t ≡ rows → (u ≡ rows) ⊎ (u ≡ write_all rows ws) → (u ≡ t) ⊎ (u ≡ write_all t ws)
-told_either t rows u ws same (inl e) = inl (e ∙ sym same)
-told_either t rows u ws same (inr e) = inr (e ∙ ap (λ (x : Tables). write_all x ws) (sym same))
 
 settle_told : (t r u : Tables) (ws : List Write) → t ≡ r → (u ≡ r) ⊎ (u ≡ write_all r ws) → (u ≡ t) ⊎ (u ≡ write_all r ws)
 settle_told t r u ws same (inl e) = inl (e ∙ sym same)
@@ -187,7 +181,7 @@ not_settled d e r g ws a s = record {
     calls = refl;
     crash = settle_crash d e r g ws (Doubtful ws) a false s (λ u doubt. doubt);
   };
-  faults = grew_disk 1 d.faults e.faults a.own a.own s.faults refl;
+  faults = grew_beside 1 d.faults e.faults a.own a.own s.faults refl;
 }
 
 pub settled_by : (d e : DiskSeen) (r : Tables) (g : ℕ) (ws : List Write) (a : Counts) (l : Last) → l ≡ Doubtful ws → Settles g true d e
@@ -210,7 +204,7 @@ append_within : (d e : DiskSeen) (r : Tables) (g : ℕ) (ws : List Write) (resul
     → (t : Tables) → t ≡ r → (m : ℕ) (u : Tables) → d.moment < m → m ≤ e.moment → (c : List ℕ) → e.left m c → Opens c u → (u ≡ t) ⊎ (u ≡ write_all t ws)
 append_within d e r g ws result one s k t same m u behind before c left opens =
     let does = s.does (each payload_of k.commits) k.place k.all in
-    told_either t r u ws same (opened_either r k.commits ws c u k.tables k.are one (does.0.within m c behind before left) opens)
+    either_rows t r u ws same (opened_either r k.commits ws c u k.tables k.are one (does.0.within m c behind before left) opens)
 
 append_crash : (P : Tables → Tables → Type 0) (d e : DiskSeen) (r s : Tables) (g h : ℕ) (ws : List Write) (result : _) (l : Last) (a b : Counts)
     → IsCommit ws → Appends g (payload_of ws) result d e
@@ -287,7 +281,7 @@ pub closed_commit : (d e : DiskSeen) (r : Tables) (g : ℕ) (ws : List Write) (a
 closed_commit d e r g ws a can done = record {
   tables = λ t told. (told.0, ends_told d e r g ws (commit_of ws can) done told.1);
   up = λ up. inl up;
-  faults = tallied_one (grew_disk 1 d.faults e.faults a.own a.own done.faults refl);
+  faults = tallied_one (grew_beside 1 d.faults e.faults a.own a.own done.faults refl);
   commits = refl;
   crash = append_crash (IsWritten ws) d e r r g g ws appended.Closed Closed a a (commit_of ws can) done (λ t u begun. begun) (λ t same u doubt. absurd doubt);
 }
@@ -297,7 +291,7 @@ pub doubtful_commit : (d e : DiskSeen) (r : Tables) (g : ℕ) (ws : List Write) 
 doubtful_commit d e r g ws a can done = record {
   tables = λ t told. (told.0, doubtful_told d e r g ws (commit_of ws can) done told.1);
   up = λ up. inl up;
-  faults = tallied_one (grew_disk 1 d.faults e.faults a.own a.own done.faults refl);
+  faults = tallied_one (grew_beside 1 d.faults e.faults a.own a.own done.faults refl);
   commits = refl;
   crash = append_crash (IsWritten ws) d e r r g g ws appended.Doubtful (Doubtful ws) a a (commit_of ws can) done (λ t u begun. begun)
       (λ t same u doubt. doubt ∙ ap (λ (x : Tables). write_all x ws) (sym same));
@@ -373,10 +367,6 @@ committed_then {ws} q p = record {
   crash = crash_then q p.crash;
   sure = λ t told u doubt. p.sure t (q.tables t told) u doubt;
 }
-
-up_either : (a b c : KeeperSeen) → b.faults ≡ a.faults → c.up ⊎ Grew 1 b.faults c.faults → c.up ⊎ Grew 1 a.faults c.faults
-up_either a b c same (inl up) = inl up
-up_either a b c same (inr grew) = inr (subst (λ (k : ℕ). Grew 1 k c.faults) same grew)
 
 pub not_committed_then : {P : Tables → Tables → Type 0} {err : KeepErr} {a b c : KeeperSeen} → Quietly a b → NotCommitted P err b c → NotCommitted P err a c
 not_committed_then {P} {err} {a} {b} {c} q p = record {

@@ -8,12 +8,7 @@ use Rattle.off_journal.specs.Journal.{AllAreSpelled, IsCommit, AreCommits, table
 use Rattle.off_journal.specs.Reading.{IsNoPayload}
 use Rattle.off_journal.specs.Laws.{OneJournal, GivenOpens, GoodOrBad, OneBad}
 use Rattle.off_journal.proofs.PayloadLemmas.{payload_one}
-
-heads : (x y : List ℕ) (s t : List (List ℕ)) → x ∷ s ≡ y ∷ t → x ≡ y
-heads x y s t e = cc
-
-tails : (x y : List ℕ) (s t : List (List ℕ)) → x ∷ s ≡ y ∷ t → s ≡ t
-tails x y s t e = cc
+use Rattle.off_base.proofs.ByteLemmas.{heads, tails}
 
 same_commits : (a b : List (List Write)) → AllAreSpelled a → AllAreSpelled b → each payload_of a ≡ each payload_of b → a ≡ b
 same_commits [] [] p q e = refl

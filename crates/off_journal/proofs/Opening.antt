@@ -211,10 +211,6 @@ tiny_stands c few payload tail opened = absurd (omega (arith, few, ap length ope
 torn_tiny : (d c : List ℕ) → length d ≡ 0 → Torn 0 1 d c → length c ≤ 1
 torn_tiny d c none torn = omega (arith, none, torn.no_longer)
 
-nothing : (b : List ℕ) → length b ≡ 0 → b ≡ []
-nothing [] none = refl
-nothing (x ∷ b) none = absurd (omega arith)
-
 made_closed : (b c : List ℕ) → length b ≡ 0 → Holds 0 (0 ∷ []) b c → IsClosed [] c
 made_closed b c none holds = record {
   gate = 0;

@@ -2,7 +2,7 @@
 use Rattle.std.proofs.Common.{◌≡◌, ◌≢◌, ℕ, ◌<◌, ◌^◌, List, [], ◌∷◌, ◌++◌, length, refl, sym, ap, subst, ◌∙◌, arith, append_assoc}
 use Rattle.std.specs.Int.{to_be_bytes, from_be_bytes, w32}
 use Rattle.std.proofs.lemmas.Nat.{from_be_bytes-to_be_bytes_4}
-use Rattle.off_tlv.proofs.GrammarLemmas.{same_parts}
+use Rattle.off_base.proofs.ByteLemmas.{same_parts, heads, tails}
 use Rattle.off_defs.specs.declared.keys.Key.{Key}
 use Rattle.off_defs.specs.declared.tables.Row.{Row}
 use Rattle.off_defs.specs.declared.writes.Write.{Write}
@@ -18,12 +18,6 @@ use Rattle.off_journal.specs.declared.reading.PayloadErr.{PayloadErr}
 use Rattle.off_journal.specs.declared.reading.PayloadErr.TheVariants as bad
 use Rattle.off_spelled.proofs.SpellLemmas.{spelled_push}
 use Rattle.off_journal.proofs.WriteLemmas.{row_small, payload_push}
-
-tails : (x y : ℕ) (s t : List ℕ) → x ∷ s ≡ y ∷ t → s ≡ t
-tails x y s t e = cc
-
-heads : (x y : ℕ) (s t : List ℕ) → x ∷ s ≡ y ∷ t → x ≡ y
-heads x y s t e = cc
 
 pub counted_one : (p q x y : List ℕ) → counted p ++ x ≡ counted q ++ y → (p ≡ q) × (x ≡ y)
 counted_one p q x y e = same_parts p q x y (heads (length p) (length q) (p ++ x) (q ++ y) e) (tails (length p) (length q) (p ++ x) (q ++ y) e)

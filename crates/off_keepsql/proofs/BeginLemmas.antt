@@ -1,12 +1,12 @@
 -- What a keeper tells that has just begun.
-use Rattle.std.proofs.Common.{◌≡◌, ℕ, ◌≤◌, true, Result, Ok, Err, IfOk, List, [], ◌∷◌, length, subst, map as each, refl, sym, ap, ◌∙◌, arith, inl, inr}
+use Rattle.std.proofs.Common.{◌≡◌, ℕ, true, Result, Ok, Err, IfOk, List, [], subst, map as each, refl, sym, ap, ◌∙◌}
 use Rattle.std.specs.Ordering.{nat_cmp}
 use Rattle.std.specs.Cmp.Lexicographic.{slice_cmp}
 use Rattle.std.specs.FinMap as map
 use Rattle.std.proofs.lemmas.Bool.{and_from}
+use Rattle.std.proofs.lemmas.List.{nil_from_length}
 use Rattle.sqlite_disk.specs.declared.Disk as disk
 use Rattle.sqlite_value.specs.Order.{Row as Entry}
-use Rattle.sqlite_rules.specs.Lists.{Has}
 use Rattle.sqlite_trees.specs.declared.store.Store.{Ghosts}
 use Rattle.sqlite_trees.specs.declared.memory.MemStore.{MemStore}
 use Rattle.sqlite_trees.proofs.Doubt.{no_doubt}
@@ -15,26 +15,19 @@ use Rattle.sqlite.specs.Steps.{over_memory, IsEmpty}
 use Rattle.off_sqlcells.specs.Stands.{IsSteady}
 use Rattle.off_defs.specs.Keys.{key_cmp}
 use Rattle.off_defs.specs.State.{Tables}
-use Rattle.off_defs.specs.declared.keys.Key.{Key}
-use Rattle.off_defs.specs.declared.keys.Key.TheVariants.{Site, Subscriber, AddOn, Modem, Class, Pool, Lease, Held as Reserved, Batch}
-use Rattle.off_defs.specs.declared.tables.Row.{Row}
-use Rattle.off_rows.specs.KeyBytes.{key_bytes, IsRanged}
+use Rattle.off_defs.specs.declared.keys.Key.TheVariants.{Pool}
 use Rattle.off_outside.specs.KeeperSeen.{KeeperSeen}
-use Rattle.off_cells.specs.CellsSeen.{Cell, CellMap, CellsSeen}
+use Rattle.off_cells.specs.CellsSeen.{CellMap, CellsSeen}
 use Rattle.off_sqlcells.specs.SqlCellsSeen.{Found, HasBegun}
 use Rattle.off_keepsql.specs.Stored.{Stores, cell_of, AllStorable}
 use Rattle.off_keepsql.specs.SqlSeen.{SqlTells}
 use Rattle.off_keepsql.specs.Begin.{FoundTables, KeeperBegins, TellsNone, HonestFilesAreSteady}
 
-no_length : {X : Type 0} (xs : List X) → length xs ≡ 0 → xs ≡ []
-no_length [] e = refl
-no_length (x ∷ xs) e = cc
-
 none_in : (m : CellMap) → m ≡ map.empty → map.entries m ≡ []
-none_in m e = no_length (map.entries m) (sym (map.len-entries m) ∙ ap (λ (n : CellMap). map.len n) e ∙ map.len-empty (slice_cmp nat_cmp) (List ℕ))
+none_in m e = nil_from_length (map.entries m) (sym (map.len-entries m) ∙ ap (λ (n : CellMap). map.len n) e ∙ map.len-empty (slice_cmp nat_cmp) (List ℕ))
 
 no_tables : (t : Tables) → t ≡ map.empty → map.entries t ≡ []
-no_tables t e = no_length (map.entries t) (sym (map.len-entries t) ∙ ap (λ (n : Tables). map.len n) e ∙ map.len-empty key_cmp _)
+no_tables t e = nil_from_length (map.entries t) (sym (map.len-entries t) ∙ ap (λ (n : Tables). map.len n) e ∙ map.len-empty key_cmp _)
 
 none_stored : Stores map.empty map.empty
 none_stored = record {

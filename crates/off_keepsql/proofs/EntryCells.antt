@@ -1,9 +1,8 @@
 -- Entries as cells, in order: what is found, put, dropped and walked over of the one is so of the other.
-use Rattle.std.proofs.Common.{◌≡◌, ℕ, Bool, true, false, cond, not, Option, Some, None, List, [], ◌∷◌, map as each, refl, sym, ap, subst, ◌∙◌}
+use Rattle.std.proofs.Common.{◌≡◌, Bool, true, false, cond, not, Option, Some, None, List, [], ◌∷◌, map as each, refl, sym, ap, subst, ◌∙◌}
 use Rattle.std.specs.List.{filter, find}
 use Rattle.std.specs.Option.{option_map}
-use Rattle.std.specs.Ordering.{nat_cmp, is_lt, is_eq, eq_by_cmp}
-use Rattle.std.specs.Cmp.Lexicographic.{slice_cmp}
+use Rattle.std.specs.Ordering.{is_lt, is_eq, eq_by_cmp}
 use Rattle.std.specs.declared.cmp.Ordering.{Ordering}
 use Rattle.std.specs.declared.cmp.Ordering.TheVariants.{Less, Equal, Greater}
 use Rattle.std.specs.FinMap.Entries as list
@@ -16,10 +15,8 @@ use Rattle.off_rows.specs.KeyBytes.{key_bytes, IsRanged}
 use Rattle.off_rows.specs.RowBytes.{row_bytes, IsRowOf}
 use Rattle.off_rows.proofs.KeyOrder.{ordered_as_bytes}
 use Rattle.off_cells.specs.CellsSeen.{Cell, is_behind}
+use Rattle.off_cells.proofs.SortedLemmas.{bytes_cmp}
 use Rattle.off_keepsql.specs.Stored.{cell_of, IsStorable, AllStorable, PlaceRanged}
-
-abbrev bytes_cmp : List ℕ → List ℕ → Ordering
-bytes_cmp = slice_cmp nat_cmp
 
 abbrev Entries : Type 0
 Entries = List (Key × Row)

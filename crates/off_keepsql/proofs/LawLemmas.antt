@@ -1,7 +1,6 @@
 -- Cells of which each is a key and a row, as tables.
-use Rattle.std.proofs.Common.{◌≡◌, ℕ, Bool, ◌&&◌, T, List, [], ◌∷◌, map as each, refl, sym, ap, subst, ◌∙◌}
-use Rattle.std.specs.Ordering.{nat_cmp, is_lt}
-use Rattle.std.specs.Cmp.Lexicographic.{slice_cmp}
+use Rattle.std.proofs.Common.{◌≡◌, Bool, ◌&&◌, T, List, [], ◌∷◌, map as each, refl, sym, ap, subst, ◌∙◌}
+use Rattle.std.specs.Ordering.{is_lt}
 use Rattle.std.specs.declared.cmp.Ordering.{Ordering}
 use Rattle.std.specs.FinMap as map
 use Rattle.std.specs.FinMap.Entries as list
@@ -10,12 +9,10 @@ use Rattle.off_defs.specs.declared.tables.Row.{Row}
 use Rattle.off_defs.specs.Keys.{key_cmp}
 use Rattle.off_rows.specs.KeyBytes.{key_bytes, IsRanged}
 use Rattle.off_cells.specs.CellsSeen.{Cell}
+use Rattle.off_cells.proofs.SortedLemmas.{bytes_cmp}
 use Rattle.off_keepsql.specs.Stored.{cell_of, AllStorable}
 use Rattle.off_keepsql.specs.Laws.{AllAreEntries, EntriesAreTables, TablesAreEntries}
 use Rattle.off_keepsql.proofs.EntryCells.{in_order}
-
-abbrev bytes_cmp : List ℕ → List ℕ → Ordering
-bytes_cmp = slice_cmp nat_cmp
 
 below_cells : (key : Key) (es : List (Key × Row)) → IsRanged key → AllStorable es → list.below_all bytes_cmp (key_bytes key) (each cell_of es) ≡ list.below_all key_cmp key es
 below_cells key [] ranged all = refl

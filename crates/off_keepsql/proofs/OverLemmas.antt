@@ -4,7 +4,7 @@ use Rattle.off_defs.specs.declared.writes.Write.{Write}
 use Rattle.off_defs.specs.State.{Tables}
 use Rattle.off_defs.specs.Tables.{write_all}
 use Rattle.off_defs.specs.Counts.{Grew, Tallied, one_more, most_count}
-use Rattle.off_defs.proofs.CountLemmas.{tallied_one}
+use Rattle.off_defs.proofs.CountLemmas.{tallied_one, grew_beside}
 use Rattle.off_outside.specs.KeeperCalls.{Still, Crash, Reads, NotDone, Committed, NotCommitted, IsWritten, begun_by, keeper_faults_in, WasCounted}
 use Rattle.off_outside.specs.declared.keeper.KeepErr.{KeepErr}
 use Rattle.off_outside.specs.declared.keeper.KeepErr.TheVariants.{Memory, Failed}
@@ -45,12 +45,9 @@ pub record OwnCounted (c d : Counts) : Type 0 where
   pub fits : c.own ≤ most_count
   pub commits : d.commits ≡ c.commits
 
-grew_cells : (n x y own same : ℕ) → Grew n x y → same ≡ own → Grew n (x + own) (y + same)
-grew_cells n x y own same grew is = record { later = omega (arith, grew.later, is); grew = omega (arith, grew.later, grew.grew, is) }
-
 cells_counted : (n x y own same : ℕ) → Tallied n x y → same ≡ own → Tallied n (x + own) (y + same)
 cells_counted n x y own same counted is = record {
-  grew = grew_cells n x y own same counted.grew is;
+  grew = grew_beside n x y own same counted.grew is;
   stands = λ none. let stands : y ≡ x = counted.stands none in omega (arith, stands, is);
 }
 
@@ -79,7 +76,7 @@ read_over {P} {Q} {a} {b} {c} {d} read counted leads = record {
 
 up_cells : {up : Type 0} (n x y own same : ℕ) → up ⊎ Grew n x y → same ≡ own → up ⊎ Grew n (x + own) (y + same)
 up_cells n x y own same (inl up) is = inl up
-up_cells n x y own same (inr grew) is = inr (grew_cells n x y own same grew is)
+up_cells n x y own same (inr grew) is = inr (grew_beside n x y own same grew is)
 
 pub kept_over : {err : KeepErr} {a b : CellsSeen} {c d : Counts} → CellsKept err a b → Counted c d → NotDone err (over a c) (over b d)
 kept_over {err} {a} {b} {c} {d} kept counted = record {

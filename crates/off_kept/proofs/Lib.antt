@@ -1,6 +1,5 @@
 mod ListLemmas
 mod PutLemmas
 pub mod RightLemmas
-mod SameLemmas
 mod TurnLemmas
 pub mod WriteLemmas

@@ -1,5 +1,5 @@
 -- What a put makes of the entries of a cache, where equal keys are the same: for any keys and values.
-use Rattle.std.proofs.Common.{◌≡◌, ℕ, zero, suc, ◌-◌, ◌≤◌, Bool, true, false, cond, not, List, [], ◌∷◌, length, take, Option, Some, None, Decides, Result, Ok, Err, OnOk, is_ok, refl, sym, ap, ◌∙◌, arith}
+use Rattle.std.proofs.Common.{◌≡◌, ℕ, zero, suc, ◌-◌, ◌≤◌, Bool, true, false, cond, not, List, [], ◌∷◌, length, take, Option, Some, None, Decides, refl, sym, ap, ◌∙◌, arith}
 use Rattle.std.specs.List.{IsDistinct, AllByRecursion, filter}
 use Rattle.std.specs.Option.{option_map_or}
 use Rattle.std.specs.Map.{keys_of, lookup_entry, remove_entry}
@@ -67,8 +67,3 @@ module _ {K V : Type 0} (eq : K → K → Bool) (same : (a b : K) → Decides (e
       let one : c.cap - 1 ≡ most = omega (arith, cap) in
       ap (λ (n : ℕ). option_map_or (λ e. (e.0, v) ∷ remove_entry (eq k) c.entries) (lookup_entry (eq k) c.entries) ((k, v) ∷ take n c.entries)) one
       ∙ put_cases most v c.entries (lookup_entry (eq k) c.entries) valid.0 (omega (arith, cap, valid.1)) refl
-
--- what is done where a result is Ok
-pub if_ok : {A E P : Type 0} (r : Result A E) → is_ok r ≡ true → OnOk r P → P
-if_ok (Ok x) is done = done
-if_ok (Err e) is done = cc

@@ -1,10 +1,11 @@
 -- What is kept is right by the tables, whatever they are: at the start, behind a put, behind writes; and what a right entry gives to its modem.
-use Rattle.std.proofs.Common.{◌≡◌, ℕ, ◌==◌, Bool, true, false, cond, not, List, [], ◌∷◌, Option, Some, None, option_map, refl, sym, ap, ◌∙◌, subst}
+use Rattle.std.proofs.Common.{◌≡◌, ℕ, Bool, true, false, cond, not, List, [], ◌∷◌, Option, Some, None, option_map, refl, sym, ap, ◌∙◌, subst}
 use Rattle.std.specs.List.{filter, filter_map}
 use Rattle.std.specs.Option.{option_and_then}
 use Rattle.std.specs.Ordering.{eq_by_cmp}
 use Rattle.std.specs.Cmp.{nat_eq_equiv}
 use Rattle.std.proofs.lemmas.List.Elements.{All-nil, All-cons, All-head, All-tail, All-take, All-filter, All-contains}
+use Rattle.std.proofs.lemmas.Bool.{or_parts}
 use Rattle.lru.proofs.CallerLemmas.{Contains-lookup}
 use Rattle.off_base.specs.Tree.{Tree, spelling}
 use Rattle.off_base.specs.declared.macs.Mac.{Mac}
@@ -19,29 +20,29 @@ use Rattle.off_defs.specs.declared.writes.Write.{Write}
 use Rattle.off_defs.specs.declared.writes.Write.TheVariants.{Put, Drop}
 use Rattle.off_defs.specs.Keys.{key_cmp}
 use Rattle.off_defs.specs.State.{Tables}
-use Rattle.off_defs.specs.Tables.{row_at, written, write_all}
+use Rattle.off_defs.specs.Tables.{row_at, written, write_all, key_written}
 use Rattle.off_defs.proofs.TableLemmas.{same_key, row_with, row_without}
 use Rattle.off_account_rules.specs.Rows.{possible, as_subscriber, as_add_on, as_modem, as_class, subscriber_in, add_on_in, modem_in, class_in}
 use Rattle.off_file_rules.specs.Profile.{profile_of, add_ons_in, profile_at, profile_in}
 use Rattle.off_kept.specs.declared.bodies.KeptBody.{KeptBody}
-use Rattle.off_kept.specs.Same.{is_same_mac}
-use Rattle.off_kept.specs.Entries.{Entry, Entries, kept_of, with_first, stands_in, key_of, is_written, without_written}
+use Rattle.off_base.specs.Macs.{is_same_mac}
+use Rattle.off_kept.specs.Entries.{Entry, Entries, kept_of, with_first, stands_in, is_written, without_written}
 use Rattle.off_kept.specs.Right.{IsRight, AllRight}
-use Rattle.off_kept.proofs.SameLemmas.{is_same_mac-Decides}
-use Rattle.off_kept.proofs.WriteLemmas.{neither, all_stay}
+use Rattle.off_base.proofs.MacLemmas.{mac_decides}
+use Rattle.off_kept.proofs.WriteLemmas.{all_stay}
 
 -- ---- rows that aren't written stay
 
-row_left : (t : Tables) (write : Write) (q : Key) → eq_by_cmp key_cmp q (key_of write) ≡ false → row_at (written t write) q ≡ row_at t q
+row_left : (t : Tables) (write : Write) (q : Key) → eq_by_cmp key_cmp q (key_written write) ≡ false → row_at (written t write) q ≡ row_at t q
 row_left t (Put k row) q other = row_with t k row q ∙ ap (λ (b : Bool). cond b (Some row) (row_at t q)) other
 row_left t (Drop k) q other = row_without t k q ∙ ap (λ (b : Bool). cond b None (row_at t q)) other
 
 -- a row that stands in an entry's file, behind a write of one that doesn't
-row_behind : (t : Tables) (write : Write) (e : Entry) (q : Key) → stands_in q e ≡ true → stands_in (key_of write) e ≡ false → row_at (written t write) q ≡ row_at t q
+row_behind : (t : Tables) (write : Write) (e : Entry) (q : Key) → stands_in q e ≡ true → stands_in (key_written write) e ≡ false → row_at (written t write) q ≡ row_at t q
 row_behind t write e q stands apart =
-    let other : eq_by_cmp key_cmp q (key_of write) ≡ false =
-    (elim (eq_by_cmp key_cmp q (key_of write)) as (λ (b : Bool). eq_by_cmp key_cmp q (key_of write) ≡ b → b ≡ false) [
-      | true ↦ λ same. sym stands ∙ ap (λ (k : Key). stands_in k e) (same_key q (key_of write) same) ∙ apart
+    let other : eq_by_cmp key_cmp q (key_written write) ≡ false =
+    (elim (eq_by_cmp key_cmp q (key_written write)) as (λ (b : Bool). eq_by_cmp key_cmp q (key_written write) ≡ b → b ≡ false) [
+      | true ↦ λ same. sym stands ∙ ap (λ (k : Key). stands_in k e) (same_key q (key_written write) same) ∙ apart
       | false ↦ λ same. refl
     ]) refl in
     row_left t write q other
@@ -49,11 +50,8 @@ row_behind t write e q stands apart =
 row_stays : (e : Entry) (q : Key) → stands_in q e ≡ true → (writes : List Write) (t : Tables) → is_written writes e ≡ false → row_at (write_all t writes) q ≡ row_at t q
 row_stays e q stands [] t none = refl
 row_stays e q stands (write ∷ writes) t none =
-    let both = neither (stands_in (key_of write) e) (is_written writes e) none in
+    let both = or_parts (stands_in (key_written write) e) (is_written writes e) none in
     row_stays e q stands writes (written t write) both.1 ∙ row_behind t write e q stands both.0
-
-itself : (n : ℕ) → (n == n) ≡ true
-itself n = nat_eq_equiv.refl n
 
 -- ---- an entry of which no row is written stays right
 
@@ -65,19 +63,19 @@ add_ons_by read = filter_map (λ k. option_map (λ settings. (k, settings)) (rea
 
 module _ (t : Tables) (writes : List Write) (e : Entry) (none : is_written writes e ≡ false) where
   modem_stays : modem_in (write_all t writes) e.0 ≡ modem_in t e.0
-  modem_stays = ap (λ (row : Option Row). option_and_then as_modem (possible (key.Modem e.0) row)) (row_stays e (key.Modem e.0) ((is_same_mac-Decides e.0 e.0).1 refl) writes t none)
+  modem_stays = ap (λ (row : Option Row). option_and_then as_modem (possible (key.Modem e.0) row)) (row_stays e (key.Modem e.0) ((mac_decides e.0 e.0).1 refl) writes t none)
 
   subscriber_stays : subscriber_in (write_all t writes) e.1.subscriber ≡ subscriber_in t e.1.subscriber
   subscriber_stays =
       ap (λ (row : Option Row). option_and_then as_subscriber (possible (key.Subscriber e.1.subscriber) row))
-      (row_stays e (key.Subscriber e.1.subscriber) (itself e.1.subscriber) writes t none)
+      (row_stays e (key.Subscriber e.1.subscriber) (nat_eq_equiv.refl e.1.subscriber) writes t none)
 
   class_stays : class_in (write_all t writes) e.1.class ≡ class_in t e.1.class
-  class_stays = ap (λ (row : Option Row). option_and_then as_class (possible (key.Class e.1.class) row)) (row_stays e (key.Class e.1.class) (itself e.1.class) writes t none)
+  class_stays = ap (λ (row : Option Row). option_and_then as_class (possible (key.Class e.1.class) row)) (row_stays e (key.Class e.1.class) (nat_eq_equiv.refl e.1.class) writes t none)
 
   add_on_stays : (k : ℕ) → add_on_in (write_all t writes) e.1.subscriber k ≡ add_on_in t e.1.subscriber k
   add_on_stays k =
-      ap (λ (row : Option Row). option_and_then as_add_on (possible (key.AddOn e.1.subscriber k) row)) (row_stays e (key.AddOn e.1.subscriber k) (itself e.1.subscriber) writes t none)
+      ap (λ (row : Option Row). option_and_then as_add_on (possible (key.AddOn e.1.subscriber k) row)) (row_stays e (key.AddOn e.1.subscriber k) (nat_eq_equiv.refl e.1.subscriber) writes t none)
 
   add_ons_stay : add_ons_in (write_all t writes) e.1.subscriber ≡ add_ons_in t e.1.subscriber
   add_ons_stay =
@@ -128,7 +126,7 @@ first_right t mac kept es this right =
 pub found_right : (t : Tables) (mac : Mac) (kept : KeptBody) (es : Entries) → AllRight t es → kept_of mac es ≡ Some kept → IsRight t (mac, kept)
 found_right t mac kept es right found =
     let there = Contains-lookup (is_same_mac mac) es kept found in
-    subst (λ (m : Mac). IsRight t (m, kept)) (sym ((is_same_mac-Decides mac there.0).0 there.2)) (All-contains (IsRight t) es (there.0, kept) right there.1)
+    subst (λ (m : Mac). IsRight t (m, kept)) (sym ((mac_decides mac there.0).0 there.2)) (All-contains (IsRight t) es (there.0, kept) right there.1)
 
 -- ---- a modem's profile, by its row
 

@@ -1,13 +1,11 @@
 -- Writes that change no row of a file leave all that is kept.
-use Rattle.std.proofs.Common.{◌≡◌, Bool, true, false, cond, not, ◌||◌, List, [], ◌∷◌, refl, ap, ◌∙◌}
+use Rattle.std.proofs.Common.{◌≡◌, Bool, false, cond, not, ◌||◌, List, [], ◌∷◌, refl, ap, ◌∙◌}
+use Rattle.std.proofs.lemmas.Bool.{or_parts}
 use Rattle.off_defs.specs.declared.keys.Key.{Key}
 use Rattle.off_defs.specs.declared.keys.Key.TheVariants.{Site, Subscriber, AddOn, Modem, Class, Pool, Lease, Held, Batch, Hub, PoolHub, DevicePool, Device}
 use Rattle.off_defs.specs.declared.writes.Write.{Write}
-use Rattle.off_kept.specs.Entries.{Entry, Entries, stands_in, is_of_files, key_of, changes_files, is_written, without_written}
-
-pub neither : (a b : Bool) → (a || b) ≡ false → (a ≡ false) × (b ≡ false)
-neither true b e = cc
-neither false b e = (refl, e)
+use Rattle.off_kept.specs.Entries.{Entry, Entries, stands_in, is_of_files, changes_files, is_written, without_written}
+use Rattle.off_defs.specs.Tables.{key_written}
 
 in_none : (k : Key) (e : Entry) → is_of_files k ≡ false → stands_in k e ≡ false
 in_none (Modem mac) e none = cc
@@ -27,8 +25,8 @@ in_none (Device address) e none = refl
 none_written : (writes : List Write) (e : Entry) → changes_files writes ≡ false → is_written writes e ≡ false
 none_written [] e none = refl
 none_written (write ∷ writes) e none =
-    let both = neither (is_of_files (key_of write)) (changes_files writes) none in
-    ap (λ (b : Bool). b || is_written writes e) (in_none (key_of write) e both.0) ∙ none_written writes e both.1
+    let both = or_parts (is_of_files (key_written write)) (changes_files writes) none in
+    ap (λ (b : Bool). b || is_written writes e) (in_none (key_written write) e both.0) ∙ none_written writes e both.1
 
 pub all_stay : (writes : List Write) (es : Entries) → changes_files writes ≡ false → without_written writes es ≡ es
 all_stay writes [] none = refl

@@ -10,9 +10,9 @@ use Rattle.off_defs.specs.declared.keys.Key.TheVariants.{Site, Subscriber, AddOn
 use Rattle.off_defs.specs.declared.keys.Key.TheVariants.{Pool, Lease, Held, Batch}
 use Rattle.off_defs.specs.declared.keys.Key.TheVariants.{Hub, PoolHub, DevicePool, Device}
 use Rattle.off_defs.specs.declared.writes.Write.{Write}
-use Rattle.off_defs.specs.declared.writes.Write.TheVariants.{Put, Drop}
+use Rattle.off_defs.specs.Tables.{key_written}
 use Rattle.off_kept.specs.declared.bodies.KeptBody.{KeptBody}
-use Rattle.off_kept.specs.Same.{is_same_mac}
+use Rattle.off_base.specs.Macs.{is_same_mac, mac_code}
 
 -- a modem and what is kept of it
 abbrev pub Entry : Type 0
@@ -67,18 +67,13 @@ is_of_files (PoolHub pool) = false
 is_of_files (DevicePool number) = false
 is_of_files (Device address) = false
 
--- the key that a write changes
-abbrev pub key_of : Write → Key
-key_of (Put key row) = key
-key_of (Drop key) = key
-
 -- one of the writes changes a row of some files
 abbrev pub changes_files : List Write → Bool
-changes_files writes = list_any (λ write. is_of_files (key_of write)) writes
+changes_files writes = list_any (λ write. is_of_files (key_written write)) writes
 
 -- one of the writes changes a row of the entry's file
 abbrev pub is_written : List Write → Entry → Bool
-is_written writes entry = list_any (λ write. stands_in (key_of write) entry) writes
+is_written writes entry = list_any (λ write. stands_in (key_written write) entry) writes
 
 -- the entries of which no row is written
 abbrev pub without_written : List Write → Entries → Entries
@@ -90,11 +85,6 @@ kept_body_code =
     code_by (ℕ × (ℕ × List ℕ)) (coded× coded_ℕ (coded× coded_ℕ (coded_list coded_ℕ)))
     (λ k. (k.subscriber, (k.class, k.body)))
     (λ p. record { subscriber = p.0; class = p.1.0; body = p.1.1 }) (λ _. refl)
-
-abbrev mac_code : Coded Mac
-mac_code =
-    code_by (List ℕ) (coded_list coded_ℕ) (λ mac. mac.0) (λ bytes. record { 0 = bytes })
-    (λ _. refl)
 
 abbrev pub kept_code : Coded Entries
 kept_code = coded_list (coded× mac_code kept_body_code)

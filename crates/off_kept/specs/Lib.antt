@@ -1,4 +1,3 @@
-pub mod Same
 pub mod Entries
 pub mod Right
 pub mod Laws

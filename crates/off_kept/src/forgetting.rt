@@ -2,8 +2,9 @@
 //! the front, so that the order of those that stay comes back by itself.
 ghost use Rattle.std.specs.Prelude.{◌≡◌, [], ◌∷◌, ◌++◌, option_map, if◌then◌else◌};
 ghost use Rattle.lru.specs.LruCache.{last_entry};
-ghost use Rattle.off_kept.specs.Entries.{Entry, Entries, stands_in, key_of, is_written};
+ghost use Rattle.off_kept.specs.Entries.{Entry, Entries, stands_in, is_written};
 ghost use Rattle.off_kept.specs.Entries.{is_of_files, changes_files, without_written};
+ghost use Rattle.off_defs.specs.Tables.{key_written};
 
 use crate::bodies::KeptBody;
 use lru::LruCache;
@@ -88,7 +89,7 @@ fn is_written(writes: &Writes, modem: Mac, kept: &KeptBody) -> bool
 
 // The key that a write changes.
 fn key_of(write: &Write) -> Key
-    ensures { result ≡ key_of write.now }
+    ensures { result ≡ key_written write.now }
 {
     match write {
         Write::Put(key, _) => *key,

@@ -1,6 +1,7 @@
 -- What is read of a body is in the ranges of its kind: a subscriber's count of devices, a pool's prefix and relay, a site's secret.
-use Rattle.std.proofs.Common.{◌≡◌, ℕ, ◌≤◌, Bool, true, false, cond, not, ◌&&◌, ◌==◌, List, length, Option, Some, None, option_and_then, IfSome, Result, Ok, Err, IfOk, nat_le, refl, arith}
+use Rattle.std.proofs.Common.{◌≡◌, ℕ, ◌≤◌, Bool, true, false, cond, not, ◌==◌, List, length, Option, Some, None, option_and_then, IfSome, Result, Ok, Err, IfOk, nat_le, refl, arith}
 use Rattle.std.proofs.lemmas.Bool.Decides.{nat_tests}
+use Rattle.std.proofs.lemmas.Bool.{and_from}
 use Rattle.std.specs.Prelude.{ℤ, ok_or}
 use Rattle.std.specs.Int.{is_in_range}
 use Rattle.std.specs.Result.{result_ok}
@@ -14,7 +15,8 @@ use Rattle.off_base.specs.declared.addresses.Ip4.{Ip4}
 use Rattle.off_defs.specs.declared.tables.Site.{Site}
 use Rattle.off_defs.specs.declared.tables.Subscriber.{Subscriber}
 use Rattle.off_defs.specs.declared.tables.Pool.{Pool}
-use Rattle.off_orders.specs.Sound.{is_sound_subscriber, is_sound_pool}
+use Rattle.off_orders.specs.Sound.{is_sound_pool}
+use Rattle.off_account_rules.specs.Rows.{subscriber_fits}
 use Rattle.off_clerk_rules.specs.declared.faults.ClerkErr.{ClerkErr}
 use Rattle.off_clerk_rules.specs.declared.faults.ClerkErr.TheVariants.{Field}
 use Rattle.off_clerk_rules.specs.declared.names.Name.{Name}
@@ -74,20 +76,16 @@ secret_of None = tt
 
 -- the rows that are made of fields
 subscriber_with : (active : Result Bool ClerkErr) (cpes : Result ℕ ClerkErr) (text : Result (List ℕ) ClerkErr) → IfOk cpes (λ (n : ℕ). is_in_range 1 254 n ≡ true)
-    → IfOk (active >>= (λ a. cpes >>= (λ c. text >>= (λ t. Ok (record { active = a; cpes = c; name = t }))))) (λ (s : Subscriber). is_sound_subscriber s ≡ true)
+    → IfOk (active >>= (λ a. cpes >>= (λ c. text >>= (λ t. Ok (record { active = a; cpes = c; name = t }))))) (λ (s : Subscriber). subscriber_fits s ≡ true)
 subscriber_with (Ok a) (Ok c) (Ok t) h = h
 subscriber_with (Ok a) (Ok c) (Err e) h = tt
 subscriber_with (Ok a) (Err e) text h = tt
 subscriber_with (Err e) cpes text h = tt
 
-both : (a b : Bool) → a ≡ true → b ≡ true → (a && b) ≡ true
-both true b p q = q
-both false b p q = p
-
 pool_with : (first last : Result Ip4 ClerkErr) (prefix : Result ℕ ClerkErr) (router relay : Result Ip4 ClerkErr)
     → IfOk prefix (λ (n : ℕ). is_in_range 8 30 n ≡ true) → IfOk relay (λ (a : Ip4). not (a.0 == 0) ≡ true)
     → IfOk (first >>= (λ f. last >>= (λ l. prefix >>= (λ p. router >>= (λ o. relay >>= (λ r. Ok (record { first = f; last = l; prefix = p; router = o; relay = r }))))))) (λ (p : Pool). is_sound_pool p ≡ true)
-pool_with (Ok f) (Ok l) (Ok p) (Ok o) (Ok r) inside there = both _ _ inside there
+pool_with (Ok f) (Ok l) (Ok p) (Ok o) (Ok r) inside there = and_from _ _ inside there
 pool_with (Ok f) (Ok l) (Ok p) (Ok o) (Err e) inside there = tt
 pool_with (Ok f) (Ok l) (Ok p) (Err e) relay inside there = tt
 pool_with (Ok f) (Ok l) (Err e) router relay inside there = tt
@@ -105,7 +103,7 @@ site_with (Ok v) (Ok k) (Err e) lease log short = tt
 site_with (Ok v) (Err e) offset lease log short = tt
 site_with (Err e) secret offset lease log short = tt
 
-pub subscriber_sound : (body : Data) → IfOk (subscriber_in body) (λ (s : Subscriber). is_sound_subscriber s ≡ true)
+pub subscriber_sound : (body : Data) → IfOk (subscriber_in body) (λ (s : Subscriber). subscriber_fits s ≡ true)
 subscriber_sound body =
     subscriber_with (field_in field.Active as_bool body) (field_in field.Cpes (number_in 1 254) body) (field_in field.Name text_in body)
     (field_ok (λ (n : ℕ). is_in_range 1 254 n ≡ true) field.Cpes (number_in 1 254) body (ranged 1 254))

@@ -1,6 +1,6 @@
 -- What is read of an import is at most 2,000 rows, each of its kind and in its ranges; and no import sets a site.
-use Rattle.std.proofs.Common.{◌≡◌, ◌≤◌, ◌+◌, ℕ, Bool, true, false, cond, ◌&&◌, List, [], ◌∷◌, length, Option, Some, None, option_and_then, IfSome, Result, Ok, Err, IfOk, nat_le, nat_lt, refl, arith}
-use Rattle.std.proofs.lemmas.Bool.{ltb-false}
+use Rattle.std.proofs.Common.{◌≡◌, ◌≤◌, ◌+◌, ℕ, Bool, true, false, cond, List, [], ◌∷◌, length, Option, Some, None, option_and_then, IfSome, Result, Ok, Err, IfOk, nat_le, nat_lt, refl, arith}
+use Rattle.std.proofs.lemmas.Bool.{ltb-false, and_from}
 use Rattle.std.proofs.lemmas.Bool.Decides.{nat_tests}
 use Rattle.std.specs.Prelude.{ok_or, bytes_eq}
 use Rattle.std.specs.Cmp.Lexicographic.{pointwise}
@@ -24,13 +24,9 @@ use Rattle.off_import_rules.specs.declared.faults.ImportFault.TheVariants.{Heade
 use Rattle.off_order_laws.specs.Laws.{secret_fits}
 use Rattle.off_laws.proofs.Paths.{number_within}
 
-both : (a b : Bool) → a ≡ true → b ≡ true → (a && b) ≡ true
-both true b p q = q
-both false b p q = cc
-
 -- a count of devices
 devices_if : (n : ℕ) (b : Bool) → nat_le 1 n ≡ b → nat_le n 254 ≡ true → IfSome (cond b (Some n) None) (λ (m : ℕ). is_in_range 1 254 m ≡ true)
-devices_if n true e within = both (nat_le 1 n) (nat_le n 254) e within
+devices_if n true e within = and_from (nat_le 1 n) (nat_le n 254) e within
 devices_if n false e within = tt
 
 devices_of : (read : Option ℕ) → IfSome read (λ (n : ℕ). nat_le n 254 ≡ true)
@@ -82,7 +78,7 @@ AllFit kind row read = IfOk read (Fit kind row)
 
 with_row : (kind : ImportKind) (row : ℕ) (first : Result ImportRow ImportFault) (rest : Result (List ImportRow) ImportFault)
     → IfOk first (λ (r : ImportRow). is_row_of kind r ≡ true) → AllFit kind (row + 1) rest → AllFit kind row (first >>= (λ f. rest >>= (λ rs. Ok (f ∷ rs))))
-with_row kind row (Ok first) (Ok rest) one more = (omega (arith, more.0), both (is_row_of kind first) (list_all (is_row_of kind) rest) one more.1)
+with_row kind row (Ok first) (Ok rest) one more = (omega (arith, more.0), and_from (is_row_of kind first) (list_all (is_row_of kind) rest) one more.1)
 with_row kind row (Ok first) (Err e) one more = tt
 with_row kind row (Err e) rest one more = tt
 
@@ -111,7 +107,7 @@ at_most n h = grind (arith, nat_tests)
 of_rows : (kind : ImportKind) (batch : ℕ) (digest : List ℕ) (rows : Result (List ImportRow) ImportFault) → AllFit kind 1 rows
     → IfOk (rows >>= (λ rs. Ok (Import kind batch digest rs))) (λ (command : Command). (is_sound command ≡ true) × (secret_fits command ≡ true))
 of_rows kind batch digest (Ok rows) fit =
-    (both (nat_le (length rows) 2000) (list_all (is_row_of kind) rows) (at_most (length rows) fit.0) fit.1, refl)
+    (and_from (nat_le (length rows) 2000) (list_all (is_row_of kind) rows) (at_most (length rows) fit.0) fit.1, refl)
 of_rows kind batch digest (Err e) fit = tt
 
 pub import_sound : (kind : ImportKind) (batch : ℕ) (bytes : List ℕ) → IfOk (import_in kind batch bytes) (λ (command : Command). (is_sound command ≡ true) × (secret_fits command ≡ true))

@@ -165,7 +165,7 @@ query_tells from bytes w line is = says_line (Datagram Dhcp from bytes) line (qu
 pub packet_tells : (from : Peer) (bytes : List ℕ) (w : TftpWord) (line : List ℕ) → line ≡ tftp_line w → TellsOutcome (Datagram Tftp from bytes) Did line
 packet_tells from bytes w line is = (λ same. (tftp_apart w).0 (sym is ∙ same), λ same. (tftp_apart w).1 (sym is ∙ same))
 
-abbrev tick_text : Bool → Ticked → List ℕ
+abbrev pub tick_text : Bool → Ticked → List ℕ
 tick_text silent ticked = if silent then [] else codes "tick again " ++ decimal ticked.again ++ codes " closed " ++ decimal ticked.closed
 
 tick_says : (effect : Effect) (ticked : Ticked) (silent : Bool) → effect.said.line ≡ tick_text silent ticked → NoFailure effect.said.line Tick

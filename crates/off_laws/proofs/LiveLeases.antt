@@ -27,7 +27,7 @@ use Rattle.off_orders.specs.declared.rules.Rule.{Rule}
 use Rattle.off_defs.specs.State.{Tables}
 use Rattle.off_defs.specs.Tables.{row_at, write_all}
 use Rattle.off_orders.specs.Sound.{is_sound, is_removable}
-use Rattle.off_account_rules.specs.Rows.{possible, seen_at, as_lease, lease_in, pool_in, batch_in, leases}
+use Rattle.off_account_rules.specs.Rows.{seen_at, lease_in, pool_in, batch_in, leases}
 use Rattle.off_account_rules.specs.Changes.{gives_up}
 use Rattle.off_orders.specs.Clerk.{Refusal, Decision, Accepted, accepted, by_rule, shown_as, shown, limit, rules_of, removal_rules, writes_of, removal_writes, lost_leases, lost_devices, is_live, lease_drops, pool_has_leases, row_writes, row_breaks, then_writes, unless_broken, rows_written, batch_row, imported_as, import_decided, decided, stepped_by, clerk_step}
 use Rattle.off_table_laws.proofs.ListLemmas.{none_found, in_kept}
@@ -39,12 +39,11 @@ use Rattle.off_table_laws.proofs.PoolLemmas.{set_pool, set_both}
 use Rattle.off_order_laws.proofs.LostLeases.{rows_append, lease_in_all, lost_left}
 use Rattle.off_order_laws.proofs.DevicePools.{drops_aside, is_no_device}
 use Rattle.off_table_laws.proofs.Reading.{lease_row}
-use Rattle.off_order_laws.proofs.ClerkSteps.{hub_written, unbroken, not_mapped}
+use Rattle.off_order_laws.proofs.ClerkSteps.{hub_written, unbroken}
+use Rattle.off_tree.proofs.GoodLemmas.{not_mapped}
 use Rattle.off_lease_rules.specs.Free.{has_ended}
 use Rattle.off_laws.specs.Leases.{StaysOrWasOver, CommandsDropEnded, CommandsKeepLive, ImportsKeepLeases}
-
-abbrev lease_read : Ip4 → Option Row → Option Lease
-lease_read address o = option_and_then as_lease (possible (key.Lease address) o)
+use Rattle.off_lease_laws.proofs.WriteLemmas.{lease_read}
 
 -- where no rule is broken first, none is
 module _ (address : Ip4) where

@@ -37,7 +37,7 @@ use Rattle.off_query_rules.specs.Asked.{query_of}
 use Rattle.off_defs.specs.declared.writes.Write.{Write}
 use Rattle.off_laws.specs.Laws.{OneResult, MomentIsGreatest, TablesByCommit, ChangesItsPart, QueriesChangeNothing}
 use Rattle.off_laws.proofs.Answers.{WritesNothingOrDone, request_writes, request_good}
-use Rattle.off_laws.proofs.Ways.{Way, stays, serves, forgets, hears, answers, messages, devices, way}
+use Rattle.off_laws.proofs.Ways.{Way, stays, serves, forgets, hears, answers, messages, devices, way, after_is, commit_is}
 
 -- an event with an outcome gives one thing
 takes_one : (full : Bool) (s : State) (conn : ℕ) (piece : List ℕ) (one other : Effect) → TakesPiece full s conn piece one → TakesPiece full s conn piece other → one ≡ other
@@ -201,16 +201,10 @@ datagram_part s bytes effect (Some q) did =
     subst (λ (e : Effect). Changes (by_message bytes) s e) (sym did) (record { commit = inl refl; connections = refl; transfers = refl })
 datagram_part s bytes effect None did = message_part s bytes effect (device_of s.tables s.held.now bytes) refl did
 
-after_of : (one other : Effect) → one ≡ other → one.after ≡ other.after
-after_of one other is = ap (λ (e : Effect). e.after) is
-
-commit_of : (one other : Effect) → one ≡ other → one.commit ≡ other.commit
-commit_of one other is = ap (λ (e : Effect). e.commit) is
-
 -- of the transfers a packet changes its peer's, and a Tick each by itself
 packet_part : (s : State) (from : Peer) (bytes : List ℕ) (effect : Effect) → TftpDid s from bytes effect → Changes (by_packet from) s effect
 packet_part s from bytes effect did = record {
-  commit = commit_of effect _ did.does;
+  commit = commit_is effect _ did.does;
   connections = ap (λ (e : Effect). e.after.held.connections) did.does;
   others = λ peer apart.
       ap (λ (e : Effect). map.get e.after.held.transfers peer) did.does ∙ others_stay s.tables s.held.now s.held.transfers from bytes did.given did.step peer apart;
@@ -218,31 +212,31 @@ packet_part s from bytes effect did = record {
 
 tick_part : (s : State) (effect : Effect) → TickDid s effect → Changes by_tick s effect
 tick_part s effect did = record {
-  commit = commit_of effect _ did.does;
+  commit = commit_is effect _ did.does;
   connections = ap (λ (e : Effect). e.after.held.connections) did.does;
   each = λ peer. ap (λ (e : Effect). map.get e.after.held.transfers peer) did.does ∙ did.step.each peer;
 }
 
 does_part : (s : State) (what : What) (outcome : Outcome) (effect : Effect) → Does s what outcome effect → Changes (part_of what outcome) s effect
 does_part s (Datagram Dhcp from bytes) Did effect p = datagram_part s bytes effect (query_of bytes) p
-does_part s (Datagram Dhcp from bytes) Memory effect p = quiet_part s effect (after_of effect _ p) (commit_of effect _ p)
-does_part s (Datagram Dhcp from bytes) Keeper effect p = quiet_part s effect (after_of effect _ p) (commit_of effect _ p)
-does_part s (Datagram Time from bytes) Did effect p = quiet_part s effect (after_of effect _ p) (commit_of effect _ p)
-does_part s (Datagram Time from bytes) Memory effect p = quiet_part s effect (after_of effect _ p) (commit_of effect _ p)
+does_part s (Datagram Dhcp from bytes) Memory effect p = quiet_part s effect (after_is effect _ p) (commit_is effect _ p)
+does_part s (Datagram Dhcp from bytes) Keeper effect p = quiet_part s effect (after_is effect _ p) (commit_is effect _ p)
+does_part s (Datagram Time from bytes) Did effect p = quiet_part s effect (after_is effect _ p) (commit_is effect _ p)
+does_part s (Datagram Time from bytes) Memory effect p = quiet_part s effect (after_is effect _ p) (commit_is effect _ p)
 does_part s (Datagram Time from bytes) Keeper effect p = absurd p
 does_part s (Datagram Tftp from bytes) Did effect p = packet_part s from bytes effect p
-does_part s (Datagram Tftp from bytes) Memory effect p = quiet_part s effect (after_of effect _ p) (commit_of effect _ p)
-does_part s (Datagram Tftp from bytes) Keeper effect p = quiet_part s effect (after_of effect _ p) (commit_of effect _ p)
+does_part s (Datagram Tftp from bytes) Memory effect p = quiet_part s effect (after_is effect _ p) (commit_is effect _ p)
+does_part s (Datagram Tftp from bytes) Keeper effect p = quiet_part s effect (after_is effect _ p) (commit_is effect _ p)
 does_part s (Piece conn piece) Did effect p = takes_part (is_full s.held.connections conn) s conn piece effect p
-does_part s (Piece conn piece) Memory effect p = heard_part s conn effect (after_of effect _ p) (commit_of effect _ p)
-does_part s (Piece conn piece) Keeper effect p = heard_part s conn effect (after_of effect _ p) (commit_of effect _ p)
-does_part s (Closed conn) Did effect p = heard_part s conn effect (after_of effect _ p) (commit_of effect _ p)
+does_part s (Piece conn piece) Memory effect p = heard_part s conn effect (after_is effect _ p) (commit_is effect _ p)
+does_part s (Piece conn piece) Keeper effect p = heard_part s conn effect (after_is effect _ p) (commit_is effect _ p)
+does_part s (Closed conn) Did effect p = heard_part s conn effect (after_is effect _ p) (commit_is effect _ p)
 does_part s (Closed conn) Memory effect p = absurd p
 does_part s (Closed conn) Keeper effect p = absurd p
 does_part s Tick Did effect p = tick_part s effect p
-does_part s Tick Memory effect p = quiet_part s effect (after_of effect _ p) (commit_of effect _ p)
+does_part s Tick Memory effect p = quiet_part s effect (after_is effect _ p) (commit_is effect _ p)
 does_part s Tick Keeper effect p = absurd p
-does_part s End Did effect p = quiet_part s effect (after_of effect _ p) (commit_of effect _ p)
+does_part s End Did effect p = quiet_part s effect (after_is effect _ p) (commit_is effect _ p)
 does_part s End Memory effect p = absurd p
 does_part s End Keeper effect p = absurd p
 
@@ -255,9 +249,9 @@ does_nothing : (s : State) (from : Peer) (bytes query : List ℕ) (outcome : Out
     → (effect.commit ≡ []) × (effect.after ≡ s)
 does_nothing s from bytes query Did effect p asks =
     let did = subst (DatagramDid s bytes effect) asks p in
-    (commit_of effect _ did, after_of effect _ did)
-does_nothing s from bytes query Memory effect p asks = (commit_of effect _ p, after_of effect _ p)
-does_nothing s from bytes query Keeper effect p asks = (commit_of effect _ p, after_of effect _ p)
+    (commit_is effect _ did, after_is effect _ did)
+does_nothing s from bytes query Memory effect p asks = (commit_is effect _ p, after_is effect _ p)
+does_nothing s from bytes query Keeper effect p asks = (commit_is effect _ p, after_is effect _ p)
 
 pub queries_change_nothing : QueriesChangeNothing
 unfolding Step

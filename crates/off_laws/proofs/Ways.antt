@@ -37,10 +37,10 @@ pub data Way (s : State) (what : What) (outcome : Outcome) (effect : Effect) : T
   devices : (from : Peer) (bytes : List ℕ) (m : Received) (modem : Mac) → what ≡ Datagram Dhcp from bytes → outcome ≡ Did → message_of bytes ≡ Ok m → modem_behind s.tables m ≡ Some modem
       → effect ≡ device_effect s (step_behind s.tables s.held.now m modem) → Way s what outcome effect
 
-after_is : (one other : Effect) → one ≡ other → one.after ≡ other.after
+pub after_is : (one other : Effect) → one ≡ other → one.after ≡ other.after
 after_is one other is = ap (λ (e : Effect). e.after) is
 
-commit_is : (one other : Effect) → one ≡ other → one.commit ≡ other.commit
+pub commit_is : (one other : Effect) → one ≡ other → one.commit ≡ other.commit
 commit_is one other is = ap (λ (e : Effect). e.commit) is
 
 meaning_way : (s : State) (conn : ℕ) (piece bytes : List ℕ) (effect : Effect) (meaning : Meaning) → is_full s.held.connections conn ≡ false

@@ -1,7 +1,6 @@
 -- What is decided by a part of the rules or of the rows is what is decided by all.
-use Rattle.std.proofs.Common.{◌≡◌, ℕ, Bool, true, false, cond, ◌||◌, List, [], ◌∷◌, ◌++◌, Option, Some, None, is_some, not, option_and_then, refl, sym, ap, ◌∙◌, subst, arith}
-use Rattle.std.proofs.lemmas.Bool.{and_parts}
-use Rattle.std.specs.List.{list_all}
+use Rattle.std.proofs.Common.{◌≡◌, ℕ, Bool, true, false, cond, ◌||◌, [], ◌∷◌, Option, Some, None, is_some, not, option_and_then, refl, sym, ap, ◌∙◌, subst, arith}
+use Rattle.std.proofs.lemmas.Bool.{or_parts}
 use Rattle.off_base.specs.declared.addresses.Ip4.{Ip4}
 use Rattle.off_defs.specs.declared.tables.Lease.{Lease}
 use Rattle.off_defs.specs.State.{Tables}
@@ -13,6 +12,7 @@ use Rattle.off_outside.proofs.KeeperLemmas.{spent_none, spent_then, spent_within
 use Rattle.off_asking.specs.Asking.{client, asks, is_discover, is_request, is_decline}
 use Rattle.off_lease_rules.specs.Free.{case_of, chosen_in, pool_for, site_for}
 use Rattle.off_asking.specs.Claims.{refused_by, is_served, has_no_form}
+use Rattle.off_asking.proofs.ClaimLemmas.{refused_none, refused_some, refused_passes}
 use Rattle.off_lease_rules.specs.Rules.{early, late, rules_for, has_cut_part, relays_another, is_no_modem}
 use Rattle.off_lease_rules.specs.Steps.{lease_step_by, settled, settled_in, lease_step, accepts, offers, acknowledges, declines, releases, refuses, unless_refused, reply_to_refused}
 use Rattle.off_lease_rules.specs.declared.cases.Case.{Case}
@@ -21,22 +21,6 @@ use Rattle.off_lease_rules.specs.declared.words.DhcpWord.{DhcpWord}
 use Rattle.off_lease_rules.specs.declared.words.DhcpWord.TheVariants as word
 use Rattle.off_lease.specs.Calls.{message_calls, row_calls}
 use Rattle.off_lease.specs.Stages.{own_rules, row_rules, knowing, seen_case}
-
-refused_none : (xs ys : List (DhcpWord × Bool)) → refused_by xs ≡ None → refused_by (xs ++ ys) ≡ refused_by ys
-refused_none [] ys none = refl
-refused_none (x ∷ xs) ys none =
-    elim x.1 as (λ b. cond b (Some x.0) (refused_by xs) ≡ None → cond b (Some x.0) (refused_by (xs ++ ys)) ≡ refused_by ys) [
-      | true ↦ λ e. cc
-      | false ↦ λ e. refused_none xs ys e
-    ] none
-
-refused_some : (xs ys : List (DhcpWord × Bool)) (w : DhcpWord) → refused_by xs ≡ Some w → refused_by (xs ++ ys) ≡ Some w
-refused_some [] ys w some = cc
-refused_some (x ∷ xs) ys w some =
-    elim x.1 as (λ b. cond b (Some x.0) (refused_by xs) ≡ Some w → cond b (Some x.0) (refused_by (xs ++ ys)) ≡ Some w) [
-      | true ↦ λ e. e
-      | false ↦ λ e. refused_some xs ys w e
-    ] some
 
 -- the table of the code is that of the rules, where its conditions are
 pub own_five : (m : Received) (a b c d e : Bool) → a ≡ not (is_served m) → b ≡ has_no_form m → c ≡ has_cut_part m → d ≡ relays_another m → e ≡ is_no_modem m
@@ -52,13 +36,8 @@ silent_reply : (m : Received) (c : Case) (w : DhcpWord) → silent w ≡ true �
 silent_reply m c word.NotYourAddress is = cc
 silent_reply m c w is = refl
 
-silent_of : (rules : List (DhcpWord × Bool)) (w : DhcpWord) → list_all (λ rule. silent rule.0) rules ≡ true → refused_by rules ≡ Some w → silent w ≡ true
-silent_of [] w all e = cc
-silent_of ((v, true) ∷ rules) w all e = let same : v ≡ w = cc in ap silent (sym same) ∙ (and_parts (silent v) (list_all (λ rule. silent rule.0) rules) all).0
-silent_of ((v, false) ∷ rules) w all e = silent_of rules w (and_parts (silent v) (list_all (λ rule. silent rule.0) rules) all).1 e
-
 own_refuses : (m : Received) (c : Case) (w : DhcpWord) → refused_by (own_rules m) ≡ Some w → lease_step_by w [] None ≡ refuses m c w
-own_refuses m c w broken = ap (λ reply. record { writes = []; reply = reply; word = w }) (sym (silent_reply m c w (silent_of (own_rules m) w refl broken)))
+own_refuses m c w broken = ap (λ reply. record { writes = []; reply = reply; word = w }) (sym (silent_reply m c w (refused_passes silent (own_rules m) w refl broken)))
 
 -- who is refused gets a reply by the site alone
 reply_same : (m : Received) (c : Case) (w : DhcpWord) → reply_to_refused m (knowing c.site) w ≡ reply_to_refused m c w
@@ -119,17 +98,13 @@ lease_matters now m c chosen lease other same = ap (λ s. unless_refused m c s (
 abbrev bare : Case → Case
 bare c = record { site = c.site; pool = None; modem = None; held = c.held }
 
-neither : (a b : Bool) → (a || b) ≡ false → (a ≡ false) × (b ≡ false)
-neither true b e = cc
-neither false b e = (refl, e)
-
 abbrev seen_by : Tables → Received → Bool → Case
 seen_by t m asking = cond asking (case_of t m) (record { site = site_for t m; pool = None; modem = None; held = held_in t (client m) })
 
 bare_enough : (t : Tables) (now : ℕ) (m : Received) (c : Case) → asks m ≡ false → settled_in t now m (bare c) (chosen_in t now m (bare c)) ≡ settled_in t now m c (chosen_in t now m c)
 unfolding settled
 bare_enough t now m c none =
-    let both = neither (is_discover m) (is_request m) none in
+    let both = or_parts (is_discover m) (is_request m) none in
     let d : is_discover m ≡ false = both.0 in
     let r : is_request m ≡ false = both.1 in
     rw (d, r) refl

@@ -7,7 +7,8 @@ ghost use Rattle.off_defs.specs.declared.writes.Write.TheVariants.{Put};
 ghost use Rattle.off_account_rules.specs.Rows.{passes};
 ghost use Rattle.off_account_rules.specs.Changes.{held_drop};
 ghost use Rattle.off_lease_rules.specs.Steps.{lease_row, lease_drop, held_elsewhere};
-ghost use Rattle.off_lease_rules.specs.Steps.{former_owner, is_bound, is_live_bound, offered};
+ghost use Rattle.off_lease_rules.specs.Steps.{former_owner, offered};
+ghost use Rattle.off_account_rules.specs.Good.{is_bound, is_live_bound};
 ghost use Rattle.off_lease_rules.specs.Steps.{bound, set_aside, given_up};
 
 use off_base::{Ip4, Mac, Moment, NoMemory};

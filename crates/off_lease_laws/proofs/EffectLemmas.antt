@@ -11,11 +11,11 @@ use Rattle.off_defs.specs.State.{Tables}
 use Rattle.off_defs.specs.Tables.{write_all}
 use Rattle.off_dhcp.specs.Datagram.{Received}
 use Rattle.off_account_rules.specs.Rows.{passes, lease_in, held_in, has_address}
-use Rattle.off_account_rules.specs.Good.{owner_of}
+use Rattle.off_account_rules.specs.Good.{owner_of, is_bound, is_live_bound}
 use Rattle.off_lease_rules.specs.Words.{acts}
 use Rattle.off_asking.specs.Asking.{client, named_address, at_address}
 use Rattle.off_lease_rules.specs.Free.{has_ended, is_free}
-use Rattle.off_lease_rules.specs.Steps.{is_bound, is_live_bound, lease_step}
+use Rattle.off_lease_rules.specs.Steps.{lease_step}
 use Rattle.off_lease_rules.specs.declared.results.LeaseStep.{LeaseStep}
 use Rattle.off_lease_rules.specs.declared.words.DhcpWord.TheVariants as word
 use Rattle.off_lease_laws.specs.Outcomes.{WasOffered, WasBound, WasDeclined, WasReleased, Outcome, refusal, offering, binding, declining, releasing}

@@ -23,7 +23,8 @@ use Rattle.off_table_laws.proofs.GoodRows.{Possible}
 use Rattle.off_table_laws.proofs.RowChanges.{possible_put, possible_drop}
 use Rattle.off_table_laws.proofs.CountLemmas.{counts_with_other, counts_without_other}
 use Rattle.off_asking.specs.Asking.{client}
-use Rattle.off_lease_rules.specs.Steps.{is_live_bound, lease_step}
+use Rattle.off_lease_rules.specs.Steps.{lease_step}
+use Rattle.off_account_rules.specs.Good.{is_live_bound}
 use Rattle.off_lease_rules.specs.declared.results.LeaseStep.{LeaseStep}
 use Rattle.off_lease_laws.specs.Outcomes.{Outcome, refusal, offering, binding, declining, releasing}
 use Rattle.off_lease_laws.proofs.OutcomeLemmas.{outcome}

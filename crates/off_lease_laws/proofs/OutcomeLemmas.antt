@@ -13,7 +13,8 @@ use Rattle.off_asking.specs.Asking.{client, is_discover, is_request, is_decline,
 use Rattle.off_lease_rules.specs.Free.{case_of, choice, chosen_in}
 use Rattle.off_asking.specs.Claims.{claims_own, claims_in_pool, refused_by}
 use Rattle.off_lease_rules.specs.Rules.{rules_for}
-use Rattle.off_lease_rules.specs.Steps.{offered, bound, set_aside, given_up, offer_to, for_some, offers, acknowledges, declines, releases, accepts, unless_refused, settled, lease_step}
+use Rattle.off_lease_rules.specs.Steps.{offered, bound, set_aside, given_up, offer_to, offers, acknowledges, declines, releases, accepts, unless_refused, settled, lease_step}
+use Rattle.off_asking.specs.Choice.{for_some}
 use Rattle.off_lease_laws.specs.Outcomes.{Outcome, refusal, offering, binding, declining, releasing}
 use Rattle.off_lease_laws.proofs.Tests.{second_false, second_true, some_of, held_claim}
 use Rattle.off_lease_laws.proofs.RuleLemmas.{Unbroken, unbroken, refusals}

@@ -1,6 +1,6 @@
 -- What a message does that no rule refuses, and what is sent for it (RFC 2131 sections 3.1, 4.1 and
 -- 4.3).
-use Rattle.std.specs.Prelude.{◌≡◌, ℕ, Bool, true, false, not, ◌&&◌, nat_lt, List, [], ◌∷◌, ◌++◌, Option, Some, None, option_map, option_and_then, Result, Ok, Err, if◌then◌else◌}
+use Rattle.std.specs.Prelude.{◌≡◌, ℕ, not, List, [], ◌∷◌, ◌++◌, Option, Some, None, option_map, option_and_then, Result, Ok, Err, if◌then◌else◌}
 use Rattle.std.specs.Str.{bytes_eq}
 use Rattle.off_base.specs.declared.addresses.Ip4.{Ip4}
 use Rattle.off_base.specs.declared.macs.Mac.{Mac}
@@ -21,11 +21,11 @@ use Rattle.off_dhcp.specs.declared.faults.DhcpFault.{DhcpFault}
 use Rattle.off_dhcp.specs.declared.offers.Offer.{Offer}
 use Rattle.off_dhcp.specs.Datagram.{Received, message_of}
 use Rattle.off_account_rules.specs.Rows.{passes, lease_in}
-use Rattle.off_account_rules.specs.Good.{owner_of, is_address}
+use Rattle.off_account_rules.specs.Good.{owner_of, is_address, is_live_bound}
 use Rattle.off_account_rules.specs.Changes.{held_drop}
 use Rattle.off_file_rules.specs.Name.{name_of}
 use Rattle.off_asking.specs.Asking.{client, is_discover, is_request, is_decline}
-use Rattle.off_asking.specs.Choice.{provided}
+use Rattle.off_asking.specs.Choice.{provided, for_some}
 use Rattle.off_asking.specs.Claims.{refused_by}
 use Rattle.off_asking.specs.Sending.{nak_to, offer_named, reply_to}
 use Rattle.off_lease_rules.specs.Free.{case_of, chosen_in}
@@ -56,13 +56,6 @@ abbrev pub former_owner : Mac → Option Lease → Option Mac
 former_owner mac lease =
     provided (λ other. not (bytes_eq other.0 mac.0))
     (option_and_then (λ lease. owner_of lease.hold) lease)
-
-abbrev pub is_bound : Hold → Bool
-is_bound (Bound mac) = true
-is_bound hold = false
-
-abbrev pub is_live_bound : ℕ → Lease → Bool
-is_live_bound now lease = is_bound lease.hold && nat_lt now lease.expiry.0
 
 -- An address is offered for two minutes. The client gives up the address that it held before, if
 -- another, and the owner of one that had ended loses it. Where the client is bound to the address
@@ -112,11 +105,6 @@ reply_to_refused m c word = None
 
 abbrev pub refuses : Received → Case → DhcpWord → LeaseStep
 refuses m c word = lease_step_by word [] (reply_to_refused m c word)
-
--- the writes for something that is there
-abbrev pub for_some : {X : Type 0} → (X → List Write) → Option X → List Write
-for_some writes None = []
-for_some writes (Some x) = writes x
 
 abbrev pub offers : ℕ → Received → Case → Option Ip4 → Option Lease → LeaseStep
 offers now m c chosen lease =

@@ -1,11 +1,12 @@
 -- What the calls of a disk in memory tell.
-use Rattle.std.proofs.Common.{◌≡◌, ℕ, ◌+◌, ◌<◌, ◌≤◌, max, Option, Some, None, List, [], ◌∷◌, ◌++◌, length, take, drop, refl, sym, ap, subst, ◌∙◌, arith, length-append, length-take, length-drop, Result, Ok, Err, MatchResult}
+use Rattle.std.proofs.Common.{◌≡◌, ℕ, ◌+◌, ◌<◌, ◌≤◌, Option, Some, None, List, [], ◌∷◌, ◌++◌, length, take, drop, refl, sym, ap, subst, ◌∙◌, arith, length-append, Result, Ok, Err, MatchResult}
 use Rattle.std.proofs.lemmas.List.{take-append-le, take_all}
 use Rattle.off_defs.specs.Counts.{Grew, one_more}
 use Rattle.off_outside.specs.declared.link.Failed.{Failed}
 use Rattle.off_disk.specs.DiskCalls.{Same, Torn, Passes, Kept, HasRead, NotRead, HasWritten, NotWritten, HasSynced, NotSynced}
 use Rattle.off_memdisk.specs.MemDisks.{written_in, reads_after, AllFit, LeftBy, MemDiskHeld, IsSound, disk_seen, mem_seen, reads_as, most_bytes, MemRead, MemWrote, MemSynced, MemCounts, MemNotRead, MemNotWritten, MemNotSynced}
 use Rattle.off_memdisk.specs.MemDiskLaws.{left_torn, left_synced, left_reads, reads_push, reads_sync, fit_push, fit_sync}
+use Rattle.off_memdisk.proofs.HeldLemmas.{written_size}
 use Rattle.off_disk.proofs.Moments.{whole_torn, torn_self}
 
 -- the calls up to a moment, behind one more
@@ -24,11 +25,6 @@ module _ (b : List ℕ) (cs : List (Option (ℕ × List ℕ))) (x : Option (ℕ 
 
   now : (d : List ℕ) → LeftBy b (λ e. e ≡ b) cs d → LeftBy b (λ e. e ≡ b) (take (length cs) cs) d
   now d left = subst (λ (ds : List (Option (ℕ × List ℕ))). LeftBy b (λ e. e ≡ b) ds d) (sym (take_all (length cs) cs (omega arith))) left
-
-written_size : (b : List ℕ) (at : ℕ) (piece : List ℕ) → at ≤ length b → length (written_in b at piece) ≡ max (length b) (at + length piece)
-written_size b at piece fits =
-    let front : length (take at b) ≡ at = omega (arith, length-take at b) in
-    omega (arith, front, length-append (take at b) (piece ++ drop (at + length piece) b), length-append piece (drop (at + length piece) b), length-drop (at + length piece) b)
 
 passes_write : (b : List ℕ) (cs : List (Option (ℕ × List ℕ))) (at : ℕ) (piece : List ℕ) (f g : ℕ)
     → Passes (Torn at (length piece)) (disk_seen b (cs) f)

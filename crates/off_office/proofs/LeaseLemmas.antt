@@ -174,7 +174,7 @@ pub fault_serves : (read : Result Received DhcpFault) (fault : DhcpFault) (desk 
 fault_serves read fault desk said k is says = subst (λ (r : Result Received DhcpFault). DidMessage r desk desk said k k) (sym is) (record {
   commit = [];
   tables = told_self (λ t. (refl, λ mirrors. (says, refl)));
-  follows = record { held = refl; counts_are = refl; kept = sym (nothing_written desk.kept); pools = λ t good keeps. keeps; device_pools = λ t good keeps. keeps; users = λ t knows. knows; devices = λ t here knows. knows };
+  follows = record { held = refl; counts_are = refl; kept = sym (nothing_written desk.kept); agreements = refl; pools = λ t good keeps. keeps; device_pools = λ t good keeps. keeps; users = λ t knows. knows; devices = λ t here knows. knows };
   settled = settled_none [] k refl;
   says = inl (unread fault, ap (λ (x : Said). x.line) says);
 })

@@ -8,6 +8,7 @@ pub mod RequestLemmas
 pub mod PieceLemmas
 pub mod UpLemmas
 pub mod SendLemmas
+pub mod AgreementLemmas
 pub mod MirrorLemmas
 pub mod OpeningLemmas
 pub mod SettleLemmas

@@ -35,6 +35,8 @@ use Rattle.off_outside.specs.declared.keeper.KeepErr.TheVariants as keep
 use Rattle.off_outside.specs.KeeperSeen.{KeeperSeen, Rests}
 use Rattle.off_outside.specs.KeeperCalls.{Reads, NotDone, NotCommitted, Settled, IsWritten, Spent, WasCounted, WalksOnce}
 use Rattle.off_outside.proofs.KeeperLemmas.{reads_then, settled_then, not_begun, not_begun_then, not_committed_as, spent_one, spent_then, spent_within}
+use Rattle.off_tftp.specs.Agreements.{AllAgreed}
+use Rattle.off_office.proofs.AgreementLemmas.{agreements_stay}
 use Rattle.off_office.specs.Desk.{Desk}
 use Rattle.off_office.specs.Opening.{IsMigrated, OpensTo, LeavesOpening, doubt_opened, counts_behind, WalksAndMigrates}
 use Rattle.off_office.specs.Conditions.{Mirrors, Fits, Opened, Founded, Begun, Follows, any_tables}
@@ -121,6 +123,7 @@ fits_migrated t counts users writes first after are begun follows opens = record
   mirrors = subst (Mirrors after) (migrated_by t writes are (write_all t writes) refl) (record {
     counts = follows.counts_are ∙ (ap (λ (c : Counts). counts_behind c writes) opens.1 ∙ sym (counts_migrated t writes are opens.0));
     kept = subst (AllRight (write_all t writes)) (sym follows.kept) (kept_stays_right t writes first.kept begun.kept);
+    agreements = subst (AllAgreed (write_all t writes)) (sym follows.agreements) (agreements_stay t writes first.agreements begun.agreements);
     pools = follows.pools t opens.0 begun.pools;
     device_pools = follows.device_pools t opens.0 begun.device_pools;
     users = follows.users t (begun.users opens.2);

@@ -121,7 +121,7 @@ wait_by : (conn : ℕ) (piece bytes : List ℕ) (said : Said) (before after : De
     → Read conn piece bytes Waits before → WaitsFor conn bytes r said (forgets before conn) after → Hears conn piece said before after k k r
 wait_by conn piece bytes said before after k (Ok u) read waits =
     heard_quietly conn piece said before after k
-    (stays_by before (record (forgets before conn) { held = with_connection (forgets before conn).held conn bytes }) after waits.1 (record { counts = refl; kept = refl; pools = refl; device_pools = refl; users = refl; devices = refl }))
+    (stays_by before (record (forgets before conn) { held = with_connection (forgets before conn).held conn bytes }) after waits.1 (record { counts = refl; kept = refl; agreements = refl; pools = refl; device_pools = refl; users = refl; devices = refl }))
     (ap (λ (x : Desk). x.held.now) waits.1) (λ t.
     takes conn piece bytes Waits before t (record { said = said; commit = []; after = state_of t after.held }) read
     (ap (λ (x : Said). record { said = x; commit = []; after = state_of t after.held }) waits.0
@@ -137,7 +137,7 @@ wait_hears conn piece bytes meaning said before mid after k r read is left waits
 
 bad_by : (conn : ℕ) (piece bytes : List ℕ) (f : HttpFault) (said : Said) (before : Desk) (k : KeeperSeen) (r : Result (Unit {0}) KeepErr)
     → Read conn piece bytes (Refused f) before → IsSaid r said (fault_said conn (fault.Http f)) → Hears conn piece said before (forgets before conn) k k r
-bad_by conn piece bytes f said before k (Ok u) read is = heard_quietly conn piece said before (forgets before conn) k (record { counts = refl; kept = refl; pools = refl; device_pools = refl; users = refl; devices = refl }) refl (λ t.
+bad_by conn piece bytes f said before k (Ok u) read is = heard_quietly conn piece said before (forgets before conn) k (record { counts = refl; kept = refl; agreements = refl; pools = refl; device_pools = refl; users = refl; devices = refl }) refl (λ t.
     takes conn piece bytes (Refused f) before t (record { said = said; commit = []; after = state_of t (without_connection before.held conn) }) read
     (ap (λ (x : Said). record { said = x; commit = []; after = state_of t (without_connection before.held conn) }) is))
 bad_by conn piece bytes f said before k (Err err) read is = forgotten conn piece before (forgets before conn) k err is refl
@@ -156,14 +156,14 @@ asked_by conn piece bytes m p b said before after k l (Ok u) read ends = record 
   commit = ends.writes;
   tables = told_weaker ends.tables (λ t v under. record {
     holds = λ mirrors.
-        let f = under.holds (mirrors_as before (forgets before conn) t (record { counts = refl; kept = refl; pools = refl; device_pools = refl; users = refl; devices = refl }) mirrors) in
+        let f = under.holds (mirrors_as before (forgets before conn) t (record { counts = refl; kept = refl; agreements = refl; pools = refl; device_pools = refl; users = refl; devices = refl }) mirrors) in
         let reply = answer_request t before.held.now m p b in
         takes conn piece bytes (Asked m p b) before t (record { said = said; commit = ends.writes; after = state_of v after.held }) read
         (ap (λ (x : Said). record { said = x; commit = ends.writes; after = state_of v after.held }) f.0
         ∙ (ap (λ (x : Tables). record { said = said_to conn reply; commit = ends.writes; after = state_of x after.held }) f.2
         ∙ (ap (λ (x : List Write). record { said = said_to conn reply; commit = x; after = state_of (write_all t x) after.held }) f.1
         ∙ ap (λ (h : Held). record { said = said_to conn reply; commit = reply.writes; after = state_of (write_all t reply.writes) h }) ends.held)));
-    stays = λ fits. under.stays (fits_as before (forgets before conn) t (record { counts = refl; kept = refl; pools = refl; device_pools = refl; users = refl; devices = refl }) fits);
+    stays = λ fits. under.stays (fits_as before (forgets before conn) t (record { counts = refl; kept = refl; agreements = refl; pools = refl; device_pools = refl; users = refl; devices = refl }) fits);
   });
   settled = ends.settled;
   kept = ends.kept;
@@ -174,7 +174,7 @@ asked_by conn piece bytes m p b said before after k l (Err e) read ends = record
   forgotten = ends.same;
   keeper = not_committed_as ends.keeper (λ t told u begun mirrors.
       let effect = by_meaning (state_of t before.held) conn bytes (Asked m p b) in
-      (effect, (takes conn piece bytes (Asked m p b) before t effect read refl, begun (mirrors_as before (forgets before conn) t (record { counts = refl; kept = refl; pools = refl; device_pools = refl; users = refl; devices = refl }) mirrors))));
+      (effect, (takes conn piece bytes (Asked m p b) before t effect read refl, begun (mirrors_as before (forgets before conn) t (record { counts = refl; kept = refl; agreements = refl; pools = refl; device_pools = refl; users = refl; devices = refl }) mirrors))));
 }
 
 by_asked : (conn : ℕ) (piece bytes : List ℕ) (meaning : Meaning) (said : Said) (before after : Desk) (k l : KeeperSeen) (q : Result (Unit {0}) KeepErr)

@@ -76,7 +76,7 @@ failed_on conn piece line outcome said before after t is gone =
 
 mirrors_still : (conn : ℕ) (before after : Desk) (t : Tables) → after ≡ forgets before conn → Mirrors before t → Mirrors after t
 mirrors_still conn before after t gone =
-    mirrors_as before after t (stays_by before (forgets before conn) after gone (record { counts = refl; kept = refl; pools = refl; device_pools = refl; users = refl; devices = refl }))
+    mirrors_as before after t (stays_by before (forgets before conn) after gone (record { counts = refl; kept = refl; agreements = refl; pools = refl; device_pools = refl; users = refl; devices = refl }))
 
 -- nothing was written
 pub stay_written : (a b : KeeperSeen) → ((t : Tables) → a.tables t → b.tables t) → Told a.tables b.tables (IsWritten [])
@@ -293,15 +293,6 @@ asks_at (Closed conn) held at a b asks = asks
 asks_at Tick held at a b asks = asks
 asks_at End held at a b asks = asks
 
-few_at : (what : What) (desk after : Desk) (at : ℕ) (a b : KeeperSeen) → AsksFew what (desk_at desk at) after a b → AsksFew what desk after a b
-few_at (Datagram Dhcp from bytes) desk after at a b few = few
-few_at (Datagram Time from bytes) desk after at a b few = few
-few_at (Datagram Tftp from bytes) desk after at a b few = record { owner = few.owner; begun = few.begun }
-few_at (Piece conn piece) desk after at a b few = few
-few_at (Closed conn) desk after at a b few = few
-few_at Tick desk after at a b few = few
-few_at End desk after at a b few = few
-
 pub acts_by : (event : Event) (what : What) (outcome : Outcome) (said : Said) (before mid after : Desk) (a b : KeeperSeen)
     → event.what ≡ what → mid ≡ desk_at before event.at.0 → Handled what outcome said mid after a b → Acts event outcome said before after a b
 unfolding Step
@@ -323,7 +314,7 @@ acts_by event what outcome said before mid after a b is at handled =
       faults = now.faults;
       commits = now.commits;
       asks = subst (λ (w : What). Asks w before.held a b) (sym is) (asks_at what before.held event.at.0 a b now.asks);
-      few = subst (λ (w : What). AsksFew w before after a b) (sym is) (few_at what before after event.at.0 a b now.few);
+      few = subst (λ (w : What). AsksFew w (desk_at before event.at.0) after a b) (sym is) now.few;
       crash = crash_by event what outcome said now.commit before after a b is tables now.crash;
       doubts = λ t told u doubt. doubt_as now.commit (in_as outcome (a.doubt u) (event_begins event what before is t u)) (now.doubts t told u doubt);
       tells = subst (λ (w : What). TellsOutcome w outcome said.line) (sym is) now.tells;
@@ -450,7 +441,7 @@ pub closed_handled : (conn : ℕ) (outcome : Outcome) (said : Said) (before afte
     → after ≡ forgets before conn → outcome ≡ Did → said ≡ failed_said (codes "http closed") → Handled (Closed conn) outcome said before after k k
 closed_handled conn outcome said before after k left did is =
     said_handled (Closed conn) outcome said (failed_said (codes "http closed")) before after k (ap (λ (x : Desk). x.held.now) left)
-    (stays_by before (forgets before conn) after left (record { counts = refl; kept = refl; pools = refl; device_pools = refl; users = refl; devices = refl })) refl did is
+    (stays_by before (forgets before conn) after left (record { counts = refl; kept = refl; agreements = refl; pools = refl; device_pools = refl; users = refl; devices = refl })) refl did is
     (λ t. ap (λ (x : Desk). effect_of (Closed conn) Did (failed_said (codes "http closed")) [] (state_of t x.held)) left)
     (spent_none k)
 

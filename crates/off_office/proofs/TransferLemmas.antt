@@ -21,7 +21,9 @@ use Rattle.off_outside.specs.KeeperSeen.{KeeperSeen, Rests}
 use Rattle.off_outside.specs.KeeperCalls.{Reads, NotDone, Looks, Spent}
 use Rattle.off_outside.proofs.KeeperLemmas.{reads_as, reads_told, reads_forgotten, not_begun, still_crash, spent_none}
 use Rattle.off_laws.proofs.Lines.{packet_tells}
-use Rattle.off_tftp.specs.Calls.{datagram_calls}
+use Rattle.off_tftp.specs.Calls.{datagram_calls, UnaskedWhereAgreed}
+use Rattle.off_tftp.specs.Agreements.{none_remembered, with_agreed, AllAgreed}
+use Rattle.off_tftp.proofs.AgreementLemmas.{none_agreed}
 use Rattle.off_tftp.specs.Ticking.{Ticks}
 use Rattle.off_tftp.specs.Deciding.{Answers, after_change, kept_behind, given_by}
 use Rattle.off_tftp.specs.Keeping.{FewWhereKept, FewWhereBegun, kept_after}
@@ -52,13 +54,14 @@ use Rattle.off_office.proofs.MirrorLemmas.{stays_self, stays_by}
 -- ---- an office that begins
 
 pub started : (q : Result Desk StartErr) (counts : Counts) (users : UsersHeld) (pools device_pools : List PoolHeld) (held : List Leases) (a b : KeeperSeen)
-    → IfOk q (λ (office : Desk). office ≡ record { held = held_at_start; counts = counts; kept = []; pools = pools; device_pools = device_pools; users = map_of users.modems; devices = held })
+    → IfOk q (λ (office : Desk). office ≡ record { held = held_at_start; counts = counts; kept = []; agreements = none_remembered; pools = pools; device_pools = device_pools; users = map_of users.modems; devices = held })
     → IfErr q (λ (err : StartErr). err ≡ start.Memory) → Rests a → Reads (λ t. KeepsPools pools (ground t) × (KeepsPools device_pools (device_ground t) × KnowsDevices held t)) a b
     → MatchResult q (λ (office : Desk). Reads (Begun office counts users) a b) (λ (err : StartErr). NotStarted err a b)
 started (Ok office) counts users pools device_pools held a b is none rests reads =
     reads_as reads (λ t keeps. record {
       counts_are = ap (λ (d : Desk). d.counts) is;
       kept = subst (λ (d : Desk). AllRight t d.kept) (sym is) (none_right t);
+      agreements = subst (λ (d : Desk). AllAgreed t d.agreements) (sym is) (none_agreed t);
       pools = subst (λ (d : Desk). KeepsPools d.pools (ground t)) (sym is) keeps.0;
       device_pools = subst (λ (d : Desk). KeepsPools d.device_pools (device_ground t)) (sym is) keeps.1.0;
       users = λ stands. subst (λ (d : Desk). Knows d.users t) (sym is) (stands_known users t stands);
@@ -67,7 +70,7 @@ started (Ok office) counts users pools device_pools held a b is none rests reads
 started (Err err) counts users pools device_pools held a b none is rests reads = subst (λ (e : StartErr). NotStarted e a b) (sym is) (not_begun rests (reads_forgotten reads))
 
 pub started_empty : (q : Result Desk StartErr) (counts : Counts) (users : NamedMap) (pools device_pools : List PoolHeld) (held : List Leases)
-    → IfOk q (λ (office : Desk). office ≡ record { held = held_at_start; counts = counts; kept = []; pools = pools; device_pools = device_pools; users = users; devices = held })
+    → IfOk q (λ (office : Desk). office ≡ record { held = held_at_start; counts = counts; kept = []; agreements = none_remembered; pools = pools; device_pools = device_pools; users = users; devices = held })
     → IfOk q (λ (office : Desk). office.held ≡ held_at_start)
 started_empty (Ok office) counts users pools device_pools held is = ap (λ (d : Desk). d.held) is
 started_empty (Err err) counts users pools device_pools held is = tt
@@ -79,20 +82,22 @@ abbrev pub IsHubAround : Desk → Ip4 → Option ℕ → Type 0
 IsHubAround desk ip hub = (g : Ground) → KeepsPools desk.pools g → hub ≡ option_map (λ e. g.hub e.0) (find (λ e. in_pool e.1 ip.0) g.pools)
 
 pub packet_did : (datagram : Received) (before after : Desk) (said : Said) (d : Decision) (a b : KeeperSeen) → datagram.at.0 ≡ before.held.now → IsHubAround before datagram.from.ip datagram.hub
-    → Reads (λ t. datagram.hub ≡ hub_of t datagram.from.ip → AllRight t before.kept → Answers t datagram before.held.transfers before.kept d) a b
+    → Reads (λ t. datagram.hub ≡ hub_of t datagram.from.ip → AllRight t before.kept → AllAgreed t before.agreements → Answers t datagram before.held.transfers before.kept before.agreements d) a b
     → CarriesPacket datagram.from d before after said
     → Reads (λ t. Mirrors before t → DidPacket datagram.from datagram.bytes.now before after said t) a b
 packet_did datagram before after said d a b at around reads carried =
     reads_as reads (λ t answers mirrors.
-    let did = answers (around (ground t) mirrors.pools) mirrors.kept in
+    let did = answers (around (ground t) mirrors.pools) mirrors.kept mirrors.agreements in
     let kept_is : after.kept ≡ kept_behind d.change before.kept = ap (λ (k : Desk). k.kept) carried.moves in
+    let agreed_is : after.agreements ≡ with_agreed d.agreed before.agreements = ap (λ (k : Desk). k.agreements) carried.moves in
     record {
       given = given_by d before.held.now before.held.transfers datagram.from;
       step = subst (λ n. TftpStep t n before.held.transfers datagram.from datagram.bytes.now (given_by d n before.held.transfers datagram.from)) at did.step;
-      moves = carried.moves ∙ ap (moved_with before (after_change d.change before.held.now before.held.transfers datagram.from)) (sym kept_is);
+      moves = carried.moves ∙ ap (λ (k : Desk). moved_with before (after_change d.change before.held.now before.held.transfers datagram.from) k.kept k.agreements) (sym carried.moves);
       says = carried.says;
       keeps = kept_is ∙ (did.keeps ∙ ap (λ n. kept_after t n before.held.transfers datagram.from datagram.bytes.now before.kept) at);
       right = subst (AllRight t) (sym kept_is) did.right;
+      agreed = subst (AllAgreed t) (sym agreed_is) did.agreed;
     })
 
 abbrev Carries : Peer → Decision → Desk → Desk → Said → Result (Unit {0}) KeepErr → Type 0
@@ -100,7 +105,7 @@ Carries from d before after said q = MatchResult q (λ _. CarriesPacket from d b
 
 told_by : (q : Result (Unit {0}) KeepErr) (datagram : Received) (before after : Desk) (said : Said) (d : Decision) (a b : KeeperSeen) → datagram.at.0 ≡ before.held.now
     → IsHubAround before datagram.from.ip datagram.hub
-    → Reads (λ t. datagram.hub ≡ hub_of t datagram.from.ip → AllRight t before.kept → Answers t datagram before.held.transfers before.kept d) a b
+    → Reads (λ t. datagram.hub ≡ hub_of t datagram.from.ip → AllRight t before.kept → AllAgreed t before.agreements → Answers t datagram before.held.transfers before.kept before.agreements d) a b
     → Carries datagram.from d before after said q
     → Looks q a b (λ _ t. Mirrors before t → DidPacket datagram.from datagram.bytes.now before after said t)
 told_by (Ok done) datagram before after said d a b at around reads carried = packet_did datagram before after said d a b at around reads carried
@@ -108,17 +113,17 @@ told_by (Err err) datagram before after said d a b at around reads not = subst (
 
 pub packet_told : (q : Result (Unit {0}) KeepErr) (datagram : Received) (inside before after : Desk) (said : Said) (d : Decision) (a b : KeeperSeen) → inside ≡ before → datagram.at.0 ≡ inside.held.now
     → IsHubAround inside datagram.from.ip datagram.hub
-    → Reads (λ t. datagram.hub ≡ hub_of t datagram.from.ip → AllRight t inside.kept → Answers t datagram inside.held.transfers inside.kept d) a b
+    → Reads (λ t. datagram.hub ≡ hub_of t datagram.from.ip → AllRight t inside.kept → AllAgreed t inside.agreements → Answers t datagram inside.held.transfers inside.kept inside.agreements d) a b
     → Carries datagram.from d before after said q
     → Looks q a b (λ _ t. Mirrors before t → DidPacket datagram.from datagram.bytes.now before after said t)
 packet_told q datagram inside before after said d a b seen at around reads carried =
     told_by q datagram before after said d a b (at ∙ ap (λ (k : Desk). k.held.now) seen) (subst (λ (k : Desk). IsHubAround k datagram.from.ip datagram.hub) seen around)
-    (subst (λ (k : Desk). Reads (λ t. datagram.hub ≡ hub_of t datagram.from.ip → AllRight t k.kept → Answers t datagram k.held.transfers k.kept d) a b) seen reads) carried
+    (subst (λ (k : Desk). Reads (λ t. datagram.hub ≡ hub_of t datagram.from.ip → AllRight t k.kept → AllAgreed t k.agreements → Answers t datagram k.held.transfers k.kept k.agreements d) a b) seen reads) carried
 
 pub packet_moves : (q : Result (Unit {0}) KeepErr) (from : Peer) (before after : Desk) (said : Said) (d : Decision) → Carries from d before after said q → MovesTransfers before after
 packet_moves (Ok done) from before after said d carried =
-    carried.moves ∙ ap (λ (k : Desk). moved_with before k.held.transfers k.kept) (sym carried.moves)
-packet_moves (Err err) from before after said d not = not.1 ∙ ap (λ (k : Desk). moved_with before k.held.transfers k.kept) (sym not.1)
+    carried.moves ∙ ap (λ (k : Desk). moved_with before k.held.transfers k.kept k.agreements) (sym carried.moves)
+packet_moves (Err err) from before after said d not = not.1 ∙ ap (λ (k : Desk). moved_with before k.held.transfers k.kept k.agreements) (sym not.1)
 
 pub packet_says : (q : Result (Unit {0}) KeepErr) (from : Peer) (before after : Desk) (said : Said) (d : Decision) → Carries from d before after said q → OnOk q (SaysPacket said)
 packet_says (Ok done) from before after said d carried = record { word = d.word; says = ap (λ (s : Said). s.line) carried.says }
@@ -132,14 +137,16 @@ few_by : (q : Result (Unit {0}) KeepErr) (datagram : Received) (before after : D
     → Carries datagram.from d before after said q → FewWhereKept datagram.from.ip before.kept a b
     → FewWhereBegun datagram.from datagram.bytes.now before.held.transfers before.kept a b
     → FewWhereBegun datagram.from datagram.bytes.now (after_change d.change datagram.at.0 before.held.transfers datagram.from) before.kept a b
-    → FewCalls datagram.from datagram.bytes.now before after a b
-few_by (Ok done) datagram before after said d a b at carried owner same begun = record {
+    → UnaskedWhereAgreed before.held.now datagram.from datagram.bytes.now before.held.transfers before.agreements a b → FewCalls datagram.from datagram.bytes.now before after a b
+few_by (Ok done) datagram before after said d a b at carried owner same begun unasked = record {
   owner = owner;
+  agreed = unasked;
   begun = subst (λ (m : Transfers). FewWhereBegun datagram.from datagram.bytes.now m before.kept a b)
       (ap (λ n. after_change d.change n before.held.transfers datagram.from) at ∙ sym (ap (λ (k : Desk). k.held.transfers) carried.moves)) begun;
 }
-few_by (Err err) datagram before after said d a b at not owner same begun = record {
+few_by (Err err) datagram before after said d a b at not owner same begun unasked = record {
   owner = owner;
+  agreed = unasked;
   begun = subst (λ (m : Transfers). FewWhereBegun datagram.from datagram.bytes.now m before.kept a b) (sym (ap (λ (k : Desk). k.held.transfers) not.1)) same;
 }
 
@@ -147,12 +154,14 @@ pub packet_few : (q : Result (Unit {0}) KeepErr) (datagram : Received) (inside b
     → Carries datagram.from d before after said q → FewWhereKept datagram.from.ip inside.kept a b
     → FewWhereBegun datagram.from datagram.bytes.now inside.held.transfers inside.kept a b
     → FewWhereBegun datagram.from datagram.bytes.now (after_change d.change datagram.at.0 inside.held.transfers datagram.from) inside.kept a b
-    → FewCalls datagram.from datagram.bytes.now before after a b
-packet_few q datagram inside before after said d a b seen at carried owner same begun =
+    → UnaskedWhereAgreed datagram.at.0 datagram.from datagram.bytes.now inside.held.transfers inside.agreements a b → FewCalls datagram.from datagram.bytes.now before after a b
+packet_few q datagram inside before after said d a b seen at carried owner same begun unasked =
     few_by q datagram before after said d a b (at ∙ ap (λ (k : Desk). k.held.now) seen) carried
     (subst (λ (k : Desk). FewWhereKept datagram.from.ip k.kept a b) seen owner)
     (subst (λ (k : Desk). FewWhereBegun datagram.from datagram.bytes.now k.held.transfers k.kept a b) seen same)
     (subst (λ (k : Desk). FewWhereBegun datagram.from datagram.bytes.now (after_change d.change datagram.at.0 k.held.transfers datagram.from) k.kept a b) seen begun)
+    (subst (λ n. UnaskedWhereAgreed n datagram.from datagram.bytes.now before.held.transfers before.agreements a b) (at ∙ ap (λ (k : Desk). k.held.now) seen)
+    (subst (λ (k : Desk). UnaskedWhereAgreed datagram.at.0 datagram.from datagram.bytes.now k.held.transfers k.agreements a b) seen unasked))
 
 -- what a datagram did, as one effect
 packet_does : (from : Peer) (bytes : List ℕ) (before after : Desk) (said : Said) (t : Tables) → DidPacket from bytes before after said t
@@ -178,6 +187,7 @@ packet_handled from bytes said before after a b rests reads moves says spent few
     stays = λ fits. record {
       counts = ap (λ (d : Desk). d.counts) moves ∙ fits.mirrors.counts;
       kept = (did fits.mirrors).right;
+      agreements = (did fits.mirrors).agreed;
       pools = subst (λ (pools : List PoolHeld). KeepsPools pools (ground t)) (sym (ap (λ (d : Desk). d.pools) moves)) fits.mirrors.pools;
       device_pools = subst (λ (pools : List PoolHeld). KeepsPools pools (device_ground t)) (sym (ap (λ (d : Desk). d.device_pools) moves)) fits.mirrors.device_pools;
       users = subst (λ (users : NamedMap). Knows users t) (sym (ap (λ (d : Desk). d.users) moves)) fits.mirrors.users;
@@ -269,7 +279,7 @@ pub tick_handled : (outcome : Outcome) (said : Said) (before after : Desk) (k : 
     → Handled Tick outcome said before after k k
 tick_handled Did said before after k did =
     handled_quietly Tick Did said before after k (ap (λ (d : Desk). d.held.now) did.moves)
-    (stays_by before (moved before did.transfers) after did.moves (record { counts = refl; kept = refl; pools = refl; device_pools = refl; users = refl; devices = refl })) refl
+    (stays_by before (moved before did.transfers) after did.moves (record { counts = refl; kept = refl; agreements = refl; pools = refl; device_pools = refl; users = refl; devices = refl })) refl
     (tick_does before after said did) (did_says Tick before after said (tick_does before after said did)) tt (spent_none k)
 tick_handled Memory said before after k missed =
     handled_quietly Tick Memory said before after k (ap (λ (d : Desk). d.held.now) missed.stays) (stays_by before before after missed.stays (stays_self before)) refl

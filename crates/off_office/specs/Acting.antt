@@ -210,7 +210,7 @@ pub record Acts (event : Event) (outcome : Outcome) (said : Said) (before after 
   pub faults : CountsFaults outcome old.faults new.faults
   pub commits : new.commits ≡ commits_after commit old.commits
   pub asks : Asks event.what before.held old new
-  pub few : AsksFew event.what before after old new
+  pub few : AsksFew event.what (desk_at before event.at.0) after old new
   pub crash : Crash (EventBegins event before) old new
   pub doubts : LeavesDoubt outcome commit (EventBegins event before) old new
   pub tells : TellsOutcome event.what outcome said.line

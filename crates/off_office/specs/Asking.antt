@@ -16,7 +16,7 @@ use Rattle.off_cpe_rules.specs.Behind.{modem_behind}
 use Rattle.off_cpe.specs.Calls.{is_own, device_calls}
 use Rattle.off_lease.specs.Calls.{message_calls}
 use Rattle.off_query.specs.Calls.{query_calls}
-use Rattle.off_tftp.specs.Calls.{datagram_calls}
+use Rattle.off_tftp.specs.Calls.{datagram_calls, UnaskedWhereAgreed}
 use Rattle.off_clerk_rules.specs.declared.faults.ClerkErr.{ClerkErr}
 use Rattle.off_clerk_rules.specs.Commands.{command_read}
 use Rattle.off_book.specs.Http.{is_full, heard_of}
@@ -111,11 +111,14 @@ Asks End held old new = Spent 0 old new
 
 -- A read request whose modem's body is kept asks three calls at most: where the tables are told, by
 -- the lease of the address, which says whose it is; and whatever the tables, where a transfer has
--- begun with it.
+-- begun with it. An acknowledgement asks nothing where it's remembered that the tables agree with its
+-- transfer.
 pub record FewCalls (from : Peer) (bytes : List ℕ) (before after : Desk)
     (old new : KeeperSeen) : Type 0 where
   pub owner : FewWhereKept from.ip before.kept old new
   pub begun : FewWhereBegun from bytes after.held.transfers before.kept old new
+  pub agreed : UnaskedWhereAgreed before.held.now from bytes before.held.transfers
+      before.agreements old new
 
 abbrev pub AsksFew : What → Desk → Desk → KeeperSeen → KeeperSeen → Type 0
 AsksFew (Datagram Tftp from bytes) before after old new = FewCalls from bytes before after old new

@@ -10,6 +10,7 @@ use Rattle.off_account_rules.specs.declared.counts.Counts.{Counts}
 use Rattle.off_account_rules.specs.Rows.{counts_of, devices}
 use Rattle.off_kept.specs.Entries.{without_written}
 use Rattle.off_kept.specs.Right.{AllRight}
+use Rattle.off_tftp.specs.Agreements.{AllAgreed, without_touched}
 use Rattle.off_runs.specs.Held.{PoolHeld, KeepsPools}
 use Rattle.off_runs.specs.Leases.{ground}
 use Rattle.off_device_runs.specs.Ground.{device_ground}
@@ -28,11 +29,13 @@ abbrev pub KnowsDevices : List Leases → Tables → Type 0
 KnowsDevices held t = Keeps held (devices t)
 
 -- what an office keeps of the tables is what stands there: how many rows there are of each kind,
--- the bodies of files, the pools with their hubs and the expiries of their addresses, the pools for
--- devices likewise, what each modem names, and the leases of devices
+-- the bodies of files, which addresses agree with transfers, the pools with their hubs and the
+-- expiries of their addresses, the pools for devices likewise, what each modem names, and the leases
+-- of devices
 pub record Mirrors (desk : Desk) (tables : Tables) : Type 0 where
   pub counts : desk.counts ≡ counts_of tables
   pub kept : AllRight tables desk.kept
+  pub agreements : AllAgreed tables desk.agreements
   pub pools : KeepsPools desk.pools (ground tables)
   pub device_pools : KeepsPools desk.device_pools (device_ground tables)
   pub users : Knows desk.users tables
@@ -63,6 +66,7 @@ pub record Begun (desk : Desk) (counts : Counts) (named : UsersHeld) (tables : T
   where
     pub counts_are : desk.counts ≡ counts
     pub kept : AllRight tables desk.kept
+    pub agreements : AllAgreed tables desk.agreements
     pub pools : KeepsPools desk.pools (ground tables)
     pub device_pools : KeepsPools desk.device_pools (device_ground tables)
     pub users : StandsFor named tables → Knows desk.users tables
@@ -82,15 +86,17 @@ pub record Founded (desk : Desk) (counts : Counts) (named : UsersHeld) (old new 
 pub record StaysAs (before after : Desk) : Type 0 where
   pub counts : after.counts ≡ before.counts
   pub kept : after.kept ≡ before.kept
+  pub agreements : after.agreements ≡ before.agreements
   pub pools : after.pools ≡ before.pools
   pub device_pools : after.device_pools ≡ before.device_pools
   pub users : after.users ≡ before.users
   pub devices : after.devices ≡ before.devices
 
 -- What is kept of the tables follows writes: the counts are those that are given, bodies of which a
--- row was written are forgotten, what modems name is what they name behind the writes, and the pools
--- are those behind them, where the tables before open. The leases of devices are those behind them
--- where the tables before are told, or whatever they were.
+-- row was written are forgotten, and so is the agreement that they may have ended; what modems name
+-- is what they name behind the writes, and the pools are those behind them, where the tables before
+-- open. The leases of devices are those behind them where the tables before are told, or whatever
+-- they were.
 abbrev pub PoolsFollow : List PoolHeld → List PoolHeld → List Write → Type 0
 PoolsFollow old new writes =
     (t : Tables) → Opens t → KeepsPools old (ground t) → KeepsPools new (ground (write_all t writes))
@@ -115,6 +121,7 @@ pub record Follows (told : Tables → Type 0) (before after : Desk) (counts : Co
   pub held : after.held ≡ before.held
   pub counts_are : after.counts ≡ counts
   pub kept : after.kept ≡ without_written writes before.kept
+  pub agreements : after.agreements ≡ without_touched writes before.agreements
   pub pools : PoolsFollow before.pools after.pools writes
   pub device_pools : DevicePoolsFollow before.device_pools after.device_pools writes
   pub users : UsersFollow before.users after.users writes

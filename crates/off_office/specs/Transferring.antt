@@ -16,6 +16,7 @@ use Rattle.off_outside.specs.declared.keeper.KeepErr.{KeepErr}
 use Rattle.off_outside.specs.declared.keeper.KeepErr.TheVariants as keep
 use Rattle.off_kept.specs.Entries.{Entries}
 use Rattle.off_kept.specs.Right.{AllRight}
+use Rattle.off_tftp.specs.Agreements.{Slots, with_agreed, AllAgreed}
 use Rattle.off_tftp.specs.Deciding.{after_change, kept_behind, items_of}
 use Rattle.off_tftp.specs.Keeping.{kept_after}
 use Rattle.off_tftp.specs.declared.deciding.Decision.{Decision}
@@ -26,24 +27,27 @@ use Rattle.off_sessions.specs.Answers.{failed_said}
 abbrev pub moved : Desk → Transfers → Desk
 moved desk transfers = record desk { held = record desk.held { transfers = transfers } }
 
--- and nothing but these and the bodies
-abbrev pub moved_with : Desk → Transfers → Entries → Desk
-moved_with desk transfers entries = record (moved desk transfers) { kept = entries }
+-- and nothing but these, the bodies and what is remembered of agreement
+abbrev pub moved_with : Desk → Transfers → Entries → Slots → Desk
+moved_with desk transfers entries slots =
+    record (moved desk transfers) { kept = entries; agreements = slots }
 
 abbrev pub MovesTransfers : Desk → Desk → Type 0
-MovesTransfers before after = after ≡ moved_with before after.held.transfers after.kept
+MovesTransfers before after =
+    after ≡ moved_with before after.held.transfers after.kept after.agreements
 
--- A datagram is acted on and said, as the book has it, whatever the tables by which the bodies are
--- right. They are so again.
+-- A datagram is acted on and said, as the book has it, whatever the tables by which the bodies and
+-- what is remembered are right. They are so again.
 pub record DidPacket (from : Peer) (bytes : List ℕ) (before after : Desk) (said : Said)
     (tables : Tables) : Type 0 where
   pub given : Given
   pub step : TftpStep tables before.held.now before.held.transfers from bytes given
-  pub moves : after ≡ moved_with before given.transfers after.kept
+  pub moves : after ≡ moved_with before given.transfers after.kept after.agreements
   pub says : said ≡ tftp_said given
   pub keeps : after.kept
       ≡ kept_after tables before.held.now before.held.transfers from bytes before.kept
   pub right : AllRight tables after.kept
+  pub agreed : AllAgreed tables after.agreements
 
 -- what was decided of a datagram is said, and its change made
 pub record CarriesPacket (from : Peer) (decision : Decision) (before after : Desk) (said : Said)
@@ -51,7 +55,7 @@ pub record CarriesPacket (from : Peer) (decision : Decision) (before after : Des
   pub moves : after
       ≡ moved_with before
       (after_change decision.change before.held.now before.held.transfers from)
-      (kept_behind decision.change before.kept)
+      (kept_behind decision.change before.kept) (with_agreed decision.agreed before.agreements)
   pub says : said ≡ record { items = items_of decision.sent; line = tftp_line decision.word }
 
 -- the line of a datagram that was acted on has a word of the service, whatever the tables

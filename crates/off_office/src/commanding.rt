@@ -44,6 +44,7 @@ impl Office {
         ensures held { self.new.held ≡ held_at self.old.held at.0 }
         ensures counts { OnErr result (self.new.counts ≡ self.old.counts) }
         ensures kept { OnErr result (self.new.kept ≡ self.old.kept) }
+        ensures agreements { OnErr result (self.new.agreements ≡ self.old.agreements) }
         ensures pools { OnErr result (self.new.pools ≡ self.old.pools) }
         ensures device_pools { OnErr result (self.new.device_pools ≡ self.old.device_pools) }
         ensures users { OnErr result (self.new.users ≡ self.old.users) }
@@ -85,7 +86,8 @@ impl Office {
 
     // Does what was planned, whatever service planned it: takes room for what the office keeps of
     // the tables, does the writes in one commit, where there are any, and then brings what is kept
-    // behind them, which takes no memory. Bodies of files are forgotten of which a row was written.
+    // behind them, which takes no memory. Bodies of files are forgotten of which a row was written,
+    // and so is the agreement that a row may have ended.
     pub(crate) fn settle<K: Keeper>(
         &mut self,
         keeper: &mut K,
@@ -107,6 +109,7 @@ impl Office {
         commit_all(self.alloc, keeper, writes)?;
         self.counts = *counts;
         self.kept.forget(writes);
+        self.agreements.forget(writes);
         self.runs.apply(writes);
         self.device_runs.apply(&of_devices);
         self.users.apply(writes);

@@ -25,7 +25,7 @@ use off_defs::{DeviceLease, Writes};
 use off_dhcp::{DhcpFault, Message};
 use off_lease::{DhcpWord, LeaseStep, answer};
 use off_outside::{KeepErr, Keeper, Outcome, Replies, Sent, Service, What};
-use off_query::Query;
+use off_query::query_or_message;
 
 impl Office {
     // Takes a datagram to the DHCP port.
@@ -60,27 +60,26 @@ impl Office {
         ensures spent { DhcpAsks (query_of bytes.now) (message_of bytes.now)
             (K.seen keeper.old) (K.seen keeper.new) }
     {
-        match Query::read(bytes) {
-            Some(query) => self.serve_query(keeper, &query, out),
-            None => self.read_message(keeper, bytes, out),
+        match query_or_message(bytes) {
+            Ok(query) => self.serve_query(keeper, &query, out),
+            Err(read) => self.take_read(keeper, read, out),
         }
     }
 
-    // Reads a message, does what it asks, and says so; or says why it's no message.
-    fn read_message<K: Keeper>(
+    // Does what a message asks, and says so; or says why a datagram is no message.
+    fn take_read<K: Keeper>(
         &mut self,
         keeper: &mut K,
-        bytes: &[u8],
+        read: Result<Message<'_>, DhcpFault>,
         out: &mut Replies,
     ) -> Result<(), KeepErr>
         requires { out.old ≡ says_nothing }
-        ensures told { ServesMessage result (message_of bytes.now) self.old self.new out.new
+        ensures told { ServesMessage result read.entry self.old self.new out.new
             (K.seen keeper.old) (K.seen keeper.new) }
         ensures same { OnErr result (self.new ≡ self.old) }
-        ensures spent { ReadAsks (message_of bytes.now)
-            (K.seen keeper.old) (K.seen keeper.new) }
+        ensures spent { ReadAsks read.entry (K.seen keeper.old) (K.seen keeper.new) }
     {
-        match Message::read(bytes) {
+        match read {
             Ok(m) => self.serve_message(keeper, &Asked::of(&m), out),
             Err(fault) => {
                 out.set_line(line_of(word_of(fault)).as_slice());
@@ -214,6 +213,7 @@ impl Office {
         self.devices.ready(writes)?;
         commit_all(self.alloc, keeper, writes)?;
         self.kept.forget(writes);
+        self.agreements.forget(writes);
         self.runs.apply(writes);
         self.device_runs.apply(&of_devices);
         self.users.apply(writes);

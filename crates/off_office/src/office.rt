@@ -10,6 +10,7 @@ ghost use Rattle.off_office.specs.Opening.{WalksAndMigrates, counts_behind};
 ghost use Rattle.off_runs.specs.Reading.{Walks};
 ghost use Rattle.off_users.specs.Kept.{map_of};
 ghost use Rattle.off_behind.specs.Buckets.{leases_in};
+ghost use Rattle.off_tftp.specs.Agreements.{none_remembered};
 ghost use Rattle.off_office.specs.Saying.{SaysTime};
 ghost use Rattle.off_office.specs.declared.office.StartErr.TheVariants as start;
 
@@ -23,7 +24,7 @@ use off_opening::{Opening, open_tables, read_migration};
 use off_outside::{Event, KeepErr, Keeper, Outcome, Replies, Sent, Service, What};
 use off_runs::FreeRuns;
 use off_sessions::Connections;
-use off_tftp::Transfers;
+use off_tftp::{Agreements, Transfers};
 use off_users::Users;
 use std::alloc::Global;
 use std::marker::Model;
@@ -54,15 +55,16 @@ impl From<KeepErr> for StartErr {
 }
 
 /// The office between two events: the moment of its latest event, how many rows the tables have,
-/// the bodies of files that were built of them, the free addresses of their pools, who uses which
-/// subscriber and class, the leases of devices by their modems, the files on their way to modems,
-/// and the clerks' connections.
+/// the bodies of files that were built of them, which addresses were seen to agree with transfers,
+/// the free addresses of their pools, who uses which subscriber and class, the leases of devices by
+/// their modems, the files on their way to modems, and the clerks' connections.
 #[derive(Drop)]
 pub struct Office {
     pub(crate) alloc: Global,
     pub(crate) now: Moment,
     pub(crate) counts: Counts,
     pub(crate) kept: Kept,
+    pub(crate) agreements: Agreements,
     pub(crate) runs: FreeRuns,
     pub(crate) device_runs: DeviceRuns,
     pub(crate) users: Users,
@@ -85,6 +87,7 @@ impl Model for Office {
       held = record { now = o.now.0; transfers = o.transfers; connections = o.connections };
       counts = o.counts;
       kept = o.kept;
+      agreements = o.agreements;
       pools = o.runs.pools;
       device_pools = o.device_runs.pools;
       users = map_of o.users.modems;
@@ -174,6 +177,7 @@ impl Office {
           held = held_at_start;
           counts = counts;
           kept = [];
+          agreements = none_remembered;
           pools = runs.pools;
           device_pools = device_runs.pools;
           users = map_of users.modems;
@@ -184,12 +188,16 @@ impl Office {
         let Ok(kept) = Kept::new(alloc) else {
             return Err(StartErr::Memory);
         };
+        let Ok(agreements) = Agreements::new(alloc) else {
+            return Err(StartErr::Memory);
+        };
         match Transfers::new(alloc) {
             Ok(transfers) => Ok(Office {
                 alloc,
                 now: Moment(0),
                 counts,
                 kept,
+                agreements,
                 runs,
                 device_runs,
                 users,

@@ -67,10 +67,13 @@ impl Office {
             at: self.now,
             bytes,
         };
-        match self
-            .transfers
-            .on_datagram(self.alloc, keeper, &self.kept, &datagram)
-        {
+        match self.transfers.on_datagram(
+            self.alloc,
+            keeper,
+            &self.kept,
+            &self.agreements,
+            &datagram,
+        ) {
             Ok(decision) => self.carry_packet(from, decision, out),
             Err(err) => Err(err),
         }
@@ -89,10 +92,16 @@ impl Office {
             (λ _. CarriesPacket from decision self.old self.new out.new)
             (λ err. (err ≡ Memory) × (self.new ≡ self.old)) }
     {
-        let Decision { word, sent, change } = decision;
+        let Decision {
+            word,
+            sent,
+            change,
+            agreed,
+        } = decision;
         say_packet(sent, word, out)?;
         self.transfers
             .carry_out(&mut self.kept, self.now, from, change)?;
+        self.agreements.put_seen(agreed);
         Ok(())
     }
 

@@ -1,6 +1,7 @@
 -- The marks of a walk, and what is found among them.
 use Rattle.std.proofs.Common.{◌≡◌, ℕ, ◌<◌, ◌≤◌, ◌+◌, false, ◌⊎◌, inl, inr, Option, Some, None, List, [], ◌∷◌, ◌++◌, map, length, length-append, refl, sym, ap, subst, ◌∙◌, arith}
 use Rattle.std.proofs.lemmas.List.{get_or-map, length-map}
+use Rattle.std.proofs.lemmas.Bool.{cases_lt}
 use Rattle.std.specs.Option.{option_map}
 use Rattle.std.specs.List.{filter_map}
 use Rattle.std.specs.Prelude.{slice_index_or}
@@ -26,7 +27,7 @@ use Rattle.off_readers.proofs.WalkLemmas.{left_of}
 use Rattle.off_readers.proofs.StepLemmas.{all_left}
 use Rattle.off_opening.specs.declared.marks.Mark.{Mark}
 use Rattle.off_opening.specs.Marks.{tie_of, mark_of, marks_of}
-use Rattle.off_opening.proofs.OrderLemmas.{below_or_not, indexes_rise, among_at, row_of, none_of, place_of, not_equal}
+use Rattle.off_opening.proofs.OrderLemmas.{indexes_rise, among_at, row_of, none_of, place_of, not_equal}
 
 -- ---- the walk
 
@@ -127,7 +128,7 @@ apart_at t key i j parted within =
     let d = mark_of no_entry in
     let is : slice_index_or (marks_of t) j d ≡ mark_of (entry_at t j) = mark_at t j d within in
     let sides = parted (marks_rise t key) in
-    elim (below_or_not j i) [
+    elim (cases_lt j i) [
       | inl less ↦ inl (subst (λ (m : Mark). key_cmp m.key key ≡ Less) is (sides.0 j d (omega arith) less))
       | inr not ↦ inr (subst (λ (m : Mark). key_cmp m.key key ≡ Greater) is (sides.1 j d not within))
     ]

@@ -1,6 +1,8 @@
 -- Entries in the order of their keys, over any total order in which tied keys are equal: the row of a key is that of its entry, and the first
 -- entry that passes a test is below all others that do.
-use Rattle.std.proofs.Common.{◌≡◌, ℕ, zero, suc, ◌<◌, ◌≤◌, true, false, cond, ◌⊎◌, inl, inr, Some, None, unwrap_or, List, [], ◌∷◌, length, refl, sym, ap, subst, ◌∙◌, arith}
+use Rattle.std.proofs.Common.{◌≡◌, ℕ, zero, suc, ◌<◌, ◌≤◌, true, false, cond, ◌⊎◌, inl, inr, Some, None, List, [], ◌∷◌, length, refl, sym, ap, subst, ◌∙◌, arith}
+use Rattle.std.proofs.lemmas.Bool.{cases_lt}
+use Rattle.std.proofs.lemmas.Option.{same_Some}
 use Rattle.std.specs.Prelude.{slice_index_or}
 use lib.Dec.{T}
 use Rattle.std.specs.Ordering.{is_eq, eq_by_cmp, ordering_reverse, ordering_index}
@@ -11,22 +13,14 @@ use Rattle.std.specs.FinMap.{IsAntisymmetric}
 use Rattle.std.specs.FinMap.Entries as list
 use Rattle.off_defs.proofs.EntryLemmas.{is_less, is_equal, holds, first, second}
 
--- of two places the one is below the other, or not; and where it isn't above, it's the same or below
-pub below_or_not : (i j : ℕ) → (i < j) ⊎ (j ≤ i)
-below_or_not i zero = inr (omega arith)
-below_or_not zero (suc j) = inl (omega arith)
-below_or_not (suc i) (suc j) = elim (below_or_not i j) [ inl less ↦ inl (omega (arith, less)) | inr not ↦ inr (omega (arith, not)) ]
-
+-- a place that is not above another is the same, or below it
 same_or_below : (i j : ℕ) → i ≤ j → (i ≡ j) ⊎ (i < j)
-same_or_below i j below = elim (below_or_not i j) [ inl less ↦ inr less | inr not ↦ inl (omega (arith, below, not)) ]
+same_or_below i j below = elim (cases_lt i j) [ inl less ↦ inr less | inr not ↦ inl (omega (arith, below, not)) ]
 
 -- it is one of the list
 abbrev pub Among : {A : Type 0} → A → List A → Type 0
 Among x [] = ⊥
 Among x (y ∷ ys) = (x ≡ y) ⊎ Among x ys
-
-same_some : {A : Type 0} (x y : A) → Some x ≡ Some y → x ≡ y
-same_some x y e = ap (λ v. unwrap_or v x) e
 
 module _ {K : Type 0} (R : K → K → Ordering) (o : IsTotalOrder R) where
   turn : (x y : K) → R x y ≡ Less → R y x ≡ Greater
@@ -74,7 +68,7 @@ module _ {K X : Type 0} (R : K → K → Ordering) where
       elim (eq_by_cmp R k x.0) as (λ b. eq_by_cmp R k x.0 ≡ b → cond b (Some x.1) (list.find R k es) ≡ Some v → ((k, v) ≡ x) ⊎ Among (k, v) es) [
         | true ↦ λ is f.
             let key : k ≡ x.0 = exact k x.0 (is_equal (R k x.0) is) in
-            let row : x.1 ≡ v = same_some x.1 v f in
+            let row : x.1 ≡ v = same_Some x.1 v f in
             inl (ap (λ (a : K). (a, v)) key ∙ ap (λ (b : X). (x.0, b)) (sym row))
         | false ↦ λ is f. inr (entry_of exact k v es f)
       ] refl f

@@ -10,7 +10,6 @@ use Rattle.std.specs.declared.cmp.Ordering.{Ordering}
 use Rattle.std.specs.declared.cmp.Ordering.TheVariants.{Less, Equal, Greater}
 use Rattle.std.specs.Cmp.{eq_by_cmp_equiv, nat_cmp_is}
 use Rattle.std.specs.Cmp.Lexicographic.{slice_cmp, nat_list_cmp_total}
-use Rattle.std.specs.FinMap.{nat_cmp-IsAntisymmetric, slice_cmp-IsAntisymmetric}
 use Rattle.std.specs.FinMap as map_of
 use Rattle.std.specs.FinMap.Entries as list
 use Rattle.std.specs.BTreeMap.{is_at}
@@ -24,9 +23,10 @@ use Rattle.off_defs.specs.declared.tables.Row.TheVariants as row
 use Rattle.off_defs.specs.declared.tables.DeviceLease.{DeviceLease}
 use Rattle.off_defs.specs.Keys.{key_cmp}
 use Rattle.off_defs.specs.State.{Tables}
-use Rattle.off_defs.proofs.EntryLemmas.{is_less, is_equal, holds, first, second}
+use Rattle.off_defs.proofs.EntryLemmas.{is_less, holds, first, second}
 use Rattle.off_account_rules.specs.Rows.{device_of}
-use Rattle.off_account_rules.specs.Good.{is_mac, is_same_owner, is_owned_apart, device_owner}
+use Rattle.off_account_rules.specs.Good.{is_same_owner, is_owned_apart, device_owner}
+use Rattle.off_account_rules.proofs.OwnerLemmas.{owner_same, owner_own}
 use Rattle.off_opening.specs.declared.marks.Mark.{Mark}
 use Rattle.off_opening.specs.declared.owners.Owners.{Owners}
 use Rattle.off_opening.specs.Marks.{tie_of, mark_of, marks_of, tied_owner, marked_owner}
@@ -34,23 +34,6 @@ use Rattle.off_opening.specs.Owners.{owner_cmp, has_owner, is_owner, count_marke
 use Rattle.off_opening.proofs.OrderLemmas.{Among, below_among}
 
 -- ---- devices with their modems that are the same
-
-mac_same : (one other : Mac) → is_mac one other ≡ true → one ≡ other
-mac_same one other e = ap (λ (x : List ℕ). record { 0 = x }) (slice_cmp-IsAntisymmetric nat_cmp-IsAntisymmetric one.0 other.0 (is_equal (slice_cmp nat_cmp one.0 other.0) e))
-
-both : (a b : Bool) → (a && b) ≡ true → (a ≡ true) × (b ≡ true)
-both true b e = (refl, e)
-both false b e = cc
-
-owner_same : (one other : Mac × Mac) → is_same_owner one other ≡ true → one ≡ other
-owner_same one other e =
-    let p = both (is_mac one.0 other.0) (is_mac one.1 other.1) e in
-    let modem = mac_same one.0 other.0 p.0 in
-    let device = mac_same one.1 other.1 p.1 in
-    λ i. (modem i, device i)
-
-owner_itself : (o : Mac × Mac) → is_same_owner o o ≡ true
-owner_itself o = ap (λ b. b && is_mac o.1 o.1) ((eq_by_cmp_equiv nat_list_cmp_total).refl o.0.0) ∙ (eq_by_cmp_equiv nat_list_cmp_total).refl o.1.0
 
 owner_turned : (one other : Mac × Mac) → is_same_owner one other ≡ is_same_owner other one
 owner_turned one other =
@@ -273,7 +256,7 @@ module _ (a : Ip4) (o : Mac × Mac) where
 
   module _ (lease : DeviceLease) (own : device_owner lease.hold ≡ Some o) where
     own_counts : has_it o (a, lease) ≡ true
-    own_counts = ap (is_owner o) own ∙ owner_itself o
+    own_counts = ap (is_owner o) own ∙ owner_own o
 
     counted_in : (es : List (Key × Row)) → Among (key.Device a, row.Device lease) es → 1 ≤ count_by (has_it o) (filter_map device_of es)
     counted_in [] among = absurd among

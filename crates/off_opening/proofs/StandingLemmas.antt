@@ -1,6 +1,7 @@
 -- Tables that open, by the marks of all rows.
 use Rattle.std.proofs.Common.{◌≡◌, ℕ, ◌+◌, ◌^◌, ◌<◌, ◌≤◌, min, true, false, inl, inr, ◌&&◌, Option, Some, None, Result, Ok, Err, IfOk, IfErr, Bool, List, [], ◌∷◌, map, length, count_by, cond, refl, sym, ap, subst, ◌∙◌, arith, ◌||◌, ◌==◌, option_map}
 use Rattle.std.proofs.lemmas.List.Sums.{sum_by-cons}
+use Rattle.std.proofs.lemmas.Bool.{cases_lt}
 use Rattle.std.specs.List.{filter_map, cons_option, list_any, list_all, find}
 use Rattle.std.specs.Prelude.{slice_index_or}
 use Rattle.std.specs.declared.cmp.Ordering.TheVariants.{Less, Equal}
@@ -36,7 +37,7 @@ use Rattle.off_opening.specs.Standing.{tie_stands, is_sole, is_kept, IsCompared}
 use Rattle.off_opening.specs.declared.standing.Compared.{Compared}
 use Rattle.off_opening.specs.Owners.{HaveSeveral}
 use Rattle.off_opening.proofs.OwnerLemmas.{several_are, sole_in}
-use Rattle.off_opening.proofs.OrderLemmas.{Among, below_or_not, rises, among_at, row_of, entry_of, place_of, not_both}
+use Rattle.off_opening.proofs.OrderLemmas.{Among, rises, among_at, row_of, entry_of, place_of, not_both}
 use Rattle.off_opening.proofs.MarkLemmas.{no_entry, entry_at, as_many, mark_at}
 
 -- ---- pools and counts
@@ -256,7 +257,7 @@ pub one_more_kept : (marks : List Mark) (compared : Compared) (n : ℕ) (d mark 
     → ((t : Tables) → marks ≡ marks_of t → IsCompared compared t → right ≡ is_kept t mark) → right ≡ true → Kept marks compared (n + 1)
 one_more_kept marks compared n d mark right so_far within here test is t are pooled = record {
   kept = λ i below inside.
-      elim (below_or_not i n) [
+      elim (cases_lt i n) [
         | inl less ↦ (so_far t are pooled).kept i less inside
         | inr not ↦
             let same : n ≡ i = omega (arith, below, not) in
@@ -274,7 +275,7 @@ found_at t k held there =
 not_above : (t : Tables) (n i : ℕ) → n ≤ i → i < length (map_of.entries t) → key_cmp (entry_at t i).0 (entry_at t n).0 ≡ Less → ⊥
 not_above t n i not within lower =
     let es = map_of.entries t in
-    elim (below_or_not n i) [
+    elim (cases_lt n i) [
       | inl less ↦ not_both key_cmp key_total (entry_at t n).0 (entry_at t i).0 (rises key_cmp key_total es n i no_entry (map_of.entries_sorted t) less within) lower
       | inr same ↦
           let one : i ≡ n = omega (arith, not, same) in
@@ -306,7 +307,7 @@ bad_found marks compared n d mark right so_far within here test is t are pooled 
       breaks = wrong;
       least = λ other lower held there.
           let p = found_at t other held there in
-          elim (below_or_not p.0 n) [
+          elim (cases_lt p.0 n) [
             | inl less ↦ subst (λ (e : Key × Row). keeps t e.0 e.1 ≡ true) p.2 ((so_far t are pooled).kept p.0 less p.1)
             | inr not ↦ absurd (not_above t n p.0 not p.1 (subst (λ (e : Key × Row). key_cmp e.0 (entry_at t n).0 ≡ Less) (sym p.2) lower))
           ];

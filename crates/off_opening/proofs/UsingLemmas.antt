@@ -10,7 +10,8 @@ use Rattle.off_defs.specs.declared.tables.Row.{Row}
 use Rattle.off_defs.specs.declared.tables.Row.TheVariants as row
 use Rattle.off_defs.specs.State.{Tables}
 use Rattle.off_users.specs.declared.named.Named.{Named}
-use Rattle.off_users.specs.Users.{UsersHeld, StandsFor, named_by, named_entry, named_in, is_same_mac}
+use Rattle.off_base.specs.Macs.{is_same_mac}
+use Rattle.off_users.specs.Users.{UsersHeld, StandsFor, named_by, named_entry, named_in}
 use Rattle.off_users.proofs.SeenLemmas.{mac_laws, named_seen}
 use Rattle.off_opening.specs.declared.marks.Mark.{Mark}
 use Rattle.off_opening.specs.Marks.{tie_of, mark_of, marks_of, named_tied, named_mark, named_first}

@@ -12,7 +12,7 @@ use Rattle.off_defs.specs.State.{Tables}
 use Rattle.off_account_rules.specs.Rows.{is_possible, is_of_kind}
 use Rattle.off_account_rules.specs.Good.{owner_of, device_owner}
 use Rattle.off_users.specs.declared.named.Named.{Named}
-use Rattle.off_users.specs.Users.{is_same_mac}
+use Rattle.off_base.specs.Macs.{is_same_mac}
 use Rattle.off_opening.specs.declared.marks.Mark.{Mark}
 use Rattle.off_opening.specs.declared.marks.Tie.{Tie}
 use Rattle.off_opening.specs.declared.marks.Tie.TheVariants as tie

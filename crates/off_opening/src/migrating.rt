@@ -8,8 +8,8 @@ use off_defs::{Key, Row, Write, Writes};
 use off_outside::{KeepErr, Keeper};
 use std::alloc::Global;
 
-/// What the migration of the tables writes, in one commit: nothing where there is no site of earlier
-/// days. It changes nothing.
+/// What the migration of the tables writes, in one commit: nothing where there is no site of
+/// earlier days. It changes nothing.
 ///
 /// An error is the keeper's, or `Memory` where the two writes have none.
 pub fn read_migration<K: Keeper>(alloc: Global, keeper: &mut K) -> Result<Writes, KeepErr>

@@ -55,7 +55,8 @@ pub fn first_bad<K: Keeper>(alloc: Global, keeper: &mut K) -> Result<Option<Key>
 
 // What tables are that have these marks.
 fn opening_of(alloc: Global, marks: &[Mark]) -> Result<Opening, KeepErr>
-    ensures ok { IfOk result (λ opening. (t : Tables) → marks.now ≡ marks_of t → OpensAs t opening) }
+    ensures ok { IfOk result (λ opening. (t : Tables) → marks.now ≡ marks_of t
+        → OpensAs t opening) }
     ensures err { IfErr result (λ err. err ≡ KeepErr.Memory) }
 {
     match bad_in(alloc, marks) {

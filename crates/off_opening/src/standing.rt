@@ -1,13 +1,14 @@
 //! Whether a row stands in the right relations to the other rows, by the marks of them all.
 
-ghost use Rattle.std.specs.Prelude.{◌≡◌, ◌==◌, ◌&&◌, ℕ, count_by, IsTrue};
+ghost use Rattle.std.specs.Prelude.{◌≡◌, ◌==◌, ◌&&◌, ℕ, count_by};
 ghost use Rattle.std.specs.List.{list_all, list_any, find};
 ghost use Rattle.off_opening.specs.declared.marks.Mark.{Mark};
 ghost use Rattle.off_defs.specs.State.{Tables};
 ghost use Rattle.off_account_rules.specs.Rows.{passes, has_address};
 ghost use Rattle.off_account_rules.specs.Good.{raw_pools, is_there, is_apart, is_disjoint, is_mac};
 ghost use Rattle.off_account_rules.specs.Good.{pool_stands, device_pool_stands};
-ghost use Rattle.off_account_rules.specs.Good.{owner_holds, owns, is_of_hubs, names_hubs, is_hub_there};
+ghost use Rattle.off_account_rules.specs.Good.{owner_holds, owns, is_of_hubs, names_hubs};
+ghost use Rattle.off_account_rules.specs.Good.{is_hub_there};
 ghost use Rattle.off_account_rules.specs.Good.{pool_hub_stands, stored_hub, stored_hub_of};
 ghost use Rattle.off_defs.specs.declared.tables.Pool.{Pool};
 ghost use Rattle.std.specs.Option.{option_map};

@@ -1,5 +1,5 @@
 -- Each command that no rule refuses leaves good tables good.
-use Rattle.std.proofs.Common.{◌≡◌, ℕ, Bool, true, false, cond, not, ◌&&◌, eqb, leb, Option, Some, None, is_none, option_map, List, [], ◌∷◌, map, length, refl, sym, ap, subst, ◌∙◌, arith}
+use Rattle.std.proofs.Common.{◌≡◌, ℕ, Bool, true, false, cond, not, ◌&&◌, eqb, leb, Option, Some, None, is_none, List, [], ◌∷◌, map, length, refl, sym, ap, subst, ◌∙◌, arith}
 use Rattle.std.proofs.lemmas.Bool.{and_from, eqb-false, ne_eqb, le-leb, not-false, not_from_false, or_left}
 use Rattle.std.specs.List.{find, flat_map, list_any}
 use Rattle.std.specs.Ordering.{eq_by_cmp}
@@ -8,6 +8,7 @@ use Rattle.off_base.specs.declared.macs.Mac.{Mac}
 use Rattle.off_base.specs.Tree.{Tree}
 use Rattle.off_tree.specs.declared.tables.Kind.TheVariants as tree
 use Rattle.off_tree.specs.Fault.{first_fault}
+use Rattle.off_tree.proofs.GoodLemmas.{not_mapped}
 use Rattle.off_defs.specs.declared.keys.Key.{Key}
 use Rattle.off_defs.specs.declared.keys.Key.TheVariants as key
 use Rattle.off_defs.specs.declared.tables.Row.TheVariants as row
@@ -50,10 +51,6 @@ unbroken (Some broken ∷ rules) e = cc
 pub not_when : (b : Bool) (broken : Rule) → when b broken ≡ None → b ≡ false
 not_when true broken e = cc
 not_when false broken e = refl
-
-pub not_mapped : {A B : Type 0} (f : A → B) (o : Option A) → option_map f o ≡ None → o ≡ None
-not_mapped f None e = refl
-not_mapped f (Some x) e = cc
 
 -- a site that no rule refuses, and whose secret has at most 64 bytes
 site_possible : (site : Site) → eqb site.server.0 0 ≡ false → eqb (length site.secret) 0 ≡ false → leb (length site.secret) 64 ≡ true → not (is_lease_time site.lease) ≡ false

@@ -1,5 +1,5 @@
 -- Good rows stay good where a pool for devices is put or removed, and the leases that lose their pool by it are dropped.
-use Rattle.std.proofs.Common.{◌≡◌, ℕ, Bool, true, false, cond, Option, Some, None, option_map, List, [], ◌∷◌, map, ◌||◌, refl, sym, ap, ◌∙◌}
+use Rattle.std.proofs.Common.{◌≡◌, ℕ, Bool, true, false, cond, Option, Some, None, option_map, List, [], ◌∷◌, map, refl, sym, ap, ◌∙◌}
 use Rattle.std.proofs.lemmas.Bool.{false_from_ne_true}
 use Rattle.std.specs.List.{list_any}
 use Rattle.std.specs.Ordering.{eq_by_cmp}
@@ -22,6 +22,7 @@ use Rattle.off_table_laws.proofs.Rows.{Rows, drop_row, rows_after}
 use Rattle.off_table_laws.proofs.GoodRows.{GoodRows}
 use Rattle.off_table_laws.proofs.Judging.{device_in_raw}
 use Rattle.off_table_laws.proofs.PoolLemmas.{set_row, kept, set_case, pool_mapped, pool_same, turned, IsApartOf, IsClearOf, apart_set, one_pool_set, device_pool_numbered}
+use Rattle.off_order_laws.proofs.LostLeases.{or_none, none_either}
 
 -- the rows where a pool for devices is put, or removed, and the rows without the leases of lost addresses
 abbrev pub set_device_pool : Rows → ℕ → Option Pool → Rows
@@ -88,11 +89,6 @@ pub drops_aside : (rows : Rows) (es : List (Ip4 × DeviceLease)) (q : Key) → i
 drops_aside rows [] q h = refl
 drops_aside rows (e ∷ es) q h = drops_aside (drop_row rows (key.Device e.0)) es q h ∙ drop_aside rows e.0 q h
 
-or_none : (a b : Bool) (o : Option Row) → cond b None (cond a None o) ≡ cond (a || b) None o
-or_none true true o = refl
-or_none true false o = refl
-or_none false b o = refl
-
 drops_device : (rows : Rows) (es : List (Ip4 × DeviceLease)) (address : Ip4)
     → rows_after rows (map device_drop es) (key.Device address) ≡ cond (list_any (is_of address) es) None (rows (key.Device address))
 unfolding is_of
@@ -107,10 +103,6 @@ is_of_same address entry e = let k = same_key (key.Device address) (key.Device e
 is_of_own : (address : Ip4) (lease : DeviceLease) → is_of address (address, lease) ≡ true
 unfolding is_of
 is_of_own address lease = own_key (key.Device address)
-
-none_either : (b : Bool) → ◌≡◌ {A = Option Row} (cond b None None) None
-none_either true = refl
-none_either false = refl
 
 module _ (t : Tables) (g : GoodRows (row_at t)) (n : ℕ) (new : Option Pool) where
   abbrev is_lost : Ip4 × DeviceLease → Bool

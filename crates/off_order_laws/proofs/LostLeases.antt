@@ -79,12 +79,12 @@ drops_other rows (e ∷ es) q h =
     ∙ drops_other (rows_after (drop_row rows (key.Lease e.0)) (held_drop (owner_of e.1.hold))) es q h
     ∙ step_other rows e.0 (owner_of e.1.hold) q h
 
-or_none : (a b : Bool) (o : Option Row) → cond b None (cond a None o) ≡ cond (a || b) None o
+pub or_none : (a b : Bool) (o : Option Row) → cond b None (cond a None o) ≡ cond (a || b) None o
 or_none true true o = refl
 or_none true false o = refl
 or_none false b o = refl
 
-none_either : (b : Bool) → ◌≡◌ {A = Option Row} (cond b None None) None
+pub none_either : (b : Bool) → ◌≡◌ {A = Option Row} (cond b None None) None
 none_either true = refl
 none_either false = refl
 

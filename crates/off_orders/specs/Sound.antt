@@ -3,7 +3,7 @@
 use Rattle.std.specs.Prelude.{ℕ, ◌==◌, Bool, true, false, not, ◌&&◌, nat_le, length}
 use Rattle.std.specs.List.{list_all}
 use Rattle.std.specs.Int.{is_in_range}
-use Rattle.off_defs.specs.Bounds.{last_add_on, most_devices, least_prefix, most_prefix}
+use Rattle.off_defs.specs.Bounds.{last_add_on, least_prefix, most_prefix}
 use Rattle.off_defs.specs.declared.keys.Key.{Key}
 use Rattle.off_defs.specs.declared.keys.Key.TheVariants as key
 use Rattle.off_defs.specs.declared.tables.Pool.{Pool}
@@ -14,10 +14,7 @@ use Rattle.off_orders.specs.declared.orders.ImportRow.{ImportRow}
 use Rattle.off_orders.specs.declared.orders.ImportRow.TheVariants as row
 use Rattle.off_orders.specs.declared.orders.Command.{Command}
 use Rattle.off_orders.specs.declared.orders.Command.TheVariants.{PutHub, PutSubscriber, PutAddOn, PutModem, PutClass, PutPool, PutDevicePool, Remove, Show, Import}
-
--- behind a modem may be 1 to 254 devices
-abbrev pub is_sound_subscriber : Subscriber → Bool
-is_sound_subscriber subscriber = is_in_range 1 most_devices subscriber.cpes
+use Rattle.off_account_rules.specs.Rows.{subscriber_fits}
 
 -- a subscriber's add-ons have the numbers 0 to 7
 abbrev pub is_add_on_number : ℕ → Bool
@@ -61,14 +58,14 @@ is_shown (key.Device address) = false
 
 -- a row that an import of the kind has
 abbrev pub is_row_of : ImportKind → ImportRow → Bool
-is_row_of Subscribers (row.Subscriber number subscriber) = is_sound_subscriber subscriber
+is_row_of Subscribers (row.Subscriber number subscriber) = subscriber_fits subscriber
 is_row_of Subscribers (row.Modem mac modem) = false
 is_row_of Modems (row.Subscriber number subscriber) = false
 is_row_of Modems (row.Modem mac modem) = true
 
 abbrev pub is_sound : Command → Bool
 is_sound (PutHub number site) = true
-is_sound (PutSubscriber number subscriber) = is_sound_subscriber subscriber
+is_sound (PutSubscriber number subscriber) = subscriber_fits subscriber
 is_sound (PutAddOn subscriber number settings) = is_add_on_number number
 is_sound (PutModem mac modem) = true
 is_sound (PutClass number class) = true

@@ -1,6 +1,7 @@
 ghost use Rattle.std.specs.Prelude.{◌≡◌};
 ghost use Rattle.std.specs.List.{list_all};
-ghost use Rattle.off_orders.specs.Sound.{is_sound, is_sound_subscriber, is_add_on_number};
+ghost use Rattle.off_orders.specs.Sound.{is_sound, is_add_on_number};
+ghost use Rattle.off_account_rules.specs.Rows.{subscriber_fits};
 ghost use Rattle.off_orders.specs.Sound.{is_sound_pool, is_removable, is_shown, is_row_of};
 
 use crate::orders::{Command, ImportRow, ImportRows};
@@ -32,7 +33,7 @@ pub fn sound(c: &Command) -> bool
 }
 
 fn has_devices(subscriber: &Subscriber) -> bool
-    ensures { result ≡ is_sound_subscriber subscriber.now }
+    ensures { result ≡ subscriber_fits subscriber.now }
 {
     1 <= subscriber.cpes && subscriber.cpes <= MOST_DEVICES
 }

@@ -57,7 +57,7 @@ grew_behind {n} {a} {b} {c} same grew = subst (λ k. Grew n k c) same grew
 pub tallied_behind : {n a b c : ℕ} → b ≡ a → Tallied n b c → Tallied n a c
 tallied_behind {n} {a} {b} {c} same tallied = subst (λ k. Tallied n k c) same tallied
 
-up_either : (a b c : KeeperSeen) → b.faults ≡ a.faults → c.up ⊎ Grew 1 b.faults c.faults → c.up ⊎ Grew 1 a.faults c.faults
+pub up_either : (a b c : KeeperSeen) → b.faults ≡ a.faults → c.up ⊎ Grew 1 b.faults c.faults → c.up ⊎ Grew 1 a.faults c.faults
 up_either a b c same (inl up) = inl up
 up_either a b c same (inr grew) = inr (grew_behind same grew)
 

@@ -1,7 +1,7 @@
 -- What a source in memory gives is what it tells of it.
-use Rattle.std.proofs.Common.{◌≡◌, ℕ, zero, suc, ◌<◌, ◌≤◌, List, [], ◌∷◌, ◌++◌, Result, Ok, Err, MatchResult, IfOk, length, take, drop, refl, sym, ap, ◌∙◌, subst, inl, arith, length-take}
+use Rattle.std.proofs.Common.{◌≡◌, ℕ, zero, suc, ◌<◌, ◌≤◌, List, [], ◌++◌, Result, Ok, Err, MatchResult, IfOk, length, take, drop, refl, sym, ap, ◌∙◌, subst, inl, arith, length-take}
 use Rattle.std.proofs.Math.Seq.{take-append_seam}
-use Rattle.std.proofs.lemmas.List.{take-append-drop}
+use Rattle.std.proofs.lemmas.List.{take-append-drop, nil_from_length}
 use Rattle.off_defs.proofs.ToldLemmas.{told_known}
 use Rattle.off_defs.specs.Counts.{Grew, one_more}
 use Rattle.off_outside.specs.declared.link.Failed.{Failed}
@@ -24,10 +24,6 @@ ends_roomless (suc n) room ends none = refl
 
 pub ruleset ends_rules = (ends_met, ends_full, ends_roomless)
 
-none_of : (left : List ℕ) → length left ≡ 0 → left ≡ []
-none_of [] e = refl
-none_of (x ∷ left) e = absurd (omega arith)
-
 front_of : (n : ℕ) (left rest : List ℕ) → n ≤ length left → take n (take n left ++ rest) ≡ take n left
 front_of n left rest within =
     let len : length (take n left) ≡ n = omega (arith, length-take n left) in
@@ -40,7 +36,7 @@ mem_gave_tells {n} {before} {after} {old} {new} gave same = record {
       let front : take n after ≡ take n old.left = ap (λ v. take n v) gave.filled ∙ front_of n old.left (drop n before) within in
       let whole : old.left ≡ take n after ++ drop n old.left = sym (ap (λ v. v ++ drop n old.left) front ∙ take-append-drop n old.left) in (
         subst (λ (m : MemSourceHeld). old.left ≡ take n after ++ m.left) (sym gave.after_it) whole,
-        λ zero some. none_of old.left (omega (arith, gave.count)),
+        λ zero some. nil_from_length old.left (omega (arith, gave.count)),
       ));
   up = λ up. up;
   faults = ap (λ (m : MemSourceHeld). m.faults) gave.after_it;

@@ -45,8 +45,8 @@ const DRIP: u64 = 500;
 
 // Where no place is free, so many milliseconds must a peer have been silent whose connection makes
 // room for one that waits: one that has sent nothing, or drips, and one whose request is taken or
-// answered. The first is long enough for a clerk's request to follow its connection, also where many
-// come at once; the others wait in the listener's queue meanwhile.
+// answered. The first is long enough for a clerk's request to follow its connection, also where
+// many come at once; the others wait in the listener's queue meanwhile.
 const SHORT_SILENCE: u64 = 250;
 
 const LONG_SILENCE: u64 = 2_000;

@@ -15,6 +15,9 @@ same_head : (bytes head : List ℕ) (b : Bool) → cond b (Some bytes) None ≡ 
 same_head bytes head true is = cc
 same_head bytes head false is = cc
 
+pub of_head : (bytes head : List ℕ) → head_of bytes ≡ Some head → bytes ≡ head
+of_head bytes head is = same_head bytes head (has_head bytes) is
+
 head_there : (bytes head : List ℕ) (b : Bool) → cond b (Some bytes) None ≡ Some head → b ≡ true
 head_there bytes head true is = refl
 head_there bytes head false is = cc

@@ -3,7 +3,7 @@
 ghost use Rattle.std.specs.Prelude.{◌≡◌, ◌&&◌, is_some};
 ghost use Rattle.std.specs.Str.{bytes_eq};
 ghost use Rattle.off_account_rules.specs.Rows.{passes};
-ghost use Rattle.off_lease_rules.specs.Steps.{is_live_bound};
+ghost use Rattle.off_account_rules.specs.Good.{is_live_bound};
 ghost use Rattle.off_query_rules.specs.Asked.{asks_by_address};
 ghost use Rattle.off_query_rules.specs.Answers.{bound_mac, is_for, is_active};
 ghost use Rattle.off_query_rules.specs.Answers.{query_words, first_word};

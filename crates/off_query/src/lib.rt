@@ -18,4 +18,4 @@ mod walking;
 
 pub use answering::{reply, reply_by};
 pub use off_query_rules::{QueryStep, QueryWord};
-pub use reading::Query;
+pub use reading::{Query, query_or_message};

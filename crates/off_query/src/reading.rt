@@ -1,11 +1,11 @@
-ghost use Rattle.std.specs.Prelude.{◌≡◌, ◌≤◌, length};
+ghost use Rattle.std.specs.Prelude.{◌≡◌, ◌≤◌, length, Some, None, MatchResult};
 ghost use Rattle.std.specs.List.{slice_range};
-ghost use Rattle.off_dhcp.specs.Datagram.{options_in, option_in};
+ghost use Rattle.off_dhcp.specs.Datagram.{options_in, option_in, message_of};
 ghost use Rattle.off_query_rules.specs.Asked.{query_of, says_query};
 ghost use Rattle.off_query_rules.specs.Asked.{ciaddr_of, giaddr_of, mac_of};
 
 use off_base::{Ip4, Joined, Mac};
-use off_dhcp::Head;
+use off_dhcp::{DhcpFault, Head, Message};
 use std::marker::Model;
 
 const MESSAGE_TYPE: u8 = 53;
@@ -34,19 +34,6 @@ impl<'a> Model for Query<'a> {
 }
 
 impl<'a> Query<'a> {
-    /// Reads a datagram, and takes no memory. `None` where it's no query for a lease.
-    pub fn read(bytes: &'a [u8]) -> Option<Query<'a>>
-        ensures { result ≡ query_of bytes.now }
-    {
-        let Some(head) = Head::read(bytes) else {
-            return None;
-        };
-        if !says_query(&head) {
-            return None;
-        }
-        Some(Query { head })
-    }
-
     /// The datagram's bytes.
     pub(crate) fn bytes(&self) -> &'a [u8]
         ensures bytes { result.now ≡ self.now }
@@ -91,6 +78,22 @@ impl<'a> Query<'a> {
     {
         self.head.option(code)
     }
+}
+
+/// Reads a datagram to the port of DHCP: a relay's query for a lease, or what each other one is as
+/// a client's message. Its options are gone over once, and it takes no memory.
+pub fn query_or_message(bytes: &[u8]) -> Result<Query<'_>, Result<Message<'_>, DhcpFault>>
+    ensures { MatchResult result (λ query. query_of bytes.now ≡ Some query)
+        (λ read. (query_of bytes.now ≡ None) × (read ≡ message_of bytes.now)) }
+{
+    let Some(head) = Head::read(bytes) else {
+        let message = Message::read(bytes);
+        return Err(message);
+    };
+    if !says_query(&head) {
+        return Err(Message::of(head));
+    }
+    Ok(Query { head })
 }
 
 // Whether the options of a head are a query's.

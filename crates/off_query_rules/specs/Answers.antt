@@ -18,7 +18,7 @@ use Rattle.off_dhcp.specs.Reply.{zeros, four, option, padded}
 use Rattle.off_account_rules.specs.Rows.{passes, hub_in, lease_in, held_in}
 use Rattle.off_asking.specs.Choice.{provided}
 use Rattle.off_asking.specs.Sending.{peer_at}
-use Rattle.off_lease_rules.specs.Steps.{is_live_bound}
+use Rattle.off_account_rules.specs.Good.{is_live_bound}
 use Rattle.off_query_rules.specs.Asked.{giaddr_of, question_of, is_formless, asks_by_address}
 use Rattle.off_query_rules.specs.Hubs.{wanted_hub, lies_in_hub}
 use Rattle.off_query_rules.specs.declared.cases.QueryCase.{QueryCase}

@@ -1,9 +1,11 @@
 ghost use Rattle.std.specs.Prelude.{◌≡◌, ◌==◌, ◌&&◌, not, nat_le};
 ghost use Rattle.off_defs.specs.Bounds.{last_add_on};
-ghost use Rattle.off_account_rules.specs.Rows.{passes, is_possible, site_fits, is_offset, is_lease_time};
+ghost use Rattle.off_account_rules.specs.Rows.{passes, is_possible, site_fits, is_offset};
+ghost use Rattle.off_account_rules.specs.Rows.{is_lease_time};
 ghost use Rattle.off_account_rules.specs.Rows.{subscriber_fits, class_is_good, add_on_is_good};
 ghost use Rattle.off_account_rules.specs.Rows.{has_pool_size, pool_fits};
-ghost use Rattle.off_account_rules.specs.Rows.{as_site, as_subscriber, as_add_on, as_class, as_pool};
+ghost use Rattle.off_account_rules.specs.Rows.{as_site, as_subscriber, as_add_on, as_class};
+ghost use Rattle.off_account_rules.specs.Rows.{as_pool};
 ghost use Rattle.off_account_rules.specs.Rows.{as_pool_hub};
 
 use off_base::Settings;

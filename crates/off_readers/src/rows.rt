@@ -6,7 +6,8 @@ ghost use Rattle.off_account_rules.specs.Rows.{hub_in, pool_hub_in, number_or_0}
 ghost use Rattle.off_account_rules.specs.Rows.{subscriber_in, add_on_in, modem_in, class_in};
 ghost use Rattle.off_account_rules.specs.Rows.{pool_in, lease_in, held_in, batch_in};
 ghost use Rattle.off_account_rules.specs.Rows.{device_pool_in, device_in, as_device};
-ghost use Rattle.off_account_rules.specs.Rows.{as_site, as_subscriber, as_add_on, as_modem, as_class};
+ghost use Rattle.off_account_rules.specs.Rows.{as_site, as_subscriber, as_add_on, as_modem};
+ghost use Rattle.off_account_rules.specs.Rows.{as_class};
 ghost use Rattle.off_account_rules.specs.Rows.{as_pool, as_pool_hub, as_lease, as_held, as_batch};
 ghost use Rattle.off_outside.specs.KeeperCalls.{Looks, Spent, WasCounted};
 

@@ -6,7 +6,7 @@ use Rattle.off_base.specs.Tree.{spelling}
 use Rattle.off_tlv.specs.Fault.{IsFirstFault}
 use Rattle.off_tlv.specs.declared.faults.ReadFault.{ReadFault}
 use Rattle.off_tlv.specs.declared.faults.ReadFault.TheVariants.{NoEnd}
-use Rattle.off_tlv.proofs.GrammarLemmas.{same_parts}
+use Rattle.off_base.proofs.ByteLemmas.{same_parts}
 use Rattle.off_rows.specs.Left.{Left}
 use Rattle.off_rows.specs.BadRow.{bytes_of}
 use Rattle.off_rows.specs.Reading.{TakesField, FieldFails, FailsSpelled, IsSettings, TakesSpelled}

@@ -3,7 +3,7 @@
 use Rattle.std.proofs.Common.{◌≡◌, ℕ, ◌≤◌, List, [], ◌∷◌, ◌++◌, length, refl, sym, ap, subst, ◌∙◌, arith}
 use Rattle.std.specs.Int.{to_be_bytes, w16}
 use Rattle.off_base.specs.Tree.{spelling}
-use Rattle.off_tlv.proofs.GrammarLemmas.{same_parts}
+use Rattle.off_base.proofs.ByteLemmas.{same_parts}
 use Rattle.off_rows.specs.RowBytes.{counted}
 use Rattle.off_rows.specs.BadRow.{Field, bytes_of, one_of, text, secret, settings, IsField, BadFrom, unread, behind, left_over}
 use Rattle.off_rows.proofs.FieldLemmas.{same_length}

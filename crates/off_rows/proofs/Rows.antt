@@ -1,13 +1,14 @@
 -- Rows as lists of fields.
 use Rattle.std.proofs.Common.{◌≡◌, ◌≢◌, ℕ, ◌<◌, ◌^◌, Bool, true, false, List, [], ◌∷◌, ◌++◌, length, refl, sym, ap, subst, ◌∙◌, arith, append_assoc, append-nil, FitsSigned, Result, Ok, Err, MatchResult, ℤ, pos, negsuc, inl, inr}
 use Rattle.std.specs.Int.{to_be_bytes, from_be_bytes, cast_unsigned, cast_signed, w16, w32, w64}
-use Rattle.std.proofs.lemmas.Nat.{from_be_bytes-to_be_bytes_4, from_be_bytes-to_be_bytes_8}
+use Rattle.std.proofs.lemmas.Nat.{from_be_bytes-to_be_bytes_8}
 use Rattle.std.proofs.lemmas.Int.{to_z-of_z}
 use Rattle.off_base.specs.Tree.{Tree, spelling, AllFit}
 use Rattle.off_base.specs.declared.addresses.Ip4.{Ip4}
 use Rattle.off_base.specs.declared.macs.Mac.{Mac}
 use Rattle.off_tlv.specs.Grammar.{in_file, AllStand}
-use Rattle.off_tlv.proofs.GrammarLemmas.{same_front, stops_nil, shaped_of, same_parts}
+use Rattle.off_tlv.proofs.GrammarLemmas.{same_front, stops_nil, shaped_of}
+use Rattle.off_base.proofs.ByteLemmas.{same_parts, same_word}
 use Rattle.off_defs.specs.declared.keys.Key.{Key}
 use Rattle.off_defs.specs.declared.keys.Key.TheVariants as key
 use Rattle.off_defs.specs.declared.tables.ImportKind.{ImportKind}
@@ -117,14 +118,11 @@ values_joined (Device l) = device_hold_joined l.hold (to_be_bytes w64 l.expiry.0
 
 -- ---- rows with the same values
 
-word_same : (n m : ℕ) → n < 2 ^ 32 → m < 2 ^ 32 → to_be_bytes w32 n ≡ to_be_bytes w32 m → n ≡ m
-word_same n m p q e = sym (from_be_bytes-to_be_bytes_4 n p) ∙ (ap (from_be_bytes w32) e ∙ from_be_bytes-to_be_bytes_4 m q)
-
 long_same : (n m : ℕ) → n < 2 ^ 64 → m < 2 ^ 64 → to_be_bytes w64 n ≡ to_be_bytes w64 m → n ≡ m
 long_same n m p q e = sym (from_be_bytes-to_be_bytes_8 n p) ∙ (ap (from_be_bytes w64) e ∙ from_be_bytes-to_be_bytes_8 m q)
 
 ip_same : (a b : Ip4) → a.0 < 2 ^ 32 → b.0 < 2 ^ 32 → to_be_bytes w32 a.0 ≡ to_be_bytes w32 b.0 → a ≡ b
-ip_same a b p q e = ap (λ (n : ℕ). record { 0 = n }) (word_same a.0 b.0 p q e)
+ip_same a b p q e = ap (λ (n : ℕ). record { 0 = n }) (same_word a.0 b.0 p q e)
 
 counted_same : (v w : List ℕ) → counted v ≡ counted w → v ≡ w
 counted_same v w e = cc
@@ -188,7 +186,7 @@ below_z (negsuc n) p = omega arith
 
 offset_same : (x y : ℤ) → FitsSigned w32 x → FitsSigned w32 y → to_be_bytes w32 (cast_unsigned w32 x) ≡ to_be_bytes w32 (cast_unsigned w32 y) → x ≡ y
 offset_same x y p q e =
-    let one = word_same (cast_unsigned w32 x) (cast_unsigned w32 y) (below_z x p) (below_z y q) e in
+    let one = same_word (cast_unsigned w32 x) (cast_unsigned w32 y) (below_z x p) (below_z y q) e in
     sym (to_z-of_z w32 x p) ∙ (ap (cast_signed w32) one ∙ to_z-of_z w32 y q)
 
 -- two rows of one kind
@@ -244,7 +242,7 @@ rows_same (Site a) (Site b) k p q s t e =
     let one = ip_same a.server b.server p.0 q.0 server in
     let two = counted_same a.secret b.secret secret in
     let three = offset_same a.offset b.offset p.2 q.2 offset in
-    let four = word_same a.lease b.lease p.3 q.3 lease in
+    let four = same_word a.lease b.lease p.3 q.3 lease in
     let five = ip_same a.log b.log p.4 q.4 log in
     λ i. Site (record { server = one i; secret = two i; offset = three i; lease = four i; log = five i })
 rows_same (Subscriber a) (Subscriber b) k p q s t e =
@@ -260,8 +258,8 @@ rows_same (Modem a) (Modem b) k p q s t e =
     let subscriber : to_be_bytes w32 a.subscriber ≡ to_be_bytes w32 b.subscriber = cc in
     let class : to_be_bytes w32 a.class ≡ to_be_bytes w32 b.class = cc in
     let serial : counted a.serial ≡ counted b.serial = cc in
-    let one = word_same a.subscriber b.subscriber p.0 q.0 subscriber in
-    let two = word_same a.class b.class p.1 q.1 class in
+    let one = same_word a.subscriber b.subscriber p.0 q.0 subscriber in
+    let two = same_word a.class b.class p.1 q.1 class in
     let three = counted_same a.serial b.serial serial in
     λ i. Modem (record { subscriber = one i; class = two i; serial = three i })
 rows_same (Class a) (Class b) k p q s t e =
@@ -293,10 +291,10 @@ rows_same (Batch a) (Batch b) k p q s t e =
     let digest : a.digest ≡ b.digest = cc in
     let rows : to_be_bytes w32 a.rows ≡ to_be_bytes w32 b.rows = cc in
     let one = kind_same a.kind b.kind kind in
-    let three = word_same a.rows b.rows p.1 q.1 rows in
+    let three = same_word a.rows b.rows p.1 q.1 rows in
     λ i. Batch (record { kind = one i; digest = digest i; rows = three i })
 rows_same (PoolHub a) (PoolHub b) k p q s t e =
-    let whole : to_be_bytes w32 a ≡ to_be_bytes w32 b = cc in ap PoolHub (word_same a b p q whole)
+    let whole : to_be_bytes w32 a ≡ to_be_bytes w32 b = cc in ap PoolHub (same_word a b p q whole)
 rows_same (Device a) (Device b) k p q s t e =
     let both = device_hold_same a.hold b.hold (to_be_bytes w64 a.expiry.0) (to_be_bytes w64 b.expiry.0) e in
     let hold = both.0 in

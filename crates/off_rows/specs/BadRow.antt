@@ -28,7 +28,8 @@ IsField settings bytes =
     (trees : List Tree) × AllStand in_file trees × IsShortSpelling trees
     × (bytes ≡ settings_bytes trees)
 
--- how an address is held: offered, bound or declined, and its owners, whom a declined address hasn't
+-- how an address is held: offered, bound or declined, and its owners, whom a declined address
+-- hasn't
 abbrev pub marked_fields : List Field → List ℕ → List Field
 marked_fields owners bytes =
     if slice_index bytes 0 == 3 then one_of (1 ∷ 2 ∷ 3 ∷ []) ∷ []

@@ -9,6 +9,7 @@ pub mod LeaseLemmas
 pub mod ApplyLemmas
 pub mod WriteLemmas
 pub mod SeenLemmas
+pub mod NumberedRows
 pub mod ReadLemmas
 pub mod LeastLemmas
 pub mod WalkLemmas

@@ -1,5 +1,5 @@
 -- Pools in a list by number: what goes and what comes, by the place where the code looks.
-use Rattle.std.proofs.Common.{◌≡◌, ℕ, suc, ◌+◌, Bool, true, false, cond, not, ◌||◌, T, List, [], ◌∷◌, ◌++◌, take, drop, get_or, Some, None, refl, sym, ap, subst, ◌∙◌, arith}
+use Rattle.std.proofs.Common.{◌≡◌, ℕ, suc, ◌+◌, Bool, true, false, cond, not, ◌||◌, T, List, [], ◌∷◌, ◌++◌, take, drop, get_or, Some, None, refl, sym, ap, subst, ◌∙◌, one-add}
 use Rattle.std.specs.List.{prefix_len, AllByRecursion, insert, remove, list_any}
 use Rattle.std.specs.Ordering.{nat_cmp, is_gt, is_eq, eq_by_cmp}
 use Rattle.std.specs.declared.cmp.Ordering.TheVariants.{Less, Equal, Greater}
@@ -14,9 +14,6 @@ use Rattle.off_runs.specs.Shelf.{left_of, gone_of, is_first, placed}
 abbrev pub place : ℕ → List PoolHeld → ℕ
 place n ps = prefix_len (λ (p : PoolHeld). is_gt (nat_cmp n p.number)) ps
 
-one_more : (n : ℕ) → suc n ≡ 1 + n
-one_more n = omega arith
-
 pub left_at : (n : ℕ) (ps : List PoolHeld) → is_first n (drop (place n ps) ps) ≡ true → remove ps (place n ps) ≡ left_of n ps
 left_at n [] e = cc
 left_at n (p ∷ ps) e =
@@ -25,7 +22,7 @@ left_at n (p ∷ ps) e =
       | Less ↦ λ r f. let g : is_eq (nat_cmp n p.number) ≡ false = ap is_eq r in cc
       | Equal ↦ λ r f. refl
       | Greater ↦ λ r.
-          subst (λ m. is_first n (drop m (p ∷ ps)) ≡ true → take m (p ∷ ps) ++ drop (suc m) (p ∷ ps) ≡ p ∷ left_of n ps) (one_more (place n ps))
+          subst (λ m. is_first n (drop m (p ∷ ps)) ≡ true → take m (p ∷ ps) ++ drop (suc m) (p ∷ ps) ≡ p ∷ left_of n ps) (sym (one-add (place n ps)))
           (λ f. ap (λ (xs : List PoolHeld). p ∷ xs) (left_at n ps f))
     ] refl e
 
@@ -37,7 +34,7 @@ gone_at n (p ∷ ps) x e is =
       | Less ↦ λ r f i. let g : is_eq (nat_cmp n p.number) ≡ false = ap is_eq r in cc
       | Equal ↦ λ r f i. ap (λ (y : PoolHeld). y ∷ []) i
       | Greater ↦ λ r.
-          subst (λ m. is_first n (drop m (p ∷ ps)) ≡ true → x ≡ get_or (p ∷ ps) m x → x ∷ [] ≡ gone_of n ps) (one_more (place n ps)) (λ f i. gone_at n ps x f i)
+          subst (λ m. is_first n (drop m (p ∷ ps)) ≡ true → x ≡ get_or (p ∷ ps) m x → x ∷ [] ≡ gone_of n ps) (sym (one-add (place n ps))) (λ f i. gone_at n ps x f i)
     ] refl e is
 
 pub left_none : (n : ℕ) (ps : List PoolHeld) → is_first n (drop (place n ps) ps) ≡ false → ps ≡ left_of n ps
@@ -48,7 +45,7 @@ left_none n (p ∷ ps) e =
       | Less ↦ λ r f. refl
       | Equal ↦ λ r f. let g : is_eq (nat_cmp n p.number) ≡ true = ap is_eq r in cc
       | Greater ↦ λ r.
-          subst (λ m. is_first n (drop m (p ∷ ps)) ≡ false → p ∷ ps ≡ p ∷ left_of n ps) (one_more (place n ps)) (λ f. ap (λ (xs : List PoolHeld). p ∷ xs) (left_none n ps f))
+          subst (λ m. is_first n (drop m (p ∷ ps)) ≡ false → p ∷ ps ≡ p ∷ left_of n ps) (sym (one-add (place n ps))) (λ f. ap (λ (xs : List PoolHeld). p ∷ xs) (left_none n ps f))
     ] refl e
 
 pub gone_none : (n : ℕ) (ps : List PoolHeld) → is_first n (drop (place n ps) ps) ≡ false → [] ≡ gone_of n ps
@@ -58,7 +55,7 @@ gone_none n (p ∷ ps) e =
     → [] ≡ list.by_order r [] (p ∷ []) (gone_of n ps)) [
       | Less ↦ λ r f. refl
       | Equal ↦ λ r f. let g : is_eq (nat_cmp n p.number) ≡ true = ap is_eq r in cc
-      | Greater ↦ λ r. subst (λ m. is_first n (drop m (p ∷ ps)) ≡ false → [] ≡ gone_of n ps) (one_more (place n ps)) (λ f. gone_none n ps f)
+      | Greater ↦ λ r. subst (λ m. is_first n (drop m (p ∷ ps)) ≡ false → [] ≡ gone_of n ps) (sym (one-add (place n ps))) (λ f. gone_none n ps f)
     ] refl e
 
 pub placed_at : (f : PoolHeld) (ps : List PoolHeld) → insert ps (place f.number ps) f ≡ placed f ps
@@ -67,7 +64,7 @@ placed_at f (p ∷ ps) =
     elim (nat_cmp f.number p.number) as (λ r. insert (p ∷ ps) (cond (is_gt r) (1 + place f.number ps) 0) f ≡ list.by_order r (f ∷ p ∷ ps) (f ∷ p ∷ ps) (p ∷ placed f ps)) [
       | Less ↦ refl
       | Equal ↦ refl
-      | Greater ↦ subst (λ m. insert (p ∷ ps) m f ≡ p ∷ placed f ps) (one_more (place f.number ps)) (ap (λ (xs : List PoolHeld). p ∷ xs) (placed_at f ps))
+      | Greater ↦ subst (λ m. insert (p ∷ ps) m f ≡ p ∷ placed f ps) (sym (one-add (place f.number ps))) (ap (λ (xs : List PoolHeld). p ∷ xs) (placed_at f ps))
     ]
 
 -- what holds of all holds of what is left and of what goes, and of what comes where it holds of that
@@ -95,10 +92,6 @@ or_swap true true c = refl
 or_swap true false c = refl
 or_swap false true c = refl
 or_swap false false c = refl
-
-or_assoc : (a b c : Bool) → ((a || b) || c) ≡ (a || (b || c))
-or_assoc true b c = refl
-or_assoc false b c = refl
 
 or_false : (a : Bool) → (a || false) ≡ a
 or_false true = refl

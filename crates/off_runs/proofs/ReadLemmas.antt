@@ -1,21 +1,16 @@
 -- What walks over the tables find: the pools, the leases of their addresses, and their hubs.
-use Rattle.std.proofs.Common.{◌≡◌, ℕ, ◌<◌, ◌==◌, true, false, cond, T, List, [], ◌∷◌, ◌++◌, Option, Some, None, refl, sym, ap, subst, ◌∙◌, append_assoc, arith}
+use Rattle.std.proofs.Common.{◌≡◌, ℕ, ◌<◌, List, [], ◌∷◌, ◌++◌, Option, Some, None, refl, sym, ap, subst, ◌∙◌, append_assoc, arith, inl, inr, ◌⊎◌}
 use Rattle.std.proofs.lemmas.List.{append-nil}
 use Rattle.std.proofs.lemmas.List.Elements.{All-nil, All-weaker}
 use Rattle.std.specs.List.{All, filter_map, cons_option}
-use Rattle.std.specs.FinMap.{nat_cmp-IsAntisymmetric}
 use Rattle.std.specs.FinMap as map
-use Rattle.std.specs.FinMap.Entries as list
-use Rattle.std.specs.Ordering.{nat_cmp, eq_by_cmp}
-use Rattle.off_base.specs.declared.addresses.Ip4.{Ip4}
-use Rattle.off_defs.proofs.EntryLemmas.{is_equal, none_below, first, second}
+use Rattle.off_defs.proofs.EntryLemmas.{first}
 use Rattle.off_defs.specs.declared.keys.Key.{Key}
 use Rattle.off_defs.specs.declared.keys.Key.TheVariants as key
 use Rattle.off_defs.specs.declared.tables.Row.{Row}
 use Rattle.off_defs.specs.declared.tables.Pool.{Pool}
 use Rattle.off_defs.specs.declared.writes.Write.{Write}
 use Rattle.off_defs.specs.declared.writes.Write.TheVariants.{Put}
-use Rattle.off_defs.specs.Keys.{key_cmp}
 use Rattle.off_defs.specs.State.{Tables}
 use Rattle.off_defs.specs.Tables.{row_at, next_entry}
 use Rattle.off_account_rules.specs.Rows.{pools, pool_in, pool_hub_in}
@@ -29,87 +24,43 @@ use Rattle.off_runs.specs.Runs.{address}
 use Rattle.off_runs.specs.Held.{PoolHeld, HasLeases, HasHub, KeepsPools}
 use Rattle.off_runs.specs.Leases.{expiry_in, expiry_held, hub_held, ground, fitting, pools_after, numbers_by, numbers_after, expiries_after, hubs_after, lease_write, hub_write, LeasesTaken, HubsTaken, Moves}
 use Rattle.off_runs.specs.Reading.{pool_put, lease_put, hub_put, pools_put, leases_put, hubs_put, no_ground, bare_ground, leased_ground}
-use Rattle.off_runs.proofs.WriteLemmas.{same_number, read_pool, put_pool, read_expiry, put_expiry, read_hub, put_hub}
+use Rattle.off_runs.proofs.WriteLemmas.{read_pool, put_pool, read_expiry, put_expiry, read_hub, put_hub}
 use Rattle.off_runs.proofs.SeenLemmas.{pools_sorted, pool_seen}
+use Rattle.off_runs.proofs.NumberedRows.{IsOne, IsNone, kept, by_number, rows_read}
 
 -- ---- leases
 
-abbrev expiry_kept : Option Row → ℕ → ℕ
-expiry_kept None was = was
-expiry_kept (Some held) was = expiry_held held
+abbrev lease_key : ℕ → Key
+lease_key a = key.Lease (address a)
 
-abbrev lease_row : List (Key × Row) → ℕ → Option Row
-lease_row es a = list.find key_cmp (key.Lease (address a)) es
+lease_kind : (k : Key) (held : Row) → IsOne lease_key expiry_held lease_put expiries_after k held ⊎ IsNone lease_key expiry_held lease_put expiries_after k held
+lease_kind (key.Lease m) held = inl (record {
+  number = m.0;
+  is = refl;
+  puts = λ was ws. ap (λ (by : ℕ → ℕ). expiries_after by ws) (by_number (expiry_held held) m.0 was);
+  tests = λ n. refl;
+})
+lease_kind k held = inr (record { puts = refl; tests = λ n. refl })
 
-at_lease : (expiry : ℕ → ℕ) (m : Ip4) (held : Row) (es : List (Key × Row)) → T (list.below_all key_cmp (key.Lease m) es) → (a : ℕ)
-    → expiry_kept (lease_row es a) (cond (a == m.0) (expiry_held held) (expiry a)) ≡ expiry_kept (cond (eq_by_cmp nat_cmp a m.0) (Some held) (lease_row es a)) (expiry a)
-at_lease expiry m held es h a =
-    elim (eq_by_cmp nat_cmp a m.0) as (λ b. eq_by_cmp nat_cmp a m.0 ≡ b
-    → expiry_kept (lease_row es a) (cond (a == m.0) (expiry_held held) (expiry a)) ≡ expiry_kept (cond b (Some held) (lease_row es a)) (expiry a)) [
-      | true ↦ λ e.
-          let same : a ≡ m.0 = nat_cmp-IsAntisymmetric a m.0 (is_equal (nat_cmp a m.0) e) in
-          let none : lease_row es a ≡ None = none_below key_cmp (key.Lease (address a)) es (subst (λ n. T (list.below_all key_cmp (key.Lease (address n)) es)) (sym same) h) in
-          ap (λ o. expiry_kept o (cond (a == m.0) (expiry_held held) (expiry a))) none ∙ ap (λ b. cond b (expiry_held held) (expiry a)) (sym (same_number a m.0) ∙ e)
-      | false ↦ λ e. ap (λ b. expiry_kept (lease_row es a) (cond b (expiry_held held) (expiry a))) (sym (same_number a m.0) ∙ e)
-    ] refl
-
-lease_first : (k : Key) (held : Row) (expiry : ℕ → ℕ) (es : List (Key × Row)) (a : ℕ) → T (list.below_all key_cmp k es)
-    → ((was : ℕ → ℕ) → expiries_after was (filter_map lease_put es) a ≡ expiry_kept (lease_row es a) (was a))
-    → expiries_after expiry (filter_map lease_put ((k, held) ∷ es)) a ≡ expiry_kept (lease_row ((k, held) ∷ es) a) (expiry a)
-lease_first (key.Lease m) held expiry es a h rest = rest (λ b. cond (b == m.0) (expiry_held held) (expiry b)) ∙ at_lease expiry m held es h a
-lease_first k held expiry es a h rest = rest expiry
-
-by_leases : (expiry : ℕ → ℕ) (es : List (Key × Row)) → T (list.is_sorted key_cmp es) → (a : ℕ) → expiries_after expiry (filter_map lease_put es) a ≡ expiry_kept (lease_row es a) (expiry a)
-by_leases expiry [] s a = refl
-by_leases expiry (e ∷ es) s a = lease_first e.0 e.1 expiry es a (first _ _ s) (λ was. by_leases was es (second _ _ s) a)
-
-kept_expiry : (a : ℕ) (o : Option Row) → expiry_kept o 0 ≡ read_expiry a o
+kept_expiry : (a : ℕ) (o : Option Row) → kept expiry_held o 0 ≡ read_expiry a o
 kept_expiry a None = refl
 kept_expiry a (Some held) = sym (put_expiry a held)
 
 leases_read : (t : Tables) (a : ℕ) → expiries_after (λ b. 0) (leases_put t) a ≡ expiry_in t a
-leases_read t a =
-    by_leases (λ b. 0) (map.entries t) (map.entries_sorted t) a ∙ ap (λ (o : Option Row). expiry_kept o 0) (sym (map.get-entries t (key.Lease (address a))))
-    ∙ kept_expiry a (row_at t (key.Lease (address a)))
+leases_read t a = rows_read lease_key expiry_held lease_put expiries_after (λ was. refl) lease_kind t 0 a ∙ kept_expiry a (row_at t (lease_key a))
 
 -- ---- pools
 
-abbrev pool_kept : Option Row → Option Pool → Option Pool
-pool_kept None was = was
-pool_kept (Some held) was = fitting held
+pool_kind : (k : Key) (held : Row) → IsOne key.Pool fitting pool_put pools_after k held ⊎ IsNone key.Pool fitting pool_put pools_after k held
+pool_kind (key.Pool m) held = inl (record { number = m; is = refl; puts = λ was ws. refl; tests = λ n. refl })
+pool_kind k held = inr (record { puts = refl; tests = λ n. refl })
 
-abbrev pool_row : List (Key × Row) → ℕ → Option Row
-pool_row es n = list.find key_cmp (key.Pool n) es
-
-at_pool : (by : ℕ → Option Pool) (m : ℕ) (held : Row) (es : List (Key × Row)) → T (list.below_all key_cmp (key.Pool m) es) → (n : ℕ)
-    → pool_kept (pool_row es n) (cond (eq_by_cmp nat_cmp n m) (fitting held) (by n)) ≡ pool_kept (cond (eq_by_cmp nat_cmp n m) (Some held) (pool_row es n)) (by n)
-at_pool by m held es h n =
-    elim (eq_by_cmp nat_cmp n m) as (λ b. eq_by_cmp nat_cmp n m ≡ b
-    → pool_kept (pool_row es n) (cond b (fitting held) (by n)) ≡ pool_kept (cond b (Some held) (pool_row es n)) (by n)) [
-      | true ↦ λ e.
-          let same : n ≡ m = nat_cmp-IsAntisymmetric n m (is_equal (nat_cmp n m) e) in
-          ap (λ o. pool_kept o (fitting held)) (none_below key_cmp (key.Pool n) es (subst (λ k. T (list.below_all key_cmp (key.Pool k) es)) (sym same) h))
-      | false ↦ λ e. refl
-    ] refl
-
-pool_first : (k : Key) (held : Row) (by : ℕ → Option Pool) (es : List (Key × Row)) (n : ℕ) → T (list.below_all key_cmp k es)
-    → ((was : ℕ → Option Pool) → pools_after was (filter_map pool_put es) n ≡ pool_kept (pool_row es n) (was n))
-    → pools_after by (filter_map pool_put ((k, held) ∷ es)) n ≡ pool_kept (pool_row ((k, held) ∷ es) n) (by n)
-pool_first (key.Pool m) held by es n h rest = rest (λ q. cond (eq_by_cmp nat_cmp q m) (fitting held) (by q)) ∙ at_pool by m held es h n
-pool_first k held by es n h rest = rest by
-
-by_pools : (by : ℕ → Option Pool) (es : List (Key × Row)) → T (list.is_sorted key_cmp es) → (n : ℕ) → pools_after by (filter_map pool_put es) n ≡ pool_kept (pool_row es n) (by n)
-by_pools by [] s n = refl
-by_pools by (e ∷ es) s n = pool_first e.0 e.1 by es n (first _ _ s) (λ was. by_pools was es (second _ _ s) n)
-
-kept_pool : (n : ℕ) (o : Option Row) → pool_kept o None ≡ read_pool n o
+kept_pool : (n : ℕ) (o : Option Row) → kept fitting o None ≡ read_pool n o
 kept_pool n None = refl
 kept_pool n (Some held) = sym (put_pool n held)
 
 pools_read : (t : Tables) (n : ℕ) → pools_after (λ q. None) (pools_put t) n ≡ pool_in t n
-pools_read t n =
-    by_pools (λ q. None) (map.entries t) (map.entries_sorted t) n ∙ ap (λ (o : Option Row). pool_kept o None) (sym (map.get-entries t (key.Pool n)))
-    ∙ kept_pool n (row_at t (key.Pool n))
+pools_read t n = rows_read key.Pool fitting pool_put pools_after (λ was. refl) pool_kind t None n ∙ kept_pool n (row_at t (key.Pool n))
 
 -- a pool that is put is no lease and no hub
 no_number_first : (put : Write → Option (ℕ × ℕ)) → ((n : ℕ) (held : Row) → put (Put (key.Pool n) held) ≡ None) → (k : Key) (held : Row) (was : ℕ → ℕ) (es : List (Key × Row))
@@ -136,43 +87,21 @@ pools_move t = record {
 
 -- ---- hubs
 
-abbrev hub_kept : Option Row → ℕ → ℕ
-hub_kept None was = was
-hub_kept (Some held) was = hub_held held
+hub_kind : (k : Key) (held : Row) → IsOne key.PoolHub hub_held hub_put hubs_after k held ⊎ IsNone key.PoolHub hub_held hub_put hubs_after k held
+hub_kind (key.PoolHub m) held = inl (record {
+  number = m;
+  is = refl;
+  puts = λ was ws. ap (λ (by : ℕ → ℕ). hubs_after by ws) (by_number (hub_held held) m was);
+  tests = λ n. refl;
+})
+hub_kind k held = inr (record { puts = refl; tests = λ n. refl })
 
-abbrev hub_row : List (Key × Row) → ℕ → Option Row
-hub_row es n = list.find key_cmp (key.PoolHub n) es
-
-at_hub : (hub : ℕ → ℕ) (m : ℕ) (held : Row) (es : List (Key × Row)) → T (list.below_all key_cmp (key.PoolHub m) es) → (n : ℕ)
-    → hub_kept (hub_row es n) (cond (n == m) (hub_held held) (hub n)) ≡ hub_kept (cond (eq_by_cmp nat_cmp n m) (Some held) (hub_row es n)) (hub n)
-at_hub hub m held es h n =
-    elim (eq_by_cmp nat_cmp n m) as (λ b. eq_by_cmp nat_cmp n m ≡ b
-    → hub_kept (hub_row es n) (cond (n == m) (hub_held held) (hub n)) ≡ hub_kept (cond b (Some held) (hub_row es n)) (hub n)) [
-      | true ↦ λ e.
-          let same : n ≡ m = nat_cmp-IsAntisymmetric n m (is_equal (nat_cmp n m) e) in
-          let none : hub_row es n ≡ None = none_below key_cmp (key.PoolHub n) es (subst (λ k. T (list.below_all key_cmp (key.PoolHub k) es)) (sym same) h) in
-          ap (λ o. hub_kept o (cond (n == m) (hub_held held) (hub n))) none ∙ ap (λ b. cond b (hub_held held) (hub n)) (sym (same_number n m) ∙ e)
-      | false ↦ λ e. ap (λ b. hub_kept (hub_row es n) (cond b (hub_held held) (hub n))) (sym (same_number n m) ∙ e)
-    ] refl
-
-hub_first : (k : Key) (held : Row) (hub : ℕ → ℕ) (es : List (Key × Row)) (n : ℕ) → T (list.below_all key_cmp k es)
-    → ((was : ℕ → ℕ) → hubs_after was (filter_map hub_put es) n ≡ hub_kept (hub_row es n) (was n))
-    → hubs_after hub (filter_map hub_put ((k, held) ∷ es)) n ≡ hub_kept (hub_row ((k, held) ∷ es) n) (hub n)
-hub_first (key.PoolHub m) held hub es n h rest = rest (λ q. cond (q == m) (hub_held held) (hub q)) ∙ at_hub hub m held es h n
-hub_first k held hub es n h rest = rest hub
-
-by_hubs : (hub : ℕ → ℕ) (es : List (Key × Row)) → T (list.is_sorted key_cmp es) → (n : ℕ) → hubs_after hub (filter_map hub_put es) n ≡ hub_kept (hub_row es n) (hub n)
-by_hubs hub [] s n = refl
-by_hubs hub (e ∷ es) s n = hub_first e.0 e.1 hub es n (first _ _ s) (λ was. by_hubs was es (second _ _ s) n)
-
-kept_hub : (n : ℕ) (o : Option Row) → hub_kept o 0 ≡ read_hub n o
+kept_hub : (n : ℕ) (o : Option Row) → kept hub_held o 0 ≡ read_hub n o
 kept_hub n None = refl
 kept_hub n (Some held) = sym (put_hub n held)
 
 hubs_read : (t : Tables) (n : ℕ) → hubs_after (λ q. 0) (hubs_put t) n ≡ pool_hub_in t n
-hubs_read t n =
-    by_hubs (λ q. 0) (map.entries t) (map.entries_sorted t) n ∙ ap (λ (o : Option Row). hub_kept o 0) (sym (map.get-entries t (key.PoolHub n)))
-    ∙ kept_hub n (row_at t (key.PoolHub n))
+hubs_read t n = rows_read key.PoolHub hub_held hub_put hubs_after (λ was. refl) hub_kind t 0 n ∙ kept_hub n (row_at t (key.PoolHub n))
 
 pub none_kept : (pools : List PoolHeld) → pools ≡ [] → KeepsPools pools no_ground
 none_kept pools none = subst (λ (ps : List PoolHeld). KeepsPools ps no_ground) (sym none) (record { heads_are = refl; leases = All-nil (HasLeases (λ a. 0)); hubs = All-nil (HasHub (λ n. 0)) })

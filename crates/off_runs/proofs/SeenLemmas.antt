@@ -13,8 +13,8 @@ use Rattle.off_defs.specs.declared.tables.Pool.{Pool}
 use Rattle.off_defs.specs.Keys.{key_cmp}
 use Rattle.off_defs.specs.State.{Tables}
 use Rattle.off_account_rules.specs.Rows.{is_possible, possible, as_pool, pool_fits, pool_of, pools, pool_in, pool_hub_in, lease_in, fitting_pool}
-use Rattle.std.proofs.lemmas.Bool.Decides.{nat_tests}
 use Rattle.std.proofs.lemmas.Cmp.{nat_cmp_total}
+use Rattle.std.proofs.lemmas.Bool.{eq-eqb}
 use Rattle.std.specs.FinMap.{nat_cmp-IsAntisymmetric}
 use Rattle.off_defs.specs.declared.tables.Lease.{Lease}
 use Rattle.off_defs.specs.Tables.{row_at, write_all}
@@ -27,11 +27,11 @@ use Rattle.off_runs.specs.Runs.{address, in_pool}
 use Rattle.off_runs.specs.Leases.{expiry_of, LeasesMove}
 use Rattle.off_runs.proofs.WriteLemmas.{read_hub, pools_written, expiries_written, hubs_written}
 
-abbrev number_or : ℕ → Option (ℕ × Pool) → ℕ
+abbrev pub number_or : ℕ → Option (ℕ × Pool) → ℕ
 number_or d None = d
 number_or d (Some e) = e.0
 
-abbrev pool_or : Pool → Option (ℕ × Pool) → Pool
+abbrev pub pool_or : Pool → Option (ℕ × Pool) → Pool
 pool_or d None = d
 pool_or d (Some e) = e.1
 
@@ -95,16 +95,13 @@ pool_there n None possible there = cc
 pool_there n (Some (row.Pool pool)) possible there = (pool, refl)
 pool_there n (Some held) possible there = let fits = possible held refl in cc
 
-same_equal : (n : ℕ) → (n == n) ≡ true
-same_equal n = grind (arith, nat_tests)
-
 is_homed : (t : Tables) (n : ℕ) → Opens t → 0 < pool_hub_in t n → list_any (λ e. e.0 == n) (pools t) ≡ true
 is_homed t n opens h =
     let g = good_rows t opens in
     let hub = hub_row n (row_at t (key.PoolHub n)) h in
     let pool = pool_there n (row_at t (key.Pool n)) (g.possible (key.Pool n)) (g.pool_hub n hub.0 hub.1).0 in
     let inside = found_in nat_cmp nat_cmp-IsAntisymmetric (pools t) n pool.0 (pool_seen t n ∙ row_pool t g.possible n pool.0 pool.1) in
-    in_any (λ e. e.0 == n) (pools t) (n, pool.0) inside (same_equal n)
+    in_any (λ e. e.0 == n) (pools t) (n, pool.0) inside (eq-eqb n n refl)
 
 pub moves : LeasesMove
 moves t opens writes = record {

@@ -131,11 +131,6 @@ stands_at [] place x inside is = absurd (omega (arith, inside))
 stands_at (y ∷ xs) zero x inside is = ap Some (sym is)
 stands_at (y ∷ xs) (suc place) x inside is = stands_at xs place x (omega (arith, inside)) is
 
-pub inside_at : {X : Type 0} → (xs : List X) (place : ℕ) (x : X) → slice_get xs place ≡ Some x → place < length xs
-inside_at [] place x is = cc
-inside_at (y ∷ xs) zero x is = omega arith
-inside_at (y ∷ xs) (suc place) x is = let k = inside_at xs place x is in omega (arith, k)
-
 module _ (pool : Pool) (free : ℕ → Bool) where
   pub cut_runs : (runs : List Run) (place out : ℕ) (run : Run) → AreRuns pool free runs → All (ends_before out) (take place runs) → slice_get runs place ≡ Some run
       → run.first.0 ≤ out → out ≤ run.last.0 → AreRuns pool (but_address out free) (runs_without out place run runs)

@@ -82,7 +82,8 @@ abbrev pub pieces_without : ℕ → Run → List Run
 pieces_without out run = pieces_by (nat_lt run.first.0 out) (nat_lt out run.last.0) out run
 
 abbrev pub runs_without : ℕ → ℕ → Run → List Run → List Run
-runs_without out place run runs = take place runs ++ (pieces_without out run ++ drop (suc place) runs)
+runs_without out place run runs =
+    take place runs ++ (pieces_without out run ++ drop (suc place) runs)
 
 -- It has the pool of the number, and no address of it has a lease
 pub record Began (number : ℕ) (pool : Pool) (hub : ℕ) (p : PoolHeld) : Type 0 where

@@ -48,7 +48,8 @@ impl Model for FreeRuns {
 
     ghost coded = { runs_code };
 
-    ghost view = { λ r. record { at = r.moment.0; pools = r.pools.items; spare = vec_len r.spare } };
+    ghost view = { λ r.
+        record { at = r.moment.0; pools = r.pools.items; spare = vec_len r.spare } };
 
     // all pools fit into each of the lists, and between two calls none is aside
     ghost invariant = { λ r. HasRoom

@@ -1,6 +1,6 @@
 //! Runs of free addresses, laid out from the expiries of all addresses of a pool.
 
-ghost use Rattle.std.specs.Prelude.{◌≡◌, ◌≤◌, ◌<◌, ◌^◌, ◌*◌, ◌+◌, ◌++◌, ◌∷◌, length, vec_len};
+ghost use Rattle.std.specs.Prelude.{◌≡◌, ◌≤◌, ◌<◌, ◌^◌, ◌+◌, ◌++◌, ◌∷◌, length, vec_len};
 ghost use Rattle.std.specs.Prelude.{ℕ, Bool, true, IsTrue, MatchOption, IfSome, Some, slice_get};
 ghost use Rattle.std.specs.Prelude.{take, drop, suc};
 ghost use Rattle.std.specs.List.{All};
@@ -73,8 +73,8 @@ fn end_run(runs: &mut Vec<Run>, start: u64, end: u64)
 }
 
 /// Has runs that were laid out at a moment follow where the lease of an address ends at another
-/// time than before, and tells whether they could. They can't where the address gets free, nor where
-/// a run would be parted in two, and there is no room for one more.
+/// time than before, and tells whether they could. They can't where the address gets free, nor
+/// where a run would be parted in two, and there is no room for one more.
 pub(crate) fn follow(
     runs: &mut Vec<Run>,
     address: Ip4,
@@ -132,7 +132,8 @@ fn cut(runs: &mut Vec<Run>, place: usize, run: Run, address: Ip4) -> bool
     requires at { slice_get runs.old.items place ≡ Some run }
     requires low { run.first.0 ≤ address.0 }
     requires high { address.0 ≤ run.last.0 }
-    ensures done { result ≡ true → runs.new.items ≡ runs_without address.0 place run runs.old.items }
+    ensures done { result ≡ true
+        → runs.new.items ≡ runs_without address.0 place run runs.old.items }
     ensures capacity { vec_capacity runs.old ≤ vec_capacity runs.new }
 {
     if run.first.0 < address.0 {

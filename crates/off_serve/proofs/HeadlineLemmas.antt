@@ -9,14 +9,12 @@ use Rattle.off_book.specs.Words.{Job}
 use Rattle.off_book.specs.Run.{Turn, SaysMemory, commits_by, lost_by, lines_from}
 use Rattle.off_book.proofs.StepLemmas.{turns_did}
 use Rattle.off_defs.proofs.CountLemmas.{later_grew}
-use Rattle.off_defs.proofs.ToldLemmas.{stays_self}
 use Rattle.off_account_rules.specs.Good.{Good}
 use Rattle.off_account_rules.specs.Migration.{migrated}
 use Rattle.off_outside.specs.LinkSeen.{LinkSeen}
 use Rattle.off_outside.specs.KeeperSeen.{KeeperSeen, Rests}
 use Rattle.off_defs.specs.Counts.{Grew, one_more}
 use Rattle.off_outside.specs.KeeperCalls.{Settled}
-use Rattle.off_outside.specs.LinkCalls.{LinkUnasked}
 use Rattle.off_laws.proofs.Stretches.{leases_hold_through}
 use Rattle.off_cpe_runs.proofs.Runs.{devices_hold_over_runs}
 use Rattle.off_transfer_runs.proofs.Runs.{files_of_runs}
@@ -35,6 +33,7 @@ use Rattle.off_outside.specs.Streams.{SinkSeen}
 use Rattle.off_office.specs.Desk.{Desk}
 use Rattle.off_office.specs.Acting.{NotStarted}
 use Rattle.off_office.specs.declared.office.StartErr.{StartErr}
+use Rattle.off_drill_job.proofs.TurnLemmas.{link_unasked}
 use Rattle.off_serve.specs.declared.serving.Stop.{Stop}
 use Rattle.off_serve.specs.declared.serving.Stop.TheVariants as stop
 use Rattle.off_serve.specs.Serving.{World, world_of}
@@ -234,10 +233,6 @@ serves budget link link' k l m a b c reason first last status rests opened fresh
       all_modems = λ t told. each_served served.turns (world_of link k a) (world_of link' m c) status (migrated t) (opened_good opened t told) complete;
       all_devices = λ t told. each_device_served served.turns (world_of link k a) (world_of link' m c) status (migrated t) (opened_good opened t told) complete;
     })
-
--- the link isn't asked
-link_unasked : (link : LinkSeen) → LinkUnasked link link
-link_unasked link = record { left = stays_self; sent = stays_self; up = λ up. up; missed = refl; longest = refl; faults = refl; unsent = refl }
 
 pub stays_closed : (budget : ℕ) (link : LinkSeen) (k l : KeeperSeen) (a b : SinkSeen) (why : StartErr) (status : ℕ) → NotStarted why k l → Tells (closed_end why) status a b
     → ServesAsOffice budget (world_of link k a) (world_of link l b) status

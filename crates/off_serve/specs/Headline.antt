@@ -92,12 +92,12 @@ pub record KeeperRan (first : List Write) (turns : List Turn) (old new : KeeperS
   pub commits : new.commits ≡ commits_by turns (commits_after first old.commits)
   pub up : StaysUp old new
 
--- The turns are a run of the office, from its start over the tables that were told, once the site of
--- earlier days is the hub 0, to what it held at the end over those that are told then.
+-- The turns are a run of the office, from its start over the tables that were told, once the site
+-- of earlier days is the hub 0, to what it held at the end over those that are told then.
 pub record RanOffice (turns : List Turn) (held : Held) (old new : KeeperSeen) : Type 0 where
   pub run : Told old.tables new.tables (λ t u. Run (start (migrated t)) turns (state_of u held))
-  -- and at every moment an opening after a crash gives the tables behind so many of the first turns,
-  -- never fewer than a moment before, or one commit more
+  -- and at every moment an opening after a crash gives the tables behind so many of the first
+  -- turns, never fewer than a moment before, or one commit more
   pub crash : Told old.tables new.tables (λ t u. LastsOpened old new t turns (state_of u held))
   -- what was written first is the migration
   pub first : List Write
@@ -228,9 +228,9 @@ pub record Completed (turns : List Turn) (status : ℕ) : Type 0 where
   pub status_is : status ≡ 0
 
 -- The office didn't open: 2, the tables don't open, and the line names their least bad key; 3, the
--- keeper failed; 6, memory was wanted. No event is taken, nothing is sent, and the tables stay; where
--- the keeper failed a crash may leave what the opening would have made of them. Where no count rose
--- and memory wasn't wanted, the tables don't open.
+-- keeper failed; 6, memory was wanted. No event is taken, nothing is sent, and the tables stay;
+-- where the keeper failed a crash may leave what the opening would have made of them. Where no
+-- count rose and memory wasn't wanted, the tables don't open.
 abbrev pub StaysClosed : World → World → ℕ → Type 0
 StaysClosed old new status =
     JobEnds (λ why. NotStarted why old.keeper new.keeper × LinkUnasked old.link new.link) closed_end
@@ -264,8 +264,8 @@ pub record RunsAsOffice (budget : ℕ) (old new : World) (status : ℕ) : Type 0
   -- client has two leases, and what is acknowledged is the client's until its end
   pub leases : (t : Tables) → old.keeper.tables t → LeasesHoldThrough (start (migrated t)) turns
   -- and of devices behind modems: no address is live for two, or of a modem too, what is granted is
-  -- within the limit of the modem's subscriber, and a device's message leaves all rows but leases of
-  -- devices
+  -- within the limit of the modem's subscriber, and a device's message leaves all rows but leases
+  -- of devices
   pub devices : (t : Tables) → old.keeper.tables t
       → DevicesHoldThrough (start (migrated t)) turns
   -- what a modem has acknowledged joins to a prefix of its own one file, the one that it had when
@@ -275,8 +275,8 @@ pub record RunsAsOffice (budget : ℕ) (old new : World) (status : ℕ) : Type 0
   -- whatever others ask in between
   pub modems : (t : Tables) → old.keeper.tables t
       → ModemsAreServed GoesWell (start (migrated t)) turns
-  -- a device that asks is bound to an address where its modem may have one device more, and one that
-  -- asks again keeps it
+  -- a device that asks is bound to an address where its modem may have one device more, and one
+  -- that asks again keeps it
   pub served_devices : (t : Tables) → old.keeper.tables t
       → DevicesAreServed GoesWell (start (migrated t)) turns
   -- what an address gets by its TFTP datagrams and by Ticks is what it gets alone, over its own

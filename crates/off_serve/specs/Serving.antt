@@ -79,8 +79,9 @@ abbrev pub TurnOn : Turn → Desk → Desk → Tables → Tables → Type 0
 TurnOn turn before after t u =
     Step (state_of t before.held) turn.event turn.outcome (effect_of turn (state_of u after.held))
 
--- What a turn makes of the office and its tables: where the office mirrored the tables, it's the step
--- of the book; where it fitted them, it fits them still; the keeper has counted what was committed.
+-- What a turn makes of the office and its tables: where the office mirrored the tables, it's the
+-- step of the book; where it fitted them, it fits them still; the keeper has counted what was
+-- committed.
 pub record OfficeTurn (turn : Turn) (before after : Desk) (old new : KeeperSeen) : Type 0 where
   pub tables : Told old.tables new.tables (Under before after (TurnOn turn before after))
   pub fits : Told old.tables new.tables (StaysFit before after)

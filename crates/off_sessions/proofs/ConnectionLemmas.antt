@@ -1,5 +1,5 @@
 -- The live connections as a map of what has come of each.
-use Rattle.std.proofs.Common.{◌≡◌, ℕ, Bool, true, false, cond, ◌&&◌, List, [], ◌∷◌, length, map, Option, Some, None, option_map, is_some, is_none, not, nat_le, IfSome, Result, Ok, Err, OnOk, OnErr, is_ok, refl, sym, ap, ◌∙◌, subst}
+use Rattle.std.proofs.Common.{◌≡◌, ℕ, Bool, true, false, cond, ◌&&◌, List, [], ◌∷◌, length, map, Option, Some, None, option_map, is_some, is_none, not, nat_le, IfSome, Result, Ok, Err, OnOk, OnErr, refl, sym, ap, ◌∙◌, subst}
 use lib.Dec.{T}
 use Rattle.std.specs.List.{AllByRecursion}
 use Rattle.std.specs.List.Sorted.{IsStrictlySortedBy}
@@ -96,15 +96,6 @@ waits_found test (e ∷ es) all =
 
 pub waits_at : (test : ℕ → Bool) (es : List (ℕ × Heard)) (r : Option Heard) → AllWait es → r ≡ lookup test es → IfSome r (λ (v : Heard). v.answer ≡ Waits)
 waits_at test es r all is = subst (λ (o : Option Heard). IfSome o (λ (v : Heard). v.answer ≡ Waits)) (sym is) (waits_found test es all)
-
--- what an answer's own clauses say
-pub if_ok : {A E P : Type 0} (r : Result A E) → is_ok r ≡ true → OnOk r P → P
-if_ok (Ok x) same p = p
-if_ok (Err e) same p = cc
-
-pub if_err : {A E P : Type 0} (r : Result A E) → is_ok r ≡ false → OnErr r P → P
-if_err (Ok x) same p = cc
-if_err (Err e) same p = p
 
 -- the sessions wait, whatever an insertion answered
 pub keep_wait : {A E : Type 0} (r : Result A E) (k : ℕ) (v : Heard) (es fs : List (ℕ × Heard)) → v.answer ≡ Waits → AllWait es

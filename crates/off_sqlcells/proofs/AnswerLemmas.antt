@@ -19,7 +19,7 @@ use Rattle.sqlite_rules.specs.Lists.{Has}
 use Rattle.sqlite_rules.proofs.ListLemmas.{all_has, all_from, has_right}
 use Rattle.sqlite_rules.proofs.ProbeLemmas.{has_mapped, mapped_has}
 use Rattle.off_sqlcells.specs.Office.{cell_row}
-use Rattle.off_sqlcells.proofs.Texts.{table_query, has_ident, is_above, has_rowid_given, by_ident, walk_query}
+use Rattle.off_sqlcells.proofs.Texts.{table_query, has_ident, is_above, has_rowid_given, walk_query}
 
 has_matched : {X Y : Type 0} (p : X → Bool) (f : X → Y) (xs : List X) (y : Y) → Has (flat_map (λ x. cond (p x) (f x ∷ []) []) xs) y → (x : X) × Has xs x × (p x ≡ true) × (y ≡ f x)
 has_matched p f [] y h = absurd h
@@ -85,7 +85,7 @@ module _ (filter project : List Term) (db : Trees) (params : Row) (rows : List R
 
 -- ---- the tests of the queries
 
-truth_test : (b : Bool) → (is_true (from_truth (Some b)) && true) ≡ b
+pub truth_test : (b : Bool) → (is_true (from_truth (Some b)) && true) ≡ b
 truth_test true = refl
 truth_test false = refl
 

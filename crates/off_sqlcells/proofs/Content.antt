@@ -32,7 +32,8 @@ use Rattle.off_cells.specs.CellsSeen.{CellMap, is_behind}
 use Rattle.off_sqlcells.specs.Statements.{get_text, first_text, next_text, drop_text, Gets, walk_text, walk_params, Nexts}
 use Rattle.off_sqlcells.specs.Holds.{IsCellOf, Holds}
 use Rattle.off_sqlcells.proofs.Texts.{has_ident, is_above, by_ident, get_query, walk_query, first_query, next_query, drop_query, alone, get_is, get_plain, first_is as first_is_read, first_plain, next_is, next_plain, drop_is, drop_plain}
-use Rattle.off_sqlcells.specs.OneMap.{bytes_cmp, same_key, same_bytes}
+use Rattle.off_sqlcells.specs.OneMap.{same_bytes}
+use Rattle.off_cells.proofs.SortedLemmas.{bytes_cmp, same_key}
 use Rattle.off_sqlcells.proofs.RowLemmas.{own_key, drop_holds, rows_dropped, IsDropped}
 use Rattle.off_sqlcells.proofs.AnswerLemmas.{ordered_sound, ordered_complete, shown_sound, shown_complete, ident_test, above_test, first_least}
 use Rattle.off_sqlcells.proofs.NextLemmas.{first_is, none_is, entry_has, entry_got}

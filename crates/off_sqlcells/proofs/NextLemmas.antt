@@ -11,7 +11,7 @@ use Rattle.std.proofs.lemmas.Bool.{true≢false, false_from_ne_true}
 use Rattle.sqlite_rules.specs.Lists.{Has}
 use Rattle.off_defs.proofs.EntryLemmas.{is_less, holds, first, second}
 use Rattle.off_cells.specs.CellsSeen.{CellMap}
-use Rattle.off_sqlcells.specs.OneMap.{bytes_cmp, same_key}
+use Rattle.off_cells.proofs.SortedLemmas.{bytes_cmp, same_key}
 use Rattle.off_sqlcells.proofs.RowLemmas.{own_key}
 
 abbrev Entry : Type 0

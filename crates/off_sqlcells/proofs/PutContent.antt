@@ -11,7 +11,7 @@ use Rattle.sqlite_value.specs.Order.{Row, column, value_cmp}
 use Rattle.sqlite_value.proofs.OrderLemmas.{value_cmp_total, value_cmp-Blob}
 use Rattle.sqlite_value.proofs.KeyLemmas.{first_key-plain}
 use Rattle.sqlite_trees.specs.Tree.{Trees, rowid}
-use Rattle.sqlite_sql.specs.Ops.{binary, unary, is_true, from_truth}
+use Rattle.sqlite_sql.specs.Ops.{binary, unary}
 use Rattle.sqlite_sql.specs.Term.{holds, col}
 use Rattle.sqlite_schema.specs.declared.schema.Keys.{Keys}
 use Rattle.sqlite_schema.specs.declared.schema.Kind.TheVariants.{Integer}
@@ -38,9 +38,10 @@ use Rattle.off_cells.specs.CellsSeen.{CellMap}
 use Rattle.off_sqlcells.specs.Statements.{put_text}
 use Rattle.off_sqlcells.specs.Holds.{IsCellOf, Holds}
 use Rattle.off_sqlcells.proofs.Texts.{has_rowid_given, put_query, put_terms, upsert, alone, put_is, put_plain}
-use Rattle.off_sqlcells.specs.OneMap.{bytes_cmp, same_key, same_bytes}
+use Rattle.off_sqlcells.specs.OneMap.{same_bytes}
+use Rattle.off_cells.proofs.SortedLemmas.{bytes_cmp, same_key}
 use Rattle.off_sqlcells.proofs.RowLemmas.{own_key, tied_id, put_holds, rows_put, IsPut}
-use Rattle.off_sqlcells.proofs.AnswerLemmas.{shown_sound, shown_complete, rowid_test}
+use Rattle.off_sqlcells.proofs.AnswerLemmas.{shown_sound, shown_complete, rowid_test, truth_test}
 use Rattle.off_sqlcells.proofs.Content.{went, same_value}
 
 -- ---- values that are cast
@@ -62,17 +63,13 @@ cast_cell id i v = ap (λ (x : Value). x ∷ Bytes i ∷ Bytes v ∷ []) (cast_i
 
 -- ---- conflicts
 
-alone_true : (b : Bool) → (is_true (from_truth (Some b)) && true) ≡ b
-alone_true true = refl
-alone_true false = refl
-
 some_alone : (b : Bool) → (false || (b || false)) ≡ b
 some_alone true = refl
 some_alone false = refl
 
 pub bytes_equal : (i k : List ℕ) → (equal Binary (Bytes i) (Bytes k) && true) ≡ eq_by_cmp bytes_cmp i k
 unfolding binary
-bytes_equal i k = alone_true (is_eq (value_cmp (Bytes i) (Bytes k))) ∙ ap is_eq (value_cmp-Blob i k)
+bytes_equal i k = truth_test (is_eq (value_cmp (Bytes i) (Bytes k))) ∙ ap is_eq (value_cmp-Blob i k)
 
 conflict_is : (n id : ℤ) (k w i v : List ℕ) → conflicts (Some (1 ∷ [])) office_schema.indexes office (cell_row n k w) (cell_row id i v) ≡ eq_by_cmp bytes_cmp i k
 conflict_is n id k w i v = rw first_key-plain (some_alone _ ∙ bytes_equal i k)

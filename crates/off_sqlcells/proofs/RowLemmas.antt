@@ -16,7 +16,9 @@ use Rattle.sqlite_rules.proofs.ListLemmas.{has_filtered, has_kept, some_from}
 use Rattle.sqlite_rules.proofs.TableLemmas.{put_all_has, put_all_keeps, put_all_adds, without_all_has}
 use Rattle.off_sqlcells.specs.Office.{cell_row}
 use Rattle.off_cells.specs.CellsSeen.{CellMap}
-use Rattle.off_sqlcells.specs.OneMap.{bytes_cmp, is_equal, same_key, same_bytes}
+use Rattle.off_sqlcells.specs.OneMap.{same_bytes}
+use Rattle.off_defs.proofs.EntryLemmas.{is_equal}
+use Rattle.off_cells.proofs.SortedLemmas.{bytes_cmp, same_key}
 use Rattle.off_sqlcells.specs.Holds.{IsCellOf, AreCells, Holds}
 
 -- ---- keys

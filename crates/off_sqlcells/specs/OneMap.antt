@@ -1,10 +1,7 @@
 -- The rows of the table hold one map of cells at most, so a connection that is open tells one.
-use Rattle.std.specs.Prelude.{◌≡◌, ℕ, ℤ, true, List, Option, Some, None, IsTrue}
+use Rattle.std.specs.Prelude.{◌≡◌, ℕ, ℤ, List, Option, Some, None, IsTrue}
 use Rattle.std.proofs.Common.{refl, sym, ap, ◌∙◌}
-use Rattle.std.specs.Ordering.{nat_cmp, is_eq, eq_by_cmp}
-use Rattle.std.specs.Cmp.Lexicographic.{slice_cmp, nat_list_cmp_total}
-use Rattle.std.specs.declared.cmp.Ordering.{Ordering}
-use Rattle.std.specs.declared.cmp.Ordering.TheVariants.{Less, Equal, Greater}
+use Rattle.std.specs.Cmp.Lexicographic.{nat_list_cmp_total}
 use Rattle.std.specs.FinMap as map
 use Rattle.sqlite_value.specs.declared.value.Value.{Value}
 use Rattle.sqlite_value.specs.declared.value.Value.TheVariants.{Blob as Bytes}
@@ -12,23 +9,10 @@ use Rattle.sqlite_value.specs.Order.{Row, column}
 use Rattle.sqlite_rules.specs.Lists.{Has}
 use Rattle.sqlite.specs.State.{State}
 use Rattle.off_cells.specs.CellsSeen.{CellMap}
+use Rattle.off_cells.proofs.SortedLemmas.{exact}
 use Rattle.off_sqlcells.specs.Office.{cell_row}
 use Rattle.off_sqlcells.specs.Holds.{AreCells}
 use Rattle.off_sqlcells.specs.Stands.{Tells}
-
-abbrev pub bytes_cmp : List ℕ → List ℕ → Ordering
-bytes_cmp = slice_cmp nat_cmp
-
-pub is_equal : (o : Ordering) → is_eq o ≡ true → o ≡ Equal
-is_equal Less e = cc
-is_equal Equal e = refl
-is_equal Greater e = cc
-
-pub exact : map.IsAntisymmetric bytes_cmp
-exact = map.slice_cmp-IsAntisymmetric map.nat_cmp-IsAntisymmetric
-
-pub same_key : (a b : List ℕ) → eq_by_cmp bytes_cmp a b ≡ true → a ≡ b
-same_key a b e = exact a b (is_equal (bytes_cmp a b) e)
 
 pub same_bytes : (a b : List ℕ) → ◌≡◌ {A = Value} (Bytes a) (Bytes b) → a ≡ b
 same_bytes a b e = cc

@@ -1,6 +1,5 @@
 -- A write at a key of no counted kind leaves all counts.
-use Rattle.std.proofs.Common.{◌≡◌, ℕ, ◌+◌, min, Bool, false, cond, not, ◌&&◌, List, [], ◌∷◌, count_by, refl, sym, ap, ◌∙◌, arith}
-use Rattle.std.proofs.lemmas.List.Sums.{sum_by-cons}
+use Rattle.std.proofs.Common.{◌≡◌, ℕ, min, Bool, false, cond, not, ◌&&◌, List, [], ◌∷◌, count_by, refl, sym, ap, ◌∙◌, arith}
 use Rattle.std.specs.List.{filter}
 use Rattle.std.specs.Ordering.{is_eq, eq_by_cmp}
 use Rattle.std.specs.declared.cmp.Ordering.{Ordering}
@@ -18,28 +17,26 @@ use Rattle.off_defs.specs.Tables.{with_row, without}
 use Rattle.off_defs.proofs.KeyLemmas.{key_exact}
 use Rattle.off_defs.proofs.TableLemmas.{entries_with, entries_without}
 use Rattle.off_account_rules.specs.Rows.{is_possible, is_of_kind, is_counted, count_of, counts_of}
+use Rattle.off_table_laws.proofs.ListLemmas.{count_first}
 
 -- entries of a key that doesn't count
 module _ {K X : Type 0} (R : K → K → Ordering) (exact : (a b : K) → R a b ≡ Equal → a ≡ b) (p : K × X → Bool) (key : K) (never : (x : X) → p (key, x) ≡ false) where
   abbrev counted : K × X → ℕ
   counted e = cond (p e) 1 0
 
-  count_first : (e : K × X) (es : List (K × X)) → count_by p (e ∷ es) ≡ counted e + count_by p es
-  count_first e es = sum_by-cons counted e es
-
   here : (k : K) (x : X) → key ≡ k → counted (k, x) ≡ 0
   here k x same = sym (ap (λ l. counted (l, x)) same) ∙ ap (λ b. cond b 1 0) (never x)
 
   count_put : (x : X) (es : List (K × X)) → count_by p (list.put R key x es) ≡ count_by p es
-  count_put x [] = omega (arith, count_first (key, x) [], here key x refl)
+  count_put x [] = omega (arith, count_first p (key, x) [], here key x refl)
   count_put x (e ∷ es) =
       elim (R key e.0) as (λ r. R key e.0 ≡ r → count_by p (list.by_order r ((key, x) ∷ e ∷ es) ((e.0, x) ∷ es) (e ∷ list.put R key x es)) ≡ count_by p (e ∷ es)) [
-        | Less ↦ λ less. omega (arith, count_first (key, x) (e ∷ es), here key x refl)
+        | Less ↦ λ less. omega (arith, count_first p (key, x) (e ∷ es), here key x refl)
         | Equal ↦ λ tied.
             let new = here e.0 x (exact key e.0 tied) in
             let old : counted e ≡ 0 = here e.0 e.1 (exact key e.0 tied) in
-            omega (arith, new, old, count_first (e.0, x) es, count_first e es)
-        | Greater ↦ λ more. omega (arith, count_put x es, count_first e (list.put R key x es), count_first e es)
+            omega (arith, new, old, count_first p (e.0, x) es, count_first p e es)
+        | Greater ↦ λ more. omega (arith, count_put x es, count_first p e (list.put R key x es), count_first p e es)
       ] refl
 
   count_left : (es : List (K × X)) → count_by p (filter (λ e. not (eq_by_cmp R key e.0)) es) ≡ count_by p es
@@ -47,9 +44,9 @@ module _ {K X : Type 0} (R : K → K → Ordering) (exact : (a b : K) → R a b 
   count_left (e ∷ es) =
       let left = filter (λ (e : K × X). not (eq_by_cmp R key e.0)) es in
       elim (R key e.0) as (λ r. R key e.0 ≡ r → count_by p (cond (not (is_eq r)) (e ∷ left) left) ≡ count_by p (e ∷ es)) [
-        | Less ↦ λ less. omega (arith, count_left es, count_first e left, count_first e es)
-        | Equal ↦ λ tied. let old : counted e ≡ 0 = here e.0 e.1 (exact key e.0 tied) in omega (arith, old, count_left es, count_first e es)
-        | Greater ↦ λ more. omega (arith, count_left es, count_first e left, count_first e es)
+        | Less ↦ λ less. omega (arith, count_left es, count_first p e left, count_first p e es)
+        | Equal ↦ λ tied. let old : counted e ≡ 0 = here e.0 e.1 (exact key e.0 tied) in omega (arith, old, count_left es, count_first p e es)
+        | Greater ↦ λ more. omega (arith, count_left es, count_first p e left, count_first p e es)
       ] refl
 
 module _ (key : Key) (none : (kind : Kind) → is_of_kind kind key ≡ false) where

@@ -15,9 +15,9 @@ use Rattle.off_defs.specs.declared.tables.Lease.{Lease}
 use Rattle.off_defs.specs.declared.tables.DeviceLease.{DeviceLease}
 use Rattle.off_defs.specs.State.{Tables}
 use Rattle.off_defs.specs.Tables.{row_at}
-use Rattle.off_defs.proofs.TableLemmas.{same_key, own_key}
 use Rattle.off_account_rules.specs.Rows.{passes, is_possible, has_address, overlaps, as_lease, as_held, device_of, devices}
 use Rattle.off_account_rules.specs.Good.{is_address, is_there, raw_pool_of, raw_pools, raw_device_pool_of, raw_device_pools, is_apart, is_disjoint, pools_around, device_pools_around, owner_of, device_owner, is_same_owner, is_owned_apart, pool_stands, device_pool_stands, is_mac, holds, owner_holds, owns, is_of_hubs, names_hubs, is_hub_there, stored_hub, stored_hub_of, stands_right, Opens}
+use Rattle.off_account_rules.proofs.OwnerLemmas.{mac_same, mac_own, owner_own, owner_found}
 use Rattle.off_table_laws.proofs.ListLemmas.{In, Distinct, all_in, in_all, none_in, any_none, some_found, one_counted, counted_one, in_made, made_in, distinct_made}
 use Rattle.off_table_laws.proofs.EntryRows.{row_in, in_row, distinct_entries}
 use Rattle.off_table_laws.proofs.GoodRows.{OnePool, OnePoolOf, OwnedBy, DevicesStand, hub_at, GoodRows}
@@ -118,28 +118,6 @@ devices_around_one t address = around_once raw_device_pool_of key.DevicePool (λ
 
 one_around_devices : (t : Tables) (address : Ip4) → OnePoolOf key.DevicePool (row_at t) address → device_pools_around t address ≡ 1
 one_around_devices t address = once_around raw_device_pool_of key.DevicePool (λ n pool. refl) raw_device_pool_made t address
-
--- a modem is itself, and no other
-pub mac_same : (mac other : Mac) → is_mac mac other ≡ true → mac ≡ other
-mac_same mac other e = let k : key.Modem mac ≡ key.Modem other = same_key (key.Modem mac) (key.Modem other) e in cc
-
-pub mac_own : (mac : Mac) → is_mac mac mac ≡ true
-mac_own mac = own_key (key.Modem mac)
-
--- a modem and its device are themselves, and no others
-pub owner_same : (one other : Mac × Mac) → is_same_owner one other ≡ true → one ≡ other
-owner_same one other e =
-    let parts = and_parts (is_mac one.0 other.0) (is_mac one.1 other.1) e in
-    let modem = mac_same one.0 other.0 parts.0 in
-    let device = mac_same one.1 other.1 parts.1 in
-    λ i. (modem i, device i)
-
-pub owner_own : (owner : Mac × Mac) → is_same_owner owner owner ≡ true
-owner_own owner = and_from (is_mac owner.0 owner.0) (is_mac owner.1 owner.1) (mac_own owner.0) (mac_own owner.1)
-
-owner_found : (o : Option (Mac × Mac)) (owner : Mac × Mac) → passes (is_same_owner owner) o ≡ true → o ≡ Some owner
-owner_found None owner e = cc
-owner_found (Some other) owner e = ap Some (sym (owner_same owner other e))
 
 -- leases that are owned apart and have one owner are at one address
 one_apart : (address : Ip4) (other : Ip4 × DeviceLease) (owner : Mac × Mac) → is_owned_apart address (Some owner) other ≡ true → device_owner other.1.hold ≡ Some owner → address ≡ other.0

@@ -82,16 +82,16 @@ module _ {A : Type 0} (p : A → Bool) where
       ] refl
 
   -- a count of none, and of one
-  count_step : (y : A) (ys : List A) → count_by p (y ∷ ys) ≡ cond (p y) 1 0 + count_by p ys
-  count_step y ys = sum_by-cons (λ x. cond (p x) 1 0) y ys
+  pub count_first : (y : A) (ys : List A) → count_by p (y ∷ ys) ≡ cond (p y) 1 0 + count_by p ys
+  count_first y ys = sum_by-cons (λ x. cond (p x) 1 0) y ys
 
   uncounted : (xs : List A) → count_by p xs ≡ 0 → (x : A) → In x xs → p x ≡ true → ⊥
   uncounted [] h x i t = i
   uncounted (y ∷ ys) h x (inl e) t =
-      let s : count_by p (y ∷ ys) ≡ 1 + count_by p ys = count_step y ys ∙ ap (λ b. cond b 1 0 + count_by p ys) (sym (ap p e) ∙ t) in
+      let s : count_by p (y ∷ ys) ≡ 1 + count_by p ys = count_first y ys ∙ ap (λ b. cond b 1 0 + count_by p ys) (sym (ap p e) ∙ t) in
       omega arith
   uncounted (y ∷ ys) h x (inr i) t =
-      let s = count_step y ys in
+      let s = count_first y ys in
       let n : count_by p ys ≡ 0 = omega arith in
       uncounted ys n x i t
 
@@ -100,7 +100,7 @@ module _ {A : Type 0} (p : A → Bool) where
   counted_none (y ∷ ys) h =
       elim (p y) as (λ b. p y ≡ b → count_by p (y ∷ ys) ≡ 0) [
         | true ↦ λ e. absurd (h y (inl refl) e)
-        | false ↦ λ e. count_step y ys ∙ ap (λ b. cond b 1 0 + count_by p ys) e ∙ (let n = counted_none ys (λ x i. h x (inr i)) in omega arith)
+        | false ↦ λ e. count_first y ys ∙ ap (λ b. cond b 1 0 + count_by p ys) e ∙ (let n = counted_none ys (λ x i. h x (inr i)) in omega arith)
       ] refl
 
   -- the one element that passes
@@ -112,11 +112,11 @@ module _ {A : Type 0} (p : A → Bool) where
   one_counted (y ∷ ys) h =
       elim (p y) as (λ b. p y ≡ b → (x : A) × IsOnly (y ∷ ys) x) [
         | true ↦ λ e.
-            let s : count_by p (y ∷ ys) ≡ 1 + count_by p ys = count_step y ys ∙ ap (λ b. cond b 1 0 + count_by p ys) e in
+            let s : count_by p (y ∷ ys) ≡ 1 + count_by p ys = count_first y ys ∙ ap (λ b. cond b 1 0 + count_by p ys) e in
             let n : count_by p ys ≡ 0 = omega arith in
             (y, record { inside = inl refl; passes = e; only = λ x i t. elim i as (λ j. x ≡ y) [ inl same ↦ same | inr rest ↦ absurd (uncounted ys n x rest t) ] })
         | false ↦ λ e.
-            let s : count_by p (y ∷ ys) ≡ 0 + count_by p ys = count_step y ys ∙ ap (λ b. cond b 1 0 + count_by p ys) e in
+            let s : count_by p (y ∷ ys) ≡ 0 + count_by p ys = count_first y ys ∙ ap (λ b. cond b 1 0 + count_by p ys) e in
             let n : count_by p ys ≡ 1 = omega arith in
             let one = one_counted ys n in (
               one.0,
@@ -135,7 +135,7 @@ module _ {A : Type 0} (p : A → Bool) where
         | true ↦ λ e.
             let is : y ≡ x = one.only y (inl refl) e in
             let n : count_by p ys ≡ 0 = counted_none ys (λ z i t. d.0 (subst (λ w. In w ys) (one.only z (inr i) t ∙ sym is) i)) in
-            count_step y ys ∙ ap (λ b. cond b 1 0 + count_by p ys) e ∙ omega (arith, n)
+            count_first y ys ∙ ap (λ b. cond b 1 0 + count_by p ys) e ∙ omega (arith, n)
         | false ↦ λ e.
             let n : count_by p ys ≡ 1 = counted_one ys d.1 x (record {
               inside = elim one.inside as (λ j. In x ys) [ inl same ↦ absurd (let t = one.passes in let f : p x ≡ false = ap p same ∙ e in cc) | inr rest ↦ rest ];
@@ -143,7 +143,7 @@ module _ {A : Type 0} (p : A → Bool) where
               only = λ z i t. one.only z (inr i) t;
             })
             in
-            count_step y ys ∙ ap (λ b. cond b 1 0 + count_by p ys) e ∙ omega (arith, n)
+            count_first y ys ∙ ap (λ b. cond b 1 0 + count_by p ys) e ∙ omega (arith, n)
       ] refl
 
 module _ {A B : Type 0} (h : A → Option B) where

@@ -117,8 +117,8 @@ MigratedAreGood = (tables : Tables) → Opens tables → Good (migrated tables)
 abbrev pub GoodStay : Type 0
 GoodStay = (tables : Tables) → Good tables → migrated tables ≡ tables
 
--- pools, their hubs' numbers, leases and who holds them are the same in both, and so are the pools for
--- devices and the leases of devices
+-- pools, their hubs' numbers, leases and who holds them are the same in both, and so are the pools
+-- for devices and the leases of devices
 pub record KeepsLeases (old new : Tables) : Type 0 where
   pub pools : pools new ≡ pools old
   pub hubs : (n : ℕ) → pool_hub_in new n ≡ pool_hub_in old n

@@ -1,5 +1,5 @@
 -- What is decided of a datagram, by the stages in which it is judged; and what is said and done of it.
-use Rattle.std.proofs.Common.{◌≡◌, ℕ, ◌==◌, ◌&&◌, not, Bool, true, false, cond, is_some, List, [], Option, Some, None, option_and_then, Result, Ok, Err, is_ok, IfOk, OnOk, OnErr, IfSome, MatchResult, refl, sym, ap, ◌∙◌, subst}
+use Rattle.std.proofs.Common.{◌≡◌, ℕ, ◌==◌, ◌&&◌, ◌||◌, not, Bool, true, false, cond, is_some, List, [], Option, Some, None, option_and_then, Result, Ok, Err, is_ok, IfOk, OnOk, OnErr, IfSome, MatchResult, refl, sym, ap, ◌∙◌, subst}
 use Rattle.std.specs.FinMap as map
 use Rattle.off_base.specs.Tree.{Tree}
 use Rattle.off_base.specs.declared.octets.NoMemory.{NoMemory}
@@ -33,11 +33,14 @@ use Rattle.off_tftp.specs.declared.deciding.Change.TheVariants as change
 use Rattle.off_tftp.specs.Built.{CanBuild}
 use Rattle.off_kept.specs.Entries.{Entries}
 use Rattle.off_kept.specs.Right.{AllRight}
-use Rattle.off_tftp.specs.Calls.{asks_by_name, FewUnlessNamed, FewUnlessNamedAt}
-use Rattle.off_tftp.specs.Deciding.{Does, Serves, Decides, Answers, KeepsNothing, given_by, refusal_of}
+use Rattle.off_tftp.specs.declared.agreements.Agreement.{Agreement}
+use Rattle.off_tftp.specs.Agreements.{Slots, stands_for, is_remembered, IsAgreementOf, RemembersRight, AllAgreed}
+use Rattle.off_tftp.specs.Calls.{asks_by_name, FewUnlessNamed, FewUnlessNamedAt, is_acknowledgement, UnaskedWhereAgreed}
+use Rattle.off_tftp.specs.Deciding.{Does, Serves, Decides, Judges, Answers, KeepsNothing, SeesNothing, SeesRight, Remembers, given_by, goes_on, refusal_of}
 use Rattle.off_tftp.specs.declared.gathering.Seen.{Seen}
 use Rattle.off_tftp.specs.Keeping.{entry_for, kept_by, is_kept, BeginsFor, FewWhereBegun}
 use Rattle.off_tftp.specs.Seen.{held_by, view_at, view_of, view_with, without_profile, names_file, seen_for, CanServe, Shows}
+use Rattle.off_tftp.proofs.AgreementLemmas.{agreed_seen, remembers_right, remembered_agrees}
 use Rattle.off_tftp.proofs.BodyLemmas.{repeat_keeps, acknowledgement_keeps, after_right, few_begun}
 use Rattle.off_tftp.specs.Stages.{repeats, lacks_room_by, stage_of}
 
@@ -124,6 +127,25 @@ module _ (now : ℕ) (old : Transfers) (from : Peer) (bytes : List ℕ) where
   next_does v seen ip live step e done =
       if_ok_as step _ (λ d. IfSome live (λ x. DoesSo v (way_of_last v now ip x) d))
       (subst (λ (u : View). IfOk step (λ d. IfSome live (λ x. DoesSo u (way_of_last u now ip x) d))) e done) (λ d does. seen_next v ip live d does)
+
+  -- where it's remembered that the tables agree the next block goes
+  on_by : (v : View) (ip : Ip4) (x : Transfer) (d : Decision) → is_at_last x ≡ false → agrees v now ip x.name x.modem x.subscriber ≡ true → DoesSo v (GoesOn x) d → DoesSo v (way_of_last v now ip x) d
+  on_by v ip x d more agreed does =
+      does_as v (GoesOn x) (way_of_last v now ip x) d
+      (sym (ap (λ b. cond b Finishes (cond (agrees v now ip x.name x.modem x.subscriber) (GoesOn x) BreaksOff)) more ∙ ap (λ b. cond b (GoesOn x) BreaksOff) agreed)) does
+
+  pub remembered_does : (v : View) (ip : Ip4) (slots : Slots) (live : Option Transfer) (d : Decision) → passes (is_remembered now ip slots) live ≡ true → RemembersRight v ip slots
+      → IfSome live (λ x. is_at_last x ≡ false) → IfSome live (λ x. Does v now old from bytes (GoesOn x) d) → IfSome live (λ x. Does v now old from bytes (way_of_last v now ip x) d)
+  remembered_does v ip slots None d is right more does = does
+  remembered_does v ip slots (Some x) d is right more does = on_by v ip x d more (remembered_agrees v now ip slots x is right) does
+
+  -- and so it does where they were seen to agree
+  pub seen_does_on : (v : View) (ip : Ip4) (live : Option Transfer) (step : Result Decision NoMemory) → passes (λ (x : Transfer). agrees v now ip x.name x.modem x.subscriber) live ≡ true
+      → IfSome live (λ x. is_at_last x ≡ false) → IfOk step (λ d. IfSome live (λ x. Does v now old from bytes (GoesOn x) d))
+      → IfOk step (λ d. IfSome live (λ x. Does v now old from bytes (way_of_last v now ip x) d))
+  seen_does_on v ip None step is more done = done
+  seen_does_on v ip (Some x) (Err err) is more done = tt
+  seen_does_on v ip (Some x) (Ok d) is more done = on_by v ip x d more is done
 
   -- ---- acknowledgements
 
@@ -253,8 +275,8 @@ module _ (now : ℕ) (old : Transfers) (from : Peer) (bytes : List ℕ) where
       (record { does = refl; keeps = λ entries. refl })))
   deny_decides v meant denial (Err err) is denied refuses = tt
 
-  pub leave_decides : (v : View) (place : Place) → packet_of bytes ≡ Ok GivesUp → Decides v now old from bytes (record { word = word.PeerError; sent = None; change = change.Ends place })
-  leave_decides v place is = decides_by v (Ok GivesUp) (record { word = word.PeerError; sent = None; change = change.Ends place }) is (record { does = refl; keeps = λ entries. refl })
+  pub leave_decides : (v : View) (place : Place) → packet_of bytes ≡ Ok GivesUp → Decides v now old from bytes (record { word = word.PeerError; sent = None; change = change.Ends place; agreed = None })
+  leave_decides v place is = decides_by v (Ok GivesUp) (record { word = word.PeerError; sent = None; change = change.Ends place; agreed = None }) is (record { does = refl; keeps = λ entries. refl })
 
   pub acknowledgement_decides : (v : View) (number : ℕ) (meant : Result Meant PacketFault) (d : Decision) → packet_of bytes ≡ meant
       → way_of_acknowledgement v now from.ip number (map.get old from) ≡ way_of v now from.ip (has_no_room old) bytes (map.get old from) meant
@@ -287,29 +309,135 @@ few_settled a b bytes entries now lease after step (Err err) is begins spent = t
 pub few_own : {a b : KeeperSeen} (now : ℕ) (hub : Option ℕ) (ip : Ip4) (bytes : List ℕ) → FewUnlessNamedAt now hub ip bytes a b → FewUnlessNamed now hub ip bytes a b
 few_own now hub ip bytes few = λ t told own unnamed. few t told (ap (λ (v : View). asks_by_name now ip v (packet_of bytes)) (own_view t hub ip own) ∙ unnamed)
 
-pub acknowledged_looks : (a b : KeeperSeen) (now : ℕ) (old : Transfers) (from : Peer) (bytes : List ℕ) (number : ℕ) (kept : Entries) (v : Tables → View) (result : Result Decision KeepErr)
-    → packet_of bytes ≡ Ok (Acknowledges number) → IfOk result KeepsNothing
-    → Looks result a b (λ d t. Does (v t) now old from bytes (way_of_acknowledgement (v t) now from.ip number (map.get old from)) d)
+-- nothing was seen of agreement
+refused_nothing : (from : Peer) (denial : Denial) (d : Decision) → d ≡ refusal_of from denial → SeesNothing d
+refused_nothing from denial d is = subst SeesNothing (sym is) (record { none = refl; ends = refl })
+
+pub refused_unseen : (from : Peer) (denial : Denial) (step : Result Decision NoMemory) → IfOk step (λ d. d ≡ refusal_of from denial) → IfOk step SeesNothing
+refused_unseen from denial (Ok d) is = refused_nothing from denial d is
+refused_unseen from denial (Err err) is = tt
+
+sees_none : (v : View) (ip : Ip4) (d : Decision) (seen : Option Agreement) → d.agreed ≡ seen → seen ≡ None → SeesRight v ip d
+sees_none v ip d None is none = subst (λ (o : Option Agreement). IfSome o (IsAgreementOf v ip)) (sym is) tt
+sees_none v ip d (Some a) is none = cc
+
+pub unseen_right : (v : View) (ip : Ip4) (d : Decision) → SeesNothing d → SeesRight v ip d
+unseen_right v ip d unseen = sees_none v ip d None unseen.none refl
+
+pub unseen_sees : (v : View) (ip : Ip4) (step : Result Decision NoMemory) → IfOk step SeesNothing → IfOk step (SeesRight v ip)
+unseen_sees v ip (Ok d) unseen = unseen_right v ip d unseen
+unseen_sees v ip (Err err) unseen = tt
+
+pub if_ok_both : (step : Result Decision NoMemory) (P Q : Decision → Type 0) → IfOk step P → IfOk step Q → IfOk step (λ d. P d × Q d)
+if_ok_both (Ok d) P Q p q = (p, q)
+if_ok_both (Err err) P Q p q = tt
+
+pub ended_remembers : (now : ℕ) (from : Peer) (live : Option Transfer) (slots : Slots) (result : Result Decision KeepErr) → IfOk result (λ d. goes_on d.change ≡ false) → IfOk result (Remembers now from live slots)
+ended_remembers now from live slots (Ok d) ends = λ on. let no : true ≡ false = sym on ∙ ends in cc
+ended_remembers now from live slots (Err err) ends = tt
+
+pub unseen_remembers : (now : ℕ) (from : Peer) (live : Option Transfer) (slots : Slots) (result : Result Decision KeepErr) → IfOk result SeesNothing → IfOk result (Remembers now from live slots)
+unseen_remembers now from live slots (Ok d) unseen = λ on. let no : true ≡ false = sym on ∙ unseen.ends in cc
+unseen_remembers now from live slots (Err err) unseen = tt
+
+pub judged_both : (a b : KeeperSeen) (now : ℕ) (old : Transfers) (from : Peer) (bytes : List ℕ) (kept : Entries) (slots : Slots) (v : Tables → View) (result : Result Decision KeepErr)
+    → Looks result a b (λ d t. AllRight t kept → Decides (v t) now old from bytes d × SeesRight (v t) from.ip d)
+    → Looks result a b (λ d t. AllRight t kept → RemembersRight (v t) from.ip slots → Judges (v t) now old from bytes d)
+judged_both a b now old from bytes kept slots v (Ok d) looks =
+    reads_as looks (λ t both right remembers. record { decides = (both right).0; sees = (both right).1 })
+judged_both a b now old from bytes kept slots v (Err err) looks = looks
+
+pub judged : (a b : KeeperSeen) (now : ℕ) (old : Transfers) (from : Peer) (bytes : List ℕ) (kept : Entries) (slots : Slots) (v : Tables → View) (result : Result Decision KeepErr) → IfOk result SeesNothing
     → Looks result a b (λ d t. AllRight t kept → Decides (v t) now old from bytes d)
-acknowledged_looks a b now old from bytes number kept v (Ok d) is bare looks =
-    reads_as looks (λ t does right. acknowledgement_decides now old from bytes (v t) number (Ok (Acknowledges number)) d is refl bare does)
-acknowledged_looks a b now old from bytes number kept v (Err err) is bare looks = looks
+    → Looks result a b (λ d t. AllRight t kept → RemembersRight (v t) from.ip slots → Judges (v t) now old from bytes d)
+judged a b now old from bytes kept slots v (Ok d) unseen looks =
+    reads_as looks (λ t decides right remembers. record { decides = decides right; sees = unseen_right (v t) from.ip d unseen })
+judged a b now old from bytes kept slots v (Err err) unseen looks = looks
+
+pub acknowledged_looks : (a b : KeeperSeen) (now : ℕ) (old : Transfers) (from : Peer) (bytes : List ℕ) (number : ℕ) (kept : Entries) (slots : Slots) (v : Tables → View) (result : Result Decision KeepErr)
+    → packet_of bytes ≡ Ok (Acknowledges number) → IfOk result KeepsNothing
+    → Looks result a b (λ d t. RemembersRight (v t) from.ip slots → Does (v t) now old from bytes (way_of_acknowledgement (v t) now from.ip number (map.get old from)) d × SeesRight (v t) from.ip d)
+    → Looks result a b (λ d t. AllRight t kept → RemembersRight (v t) from.ip slots → Judges (v t) now old from bytes d)
+acknowledged_looks a b now old from bytes number kept slots v (Ok d) is bare looks =
+    reads_as looks (λ t does right remembers.
+    let both = does remembers in
+    record { decides = acknowledgement_decides now old from bytes (v t) number (Ok (Acknowledges number)) d is refl bare both.0; sees = both.1 })
+acknowledged_looks a b now old from bytes number kept slots v (Err err) is bare looks = looks
+
+-- what was seen to agree is so by the whole of what there is
+pub seen_sees : (v seen : View) (ip : Ip4) (step : Result Decision NoMemory) → seen ≡ without_profile v → IfOk step (λ d. IfSome d.agreed (IsAgreementOf seen ip)) → IfOk step (SeesRight v ip)
+seen_sees v seen ip (Err err) e right = tt
+seen_sees v seen ip (Ok d) e right = whole d.agreed (subst (λ (u : View). IfSome d.agreed (IsAgreementOf u ip)) e right)
+  where
+    whole : (o : Option Agreement) → IfSome o (IsAgreementOf (without_profile v) ip) → IfSome o (IsAgreementOf v ip)
+    whole None so = tt
+    whole (Some a) so = record { here = so.here; agrees = so.agrees }
+
+rest_of_seen : (v : View) (right : Bool) → without_profile (cond right v (without_profile v)) ≡ without_profile v
+rest_of_seen v true = refl
+rest_of_seen v false = refl
+
+pub shown_sees : (v : View) (seen : Seen) (now : ℕ) (ip : Ip4) (name : List ℕ) (step : Result Decision NoMemory) → Shows seen (seen_for now ip name v)
+    → IfOk step (λ d. IfSome d.agreed (IsAgreementOf (view_of seen) ip)) → IfOk step (SeesRight v ip)
+shown_sees v seen now ip name step shows right = seen_sees v (view_of seen) ip step (shows.rest ∙ rest_of_seen v (names_file now ip name v)) right
+
+-- the next block, where agreement is remembered, and where it was looked for
+pub next_remembered : (now : ℕ) (old : Transfers) (from : Peer) (bytes : List ℕ) (v : View) (ip : Ip4) (slots : Slots) (live : Option Transfer) (step : Result Decision NoMemory) → passes (is_remembered now ip slots) live ≡ true
+    → IfSome live (λ x. is_at_last x ≡ false) → IfOk step (λ d. IfSome live (λ x. Does v now old from bytes (GoesOn x) d)) → IfOk step (λ d. d.agreed ≡ None)
+    → IfOk step (λ d. RemembersRight v ip slots → IfSome live (λ x. Does v now old from bytes (way_of_last v now ip x) d) × SeesRight v ip d)
+next_remembered now old from bytes v ip slots live (Err err) is more done none = tt
+next_remembered now old from bytes v ip slots live (Ok d) is more done none = λ right.
+    (remembered_does now old from bytes v ip slots live d is right more done, sees_none v ip d None none refl)
+
+pub next_looked : (now : ℕ) (old : Transfers) (from : Peer) (bytes : List ℕ) (v seen : View) (ip : Ip4) (slots : Slots) (live : Option Transfer) (step : Result Decision NoMemory) → seen ≡ without_profile v
+    → IfOk step (λ d. IfSome live (λ x. Does seen now old from bytes (way_of_last seen now ip x) d)) → IfOk step (λ d. IfSome d.agreed (IsAgreementOf seen ip))
+    → IfOk step (λ d. RemembersRight v ip slots → IfSome live (λ x. Does v now old from bytes (way_of_last v now ip x) d) × SeesRight v ip d)
+next_looked now old from bytes v seen ip slots live (Err err) e done right = tt
+next_looked now old from bytes v seen ip slots live (Ok d) e done right = λ remembers.
+    (next_does now old from bytes v seen ip live (Ok d) e done, seen_sees v seen ip (Ok d) e right)
+
+-- where agreement was remembered, or was seen, it's remembered behind
+pub remembers_still : (now : ℕ) (from : Peer) (live : Option Transfer) (slots : Slots) (kept : Result Decision KeepErr) → passes (is_remembered now from.ip slots) live ≡ true
+    → IfOk kept (Remembers now from live slots)
+remembers_still now from live slots (Err err) is = tt
+remembers_still now from None slots (Ok d) is = cc
+remembers_still now from (Some x) slots (Ok d) is = λ on. or_right (passes (stands_for now from.ip x) d.agreed) (is_remembered now from.ip slots x) is
+  where
+    or_right : (a b : Bool) → b ≡ true → (a || b) ≡ true
+    or_right true b e = refl
+    or_right false b e = e
+
+pub remembers_seen : (now : ℕ) (from : Peer) (live : Option Transfer) (slots : Slots) (step : Result Decision NoMemory)
+    → IfOk step (λ d. goes_on d.change ≡ true → IfSome live (λ x. passes (stands_for now from.ip x) d.agreed ≡ true)) → IfOk step (Remembers now from live slots)
+remembers_seen now from live slots (Err err) seen = tt
+remembers_seen now from None slots (Ok d) seen = λ on. tt
+remembers_seen now from (Some x) slots (Ok d) seen = λ on. ap (λ b. b || is_remembered now from.ip slots x) (seen on)
+
+-- an acknowledgement of no transfer, of an earlier packet or of the last block needs no agreement
+pub not_asked : (now : ℕ) (from : Peer) (bytes : List ℕ) (old : Transfers) (slots : Slots) (a b : KeeperSeen) (meant : Result Meant PacketFault) → packet_of bytes ≡ meant → is_acknowledgement meant ≡ false
+    → UnaskedWhereAgreed now from bytes old slots a b
+not_asked now from bytes old slots a b meant is other = λ acks agreed. let no : true ≡ false = sym acks ∙ ap is_acknowledgement is ∙ other in cc
 
 -- ---- by the tables themselves
 
-answers : (t : Tables) (datagram : Datagram) (old : Transfers) (kept : Entries) (d : Decision) → Decides (view t datagram.from.ip) datagram.at.0 old datagram.from datagram.bytes.now d
-    → AllRight t kept → Answers t datagram old kept d
+answers : (t : Tables) (datagram : Datagram) (old : Transfers) (kept : Entries) (slots : Slots) (d : Decision) → Judges (view t datagram.from.ip) datagram.at.0 old datagram.from datagram.bytes.now d
+    → AllRight t kept → AllAgreed t slots → Answers t datagram old kept slots d
 unfolding TftpStep
-answers t datagram old kept d decides right = record {
-  step = decides.does;
-  keeps = decides.keeps kept;
-  right = subst (AllRight t) (sym (decides.keeps kept)) (after_right t datagram.at.0 old datagram.from datagram.bytes.now kept right);
+answers t datagram old kept slots d judges right agreed = record {
+  step = judges.decides.does;
+  keeps = judges.decides.keeps kept;
+  right = subst (AllRight t) (sym (judges.decides.keeps kept)) (after_right t datagram.at.0 old datagram.from datagram.bytes.now kept right);
+  agreed = agreed_seen t datagram.from.ip slots d.agreed judges.sees agreed;
 }
 
 -- where the hub that was told is the address's own
-pub own_answers : (a b : KeeperSeen) (datagram : Datagram) (old : Transfers) (kept : Entries) (result : Result Decision KeepErr)
-    → Looks result a b (λ d t. AllRight t kept → Decides (view_at t datagram.hub datagram.from.ip) datagram.at.0 old datagram.from datagram.bytes.now d)
-    → Looks result a b (λ d t. datagram.hub ≡ hub_of t datagram.from.ip → AllRight t kept → Answers t datagram old kept d)
-own_answers a b datagram old kept result looks =
-    looks_as a b result _ _ looks (λ d t decides own right. answers t datagram old kept d
-    (subst (λ (v : View). Decides v datagram.at.0 old datagram.from datagram.bytes.now d) (own_view t datagram.hub datagram.from.ip own) (decides right)) right)
+pub own_answers : (a b : KeeperSeen) (datagram : Datagram) (old : Transfers) (kept : Entries) (slots : Slots) (result : Result Decision KeepErr)
+    → Looks result a b (λ d t. AllRight t kept → RemembersRight (view_at t datagram.hub datagram.from.ip) datagram.from.ip slots
+    → Judges (view_at t datagram.hub datagram.from.ip) datagram.at.0 old datagram.from datagram.bytes.now d)
+    → Looks result a b (λ d t. datagram.hub ≡ hub_of t datagram.from.ip → AllRight t kept → AllAgreed t slots → Answers t datagram old kept slots d)
+own_answers a b datagram old kept slots result looks =
+    looks_as a b result _ _ looks (λ d t judges own right agreed.
+    let same = own_view t datagram.hub datagram.from.ip own in
+    answers t datagram old kept slots d
+    (subst (λ (v : View). Judges v datagram.at.0 old datagram.from datagram.bytes.now d) same
+    (judges right (remembers_right t datagram.from.ip slots (view_at t datagram.hub datagram.from.ip) same agreed))) right agreed)

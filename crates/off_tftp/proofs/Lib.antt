@@ -1,4 +1,5 @@
 pub mod KeptLemmas
+pub mod AgreementLemmas
 pub mod EntryLemmas
 pub mod TickedLemmas
 pub mod ReadLemmas

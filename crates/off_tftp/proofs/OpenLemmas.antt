@@ -21,7 +21,7 @@ use Rattle.off_tftp.specs.Keeping.{entry_of, entry_for, kept_with, BeginsFor}
 use Rattle.off_tftp.specs.Kept.{HasRoomFor}
 use Rattle.off_tftp.specs.Places.{IsPlaceOf}
 use Rattle.off_tftp.specs.Granted.{begun_by, IsFor}
-use Rattle.off_tftp.specs.Deciding.{Serves, CanBe, Starts, after_change, start_of, refusal_of, denial_of}
+use Rattle.off_tftp.specs.Deciding.{Serves, CanBe, SeesNothing, Starts, after_change, start_of, refusal_of, denial_of}
 use Rattle.off_tftp.specs.declared.requests.Request.{Request}
 use Rattle.off_tftp.specs.declared.requests.Grant.{Grant}
 use Rattle.off_tftp.specs.Stages.{repeats, lacks_room_by, lacks_room}
@@ -219,6 +219,20 @@ found_begins old request seen no_room found (Ok d) finds new begins =
     begins_as (Some found.modem) (held_by request.at.0 seen.lease) request.bytes.now (map.get (after_change d.change request.at.0 old request.from) request.from) finds.modem_is
     (started_begins old request found.modem found.subscriber found.body.now begins.grant (Ok d) begins.whose new begins.starts)
 found_begins old request seen no_room found (Err err) finds new begins = tt
+
+-- it sees nothing of agreement
+started_unseen : (request : Request) (entry : KeptBody) (grant : Option Grant) (d : Decision) → Starts request entry grant d → SeesNothing d
+started_unseen request entry None d is = subst SeesNothing (sym is) (record { none = refl; ends = refl })
+started_unseen request entry (Some g) d is = subst SeesNothing (sym is) (record { none = refl; ends = refl })
+
+pub found_unseen : (request : Request) (site : Option Site) (found : Found) (step : Result Decision NoMemory) → IfOk step (Begins request site found) → IfOk step SeesNothing
+found_unseen request site found (Ok d) begins = started_unseen request found.body.now begins.grant d begins.starts
+found_unseen request site found (Err err) begins = tt
+
+-- nor does what is seen of agreement change what it serves
+pub serves_seen : (v : View) (now : ℕ) (old : Transfers) (from : Peer) (bytes : List ℕ) (w : Way) (d e : Decision) → e ≡ record d { agreed = e.agreed } → Serves v now old from bytes w d → Serves v now old from bytes w e
+serves_seen v now old from bytes w d e same served =
+    subst (λ (x : Decision). Serves v now old from bytes w x) (sym same) (record { does = served.does; keeps = served.keeps })
 
 -- what begins, by what the calls answered
 pub begun_of : (request : Request) (site : Option Site) (found : Found) (entry : KeptBody) (shared : List ℕ) (grant : Option Grant) (step : Result Decision NoMemory)

@@ -1,15 +1,17 @@
 -- How many calls of the keeper a datagram may need. A read request needs the site of its address's
 -- hub, the lease of the address, the modem, the subscriber, the class, and eight add-ons; the
--- acknowledgement of a block that isn't the last needs the first three; all others none.
-use Rattle.std.specs.Prelude.{◌≡◌, ℕ, ◌==◌, Bool, false, List, Option, Some, None, Result, Ok, Err, if◌then◌else◌}
+-- acknowledgement of a block that isn't the last needs the first three, and none where it's
+-- remembered that the tables agree; all others none.
+use Rattle.std.specs.Prelude.{◌≡◌, ℕ, ◌==◌, Bool, true, false, List, Option, Some, None, Result, Ok, Err, if◌then◌else◌}
 use Rattle.std.specs.FinMap as map
 use Rattle.off_base.specs.declared.addresses.Peer.{Peer}
 use Rattle.off_base.specs.declared.addresses.Ip4.{Ip4}
 use Rattle.off_defs.specs.State.{Tables, Transfer}
-use Rattle.off_account_rules.specs.Rows.{hub_of}
+use Rattle.off_account_rules.specs.Rows.{passes, hub_of}
 use Rattle.off_outside.specs.KeeperSeen.{KeeperSeen}
 use Rattle.off_outside.specs.KeeperCalls.{Spent}
 use Rattle.off_transfer_rules.specs.View.{View, view}
+use Rattle.off_tftp.specs.Agreements.{Slots, is_remembered}
 use Rattle.off_tftp.specs.Seen.{view_at, names_file}
 use Rattle.off_packets.specs.Packets.{Meant, Reads, Writes, Acknowledges, GivesUp, IsOther, packet_of}
 use Rattle.off_transfer_rules.specs.Steps.{is_repeated}
@@ -62,3 +64,25 @@ abbrev pub FewUnlessNamed : ℕ → Option ℕ → Ip4 → List ℕ → KeeperSe
 FewUnlessNamed now hub ip bytes old new =
     (t : Tables) → old.tables t → hub ≡ hub_of t ip
     → asks_by_name now ip (view t ip) (packet_of bytes) ≡ false → Spent 3 old new
+
+-- a packet that acknowledges another one
+abbrev pub is_acknowledgement : Result Meant PacketFault → Bool
+is_acknowledgement (Ok (Acknowledges number)) = true
+is_acknowledgement (Ok (Reads name asked)) = false
+is_acknowledgement (Ok Writes) = false
+is_acknowledgement (Ok GivesUp) = false
+is_acknowledgement (Ok IsOther) = false
+is_acknowledgement (Err fault) = false
+
+-- it's remembered that the tables agree with a peer's transfer
+abbrev pub agrees_with : ℕ → Peer → Slots → Transfers → Bool
+agrees_with now from slots transfers =
+    passes (is_remembered now from.ip slots) (map.get transfers from)
+
+-- An acknowledgement of a transfer of which that is remembered asks nothing of the keeper, whatever
+-- the tables.
+abbrev pub UnaskedWhereAgreed : ℕ → Peer → List ℕ → Transfers → Slots → KeeperSeen → KeeperSeen
+    → Type 0
+UnaskedWhereAgreed now from bytes transfers slots old new =
+    is_acknowledgement (packet_of bytes) ≡ true → agrees_with now from slots transfers ≡ true →
+    Spent 0 old new

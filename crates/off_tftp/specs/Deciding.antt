@@ -1,12 +1,15 @@
 -- What is decided of a datagram, and how that is what its way gives.
-use Rattle.std.specs.Prelude.{◌≡◌, ℕ, List, [], ◌∷◌, false, Option, Some, None, IfSome, MatchOption, ⊤}
+use Rattle.std.specs.Prelude.{◌≡◌, ℕ, Bool, ◌||◌, List, [], ◌∷◌, true, false, Option, Some, None, IfSome, MatchOption, ⊤}
 use Rattle.std.specs.FinMap as map
+use Rattle.off_base.specs.declared.addresses.Ip4.{Ip4}
 use Rattle.off_base.specs.declared.addresses.Peer.{Peer}
 use Rattle.off_defs.specs.declared.results.Sent.{Sent}
 use Rattle.off_defs.specs.State.{Tables, Transfer}
 use Rattle.off_kept.specs.declared.bodies.KeptBody.{KeptBody}
 use Rattle.off_kept.specs.Entries.{Entries, with_first}
 use Rattle.off_kept.specs.Right.{AllRight}
+use Rattle.off_account_rules.specs.Rows.{passes}
+use Rattle.off_tftp.specs.Agreements.{Slots, stands_for, is_remembered, with_agreed, IsAgreementOf, AllAgreed}
 use Rattle.off_packets.specs.Replies.{error_packet}
 use Rattle.off_transfer_rules.specs.Transfers.{Transfers, asked_again, gone_on, is_at_last, first_word, last_packet, packet_to}
 use Rattle.off_transfer_rules.specs.View.{View}
@@ -37,6 +40,14 @@ after_change (change.AsksAgain place) now transfers from = changed transfers fro
 after_change (change.GoesOn place) now transfers from = changed transfers from (gone_on now)
 after_change (change.Ends place) now transfers from = map.remove transfers from
 after_change (change.Begins place live entry) now transfers from = map.insert transfers from live
+
+-- the next block of the peer's transfer goes
+abbrev pub goes_on : Change → Bool
+goes_on change.Stays = false
+goes_on (change.AsksAgain place) = false
+goes_on (change.GoesOn place) = true
+goes_on (change.Ends place) = false
+goes_on (change.Begins place live entry) = false
 
 -- what it leaves of what is kept
 abbrev pub kept_behind : Change → Entries → Entries
@@ -75,6 +86,7 @@ refusal_of from denial = record {
   word = denial.word;
   sent = Some (packet_to from (error_packet denial.code denial.text));
   change = change.Stays;
+  agreed = None;
 }
 
 -- a transfer that begins, with its first packet
@@ -83,6 +95,7 @@ start_of request entry live = record {
   word = first_word request.options;
   sent = Some (packet_to request.from (last_packet live));
   change = change.Begins request.place live entry;
+  agreed = None;
 }
 
 -- where nothing was found there is no such file
@@ -94,6 +107,22 @@ Starts request entry grant d =
 -- no change that touches what is kept
 abbrev pub KeepsNothing : Decision → Type 0
 KeepsNothing d = (entries : Entries) → kept_behind d.change entries ≡ entries
+
+-- nothing was seen of agreement, and no block goes by it
+pub record SeesNothing (d : Decision) : Type 0 where
+  pub none : d.agreed ≡ None
+  pub ends : goes_on d.change ≡ false
+
+-- what was seen of agreement is right by what there is for the peer
+abbrev pub SeesRight : View → Ip4 → Decision → Type 0
+SeesRight v ip d = IfSome d.agreed (IsAgreementOf v ip)
+
+-- where the next block goes agreement was remembered, or it was seen and is to be remembered
+abbrev pub Remembers : ℕ → Peer → Option Transfer → Slots → Decision → Type 0
+Remembers now from live slots d =
+    goes_on d.change ≡ true
+    → IfSome live (λ x. (passes (stands_for now from.ip x) d.agreed
+    || is_remembered now from.ip slots x) ≡ true)
 
 abbrev pub given_by : Decision → ℕ → Transfers → Peer → Given
 given_by d now transfers from =
@@ -115,12 +144,19 @@ abbrev pub Decides : View → ℕ → Transfers → Peer → List ℕ → Decisi
 Decides v now transfers from bytes d =
     Serves v now transfers from bytes (way v now transfers from bytes) d
 
--- by the tables themselves: what is decided is the step that answers the datagram, and what it keeps
--- is right by them again
+-- and what was seen of agreement is right
+pub record Judges (v : View) (now : ℕ) (transfers : Transfers) (from : Peer) (bytes : List ℕ)
+    (d : Decision) : Type 0 where
+  pub decides : Decides v now transfers from bytes d
+  pub sees : SeesRight v from.ip d
+
+-- by the tables themselves: what is decided is the step that answers the datagram, and what it
+-- keeps and remembers is right by them again
 pub record Answers (tables : Tables) (datagram : Datagram) (transfers : Transfers)
-    (kept : Entries) (d : Decision) : Type 0 where
+    (kept : Entries) (slots : Slots) (d : Decision) : Type 0 where
   pub step : TftpStep tables datagram.at.0 transfers datagram.from datagram.bytes.now
       (given_by d datagram.at.0 transfers datagram.from)
   pub keeps : kept_behind d.change kept
       ≡ kept_after tables datagram.at.0 transfers datagram.from datagram.bytes.now kept
   pub right : AllRight tables (kept_behind d.change kept)
+  pub agreed : AllAgreed tables (with_agreed d.agreed slots)

@@ -2,6 +2,7 @@ pub mod Built
 pub mod Kept
 pub mod Places
 pub mod Ticking
+pub mod Agreements
 pub mod Keeping
 pub mod Granted
 pub mod Deciding

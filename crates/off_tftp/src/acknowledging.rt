@@ -1,19 +1,23 @@
 //! A packet that has come, and a request that came again.
 
-ghost use Rattle.std.specs.Prelude.{◌≡◌, List, ℕ, false, IfOk, IfSome};
+ghost use Rattle.std.specs.Prelude.{◌≡◌, List, ℕ, None, true, false, is_some, IfOk, IfSome};
 ghost use Rattle.std.specs.FinMap as map;
-ghost use Rattle.off_transfer_rules.specs.View.{View};
-ghost use Rattle.off_transfer_rules.specs.Steps.{Repeats, way_of_last, no_longer_agreed};
+ghost use Rattle.off_account_rules.specs.Rows.{passes};
+ghost use Rattle.off_transfer_rules.specs.View.{View, agrees};
+ghost use Rattle.off_transfer_rules.specs.Steps.{Repeats, GoesOn, way_of_last, no_longer_agreed};
 ghost use Rattle.off_transfer_rules.specs.Transfers.{is_at_last};
-ghost use Rattle.off_tftp.specs.Deciding.{Does, CanBe, KeepsNothing, refusal_of};
+ghost use Rattle.off_tftp.specs.Agreements.{stands_for, is_remembered, IsAgreementOf};
+ghost use Rattle.off_tftp.specs.Deciding.{Does, CanBe, KeepsNothing, SeesNothing};
+ghost use Rattle.off_tftp.specs.Deciding.{refusal_of, goes_on};
 ghost use Rattle.off_tftp.specs.declared.deciding.Change.TheVariants.{Ends};
 ghost use Rattle.off_tftp.specs.Places.{IsPlaceOf};
 ghost use Rattle.off_tftp.specs.Seen.{view_of};
 ghost use Rattle.off_tftp.specs.Stages.{repeats, stage_of};
 
+use crate::agreements::{Agreement, Agreements};
 use crate::deciding::{Change, Decision, Refusal, packet_to, refuse};
 use crate::gathering::Seen;
-use crate::judging::agrees;
+use crate::judging::agreement_of;
 use crate::transfers::{Place, Transfers};
 use off_base::{Moment, NoMemory, Peer};
 use off_transfer_rules::TftpWord;
@@ -62,6 +66,27 @@ impl Transfers {
         }
     }
 
+    /// Whether it's remembered that the tables agree with a peer's transfer.
+    pub(crate) fn is_remembered(
+        &self,
+        agreements: &Agreements,
+        now: Moment,
+        from: Peer,
+        place: Place,
+    ) -> bool
+        requires { IsPlaceOf self.now from place }
+        ensures { result ≡ passes (is_remembered now.0 from.ip agreements.now)
+            (map.get self.now from) }
+    {
+        let Some(live) = self.get(from, place) else {
+            return false;
+        };
+        match agreements.in_slot(from.ip) {
+            Some(agreement) => agreement.stands_for(now, from.ip, live),
+            None => false,
+        }
+    }
+
     /// The first packet goes again.
     pub(crate) fn repeat(
         &self,
@@ -75,12 +100,14 @@ impl Transfers {
             (λ x. Does v now self.now from bytes (Repeats x) d)) }
         ensures bare { IfOk result KeepsNothing }
         ensures able { IfOk result (λ d. CanBe d.change self.now from) }
+        ensures unseen { IfOk result SeesNothing }
     {
         let Some(live) = self.get(from, place) else {
             return Ok(Decision {
                 word: TftpWord::Again,
                 sent: None,
                 change: Change::Stays,
+                agreed: None,
             });
         };
         let packet = live.last_packet(alloc)?;
@@ -88,6 +115,7 @@ impl Transfers {
             word: TftpWord::Again,
             sent: Some(packet_to(from, packet)),
             change: Change::AsksAgain(place),
+            agreed: None,
         })
     }
 
@@ -108,23 +136,66 @@ impl Transfers {
             (way_of_last (view_of seen.now) now.0 from.ip x) d)) }
         ensures bare { IfOk result KeepsNothing }
         ensures able { IfOk result (λ d. CanBe d.change self.now from) }
+        ensures agreed { IfOk result
+            (λ d. IfSome d.agreed (IsAgreementOf (view_of seen.now) from.ip)) }
+        ensures seen { IfOk result (λ d. goes_on d.change ≡ true → IfSome (map.get self.now from)
+            (λ x. passes (stands_for now.0 from.ip x) d.agreed ≡ true)) }
+    {
+        let agreed = self.seen_to_agree(seen, now, from, place);
+        if agreed.is_none() {
+            return break_off(alloc, from, place);
+        }
+        self.go_on_by(alloc, from, place, agreed)
+    }
+
+    // What was seen to agree with a peer's transfer, or nothing.
+    fn seen_to_agree(&self, seen: &Seen, now: Moment, from: Peer, place: Place) -> Option<Agreement>
+        requires { IsPlaceOf self.now from place }
+        ensures agrees { is_some result ≡ passes
+            (λ x. agrees (view_of seen.now) now.0 from.ip x.name x.modem x.subscriber)
+            (map.get self.now from) }
+        ensures right { IfSome result (IsAgreementOf (view_of seen.now) from.ip) }
+        ensures stands { IfSome (map.get self.now from) (λ x. IfSome result
+            (λ a. stands_for now.0 from.ip x a ≡ true)) }
+    {
+        match self.get(from, place) {
+            Some(live) => agreement_of(seen, now, from.ip, live),
+            None => None,
+        }
+    }
+
+    /// The next block goes, and what was seen to agree, if anything was, is to be remembered.
+    pub(crate) fn go_on_by(
+        &self,
+        alloc: Global,
+        from: Peer,
+        place: Place,
+        agreed: Option<Agreement>,
+    ) -> Result<Decision, NoMemory>
+        requires place { IsPlaceOf self.now from place }
+        requires more { IfSome (map.get self.now from) (λ x. is_at_last x ≡ false) }
+        ensures done { (v : View) (now : ℕ) (bytes : List ℕ) → IfOk result
+            (λ d. IfSome (map.get self.now from)
+            (λ x. Does v now self.now from bytes (GoesOn x) d)) }
+        ensures bare { IfOk result KeepsNothing }
+        ensures able { IfOk result (λ d. CanBe d.change self.now from) }
+        ensures agreed { IfOk result (λ d. d.agreed ≡ agreed) }
     {
         let Some(live) = self.get(from, place) else {
             return Ok(Decision {
                 word: TftpWord::Unknown,
                 sent: None,
                 change: Change::Stays,
+                agreed,
             });
         };
-        if !agrees(seen, now, from.ip, live) {
-            return break_off(alloc, from, place);
-        }
         let packet = live.next_packet(alloc)?;
         let number = live.next_number();
         Ok(Decision {
             word: TftpWord::Block(number),
             sent: Some(packet_to(from, packet)),
             change: Change::GoesOn(place),
+            agreed,
         })
     }
 }
@@ -139,5 +210,6 @@ fn break_off(alloc: Global, from: Peer, place: Place) -> Result<Decision, NoMemo
         word: refusal.word,
         sent: refusal.sent,
         change: Change::Ends(place),
+        agreed: None,
     })
 }

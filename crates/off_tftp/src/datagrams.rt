@@ -1,6 +1,6 @@
 //! What a modem's datagram does.
 
-ghost use Rattle.std.specs.Prelude.{◌≡◌, ◌≤◌, Ok, false, is_ok, IfOk, IfSome};
+ghost use Rattle.std.specs.Prelude.{◌≡◌, ◌≤◌, Ok, true, false, is_ok, IfOk, IfSome};
 ghost use Rattle.std.specs.Prelude.{OnOk, OnErr, MatchResult};
 ghost use Rattle.std.specs.FinMap as map;
 ghost use Rattle.off_packets.specs.Packets.{Reads, packet_of};
@@ -11,15 +11,19 @@ ghost use Rattle.off_account_rules.specs.Rows.{hub_of};
 ghost use Rattle.off_kept.specs.Right.{AllRight};
 ghost use Rattle.off_outside.specs.declared.keeper.KeepErr.TheVariants.{Memory};
 ghost use Rattle.off_outside.specs.KeeperCalls.{Looks, Spent};
+ghost use Rattle.off_tftp.specs.Agreements.{AllAgreed, RemembersRight};
 ghost use Rattle.off_tftp.specs.Calls.{datagram_calls, reading_calls, acknowledgement_calls};
+ghost use Rattle.off_tftp.specs.Calls.{agrees_with, UnaskedWhereAgreed};
 ghost use Rattle.off_tftp.specs.Calls.{FewWhereUnnamed, FewUnlessNamed, FewUnlessNamedAt};
 ghost use Rattle.off_tftp.specs.Keeping.{FewWhereKept, FewWhereBegun};
 ghost use Rattle.off_tftp.specs.Places.{IsPlaceOf};
 ghost use Rattle.off_tftp.specs.Seen.{view_at};
-ghost use Rattle.off_tftp.specs.Deciding.{Does, Serves, Decides, Answers, CanBe, KeepsNothing};
+ghost use Rattle.off_tftp.specs.Deciding.{Does, Serves, Judges, Answers, CanBe, KeepsNothing};
+ghost use Rattle.off_tftp.specs.Deciding.{SeesRight, Remembers, goes_on};
 ghost use Rattle.off_tftp.specs.Deciding.{after_change, kept_behind};
 
 use crate::acknowledging::Stage;
+use crate::agreements::Agreements;
 use crate::deciding::{Change, Decision, Refusal, refuse};
 use crate::gathering::{look, look_for_file};
 use crate::requests::{Datagram, Request};
@@ -36,8 +40,9 @@ impl Transfers {
     /// back, if any, and the change that `carry_out` makes. Nothing is said or done yet.
     ///
     /// The tables needn't be good: an impossible row is taken as one that isn't there. The bodies
-    /// in `kept` are to be right by them, and are so again behind the change. The rows of which a
-    /// body is made are read only where it isn't kept.
+    /// in `kept` and what is remembered in `agreements` are to be right by them, and are so again
+    /// behind the change. The rows of which a body is made are read only where it isn't kept, and
+    /// an acknowledgement reads none where it's remembered that the tables agree.
     ///
     /// `Failed` comes only where the keeper counted a fault.
     #[tactic(auto, using(crate::proofs::BodyLemmas::askings))]
@@ -46,11 +51,13 @@ impl Transfers {
         alloc: Global,
         keeper: &mut K,
         kept: &Kept,
+        agreements: &Agreements,
         datagram: &Datagram<'_>,
     ) -> Result<Decision, KeepErr>
         ensures told { Looks result (K.seen keeper.old) (K.seen keeper.new)
             (λ d t. datagram.now.hub ≡ hub_of t datagram.now.from.ip → AllRight t kept.now
-            → Answers t datagram.now self.now kept.now d) }
+            → AllAgreed t agreements.now
+            → Answers t datagram.now self.now kept.now agreements.now d) }
         ensures able { IfOk result (λ d. CanBe d.change self.now datagram.now.from) }
         ensures spent { Spent (datagram_calls self.now datagram.now.from datagram.now.bytes.now)
             (K.seen keeper.old) (K.seen keeper.new) }
@@ -65,8 +72,13 @@ impl Transfers {
             datagram.now.bytes.now
             (after_change d.change datagram.now.at.0 self.now datagram.now.from) kept.now
             (K.seen keeper.old) (K.seen keeper.new)) }
+        ensures unasked { UnaskedWhereAgreed datagram.now.at.0 datagram.now.from
+            datagram.now.bytes.now self.now agreements.now
+            (K.seen keeper.old) (K.seen keeper.new) }
+        ensures remembers { IfOk result (Remembers datagram.now.at.0 datagram.now.from
+            (map.get self.now datagram.now.from) agreements.now) }
     {
-        self.decide(alloc, keeper, kept, datagram)
+        self.decide(alloc, keeper, kept, agreements, datagram)
     }
 
     // What it comes to.
@@ -76,12 +88,13 @@ impl Transfers {
         alloc: Global,
         keeper: &mut K,
         kept: &Kept,
+        agreements: &Agreements,
         datagram: &Datagram<'_>,
     ) -> Result<Decision, KeepErr>
         ensures told { Looks result (K.seen keeper.old) (K.seen keeper.new)
-            (λ d t. AllRight t kept.now
-            → Decides (view_at t datagram.now.hub datagram.now.from.ip) datagram.now.at.0
-            self.now datagram.now.from datagram.now.bytes.now d) }
+            (λ d t. let v = view_at t datagram.now.hub datagram.now.from.ip in
+            AllRight t kept.now → RemembersRight v datagram.now.from.ip agreements.now
+            → Judges v datagram.now.at.0 self.now datagram.now.from datagram.now.bytes.now d) }
         ensures able { IfOk result (λ d. CanBe d.change self.now datagram.now.from) }
         ensures spent { Spent (datagram_calls self.now datagram.now.from datagram.now.bytes.now)
             (K.seen keeper.old) (K.seen keeper.new) }
@@ -96,6 +109,11 @@ impl Transfers {
             datagram.now.bytes.now
             (after_change d.change datagram.now.at.0 self.now datagram.now.from) kept.now
             (K.seen keeper.old) (K.seen keeper.new)) }
+        ensures unasked { UnaskedWhereAgreed datagram.now.at.0 datagram.now.from
+            datagram.now.bytes.now self.now agreements.now
+            (K.seen keeper.old) (K.seen keeper.new) }
+        ensures remembers { IfOk result (Remembers datagram.now.at.0 datagram.now.from
+            (map.get self.now datagram.now.from) agreements.now) }
     {
         let Datagram {
             from,
@@ -118,12 +136,13 @@ impl Transfers {
                 self.on_request(alloc, keeper, kept, &request)
             }
             Ok(Packet::Ack(number)) => self.on_acknowledgement(
-                alloc, keeper, datagram, place, number,
+                alloc, keeper, agreements, datagram, place, number,
             ),
             Ok(Packet::Error) => Ok(Decision {
                 word: TftpWord::PeerError,
                 sent: None,
                 change: Change::Ends(place),
+                agreed: None,
             }),
             Ok(Packet::Write) => settled(refuse(alloc, from, Refusal::Write)),
             Ok(Packet::Other) => settled(refuse(alloc, from, Refusal::Form)),
@@ -151,8 +170,10 @@ impl Transfers {
             Serves v request.now.at.0 self.now request.now.from request.now.bytes.now
             (way_of_request v request.now.at.0 request.now.from.ip
             (has_no_room self.now) request.now.bytes.now request.now.name.now
-            request.now.options (map.get self.now request.now.from)) d) }
+            request.now.options (map.get self.now request.now.from)) d
+            × SeesRight v request.now.from.ip d) }
         ensures able { IfOk result (λ d. CanBe d.change self.now request.now.from) }
+        ensures ends { IfOk result (λ d. goes_on d.change ≡ false) }
         ensures spent { Spent
             (reading_calls request.now.bytes.now (map.get self.now request.now.from))
             (K.seen keeper.old) (K.seen keeper.new) }
@@ -171,7 +192,7 @@ impl Transfers {
             return settled(self.repeat(alloc, request.from, request.place));
         }
         let seen = look_for_file(alloc, keeper, kept, request)?;
-        settled(self.open(alloc, &seen, request))
+        settled(self.open_by(alloc, &seen, request))
     }
 
     // What an acknowledgement comes to.
@@ -180,6 +201,7 @@ impl Transfers {
         &self,
         alloc: Global,
         keeper: &mut K,
+        agreements: &Agreements,
         datagram: &Datagram<'_>,
         place: Place,
         number: u16,
@@ -187,14 +209,20 @@ impl Transfers {
         requires { IsPlaceOf self.now datagram.now.from place }
         ensures told { Looks result (K.seen keeper.old) (K.seen keeper.new)
             (λ d t. let v = view_at t datagram.now.hub datagram.now.from.ip in
-            Does v datagram.now.at.0 self.now datagram.now.from datagram.now.bytes.now
+            RemembersRight v datagram.now.from.ip agreements.now
+            → Does v datagram.now.at.0 self.now datagram.now.from datagram.now.bytes.now
             (way_of_acknowledgement v datagram.now.at.0 datagram.now.from.ip number
-            (map.get self.now datagram.now.from)) d) }
+            (map.get self.now datagram.now.from)) d
+            × SeesRight v datagram.now.from.ip d) }
         ensures bare { IfOk result KeepsNothing }
         ensures able { IfOk result (λ d. CanBe d.change self.now datagram.now.from) }
         ensures spent { Spent
             (acknowledgement_calls number (map.get self.now datagram.now.from))
             (K.seen keeper.old) (K.seen keeper.new) }
+        ensures unasked { agrees_with datagram.now.at.0 datagram.now.from agreements.now self.now
+            ≡ true → Spent 0 (K.seen keeper.old) (K.seen keeper.new) }
+        ensures remembers { IfOk result (Remembers datagram.now.at.0 datagram.now.from
+            (map.get self.now datagram.now.from) agreements.now) }
     {
         let from = datagram.from;
         match self.stage_of(from, place, number) {
@@ -203,22 +231,26 @@ impl Transfers {
                 word: TftpWord::StaleAck,
                 sent: None,
                 change: Change::Stays,
+                agreed: None,
             }),
             Stage::Last => Ok(Decision {
                 word: TftpWord::Done,
                 sent: None,
                 change: Change::Ends(place),
+                agreed: None,
             }),
-            Stage::Next => self.on_next(alloc, keeper, datagram, place),
+            Stage::Next => self.on_next(alloc, keeper, agreements, datagram, place),
         }
     }
 
-    // What an acknowledgement comes to behind whose packet there is another one.
+    // What an acknowledgement comes to behind whose packet there is another one. Nothing is read
+    // where it's remembered that the tables agree.
     #[tactic(auto, using(crate::proofs::ReadLemmas::readings))]
     fn on_next<K: Keeper>(
         &self,
         alloc: Global,
         keeper: &mut K,
+        agreements: &Agreements,
         datagram: &Datagram<'_>,
         place: Place,
     ) -> Result<Decision, KeepErr>
@@ -226,14 +258,23 @@ impl Transfers {
         requires more { IfSome (map.get self.now datagram.now.from) (λ x. is_at_last x ≡ false) }
         ensures told { Looks result (K.seen keeper.old) (K.seen keeper.new)
             (λ d t. let v = view_at t datagram.now.hub datagram.now.from.ip in
-            IfSome (map.get self.now datagram.now.from)
+            RemembersRight v datagram.now.from.ip agreements.now
+            → IfSome (map.get self.now datagram.now.from)
             (λ x. Does v datagram.now.at.0 self.now datagram.now.from datagram.now.bytes.now
-            (way_of_last v datagram.now.at.0 datagram.now.from.ip x) d)) }
+            (way_of_last v datagram.now.at.0 datagram.now.from.ip x) d)
+            × SeesRight v datagram.now.from.ip d) }
         ensures bare { IfOk result KeepsNothing }
         ensures able { IfOk result (λ d. CanBe d.change self.now datagram.now.from) }
         ensures spent { Spent 3 (K.seen keeper.old) (K.seen keeper.new) }
+        ensures unasked { agrees_with datagram.now.at.0 datagram.now.from agreements.now self.now
+            ≡ true → Spent 0 (K.seen keeper.old) (K.seen keeper.new) }
+        ensures remembers { IfOk result (Remembers datagram.now.at.0 datagram.now.from
+            (map.get self.now datagram.now.from) agreements.now) }
     {
         let Datagram { from, hub, at, .. } = *datagram;
+        if self.is_remembered(agreements, at, from, place) {
+            return settled(self.go_on_by(alloc, from, place, None));
+        }
         let seen = look(alloc, keeper, hub, from.ip)?;
         settled(self.go_on_or_break(alloc, &seen, at, from, place))
     }

@@ -4,6 +4,7 @@ ghost use Rattle.std.specs.Prelude.{◌≡◌, IfOk};
 ghost use Rattle.off_transfer_rules.specs.Transfers.{packet_to};
 ghost use Rattle.off_tftp.specs.Deciding.{denial, refusal_of, denial_of};
 
+use crate::agreements::Agreement;
 use crate::live::Live;
 use crate::transfers::Place;
 use off_base::{Bytes, NoMemory, Peer};
@@ -22,6 +23,8 @@ pub struct Decision {
     pub sent: Option<Sent>,
     /// What becomes of the peer's transfer.
     pub change: Change,
+    /// What was seen of agreement with it, to be remembered.
+    pub agreed: Option<Agreement>,
 }
 
 /// What becomes of the peer's transfer, and where that stands.
@@ -106,5 +109,6 @@ fn deny(
         word,
         sent: Some(packet_to(from, packet)),
         change: Change::Stays,
+        agreed: None,
     })
 }

@@ -1,12 +1,14 @@
 //! A peer's requests against what was read for it.
 
-ghost use Rattle.std.specs.Prelude.{◌≡◌};
+ghost use Rattle.std.specs.Prelude.{◌≡◌, true, is_some, IfSome};
 ghost use Rattle.off_account_rules.specs.Rows.{passes};
 ghost use Rattle.off_account_rules.specs.Good.{is_mac};
 ghost use Rattle.off_lease_rules.specs.Free.{has_ended};
 ghost use Rattle.off_transfer_rules.specs.View.{bound_to, is_own_name, is_of_subscriber, agrees};
+ghost use Rattle.off_tftp.specs.Agreements.{stands_for, IsAgreementOf};
 ghost use Rattle.off_tftp.specs.Seen.{view_of, held_by, names_file};
 
+use crate::agreements::Agreement;
 use crate::gathering::Seen;
 use crate::live::Live;
 use off_base::{Ip4, Mac, Moment};
@@ -14,8 +16,29 @@ use off_defs::{Hold, Lease, Modem, Site};
 use off_files::file_name;
 use std::cmp::Ordering;
 
-/// Whether the tables agree with a transfer.
-pub(crate) fn agrees(seen: &Seen, now: Moment, ip: Ip4, live: &Live) -> bool
+/// What of the tables agrees with a transfer, by what was seen, or nothing where they don't.
+pub(crate) fn agreement_of(seen: &Seen, now: Moment, ip: Ip4, live: &Live) -> Option<Agreement>
+    ensures agrees { is_some result ≡ agrees (view_of seen.now) now.0 ip live.now.name
+        live.now.modem live.now.subscriber }
+    ensures right { IfSome result (IsAgreementOf (view_of seen.now) ip) }
+    ensures stands { IfSome result (λ a. stands_for now.0 ip live.now a ≡ true) }
+{
+    if !agrees(seen, now, ip, live) {
+        return None;
+    }
+    let Some(lease) = seen.lease else { return None };
+    let Some(site) = &seen.site else { return None };
+    Some(Agreement {
+        ip,
+        name: file_name(site.secret.as_slice(), live.modem(), ip),
+        modem: live.modem(),
+        subscriber: live.subscriber(),
+        until: lease.expiry,
+    })
+}
+
+// Whether the tables agree with a transfer.
+fn agrees(seen: &Seen, now: Moment, ip: Ip4, live: &Live) -> bool
     ensures { result ≡ agrees (view_of seen.now) now.0 ip live.now.name live.now.modem
         live.now.subscriber }
 {

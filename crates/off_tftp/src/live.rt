@@ -155,6 +155,13 @@ impl Live {
         self.held.subscriber
     }
 
+    /// The name for which its request asked.
+    pub(crate) fn name(&self) -> &[u8]
+        ensures { result.now ≡ self.now.name }
+    {
+        self.held.name.as_slice()
+    }
+
     /// Whether the name is that of its modem's file at an address. It's computed anew only where
     /// the transfer began under another secret, or for another address.
     pub(crate) fn has_own_name(&self, site: &Site, ip: Ip4) -> bool

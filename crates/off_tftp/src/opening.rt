@@ -15,14 +15,17 @@ ghost use Rattle.off_tftp.specs.Keeping.{entry_for, BeginsFor};
 ghost use Rattle.off_tftp.specs.Opened.{IsBegun, Finds, Refuses, Begins};
 ghost use Rattle.off_tftp.specs.Places.{IsPlaceOf};
 ghost use Rattle.off_tftp.specs.Granted.{IsFor};
-ghost use Rattle.off_tftp.specs.Deciding.{Serves, CanBe, Starts, after_change};
-ghost use Rattle.off_tftp.specs.Seen.{view_with, held_by, IsNamed, CanServe};
+ghost use Rattle.off_tftp.specs.Deciding.{Serves, CanBe, SeesNothing, Starts, goes_on};
+ghost use Rattle.off_tftp.specs.Deciding.{after_change};
+ghost use Rattle.off_tftp.specs.Agreements.{IsAgreementOf};
+ghost use Rattle.off_tftp.specs.Seen.{view_of, view_with, held_by, IsNamed, CanServe};
 ghost use Rattle.off_tftp.specs.Stages.{lacks_room, repeats};
 
+use crate::agreements::Agreement;
 use crate::deciding::{Change, Decision, Refusal, packet_to, refuse};
 use crate::files::File;
 use crate::gathering::Seen;
-use crate::judging::holder;
+use crate::judging::{agreement_of, holder};
 use crate::live::Live;
 use crate::requests::{Grant, Named, Request};
 use crate::transfers::Transfers;
@@ -44,9 +47,39 @@ struct Found<'a> {
 }
 
 impl Transfers {
-    /// Opens the file that is asked for, or refuses.
+    // Opens the file that is asked for, or refuses.
     #[tactic(auto, using(crate::proofs::BodyLemmas::beginnings))]
-    pub(crate) fn open(
+    fn open(&self, alloc: Global, seen: &Seen, request: &Request<'_>) -> Result<Decision, NoMemory>
+        requires least { IfSome request.now.options.blksize (λ size. 8 ≤ size) }
+        requires read { packet_of request.now.bytes.now
+            ≡ Ok (Reads request.now.name.now request.now.options) }
+        requires place { IsPlaceOf self.now request.now.from request.now.place }
+        requires named { IsNamed request.now.at.0 request.now.from.ip request.now.name.now
+            seen.now }
+        ensures done { (profile : Option (List Tree))
+            → seen.now.body ≡ entry_for seen.now.modem profile
+            → CanServe (view_with seen.now profile) request.now.at.0 request.now.from.ip
+            → IfOk result (Serves (view_with seen.now profile) request.now.at.0 self.now
+            request.now.from request.now.bytes.now
+            (way_anew (view_with seen.now profile) request.now.at.0 request.now.from.ip
+            (lacks_room self.now request.now.from) request.now.name.now request.now.options)) }
+        ensures able { IfOk result (λ d. CanBe d.change self.now request.now.from) }
+        ensures unseen { IfOk result SeesNothing }
+        ensures begins { repeats request.now.bytes.now (map.get self.now request.now.from) ≡ false
+            → IfOk result (λ d. BeginsFor (held_by request.now.at.0 seen.now.lease)
+            request.now.bytes.now (map.get
+            (after_change d.change request.now.at.0 self.now request.now.from)
+            request.now.from)) }
+    {
+        match judge(seen, request, self.lacks_room(request)) {
+            Ok(found) => begin(alloc, &seen.site, request, &found),
+            Err(why) => refuse(alloc, request.from, why),
+        }
+    }
+
+    /// Opens the file that is asked for, or refuses. What was seen to agree with a transfer that
+    /// begins is to be remembered.
+    pub(crate) fn open_by(
         &self,
         alloc: Global,
         seen: &Seen,
@@ -66,16 +99,17 @@ impl Transfers {
             (way_anew (view_with seen.now profile) request.now.at.0 request.now.from.ip
             (lacks_room self.now request.now.from) request.now.name.now request.now.options)) }
         ensures able { IfOk result (λ d. CanBe d.change self.now request.now.from) }
+        ensures ends { IfOk result (λ d. goes_on d.change ≡ false) }
+        ensures sees { IfOk result (λ d. IfSome d.agreed
+            (IsAgreementOf (view_of seen.now) request.now.from.ip)) }
         ensures begins { repeats request.now.bytes.now (map.get self.now request.now.from) ≡ false
             → IfOk result (λ d. BeginsFor (held_by request.now.at.0 seen.now.lease)
             request.now.bytes.now (map.get
             (after_change d.change request.now.at.0 self.now request.now.from)
             request.now.from)) }
     {
-        match judge(seen, request, self.lacks_room(request)) {
-            Ok(found) => begin(alloc, &seen.site, request, &found),
-            Err(why) => refuse(alloc, request.from, why),
-        }
+        let decision = self.open(alloc, seen, request)?;
+        Ok(with_seen(seen, request, decision))
     }
 
     // Whether a transfer for the peer has neither room nor another one to replace.
@@ -84,6 +118,36 @@ impl Transfers {
         ensures { result ≡ lacks_room self.now request.now.from }
     {
         self.get(request.from, request.place).is_none() && self.is_full()
+    }
+}
+
+// What was decided, with what was seen to agree with the transfer, where one begins.
+fn with_seen(seen: &Seen, request: &Request<'_>, decision: Decision) -> Decision
+    ensures same { result ≡ record decision { agreed = result.agreed } }
+    ensures right { IfSome result.agreed
+        (IsAgreementOf (view_of seen.now) request.now.from.ip) }
+{
+    let Decision {
+        word,
+        sent,
+        change,
+        agreed: _,
+    } = decision;
+    let agreed = seen_of(seen, request, &change);
+    Decision {
+        word,
+        sent,
+        change,
+        agreed,
+    }
+}
+
+fn seen_of(seen: &Seen, request: &Request<'_>, change: &Change) -> Option<Agreement>
+    ensures { IfSome result (IsAgreementOf (view_of seen.now) request.now.from.ip) }
+{
+    match change {
+        Change::Begins { live, .. } => agreement_of(seen, request.at, request.from.ip, live),
+        _ => None,
     }
 }
 
@@ -160,6 +224,7 @@ fn start(
             live,
             entry,
         },
+        agreed: None,
     })
 }
 

@@ -2,6 +2,7 @@
 use Rattle.std.proofs.Common.{◌≡◌, ℕ, zero, suc, ◌+◌, ◌≢◌, true, false, List, [], ◌∷◌, ◌++◌, length, replicate, refl, sym, ap, subst, ◌∙◌, arith, append-nil, append_assoc, length-append, Result, Ok, Err}
 use Rattle.std.specs.List.{AllByRecursion}
 use Rattle.off_base.specs.Tree.{Tree, Row, leaf, group, no_more, followed, row_items, spelled, spelled_row, spelling}
+use Rattle.off_base.proofs.ByteLemmas.{same_parts}
 use Rattle.off_tlv.specs.Grammar.{end_byte, pad_byte, Level, in_file, is_group, is_code, inside_of, Shaped, RowShaped, AllStand}
 use Rattle.off_tlv.specs.Fault.{Behind, IsShort, HasCode, CutAt, passes, within, Reads, HasOneReading}
 use Rattle.off_tlv.specs.declared.faults.ReadFault.{ReadFault}
@@ -9,18 +10,6 @@ use Rattle.off_tlv.specs.declared.faults.ReadFault.TheVariants.{Cut, NoEnd, Afte
 
 pub true_not_false : {X : Type 0} → true ≡ false → X
 true_not_false e = cc
-
-pub same_parts : (v w r s : List ℕ) → length v ≡ length w → v ++ r ≡ w ++ s → (v ≡ w) × (r ≡ s)
-same_parts [] [] r s n e = (refl, e)
-same_parts [] (y ∷ w) r s n e = absurd (omega arith)
-same_parts (x ∷ v) [] r s n e = absurd (omega arith)
-same_parts (x ∷ v) (y ∷ w) r s n e =
-    let rest : v ++ r ≡ w ++ s = cc in
-    let long : length v ≡ length w = omega arith in
-    let head : x ≡ y = cc in
-    let more = same_parts v w r s long rest in
-    let front : v ≡ w = more.0 in
-    (cc, more.1)
 
 -- no setting of the level begins here
 abbrev pub Stops : Level → List ℕ → Type 0

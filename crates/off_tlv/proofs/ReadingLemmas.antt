@@ -10,7 +10,8 @@ use Rattle.off_tlv.specs.Fault.{IsShort, IsFirstFault, HasReading}
 use Rattle.off_tlv.specs.Front.{IsSetting, IsSpelled, SpellsSetting}
 use Rattle.off_tlv.specs.Told.{WhyNotRead, Gives}
 use Rattle.off_tlv.specs.Walk.{TakesAt}
-use Rattle.off_tlv.proofs.GrammarLemmas.{row_spelled, same_parts, true_not_false, whole_not_short, one_reading}
+use Rattle.off_tlv.proofs.GrammarLemmas.{row_spelled, true_not_false, whole_not_short, one_reading}
+use Rattle.off_base.proofs.ByteLemmas.{same_parts}
 use Rattle.off_tlv.proofs.FrontLemmas.{AllStand-push, spelling-push, group_stands, group_spells}
 
 pub not_short_by : (level : Level) (rest : List ℕ) (ts : List Tree) → rest ≡ spelling ts → IsShort rest → ⊥

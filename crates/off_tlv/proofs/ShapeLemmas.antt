@@ -1,5 +1,6 @@
 -- Testing settings one by one for their shape.
 use Rattle.std.proofs.Common.{◌≡◌, ℕ, ◌+◌, Bool, true, false, List, [], ◌∷◌, drop, refl, sym, ap, ◌∙◌, Some}
+use Rattle.std.proofs.lemmas.Bool.{and_parts, and_from, not-true, not_from_false}
 use Rattle.std.specs.Prelude.{◌&&◌, ◌↔◌, not, IsTrue}
 use Rattle.std.specs.List.{slice_get}
 use Rattle.off_base.specs.Tree.{Tree, Row, leaf, group, no_more, followed, row_of}
@@ -7,48 +8,32 @@ use Rattle.off_base.proofs.TreeLemmas.{dropped}
 use Rattle.off_tlv.specs.Grammar.{Level, in_file, is_code, is_group, inside_of, Shaped, RowShaped, AllShaped}
 use Rattle.off_tlv.specs.Front.{is_shaped, row_is_shaped}
 
-both_hold : (a b : Bool) → (a && b) ≡ true → (a ≡ true) × (b ≡ true)
-both_hold true b e = (refl, e)
-both_hold false b e = cc
-
-hold_both : (a b : Bool) → a ≡ true → b ≡ true → (a && b) ≡ true
-hold_both true b e f = f
-hold_both false b e f = cc
-
-is_not : (b : Bool) → not b ≡ true → b ≡ false
-is_not true e = cc
-is_not false e = refl
-
-not_is : (b : Bool) → b ≡ false → not b ≡ true
-not_is true e = cc
-not_is false e = refl
-
 mutual
   shaped_from : (t : Tree) (level : Level) → is_shaped level t ≡ true → Shaped level t
   shaped_from (leaf code value) level e =
-      let both = both_hold (is_code level code) (not (is_group level code)) e in
-      (both.0, is_not (is_group level code) both.1)
+      let both = and_parts (is_code level code) (not (is_group level code)) e in
+      (both.0, not-true (is_group level code) both.1)
   shaped_from (group code parts) level e =
-      let one = both_hold (is_code level code) (is_group level code && row_is_shaped (inside_of level code) parts) e in
-      let two = both_hold (is_group level code) (row_is_shaped (inside_of level code) parts) one.1 in
+      let one = and_parts (is_code level code) (is_group level code && row_is_shaped (inside_of level code) parts) e in
+      let two = and_parts (is_group level code) (row_is_shaped (inside_of level code) parts) one.1 in
       (one.0, two.0, row_shaped_from parts (inside_of level code) two.1)
 
   row_shaped_from : (r : Row) (level : Level) → row_is_shaped level r ≡ true → RowShaped level r
   row_shaped_from no_more level e = tt
   row_shaped_from (followed t r) level e =
-      let both = both_hold (is_shaped level t) (row_is_shaped level r) e in
+      let both = and_parts (is_shaped level t) (row_is_shaped level r) e in
       (shaped_from t level both.0, row_shaped_from r level both.1)
 
 mutual
   from_shaped : (t : Tree) (level : Level) → Shaped level t → is_shaped level t ≡ true
-  from_shaped (leaf code value) level s = hold_both (is_code level code) (not (is_group level code)) s.0 (not_is (is_group level code) s.1)
+  from_shaped (leaf code value) level s = and_from (is_code level code) (not (is_group level code)) s.0 (not_from_false (is_group level code) s.1)
   from_shaped (group code parts) level s =
-      hold_both (is_code level code) (is_group level code && row_is_shaped (inside_of level code) parts) s.0
-      (hold_both (is_group level code) (row_is_shaped (inside_of level code) parts) s.1 (from_row_shaped parts (inside_of level code) s.2))
+      and_from (is_code level code) (is_group level code && row_is_shaped (inside_of level code) parts) s.0
+      (and_from (is_group level code) (row_is_shaped (inside_of level code) parts) s.1 (from_row_shaped parts (inside_of level code) s.2))
 
   from_row_shaped : (r : Row) (level : Level) → RowShaped level r → row_is_shaped level r ≡ true
   from_row_shaped no_more level s = refl
-  from_row_shaped (followed t r) level s = hold_both (is_shaped level t) (row_is_shaped level r) (from_shaped t level s.0) (from_row_shaped r level s.1)
+  from_row_shaped (followed t r) level s = and_from (is_shaped level t) (row_is_shaped level r) (from_shaped t level s.0) (from_row_shaped r level s.1)
 
 all_shaped : (ts : List Tree) (level : Level) → RowShaped level (row_of ts) → AllShaped level ts
 all_shaped [] level s = tt

@@ -27,7 +27,7 @@ use Rattle.off_file_laws.proofs.LawLemmas.{file_is_there}
 use Rattle.off_lease_rules.specs.Free.{has_ended}
 use Rattle.off_transfer_rules.specs.View.{View, owner_by, view, bound_to, holder, agrees, is_own_name, is_of_subscriber, IsBuiltBy}
 use Rattle.off_transfer_laws.specs.Agreement.{Agreement}
-use Rattle.off_table_laws.proofs.Judging.{mac_same, mac_own}
+use Rattle.off_account_rules.proofs.OwnerLemmas.{mac_same, mac_own}
 
 -- what is built of one view is one file
 pub built_is_one : (v : View) (now : ℕ) (ip : Ip4) (file other : List ℕ) → IsBuiltBy v now ip file → IsBuiltBy v now ip other → file ≡ other

@@ -106,7 +106,7 @@ module _ (peer : Peer) (file : List ℕ) (size : ℕ) (request : List ℕ) (from
 
 -- ---- the modem and the file are those of the transfer
 
-same_modem : (t : Tables) (now : ℕ) (ip : Ip4) (name : List ℕ) (one other : Mac) (owner else_owner : ℕ) → Agreement t now ip name one owner
+pub same_modem : (t : Tables) (now : ℕ) (ip : Ip4) (name : List ℕ) (one other : Mac) (owner else_owner : ℕ) → Agreement t now ip name one owner
     → Agreement t now ip name other else_owner → one ≡ other
 same_modem t now ip name one other owner else_owner a b =
     let rows : Some a.lease ≡ Some b.lease = sym a.lease_is ∙ b.lease_is in

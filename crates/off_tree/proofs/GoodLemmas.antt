@@ -319,9 +319,9 @@ mutual
 
 -- ---- the whole
 
-map_good : {X Y : Type 0} (f : X → Y) (o : Option X) → option_map f o ≡ None → o ≡ None
-map_good f None e = refl
-map_good f (Some x) e = some_none (f x) e
+pub not_mapped : {X Y : Type 0} (f : X → Y) (o : Option X) → option_map f o ≡ None → o ≡ None
+not_mapped f None e = refl
+not_mapped f (Some x) e = some_none (f x) e
 
 map_none : {X Y : Type 0} (f : X → Y) (o : Option X) → o ≡ None → option_map f o ≡ None
 map_none f None e = refl
@@ -332,11 +332,11 @@ module _ (kind : Kind) (trees : List Tree) where
   no_fault_good e =
       let rest = or_right (parts_fault (Top kind) root [] (row_of trees)) (option_or (flow_fault trees) (option_or (classifier_fault trees) (length_fault kind trees))) e in
       let shapes = row_good (row_of trees) (Top kind) root [] (or_left (parts_fault (Top kind) root [] (row_of trees)) (option_or (flow_fault trees) (option_or (classifier_fault trees) (length_fault kind trees))) e) in
-      let flows = map_good FlowReference (option_or (first_repeat [] (numbers (flow_number both_directions) trees)) (first_lost trees trees))
+      let flows = not_mapped FlowReference (option_or (first_repeat [] (numbers (flow_number both_directions) trees)) (first_lost trees trees))
       (or_left (flow_fault trees) (option_or (classifier_fault trees) (length_fault kind trees)) rest) in
       let rest2 = or_right (flow_fault trees) (option_or (classifier_fault trees) (length_fault kind trees)) rest in
-      let classifiers = map_good ClassifierReference (first_repeat [] (numbers classifier_number trees)) (or_left (classifier_fault trees) (length_fault kind trees) rest2) in
-      let lengths = map_good (λ (n : ℕ). TooLong (min n (2 ^ 32 - 1))) (option_or (long_part (row_of trees)) (too_many (size_limit kind) (trees_length trees)))
+      let classifiers = not_mapped ClassifierReference (first_repeat [] (numbers classifier_number trees)) (or_left (classifier_fault trees) (length_fault kind trees) rest2) in
+      let lengths = not_mapped (λ (n : ℕ). TooLong (min n (2 ^ 32 - 1))) (option_or (long_part (row_of trees)) (too_many (size_limit kind) (trees_length trees)))
       (or_right (classifier_fault trees) (length_fault kind trees) rest2) in
       record {
         stand = shapes.0;

@@ -4,7 +4,8 @@ use Rattle.std.specs.Prelude.{option_map}
 use Rattle.std.specs.List.{slice_get}
 use Rattle.std.proofs.lemmas.Bool.Decides.{nat_tests}
 use Rattle.off_base.specs.Tree.{Tree, leaf, group, row_of, tree_length, trees_length, tree_size, trees_size}
-use Rattle.off_base.proofs.TreeLemmas.{row_length-row_of, row_size-row_of}
+use Rattle.off_base.proofs.TreeLemmas.{row_length-row_of}
+use Rattle.off_base.specs.SettingFalls.{row_size-row_of}
 use Rattle.std.specs.Option.{option_or}
 use Rattle.off_tree.specs.Fault.{too_many, long_setting, long_part}
 use Rattle.off_tree.specs.Length.{value_length, at_most_u32}

@@ -4,7 +4,7 @@ use Rattle.std.specs.Prelude.{◌||◌}
 use Rattle.std.specs.List.{slice_get, slice_set}
 use Rattle.std.proofs.lemmas.List.{get_or-set_other, get_or-replicate}
 use Rattle.std.proofs.lemmas.Grind.{get_or-set_at}
-use Rattle.std.proofs.lemmas.Bool.{ne_eqb, eq-eqb, cases_Bool, eqb-true}
+use Rattle.std.proofs.lemmas.Bool.{ne_eqb, eq-eqb, cases_Bool, eqb-true, or_right}
 use Rattle.std.proofs.lemmas.List.Concat.{flat_map-append}
 use Rattle.std.proofs.lemmas.Option.{slice_get-get_or}
 use Rattle.off_base.specs.Tree.{Tree, leaf}
@@ -13,7 +13,7 @@ use Rattle.off_tree.specs.Fault.{contains, as_list, numbers, first_repeat}
 use Rattle.off_tree.specs.Reference.{repeat_here, is_same, Marks}
 use Rattle.off_base.proofs.TreeLemmas.{taken, dropped}
 
-front_by : (b x y : Bool) → (b || x) ≡ true → (x ≡ true → y ≡ true) → (b || y) ≡ true
+pub front_by : (b x y : Bool) → (b || x) ≡ true → (x ≡ true → y ≡ true) → (b || y) ≡ true
 front_by true x y h f = refl
 front_by false x y h f = f h
 
@@ -21,15 +21,11 @@ pub contains_front : (n : ℕ) (xs ys : List ℕ) → contains n xs ≡ true →
 contains_front n [] ys h = cc
 contains_front n (x ∷ xs) ys h = front_by (eqb x n) (contains n xs) (contains n (xs ++ ys)) h (contains_front n xs ys)
 
-back_by : (b y : Bool) → y ≡ true → (b || y) ≡ true
-back_by true y h = refl
-back_by false y h = h
-
 pub contains_back : (n : ℕ) (xs ys : List ℕ) → contains n ys ≡ true → contains n (xs ++ ys) ≡ true
 contains_back n [] ys h = h
-contains_back n (x ∷ xs) ys h = back_by (eqb x n) (contains n (xs ++ ys)) (contains_back n xs ys h)
+contains_back n (x ∷ xs) ys h = or_right (eqb x n) (contains n (xs ++ ys)) (contains_back n xs ys h)
 
-neither_by : (b x y : Bool) → (b || x) ≡ false → (x ≡ false → y ≡ false) → (b || y) ≡ false
+pub neither_by : (b x y : Bool) → (b || x) ≡ false → (x ≡ false → y ≡ false) → (b || y) ≡ false
 neither_by true x y h f = h
 neither_by false x y h f = f h
 

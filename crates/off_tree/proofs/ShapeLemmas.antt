@@ -1,17 +1,20 @@
 -- Going over settings one by one against the walk of the definition.
-use Rattle.std.proofs.Common.{◌≡◌, ◌≢◌, ℕ, zero, suc, ◌+◌, ◌*◌, ◌<◌, Bool, true, false, eqb, List, [], ◌∷◌, ◌++◌, length, map, get_or, take, drop, refl, sym, ap, ◌∙◌, arith, Option, Some, None}
+use Rattle.std.proofs.Common.{◌≡◌, ◌≢◌, ℕ, zero, suc, ◌+◌, ◌*◌, ◌<◌, Bool, true, false, eqb, List, [], ◌∷◌, ◌++◌, length, map, get_or, take, drop, sym, ap, ◌∙◌, arith, Option, Some, None}
 use Rattle.std.specs.Prelude.{◌||◌}
 use Rattle.std.specs.List.{slice_get}
 use Rattle.std.proofs.lemmas.Bool.Decides.{nat_tests}
 use Rattle.std.proofs.lemmas.List.{map-append}
 use Rattle.std.proofs.lemmas.Option.{slice_get-get_or}
+use Rattle.std.proofs.lemmas.Bool.{or_right}
 use Rattle.off_base.specs.Tree.{Tree, leaf, group, code_of, row_of, tree_size, trees_size}
-use Rattle.off_base.proofs.TreeLemmas.{row_size-row_of, size_at, taken, dropped}
+use Rattle.off_base.proofs.TreeLemmas.{size_at, taken, dropped}
+use Rattle.off_base.specs.SettingFalls.{row_size-row_of}
 use Rattle.std.specs.Option.{option_or}
 use Rattle.off_tree.specs.Fault.{contains, setting_fault, parts_fault}
 use Rattle.off_tree.specs.declared.tables.Level.{Level}
 use Rattle.off_tree.specs.declared.paths.Path.{Path}
 use Rattle.off_tree.specs.declared.paths.TreeFault.{TreeFault}
+use Rattle.off_tree.proofs.ReferenceLemmas.{neither_by}
 
 pub parts_smaller : (ts : List Tree) (i : ℕ) (t : Tree) (code : ℕ) (parts : List Tree) → slice_get ts i ≡ Some t → t ≡ group code (row_of parts) → 2 * trees_size parts + 1 < 2 * trees_size ts
 parts_smaller ts i t code parts e is = omega (arith, size_at ts i t e, ap tree_size is, row_size-row_of parts)
@@ -19,17 +22,9 @@ parts_smaller ts i t code parts e is = omega (arith, size_at ts i t e, ap tree_s
 pub codes_more : (ts : List Tree) (i : ℕ) (t : Tree) → slice_get ts i ≡ Some t → map code_of (take (i + 1) ts) ≡ map code_of (take i ts) ++ code_of t ∷ []
 codes_more ts i t e = ap (map code_of) (taken ts i t e) ∙ map-append code_of (take i ts) (t ∷ [])
 
-push_by : (b x y : Bool) → (b || x) ≡ false → (x ≡ false → y ≡ false) → (b || y) ≡ false
-push_by true x y h f = h
-push_by false x y h f = f h
-
 pub contains_push : (code : ℕ) (codes : List ℕ) (other : ℕ) → contains code codes ≡ false → other ≢ code → contains code (codes ++ other ∷ []) ≡ false
 contains_push code [] other h ne = grind (arith, nat_tests)
-contains_push code (c ∷ codes) other h ne = push_by (eqb c code) (contains code codes) (contains code (codes ++ other ∷ [])) h (λ rest. contains_push code codes other rest ne)
-
-or_true : (b x : Bool) → x ≡ true → (b || x) ≡ true
-or_true true x h = refl
-or_true false x h = h
+contains_push code (c ∷ codes) other h ne = neither_by (eqb c code) (contains code codes) (contains code (codes ++ other ∷ [])) h (λ rest. contains_push code codes other rest ne)
 
 -- a code that stands at a place stands before a later one
 pub stands_at : (ts : List Tree) (i end : ℕ) (t : Tree) (code : ℕ) → slice_get ts i ≡ Some t → i < end → code_of t ≡ code → contains code (map code_of (take end ts)) ≡ true
@@ -40,7 +35,7 @@ stands_at (u ∷ ts) zero (suc end) t code e lt is =
     let here : eqb (code_of u) code ≡ true = let c : code_of u ≡ code = ap code_of same ∙ is in grind (arith, nat_tests) in
     ap (λ (b : Bool). b || contains code (map code_of (take end ts))) here
 stands_at (u ∷ ts) (suc i) (suc end) t code e lt is =
-    or_true (eqb (code_of u) code) (contains code (map code_of (take end ts))) (stands_at ts i end t code e (omega arith) is)
+    or_right (eqb (code_of u) code) (contains code (map code_of (take end ts))) (stands_at ts i end t code e (omega arith) is)
 
 -- one setting on
 pub step : (level : Level) (path : Path) (ts : List Tree) (i : ℕ) (t : Tree) → slice_get ts i ≡ Some t

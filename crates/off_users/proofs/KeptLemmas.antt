@@ -8,7 +8,8 @@ use Rattle.off_defs.specs.declared.keys.Key.TheVariants as key
 use Rattle.off_defs.specs.State.{Tables}
 use Rattle.off_defs.proofs.KeyLemmas.{key_total, key_exact}
 use Rattle.off_users.specs.declared.named.Named.{Named}
-use Rattle.off_users.specs.Users.{UsersHeld, StandsFor, is_same_mac, named_by}
+use Rattle.off_base.specs.Macs.{is_same_mac}
+use Rattle.off_users.specs.Users.{UsersHeld, StandsFor, named_by}
 use Rattle.off_users.specs.Kept.{modem_cmp, map_of, Knows}
 use Rattle.off_users.proofs.SeenLemmas.{mac_of, same_test}
 

@@ -1,7 +1,6 @@
 -- What the tables' modems name, as a list of entries whose keys differ.
-use Rattle.std.proofs.Common.{◌≡◌, Bool, true, false, cond, T, List, [], ◌∷◌, Option, Some, None, option_map, option_and_then, Decides, count_by, refl, sym, ap, subst, ◌∙◌, arith}
+use Rattle.std.proofs.Common.{◌≡◌, Bool, true, false, cond, T, List, [], ◌∷◌, Option, Some, None, option_map, option_and_then, count_by, refl, sym, ap, subst, ◌∙◌, arith}
 use Rattle.std.specs.Cmp.{IsEquivalence, decided, both_ways}
-use Rattle.std.specs.Cmp.Lexicographic.{bytes_decides}
 use Rattle.std.specs.List.{filter_map, cons_option, AllByRecursion, IsDistinct}
 use Rattle.std.specs.Map.{lookup, keys_of, values_of}
 use Rattle.std.specs.Ordering.{is_lt, eq_by_cmp}
@@ -20,11 +19,10 @@ use Rattle.off_defs.specs.State.{Tables}
 use Rattle.off_defs.proofs.EntryLemmas.{first, second, is_equal}
 use Rattle.off_defs.proofs.TableLemmas.{same_key, own_key}
 use Rattle.off_account_rules.specs.Rows.{possible, as_modem, modem_of, modems, modem_in}
+use Rattle.off_base.proofs.MacLemmas.{mac_decides}
 use Rattle.off_users.specs.declared.named.Named.{Named}
-use Rattle.off_users.specs.Users.{is_same_mac, named_of, named_entry, named_in}
-
-pub mac_decides : (a b : Mac) → Decides (is_same_mac a b) (a ≡ b)
-mac_decides a b = ((λ t. ap (λ (x : _). record { 0 = x }) ((bytes_decides a.0 b.0).0 t)), λ e. (bytes_decides a.0 b.0).1 (ap (λ (m : Mac). m.0) e))
+use Rattle.off_base.specs.Macs.{is_same_mac}
+use Rattle.off_users.specs.Users.{named_of, named_entry, named_in}
 
 pub mac_laws : IsEquivalence is_same_mac
 mac_laws = decided is_same_mac mac_decides

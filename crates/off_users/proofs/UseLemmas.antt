@@ -10,7 +10,8 @@ use Rattle.off_defs.specs.State.{Tables}
 use Rattle.off_defs.specs.declared.tables.Modem.{Modem}
 use Rattle.off_account_rules.specs.Rows.{modems}
 use Rattle.off_users.specs.declared.named.Named.{Named}
-use Rattle.off_users.specs.Users.{UsersHeld, StandsFor, AreCounted, named_by, named_of, named_in, is_same_mac, tally, weighs, names_subscriber, names_class}
+use Rattle.off_base.specs.Macs.{is_same_mac}
+use Rattle.off_users.specs.Users.{UsersHeld, StandsFor, AreCounted, named_by, named_of, named_in, tally, weighs, names_subscriber, names_class}
 use Rattle.off_users.proofs.CountLemmas.{same_counts}
 use Rattle.off_users.proofs.SeenLemmas.{mac_laws, distinct_named, named_seen, counted_named}
 

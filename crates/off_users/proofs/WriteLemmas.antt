@@ -1,5 +1,5 @@
 -- What writes make of what modems name, one after another.
-use Rattle.std.proofs.Common.{◌≡◌, ℕ, zero, suc, ◌+◌, Bool, true, false, cond, List, [], ◌∷◌, take, drop, Option, Some, None, option_map, refl, sym, ap, ◌∙◌, arith}
+use Rattle.std.proofs.Common.{◌≡◌, ℕ, zero, suc, ◌+◌, Bool, true, false, cond, List, [], ◌∷◌, take, drop, Option, Some, None, option_map, refl, sym, ap, ◌∙◌, arith, add-one}
 use Rattle.std.specs.List.{slice_get}
 use Rattle.std.specs.Ordering.{eq_by_cmp}
 use Rattle.off_base.specs.declared.macs.Mac.{Mac}
@@ -10,11 +10,12 @@ use Rattle.off_defs.specs.declared.writes.Write.{Write}
 use Rattle.off_defs.specs.declared.writes.Write.TheVariants.{Put, Drop}
 use Rattle.off_defs.specs.Keys.{key_cmp}
 use Rattle.off_defs.specs.State.{Tables}
-use Rattle.off_defs.specs.Tables.{row_at, written, write_all}
+use Rattle.off_defs.specs.Tables.{row_at, written}
 use Rattle.off_defs.proofs.TableLemmas.{row_with, row_without}
 use Rattle.off_account_rules.specs.Rows.{modem_in}
 use Rattle.off_users.specs.declared.named.Named.{Named}
-use Rattle.off_users.specs.Users.{UsersHeld, StandsFor, named_by, named_of, is_same_mac}
+use Rattle.off_base.specs.Macs.{is_same_mac}
+use Rattle.off_users.specs.Users.{UsersHeld, StandsFor, named_by, named_of}
 use Rattle.off_users.specs.Writes.{named_in_row, named_write, puts_modem, modem_puts}
 use Rattle.off_users.proofs.SeenLemmas.{mac_laws, same_test, named_at}
 
@@ -73,34 +74,17 @@ pub stands_written : (w : Write) (old new : UsersHeld) → ((q : Mac) → named_
     → (t : Tables) → StandsFor old t → StandsFor new (written t w)
 stands_written w old new taken t stands q = taken q ∙ ap (named_after (named_write w) q) (stands q) ∙ sym (named_written t w q)
 
-pub written_more : (t : Tables) (ws : List Write) (i : ℕ) (w : Write) → slice_get ws i ≡ Some w → write_all t (take (i + 1) ws) ≡ written (write_all t (take i ws)) w
-written_more t ws i w is = ap (λ n. write_all t (take n ws)) (next i) ∙ go t ws i is
-  where
-    next : (n : ℕ) → n + 1 ≡ suc n
-    next n = omega arith
-
-    go : (b : Tables) (xs : List Write) (k : ℕ) → slice_get xs k ≡ Some w → write_all b (take (suc k) xs) ≡ written (write_all b (take k xs)) w
-    go b [] k e = cc
-    go b (x ∷ xs) zero e = let same : x ≡ w = cc in ap (λ (y : Write). written b y) same
-    go b (x ∷ xs) (suc k) e = go (written b x) xs k e
-
 pub puts_left : (ws : List Write) (i : ℕ) (w : Write) → slice_get ws i ≡ Some w → modem_puts (drop i ws) ≡ puts_modem w + modem_puts (drop (i + 1) ws)
-puts_left ws i w is = go ws i is ∙ ap (λ n. puts_modem w + modem_puts (drop n ws)) (next i)
+puts_left ws i w is = go ws i is ∙ ap (λ n. puts_modem w + modem_puts (drop n ws)) (sym (add-one i))
   where
-    next : (n : ℕ) → suc n ≡ n + 1
-    next n = omega arith
-
     go : (xs : List Write) (k : ℕ) → slice_get xs k ≡ Some w → modem_puts (drop k xs) ≡ puts_modem w + modem_puts (drop (suc k) xs)
     go [] k e = cc
     go (x ∷ xs) zero e = let same : x ≡ w = cc in ap (λ (y : Write). puts_modem y + modem_puts xs) same
     go (x ∷ xs) (suc k) e = go xs k e
 
 pub puts_more : (ws : List Write) (i : ℕ) (w : Write) → slice_get ws i ≡ Some w → modem_puts (take (i + 1) ws) ≡ modem_puts (take i ws) + puts_modem w
-puts_more ws i w is = ap (λ n. modem_puts (take n ws)) (next i) ∙ go ws i is
+puts_more ws i w is = ap (λ n. modem_puts (take n ws)) (add-one i) ∙ go ws i is
   where
-    next : (n : ℕ) → n + 1 ≡ suc n
-    next n = omega arith
-
     go : (xs : List Write) (k : ℕ) → slice_get xs k ≡ Some w → modem_puts (take (suc k) xs) ≡ modem_puts (take k xs) + puts_modem w
     go [] k e = cc
     go (x ∷ xs) zero e = let same : x ≡ w = cc in let put = ap puts_modem same in omega (arith, put)

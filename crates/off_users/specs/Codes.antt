@@ -3,15 +3,11 @@
 use Rattle.std.specs.Prelude.{ℕ, List, refl}
 use Rattle.std.specs.Coded.{Coded, code_by, coded×, coded_ℕ, coded_list}
 use Rattle.off_base.specs.declared.macs.Mac.{Mac}
+use Rattle.off_base.specs.Macs.{mac_code}
 use Rattle.off_users.specs.declared.named.Named.{Named}
 use Rattle.off_users.specs.Users.{UsersHeld}
 use Rattle.off_users.specs.Kept.{NamedMap}
 use Rattle.std.specs.FinMap as map
-
-abbrev mac_code : Coded Mac
-mac_code =
-    code_by (List ℕ) (coded_list coded_ℕ) (λ mac. mac.0) (λ bytes. record { 0 = bytes })
-    (λ _. refl)
 
 abbrev named_code : Coded Named
 named_code =

@@ -4,13 +4,13 @@ use Rattle.std.specs.Prelude.{◌≡◌, ℕ, ◌==◌, Bool, cond, List, Option
 use Rattle.std.specs.List.{filter_map}
 use Rattle.std.specs.Option.{unwrap_or}
 use Rattle.std.specs.Map.{lookup, values_of}
-use Rattle.std.specs.Str.{bytes_eq}
 use Rattle.off_base.specs.declared.macs.Mac.{Mac}
 use Rattle.off_defs.specs.declared.keys.Key.{Key}
 use Rattle.off_defs.specs.declared.tables.Row.{Row}
 use Rattle.off_defs.specs.declared.tables.Modem.{Modem}
 use Rattle.off_defs.specs.State.{Tables}
 use Rattle.off_account_rules.specs.Rows.{modem_of, modems, modem_in}
+use Rattle.off_base.specs.Macs.{is_same_mac}
 use Rattle.off_users.specs.declared.named.Named.{Named}
 
 -- How many modems of the tables name a subscriber, and a class. A row that can't be a modem's is
@@ -37,10 +37,6 @@ names_subscriber n named = named.subscriber == n
 
 abbrev pub names_class : ℕ → Named → Bool
 names_class n named = named.class == n
-
--- two hardware addresses are the same byte by byte
-abbrev pub is_same_mac : Mac → Mac → Bool
-is_same_mac a b = bytes_eq a.0 b.0
 
 -- What is kept: the modems with what they name, in no order, and for how many more there is room.
 pub record UsersHeld : Type 0 where

@@ -83,12 +83,12 @@ fn a_drill_goes_by_what_is_refused(rt: HostRuntime) -> Result<(), Fail> {
 }
 
 // The hub, the class, the pool, the subscriber, the modem, the offer and the lease are kept; the
-// lease is found for the read request, and not for its first acknowledgement. So the transfer is
-// broken off, and each of 200 acknowledgements is answered by an error.
+// lease is found for the read request alone. That it agrees is remembered, so each block goes: an
+// offer, an acknowledgement, the options of the transfer and three blocks are sent.
 #[test]
-fn a_drill_acknowledges_200_times_at_most(rt: HostRuntime) -> Result<(), Fail> {
-    let line = "drill 1 offers 1 acks 1 files 0 blocks 0 octets 0\n";
+fn a_drill_looks_once_whether_a_lease_agrees(rt: HostRuntime) -> Result<(), Fail> {
+    let line = "drill 1 offers 1 acks 1 files 1 blocks 3 octets 88\n";
     let mut keeper = keeper_that_forgets(rt.alloc(), 7, 1);
-    assert!(rt; drilled(rt.alloc(), 1, &mut keeper, line, 203)?);
+    assert!(rt; drilled(rt.alloc(), 1, &mut keeper, line, 6)?);
     Ok(())
 }

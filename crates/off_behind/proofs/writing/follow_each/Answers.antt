@@ -6,7 +6,8 @@ use Rattle.off_defs.specs.Tables.{write_all}
 use Rattle.off_account_rules.specs.Rows.{devices}
 use Rattle.off_behind.specs.Buckets.{Indexes}
 use Rattle.off_behind.specs.Changes.{puts_in}
-use Rattle.off_behind.proofs.WriteLemmas.{written_more, any_there, room_left}
+use Rattle.off_defs.proofs.TableLemmas.{written_more}
+use Rattle.off_behind.proofs.WriteLemmas.{any_there, room_left}
 use Rattle.off_behind.proofs.writing.follow_each.Goals as goal
 
 pub follow_write-requires-clause-room : goal.follow_write-requires-clause-room

@@ -7,7 +7,8 @@ use Rattle.off_defs.specs.Tables.{write_all}
 use Rattle.off_account_rules.specs.Rows.{devices}
 use Rattle.off_behind.specs.Buckets.{Indexes}
 use Rattle.off_behind.specs.Changes.{puts_in}
-use Rattle.off_behind.proofs.WriteLemmas.{written_more, old_there, any_there, room_left}
+use Rattle.off_defs.proofs.TableLemmas.{written_more}
+use Rattle.off_behind.proofs.WriteLemmas.{old_there, any_there, room_left}
 use Rattle.off_behind.proofs.writing.take_writes.Goals as goal
 
 pub take_write-requires-clause-room : goal.take_write-requires-clause-room

@@ -1,7 +1,7 @@
 use Rattle.std.proofs.Common.{rules}
 use Rattle.off_kept.specs.Entries.{is_written}
-use Rattle.off_kept.specs.Same.{is_same_mac}
-use Rattle.off_kept.proofs.SameLemmas.{is_same_mac-Decides}
+use Rattle.off_base.specs.Macs.{is_same_mac}
+use Rattle.off_base.proofs.MacLemmas.{mac_decides}
 use Rattle.off_kept.proofs.TurnLemmas.{goes_out, goes_first}
 use Rattle.off_kept.proofs.forgetting.turn.Goals as goal
 
@@ -11,5 +11,5 @@ returns-then-is_gone-clause-turns c =
 
 pub returns-else-is_gone-clause-turns : goal.returns-else-is_gone-clause-turns
 returns-else-is_gone-clause-turns c =
-    goes_first (is_written c.args.writes.now) is_same_mac is_same_mac-Decides c.args.cache.now.entries c.promote-is_there.new.self.entries c.in-Some.modem c.in-Some.is_gone c.len-len.ensures.valid.0
+    goes_first (is_written c.args.writes.now) is_same_mac mac_decides c.args.cache.now.entries c.promote-is_there.new.self.entries c.in-Some.modem c.in-Some.is_gone c.len-len.ensures.valid.0
     (search rules) (search rules) (search rules)

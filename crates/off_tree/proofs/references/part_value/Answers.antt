@@ -1,7 +1,7 @@
 use Rattle.std.proofs.Common.{List, sym, ap, ◌∙◌}
 use Rattle.off_base.specs.Tree.{Tree}
 use Rattle.off_base.specs.Setting.{tree_of}
-use Rattle.off_base.proofs.TreeLemmas.{row_items-row_of}
+use Rattle.off_base.specs.TreeCode.{row_items-row_of}
 use Rattle.off_tree.specs.Fault.{value_in, part_value}
 use Rattle.off_tree.proofs.references.part_value.Goals as goal
 

@@ -1,7 +1,7 @@
 use Rattle.std.proofs.Common.{cond}
 use Rattle.std.proofs.lemmas.Map.Entries.{sum_by_puts_entry}
 use Rattle.off_users.specs.declared.named.Named.{Named}
-use Rattle.off_users.specs.Users.{is_same_mac}
+use Rattle.off_base.specs.Macs.{is_same_mac}
 use Rattle.off_users.proofs.users.put_named.Goals as goal
 
 pub returns-clause-counts : goal.returns-clause-counts

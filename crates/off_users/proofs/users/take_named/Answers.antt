@@ -1,7 +1,8 @@
 use Rattle.std.proofs.Common.{cond, ap, arith, Option}
 use Rattle.std.proofs.lemmas.Map.Entries.{sum_by_values_permutation, sum_by-remove_entry}
 use Rattle.off_users.specs.declared.named.Named.{Named}
-use Rattle.off_users.specs.Users.{is_same_mac, weighs}
+use Rattle.off_base.specs.Macs.{is_same_mac}
+use Rattle.off_users.specs.Users.{weighs}
 use Rattle.off_users.proofs.users.take_named.Goals as goal
 
 pub returns-clause-counts : goal.returns-clause-counts

@@ -4,7 +4,8 @@ use Rattle.off_defs.specs.declared.writes.Write.{Write}
 use Rattle.off_defs.specs.State.{Tables}
 use Rattle.off_defs.specs.Tables.{write_all}
 use Rattle.off_users.specs.Users.{StandsFor}
-use Rattle.off_users.proofs.WriteLemmas.{written_more, puts_left}
+use Rattle.off_defs.proofs.TableLemmas.{written_more}
+use Rattle.off_users.proofs.WriteLemmas.{puts_left}
 use Rattle.off_users.proofs.users.take_writes.Goals as goal
 
 pub take_write-requires : goal.take_write-requires

@@ -1,31 +1,41 @@
-use Rattle.std.proofs.Common.{sym, refl, ◌∙◌, subst, Option, List, ℕ}
-use Rattle.off_dhcp.specs.Datagram.{message_of}
-use Rattle.off_office.specs.Asking.{DhcpAsks}
-use Rattle.off_office.specs.Leasing.{ServesDatagram}
+use Rattle.std.proofs.Common.{sym, refl, subst, Option, Result, List, ℕ}
+use Rattle.off_dhcp.specs.Datagram.{Received, message_of}
+use Rattle.off_dhcp.specs.declared.faults.DhcpFault.{DhcpFault}
+use Rattle.off_office.specs.Asking.{DhcpAsks, ReadAsks}
+use Rattle.off_office.specs.Leasing.{ServesDatagram, ServesMessage}
 use Rattle.off_office.proofs.office.Office.serve_datagram.Goals as goal
 
-pub returns-in-Some-clause-told : goal.returns-in-Some-clause-told
-returns-in-Some-clause-told g c =
+pub returns-in-Ok-clause-told : goal.returns-in-Ok-clause-told
+returns-in-Ok-clause-told g c =
     subst
     (λ (asked : Option (List ℕ)). ServesDatagram asked c.serve_query.result (message_of c.args.bytes.now) c.args.self.now c.args.self.now c.serve_query.new.out
     (g.K.Keeper.seen c.args.keeper.now) (g.K.Keeper.seen c.serve_query.new.keeper))
-    (sym c.in-Some.is ∙ c.read.ensures) (refl, c.serve_query.ensures.told)
+    (sym c.in-Ok.ensures) (refl, c.serve_query.ensures.told)
 
-pub returns-in-Some-clause-spent : goal.returns-in-Some-clause-spent
-returns-in-Some-clause-spent g c =
+pub returns-in-Ok-clause-spent : goal.returns-in-Ok-clause-spent
+returns-in-Ok-clause-spent g c =
     subst
     (λ (asked : Option (List ℕ)). DhcpAsks asked (message_of c.args.bytes.now) (g.K.Keeper.seen c.args.keeper.now) (g.K.Keeper.seen c.serve_query.new.keeper))
-    (sym c.in-Some.is ∙ c.read.ensures) c.serve_query.ensures.spent
+    (sym c.in-Ok.ensures) c.serve_query.ensures.spent
 
-pub returns-in-None-clause-told : goal.returns-in-None-clause-told
-returns-in-None-clause-told g c =
+pub returns-in-Err-clause-told : goal.returns-in-Err-clause-told
+returns-in-Err-clause-told g c =
+    let served =
     subst
-    (λ (asked : Option (List ℕ)). ServesDatagram asked c.read_message.result (message_of c.args.bytes.now) c.args.self.now c.read_message.new.self c.read_message.new.out
-    (g.K.Keeper.seen c.args.keeper.now) (g.K.Keeper.seen c.read_message.new.keeper))
-    (sym c.in-None.is ∙ c.read.ensures) c.read_message.ensures.told
+    (λ (read : Result Received DhcpFault). ServesMessage c.take_read.result read c.args.self.now c.take_read.new.self c.take_read.new.out
+    (g.K.Keeper.seen c.args.keeper.now) (g.K.Keeper.seen c.take_read.new.keeper))
+    c.in-Err.ensures.1 c.take_read.ensures.told in
+    subst
+    (λ (asked : Option (List ℕ)). ServesDatagram asked c.take_read.result (message_of c.args.bytes.now) c.args.self.now c.take_read.new.self c.take_read.new.out
+    (g.K.Keeper.seen c.args.keeper.now) (g.K.Keeper.seen c.take_read.new.keeper))
+    (sym c.in-Err.ensures.0) served
 
-pub returns-in-None-clause-spent : goal.returns-in-None-clause-spent
-returns-in-None-clause-spent g c =
+pub returns-in-Err-clause-spent : goal.returns-in-Err-clause-spent
+returns-in-Err-clause-spent g c =
+    let asks =
     subst
-    (λ (asked : Option (List ℕ)). DhcpAsks asked (message_of c.args.bytes.now) (g.K.Keeper.seen c.args.keeper.now) (g.K.Keeper.seen c.read_message.new.keeper))
-    (sym c.in-None.is ∙ c.read.ensures) c.read_message.ensures.spent
+    (λ (read : Result Received DhcpFault). ReadAsks read (g.K.Keeper.seen c.args.keeper.now) (g.K.Keeper.seen c.take_read.new.keeper))
+    c.in-Err.ensures.1 c.take_read.ensures.spent in
+    subst
+    (λ (asked : Option (List ℕ)). DhcpAsks asked (message_of c.args.bytes.now) (g.K.Keeper.seen c.args.keeper.now) (g.K.Keeper.seen c.take_read.new.keeper))
+    (sym c.in-Err.ensures.0) asks

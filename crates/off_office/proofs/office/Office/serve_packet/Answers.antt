@@ -23,4 +23,4 @@ returns-in-Ok-clause-kept g c =
 pub returns-in-Ok-clause-few : goal.returns-in-Ok-clause-few
 returns-in-Ok-clause-few g c =
     packet_few c.carry_packet.result (record { from = c.args.from; hub = c.hub_around.result; at = c.self.inside.now; bytes = c.args.bytes }) (the_view c.self.inside) c.args.self.now c.carry_packet.new.self c.carry_packet.new.out c.in-Ok.decision _ _ c.self.view_is refl
-    c.carry_packet.ensures.carried c.on_datagram.ensures.few c.on_datagram.ensures.few_before c.in-Ok.ensures.few_begun
+    c.carry_packet.ensures.carried c.on_datagram.ensures.few c.on_datagram.ensures.few_before c.in-Ok.ensures.few_begun c.on_datagram.ensures.unasked

@@ -1,5 +1,6 @@
-use Rattle.std.proofs.Common.{◌≡◌, ◌≤◌, ◌<◌, ◌-◌, Bool, true, false, not, refl, length, sym, subst, ◌∙◌, rules, arith, length-set}
+use Rattle.std.proofs.Common.{◌≡◌, ◌≤◌, ◌<◌, ◌-◌, true, false, length, sym, subst, ◌∙◌, rules, arith, length-set}
 use Rattle.std.proofs.lemmas.List.{get_or_read}
+use Rattle.std.proofs.lemmas.Bool.{not-false}
 use Rattle.off_runs.specs.Runs.{listed}
 use Rattle.off_runs.specs.Held.{Laid}
 use Rattle.off_runs.proofs.TakenLemmas.{laid_after}
@@ -8,10 +9,6 @@ use Rattle.off_runs.proofs.pool_runs.PoolRuns.set.Goals.{then-self, else-self}
 
 true_not_false : true ≡ false → ⊥
 true_not_false e = cc
-
-followed : (b : Bool) → not b ≡ false → b ≡ true
-followed true e = refl
-followed false e = cc
 
 pub invariant_of-self : goal.invariant_of-self
 invariant_of-self c =
@@ -31,6 +28,6 @@ invariant_of-self c =
             | else-self w ↦
                 subst (Laid i.pool _ i.laid_at.0 c.follow-follows.new.runs.items) (sym c.min-self-inside.ensures)
                 (laid_after i.pool i.expiries.items c.args.address.0 c.args.expiry i.laid_at.0 low within i.runs.items c.follow-follows.new.runs.items i.soonest (c.self.invariant.laid w.if-self.false)
-                (λ are. c.follow-follows.ensures.done i.pool (listed i.pool.first.0 i.expiries.items) before are (followed c.follow-follows.result (sym w.self-is ∙ e))))
+                (λ are. c.follow-follows.ensures.done i.pool (listed i.pool.first.0 i.expiries.items) before are (not-false c.follow-follows.result (sym w.self-is ∙ e))))
           ];
     }

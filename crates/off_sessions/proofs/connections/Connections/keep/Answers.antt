@@ -1,6 +1,7 @@
 use Rattle.std.proofs.Common.{sym, ap, ◌∙◌}
 use Rattle.std.specs.FinMap as map
-use Rattle.off_sessions.proofs.ConnectionLemmas.{inserted, keep_wait, if_ok}
+use Rattle.off_sessions.proofs.ConnectionLemmas.{inserted, keep_wait}
+use Rattle.off_base.proofs.ResultLemmas.{if_ok}
 use Rattle.off_sessions.proofs.connections.Connections.keep.Goals as goal
 
 pub invariant_of-self : goal.invariant_of-self

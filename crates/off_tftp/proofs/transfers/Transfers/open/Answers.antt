@@ -1,6 +1,7 @@
 use Rattle.off_tftp.specs.Seen.{held_by}
 use Rattle.off_tftp.specs.Deciding.{denial_of}
-use Rattle.off_tftp.proofs.OpenLemmas.{found_named, found_serves, found_fits, found_begins, refused_serves, refused_fits, refused_begins}
+use Rattle.off_tftp.proofs.DoesLemmas.{refused_unseen}
+use Rattle.off_tftp.proofs.OpenLemmas.{found_named, found_serves, found_fits, found_begins, found_unseen, refused_serves, refused_fits, refused_begins}
 use Rattle.off_tftp.proofs.transfers.Transfers.open.Goals as goal
 
 pub begin-requires-clause-named : goal.begin-requires-clause-named
@@ -28,3 +29,9 @@ returns-in-Err-clause-able c = refused_fits c.args.self.now c.args.request.now.f
 pub returns-in-Err-clause-begins : goal.returns-in-Err-clause-begins
 returns-in-Err-clause-begins c = λ new.
     refused_begins c.args.self.now c.args.request.now (held_by c.args.request.now.at.0 c.args.seen.now.lease) (denial_of c.in-Err.why) c.refuse.result new c.refuse.ensures
+
+pub returns-in-Ok-clause-unseen : goal.returns-in-Ok-clause-unseen
+returns-in-Ok-clause-unseen c = found_unseen c.args.request.now c.args.seen.now.site c.in-Ok.found c.begin.result c.begin.ensures
+
+pub returns-in-Err-clause-unseen : goal.returns-in-Err-clause-unseen
+returns-in-Err-clause-unseen c = refused_unseen c.args.request.now.from (denial_of c.in-Err.why) c.refuse.result c.refuse.ensures
