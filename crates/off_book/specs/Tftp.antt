@@ -3,6 +3,7 @@ use Rattle.std.specs.Prelude.{◌≡◌, ℕ, List, []}
 use Rattle.off_base.specs.declared.addresses.Peer.{Peer}
 use Rattle.off_defs.specs.declared.results.Sent.{Sent}
 use Rattle.off_defs.specs.State.{State, Said, Effect}
+use Rattle.off_transfer_rules.specs.Requests.{datagram_at}
 use Rattle.off_transfer_rules.specs.Transfers.{Transfers}
 use Rattle.off_transfer_rules.specs.Steps.{Given, TftpStep}
 use Rattle.off_transfer_rules.specs.Ticks.{TickStep}
@@ -22,7 +23,7 @@ tftp_said given = record { items = given.items; line = tftp_line given.word }
 
 pub record TftpDid (s : State) (from : Peer) (bytes : List ℕ) (effect : Effect) : Type 0 where
   pub given : Given
-  pub step : TftpStep s.tables s.held.now s.held.transfers from bytes given
+  pub step : TftpStep s.tables s.held.transfers (datagram_at s.held.now from bytes) given
   pub does : effect ≡ transfers_effect s given.transfers (tftp_said given)
 
 abbrev pub tick_said : List Sent → Ticked → Said

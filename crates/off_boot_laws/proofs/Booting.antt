@@ -19,6 +19,7 @@ use Rattle.off_asking.specs.Asking.{client}
 use Rattle.off_lease_laws.specs.Effects.{bound_until}
 use Rattle.off_lease_laws.proofs.GoodLemmas.{good_agree}
 use Rattle.off_packets.specs.declared.packets.Options.{Options}
+use Rattle.off_transfer_rules.specs.Requests.{file_owner}
 use Rattle.off_transfer_rules.specs.Transfers.{first_number, size_for, is_last_number}
 use Rattle.off_transfer_laws.specs.Agreement.{Agreement}
 use Rattle.off_book.specs.Run.{Turn, Run, effect_of}
@@ -55,7 +56,7 @@ module _ (request : List ℕ) (first n : ℕ) (mac : Mac) (peer : Peer) (name : 
   Named tables now = KeepsName tables mac owner peer.ip name
 
   abbrev Agree : Tables → ℕ → Type 0
-  Agree tables now = Agreement tables now peer.ip name mac owner
+  Agree tables now = Agreement tables now peer.ip name (file_owner mac owner)
 
   agreed : (tables : Tables) (now expiry : ℕ) → lease_in tables peer.ip ≡ Some (bound_until mac expiry) → now < expiry → Named tables now → Agree tables now
   agreed tables now expiry bound live named = record {
@@ -113,7 +114,7 @@ module _ (s last : State) (turn : Turn) (soon rest : List Turn) (mac : Mac) (pee
       let all =
       who_answers_gets_all s last turn soon rest peer name asked k run given.accepts given.served last_is
       (subst (λ (w : Mac). AnswersUpTo given.accepts.bytes (first_number asked) (suc k) peer
-      (λ tables now. Agreement tables now peer.ip name w given.served.subscriber) (write_all s.tables turn.commit)
+      (λ tables now. Agreement tables now peer.ip name (file_owner w given.served.subscriber)) (write_all s.tables turn.commit)
       (moment_of s turn) (first_number asked) 5 soon) (sym given.own)
       (stays_agreed given.accepts.bytes (first_number asked) k mac peer name given.served.subscriber run.0 last soon rest (write_all s.tables turn.commit) (moment_of s turn)
       (first_number asked) 5

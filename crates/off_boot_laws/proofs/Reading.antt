@@ -13,15 +13,17 @@ use Rattle.off_defs.specs.declared.events.What.{What}
 use Rattle.off_defs.specs.declared.events.What.TheVariants.{Datagram}
 use Rattle.off_defs.specs.declared.results.Outcome.{Outcome}
 use Rattle.off_defs.specs.declared.results.Outcome.TheVariants.{Did}
+use Rattle.off_defs.specs.declared.tables.Modem.{Modem}
 use Rattle.off_defs.specs.State.{Tables, State, Transfer, Effect, at_moment}
 use Rattle.off_account_rules.specs.Good.{Good}
 use Rattle.off_lease_laws.specs.Effects.{bound_until}
 use Rattle.off_packets.specs.Packets.{Reads, packet_of, has_option}
 use Rattle.off_packets.specs.declared.packets.Options.{Options}
+use Rattle.off_transfer_rules.specs.Requests.{datagram_at, request_for, file_owner}
 use Rattle.off_transfer_rules.specs.declared.words.TftpWord.TheVariants.{Oack, Block}
 use Rattle.off_transfer_rules.specs.View.{View, view, holder}
 use Rattle.off_transfer_rules.specs.Transfers.{Transfers, has_no_room, first_word}
-use Rattle.off_transfer_rules.specs.Steps.{Way, Denies, Repeats, Accepts, file_not_found, is_repeated, way_for_modem, way_for_holder, way_anew, way_of_request, way_of, way, Given, GivesBy, TftpStep}
+use Rattle.off_transfer_rules.specs.Steps.{Way, Denies, Repeats, Accepts, file_not_found, is_repeated, way_for_owner, owner_by_row, way_for_holder, way_anew, way_of_request, way_of, way, Given, GivesBy, TftpStep}
 use Rattle.off_transfer_rules.specs.Words.{tftp_line}
 use Rattle.off_transfer_laws.specs.Agreement.{Agreement}
 use Rattle.off_transfer_laws.proofs.ViewLemmas.{holder_is, live_seen, live_agreed, modem_seen, owner_agreed, good_has_file}
@@ -52,12 +54,12 @@ makes_way count bytes None room = lt-leb 256 count room
 makes_way count bytes (Some x) other = not_again bytes x other
 
 module _ (t : Tables) (now : ℕ) (from : Peer) (bytes name : List ℕ) (asked : Options) (mac : Mac) (owner : ℕ) (good : Good t)
-    (a : Agreement t now from.ip name mac owner) where
+    (a : Agreement t now from.ip name (file_owner mac owner)) where
   abbrev v : View
   v = view t from.ip
 
   abbrev taken : Way
-  taken = Accepts mac a.modem.subscriber name asked
+  taken = Accepts (request_for name asked) (file_owner mac a.modem.subscriber)
 
   held : holder now v ≡ Some mac
   held = holder_is v now mac (live_seen t now from.ip mac (live_agreed t now from.ip name mac owner a))
@@ -65,26 +67,26 @@ module _ (t : Tables) (now : ℕ) (from : Peer) (bytes name : List ℕ) (asked :
   seen : v.modem ≡ Some a.modem
   seen = modem_seen t from.ip mac (owner_agreed t now from.ip name mac owner a) ∙ a.modem_is
 
-  anew : way_anew v now from.ip false name asked ≡ taken
+  anew : way_anew v now from.ip false (request_for name asked) ≡ taken
   anew =
-      ap (way_for_holder v from.ip false name asked) held
-      ∙ ap (way_for_modem v from.ip false name asked mac) seen
+      ap (way_for_holder v from.ip false (request_for name asked)) held
+      ∙ ap (λ (row : Option Modem). way_for_owner v from.ip false (request_for name asked) (owner_by_row mac row)) seen
       ∙ ap (λ b. cond (not b) (Denies file_not_found) taken) (good_has_file t now from.ip name mac owner good a)
 
   asked_way : (full : Bool) (live : Option Transfer) → MakesWay full bytes live
-      → way_of_request v now from.ip full bytes name asked live ≡ taken
-  asked_way full None room = ap (λ b. way_anew v now from.ip b name asked) room ∙ anew
-  asked_way full (Some x) other = ap (λ b. cond b (Repeats x) (way_anew v now from.ip false name asked)) other ∙ anew
+      → way_of_request v (datagram_at now from bytes) full (request_for name asked) live ≡ taken
+  asked_way full None room = ap (λ b. way_anew v now from.ip b (request_for name asked)) room ∙ anew
+  asked_way full (Some x) other = ap (λ b. cond b (Repeats x) (way_anew v now from.ip false (request_for name asked))) other ∙ anew
 
-  way_is : (xs : Transfers) → packet_of bytes ≡ Ok (Reads name asked) → HasPlace xs from bytes → way v now xs from bytes ≡ taken
+  way_is : (xs : Transfers) → packet_of bytes ≡ Ok (Reads name asked) → HasPlace xs from bytes → way v xs (datagram_at now from bytes) ≡ taken
   unfolding way
-  way_is xs read place = ap (way_of v now from.ip (has_no_room xs) bytes (map.get xs from)) read ∙ asked_way (has_no_room xs) (map.get xs from) (makes_way (map.len xs) bytes (map.get xs from) place)
+  way_is xs read place = ap (way_of v (datagram_at now from bytes) (has_no_room xs) (map.get xs from)) read ∙ asked_way (has_no_room xs) (map.get xs from) (makes_way (map.len xs) bytes (map.get xs from) place)
 
-  word_is : (xs : Transfers) (given : Given) → packet_of bytes ≡ Ok (Reads name asked) → HasPlace xs from bytes → TftpStep t now xs from bytes given
+  word_is : (xs : Transfers) (given : Given) → packet_of bytes ≡ Ok (Reads name asked) → HasPlace xs from bytes → TftpStep t xs (datagram_at now from bytes) given
       → given.word ≡ first_word asked
   unfolding TftpStep
   word_is xs given read place step =
-      let opened = subst (λ (w : Way). GivesBy v now xs from bytes w given) (way_is xs read place) step in
+      let opened = subst (λ (w : Way). GivesBy v xs (datagram_at now from bytes) w given) (way_is xs read place) step in
       ap (λ (g : Given). g.word) opened.1.1
 
 says_first : (any : Bool) → says_accepted (tftp_line (if any then Oack else Block 1)) ≡ true
@@ -101,7 +103,7 @@ did_so s after turn from bytes step came did =
     (subst (λ (what : What). Does (at_moment s turn.event.at.0) what turn.outcome (effect_of turn after)) came step)
 
 agreed_at : (s : State) (mac : Mac) (peer : Peer) (name : List ℕ) (asked : Options) (turn : Turn) (now expiry : ℕ) (r : AsksForFile s mac peer name asked turn)
-    → IsBoundUntil mac peer.ip expiry s → now < expiry → Agreement s.tables now peer.ip name mac r.modem.subscriber
+    → IsBoundUntil mac peer.ip expiry s → now < expiry → Agreement s.tables now peer.ip name (file_owner mac r.modem.subscriber)
 agreed_at s mac peer name asked turn now expiry r bound live = record {
   lease = bound_until mac expiry;
   modem = r.modem;

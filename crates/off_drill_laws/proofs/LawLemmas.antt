@@ -9,6 +9,7 @@ use Rattle.off_defs.specs.declared.events.What.TheVariants.{Datagram}
 use Rattle.off_defs.specs.declared.results.Outcome.{Outcome}
 use Rattle.off_defs.specs.declared.results.Outcome.TheVariants.{Did}
 use Rattle.off_defs.specs.State.{State, Effect, at_moment}
+use Rattle.off_transfer_rules.specs.Requests.{datagram_at}
 use Rattle.off_transfer_laws.proofs.StepLaws.{step_is_there}
 use Rattle.off_query_rules.specs.Asked.{query_of}
 use Rattle.off_laws.proofs.Existence.{datagram_some}
@@ -35,7 +36,7 @@ some_tftp : (s : State) (at : ℕ) (from : Peer) (bytes : List ℕ) → (effect 
 unfolding Step
 some_tftp s at from bytes =
     let m = at_moment s at in
-    let there = step_is_there m.tables m.held.now m.held.transfers from bytes in (
+    let there = step_is_there m.tables m.held.transfers (datagram_at m.held.now from bytes) in (
       transfers_effect m there.0.transfers (tftp_said there.0),
       record { given = there.0; step = there.1; does = refl },
     )

@@ -28,6 +28,7 @@ use Rattle.off_account_rules.specs.Rows.{passes, site_of}
 use Rattle.off_account_rules.specs.Good.{is_mac}
 use Rattle.off_table_laws.proofs.Reading.{row_lease}
 use Rattle.off_packets.specs.Packets.{Reads, Acknowledges, is_zero, packet_of, only_size}
+use Rattle.off_transfer_rules.specs.Requests.{datagram_at, request_for, file_owner}
 use Rattle.off_transfer_rules.specs.View.{View, view_by, view, holder, agrees, is_of_subscriber, is_own_name, IsBuiltBy}
 use Rattle.off_transfer_rules.specs.Transfers.{Transfers, has_no_room}
 use Rattle.off_transfer_rules.specs.Steps.{Way, Denies, Accepts, Finishes, GoesOn, BreaksOff, Ignores, file_not_found, way, way_of, way_of_request, way_anew, way_for_holder, way_of_acknowledgement, has_file, way_of_last, Given, gives, GivesBy, TftpStep, last_to}
@@ -67,7 +68,7 @@ own_name i = (bytes_eq-Decides (name i) (name i)).1 refl
 file_there : (i : ℕ) → has_file (seen i) (address i) (name i) (mac i) ≡ true
 file_there i = ap (λ b. b && true) (own_name i)
 
-agrees_is : (i : ℕ) → agrees (seen i) (moment i) (address i) (name i) (mac i) i ≡ true
+agrees_is : (i : ℕ) → agrees (seen i) (moment i) (address i) (name i) (file_owner (mac i) i) ≡ true
 agrees_is i =
     ap (λ (o : Option Mac). passes (is_mac (mac i)) o && (passes (is_of_subscriber i) (Some (modem i)) && passes (is_own_name (name i) (mac i) (address i)) (Some site))) (holder_is i)
     ∙ ap (λ b. b && (passes (is_of_subscriber i) (Some (modem i)) && passes (is_own_name (name i) (mac i) (address i)) (Some site))) (own_key (key.Modem (mac i)))
@@ -172,18 +173,18 @@ acknowledgement_says number few = ap (λ (n : ℕ). Ok (Acknowledges n)) (from_b
 
 -- ---- a read request is accepted, and its file built
 
-read_way : (i : ℕ) → way (seen i) (moment i) map.empty (by_modem i) (read_request i) ≡ Accepts (mac i) i (name i) (only_size 44)
+read_way : (i : ℕ) → way (seen i) map.empty (datagram_at (moment i) (by_modem i) (read_request i)) ≡ Accepts (request_for (name i) (only_size 44)) (file_owner (mac i) i)
 unfolding way
 read_way i =
     let v = seen i in
     let now = moment i in
     let ip = address i in
     let bytes = read_request i in
-    ap (way_of v now ip (has_no_room map.empty) bytes (map.get map.empty (by_modem i))) (request_says i)
-    ∙ ap (way_of_request v now ip (has_no_room map.empty) bytes (name i) (only_size 44)) (map.get-empty peer_cmp (by_modem i))
-    ∙ ap (λ (full : Bool). way_anew v now ip full (name i) (only_size 44)) (ap (nat_le 256) (map.len-empty peer_cmp Transfer))
-    ∙ ap (way_for_holder v ip false (name i) (only_size 44)) (holder_is i)
-    ∙ ap (λ b. if not b then Denies file_not_found else Accepts (mac i) i (name i) (only_size 44)) (file_there i)
+    ap (way_of v (datagram_at now (by_modem i) bytes) (has_no_room map.empty) (map.get map.empty (by_modem i))) (request_says i)
+    ∙ ap (way_of_request v (datagram_at now (by_modem i) bytes) (has_no_room map.empty) (request_for (name i) (only_size 44))) (map.get-empty peer_cmp (by_modem i))
+    ∙ ap (λ (full : Bool). way_anew v now ip full (request_for (name i) (only_size 44))) (ap (nat_le 256) (map.len-empty peer_cmp Transfer))
+    ∙ ap (way_for_holder v ip false (request_for (name i) (only_size 44))) (holder_is i)
+    ∙ ap (λ b. if not b then Denies file_not_found else Accepts (request_for (name i) (only_size 44)) (file_owner (mac i) i)) (file_there i)
 
 built_size : (i : ℕ) (file : List ℕ) → IsBuiltBy (seen i) (moment i) (address i) file → length file ≡ file_size (is_active i)
 built_size i file b =
@@ -204,15 +205,15 @@ pub record Read (i : ℕ) (given : Given) : Type 0 where
   pub size : length file ≡ file_size (is_active i)
   pub is : given ≡ gives (transfers_with i (moving i file 0 false)) (last_of i (moving i file 0 false)) word.Oack
 
-read_given : (i : ℕ) (given : Given) → GivesBy (seen i) (moment i) map.empty (by_modem i) (read_request i) (Accepts (mac i) i (name i) (only_size 44)) given → Read i given
+read_given : (i : ℕ) (given : Given) → GivesBy (seen i) map.empty (datagram_at (moment i) (by_modem i) (read_request i)) (Accepts (request_for (name i) (only_size 44)) (file_owner (mac i) i)) given → Read i given
 read_given i given g = record { file = g.0; size = built_size i g.0 g.1.0; is = g.1.1 }
 
-pub read_is : (n i : ℕ) → n ≤ 4000 → 1 ≤ i → i ≤ n → (given : Given) → TftpStep (drill_tables n i) (moment i) map.empty (by_modem i) (read_request i) given → Read i given
+pub read_is : (n i : ℕ) → n ≤ 4000 → 1 ≤ i → i ≤ n → (given : Given) → TftpStep (drill_tables n i) map.empty (datagram_at (moment i) (by_modem i) (read_request i)) given → Read i given
 unfolding TftpStep
 read_is n i few first within given step =
-    let by_seen : GivesBy (seen i) (moment i) map.empty (by_modem i) (read_request i) (way (seen i) (moment i) map.empty (by_modem i) (read_request i)) given =
-    subst (λ (v : View). GivesBy v (moment i) map.empty (by_modem i) (read_request i) (way v (moment i) map.empty (by_modem i) (read_request i)) given) (view_is n i few first within) step in
-    read_given i given (subst (λ (w : Way). GivesBy (seen i) (moment i) map.empty (by_modem i) (read_request i) w given) (read_way i) by_seen)
+    let by_seen : GivesBy (seen i) map.empty (datagram_at (moment i) (by_modem i) (read_request i)) (way (seen i) map.empty (datagram_at (moment i) (by_modem i) (read_request i))) given =
+    subst (λ (v : View). GivesBy v map.empty (datagram_at (moment i) (by_modem i) (read_request i)) (way v map.empty (datagram_at (moment i) (by_modem i) (read_request i))) given) (view_is n i few first within) step in
+    read_given i given (subst (λ (w : Way). GivesBy (seen i) map.empty (datagram_at (moment i) (by_modem i) (read_request i)) w given) (read_way i) by_seen)
 
 -- ---- an acknowledgement is answered by the next block, or ends the transfer
 
@@ -225,28 +226,28 @@ module _ (i : ℕ) (file : List ℕ) (number : ℕ) (answered : Bool) (size : le
   few_blocks false w = omega (arith, w)
 
   ack_way : (last : Bool) → eqb number (blocks_of (is_active i)) ≡ last
-      → way (seen i) (moment i) (transfers_with i x) (by_modem i) (acknowledgement number) ≡ (if last then Finishes else GoesOn x)
+      → way (seen i) (transfers_with i x) (datagram_at (moment i) (by_modem i) (acknowledgement number)) ≡ (if last then Finishes else GoesOn x)
   unfolding way
   ack_way last is =
       let v = seen i in
       let now = moment i in
       let ip = address i in
-      ap (way_of v now ip (has_no_room (transfers_with i x)) (acknowledgement number) (map.get (transfers_with i x) (by_modem i))) (acknowledgement_says number (few_blocks (is_active i) within))
+      ap (way_of v (datagram_at now (by_modem i) (acknowledgement number)) (has_no_room (transfers_with i x)) (map.get (transfers_with i x) (by_modem i))) (acknowledgement_says number (few_blocks (is_active i) within))
       ∙ ap (way_of_acknowledgement v now ip number) (inserted_here map.empty (by_modem i) x)
       ∙ ap (λ b. if b then way_of_last v now ip x else Ignores) (eq-eqb number number refl)
-      ∙ ap (λ b. if b then Finishes else if agrees v now ip (name i) (mac i) i then GoesOn x else BreaksOff) (last_is file (is_active i) number size within ∙ is)
+      ∙ ap (λ b. if b then Finishes else if agrees v now ip (name i) (file_owner (mac i) i) then GoesOn x else BreaksOff) (last_is file (is_active i) number size within ∙ is)
       ∙ ap (λ b. if last then Finishes else if b then GoesOn x else BreaksOff) (agrees_is i)
 
   ack_given : (n : ℕ) → n ≤ 4000 → 1 ≤ i → i ≤ n → (given : Given) (last : Bool) → eqb number (blocks_of (is_active i)) ≡ last
-      → TftpStep (drill_tables n i) (moment i) (transfers_with i x) (by_modem i) (acknowledgement number) given
-      → GivesBy (seen i) (moment i) (transfers_with i x) (by_modem i) (acknowledgement number) (if last then Finishes else GoesOn x) given
+      → TftpStep (drill_tables n i) (transfers_with i x) (datagram_at (moment i) (by_modem i) (acknowledgement number)) given
+      → GivesBy (seen i) (transfers_with i x) (datagram_at (moment i) (by_modem i) (acknowledgement number)) (if last then Finishes else GoesOn x) given
   unfolding TftpStep
   ack_given n few first in_time given last is step =
-      let by_seen : GivesBy (seen i) (moment i) (transfers_with i x) (by_modem i) (acknowledgement number)
-      (way (seen i) (moment i) (transfers_with i x) (by_modem i) (acknowledgement number)) given =
-      subst (λ (v : View). GivesBy v (moment i) (transfers_with i x) (by_modem i) (acknowledgement number) (way v (moment i) (transfers_with i x) (by_modem i) (acknowledgement number)) given)
+      let by_seen : GivesBy (seen i) (transfers_with i x) (datagram_at (moment i) (by_modem i) (acknowledgement number))
+      (way (seen i) (transfers_with i x) (datagram_at (moment i) (by_modem i) (acknowledgement number))) given =
+      subst (λ (v : View). GivesBy v (transfers_with i x) (datagram_at (moment i) (by_modem i) (acknowledgement number)) (way v (transfers_with i x) (datagram_at (moment i) (by_modem i) (acknowledgement number))) given)
       (view_is n i few first in_time) step in
-      subst (λ (w : Way). GivesBy (seen i) (moment i) (transfers_with i x) (by_modem i) (acknowledgement number) w given) (ack_way last is) by_seen
+      subst (λ (w : Way). GivesBy (seen i) (transfers_with i x) (datagram_at (moment i) (by_modem i) (acknowledgement number)) w given) (ack_way last is) by_seen
 
 -- one transfer alone, replaced and ended
 replaced_by : (b : Bool) (x y : Transfer) (o : Option Transfer) → cond b (Some y) (cond b (Some x) o) ≡ cond b (Some y) o
@@ -273,14 +274,14 @@ ended_alone i x =
     ∙ ended_by (eq_by_cmp peer_cmp q (by_modem i)) x (map.get map.empty q) (map.get-empty peer_cmp q))
 
 pub next_is : (n i : ℕ) (file : List ℕ) (number : ℕ) (answered : Bool) → n ≤ 4000 → 1 ≤ i → i ≤ n → length file ≡ file_size (is_active i) → number < blocks_of (is_active i)
-    → (given : Given) → TftpStep (drill_tables n i) (moment i) (transfers_with i (moving i file number answered)) (by_modem i) (acknowledgement number) given
+    → (given : Given) → TftpStep (drill_tables n i) (transfers_with i (moving i file number answered)) (datagram_at (moment i) (by_modem i) (acknowledgement number)) given
     → given ≡ gives (transfers_with i (moving i file (suc number) true)) (last_of i (moving i file (suc number) true)) (word.Block (suc number))
 next_is n i file number answered few first in_time size below given step =
     ack_given i file number answered size (omega (arith, below)) n few first in_time given false (ne_eqb number (blocks_of (is_active i)) (omega (arith, below))) step
     ∙ ap (λ (xs : Transfers). gives xs (last_of i (moving i file (suc number) true)) (word.Block (suc number))) (replaced i (moving i file number answered) (moving i file (suc number) true))
 
 pub last_ends : (n i : ℕ) (file : List ℕ) (number : ℕ) (answered : Bool) → n ≤ 4000 → 1 ≤ i → i ≤ n → length file ≡ file_size (is_active i) → number ≡ blocks_of (is_active i)
-    → (given : Given) → TftpStep (drill_tables n i) (moment i) (transfers_with i (moving i file number answered)) (by_modem i) (acknowledgement number) given
+    → (given : Given) → TftpStep (drill_tables n i) (transfers_with i (moving i file number answered)) (datagram_at (moment i) (by_modem i) (acknowledgement number)) given
     → given ≡ gives map.empty [] word.Done
 last_ends n i file number answered few first in_time size last given step =
     ack_given i file number answered size (omega (arith, last)) n few first in_time given true (eq-eqb number (blocks_of (is_active i)) last) step

@@ -12,6 +12,7 @@ use Rattle.off_defs.specs.State.{Tables, Held, Effect, state_of, at_moment}
 use Rattle.off_defs.specs.Tables.{with_row}
 use Rattle.off_lease_rules.specs.Steps.{dhcp_step}
 use Rattle.off_lease_rules.specs.declared.results.LeaseStep.{LeaseStep}
+use Rattle.off_transfer_rules.specs.Requests.{datagram_at}
 use Rattle.off_transfer_rules.specs.Steps.{Given, gives, TftpStep}
 use Rattle.off_transfer_rules.specs.Transfers.{Transfers}
 use Rattle.off_transfer_rules.specs.declared.words.TftpWord.TheVariants as word
@@ -49,7 +50,7 @@ message_turn t now at from bytes m step effect later read other own is did =
 -- and so does a packet
 pub record Packet (t : Tables) (at : ℕ) (transfers : Transfers) (from : Peer) (bytes : List ℕ) (effect : Effect) : Type 0 where
   pub given : Given
-  pub step : TftpStep t at transfers from bytes given
+  pub step : TftpStep t transfers (datagram_at at from bytes) given
   pub does : effect ≡ transfers_effect (state_of t (held_with at transfers)) given.transfers (tftp_said given)
 
 packet_turn : (t : Tables) (now at : ℕ) (transfers : Transfers) (from : Peer) (bytes : List ℕ) (effect : Effect) → now ≤ at
@@ -60,7 +61,7 @@ packet_turn t now at transfers from bytes effect later did =
     let same : max now at ≡ at = omega (arith, later) in
     record {
       given = did.given;
-      step = subst (λ (m : ℕ). TftpStep t m transfers from bytes did.given) same did.step;
+      step = subst (λ (m : ℕ). TftpStep t transfers (datagram_at m from bytes) did.given) same did.step;
       does = did.does ∙ ap (λ (m : ℕ). transfers_effect (state_of t (held_with m transfers)) did.given.transfers (tftp_said did.given)) same;
     }
 

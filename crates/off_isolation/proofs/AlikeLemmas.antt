@@ -3,6 +3,7 @@ use Rattle.std.proofs.Common.{◌≡◌, ℕ, List, [], ◌∷◌, refl, sym, ap
 use Rattle.off_base.specs.declared.addresses.Ip4.{Ip4}
 use Rattle.off_base.specs.declared.addresses.Peer.{Peer}
 use Rattle.off_defs.specs.State.{Tables, Said}
+use Rattle.off_transfer_rules.specs.Requests.{datagram_at}
 use Rattle.off_transfer_rules.specs.Transfers.{Transfers}
 use Rattle.off_transfer_rules.specs.Steps.{Given}
 use Rattle.off_transfer_laws.specs.SameRows.{SameRows}
@@ -17,8 +18,8 @@ use Rattle.off_isolation.proofs.OwnLemmas.{own_map, own_of, own_of_same}
 use Rattle.off_isolation.proofs.RunLemmas.{isolated_from}
 
 pub views_give_the_same : ViewsGiveTheSame
-views_give_the_same t u now xs from bytes given again same p q =
-    step_is_one u now xs from bytes given again (views_decide t u now xs from bytes given same p) q
+views_give_the_same t u xs d given again same p q =
+    step_is_one u xs d given again (views_decide t u xs d given same p) q
 
 pub rows_show_the_same : RowsShowTheSame
 rows_show_the_same = same_view
@@ -33,7 +34,7 @@ same_step : (t u : Tables) (now : ℕ) (what : Happening) (xs one other : Transf
     → ((from : Peer) (bytes : List ℕ) → what ≡ Came from bytes → SameView t u from.ip)
     → StepAlone t now what xs one said → StepAlone u now what xs other also → SameStep one other said also
 same_step t u now (Came from bytes) xs one other said also seen p q =
-    let given : p.given ≡ q.given = views_give_the_same t u now xs from bytes p.given q.given (seen from bytes refl) p.step q.step in
+    let given : p.given ≡ q.given = views_give_the_same t u xs (datagram_at now from bytes) p.given q.given (seen from bytes refl) p.step q.step in
     record {
       transfers = p.leaves ∙ ap (λ (g : Given). g.transfers) given ∙ sym q.leaves;
       says = p.says ∙ ap tftp_said given ∙ sym q.says;
@@ -84,7 +85,7 @@ record SomeStep (t : Tables) (now : ℕ) (what : Happening) (xs : Transfers) : T
 
 some_step : (t : Tables) (now : ℕ) (what : Happening) (xs : Transfers) → SomeStep t now what xs
 some_step t now (Came from bytes) xs =
-    let some = step_is_there t now xs from bytes in
+    let some = step_is_there t xs (datagram_at now from bytes) in
     record { after = some.0.transfers; said = tftp_said some.0; step = record { given = some.0; step = some.1; leaves = refl; says = refl } }
 some_step t now Passed xs =
     let some = tick_is_there now xs in

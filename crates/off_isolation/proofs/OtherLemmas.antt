@@ -31,10 +31,11 @@ use Rattle.off_lease_rules.specs.declared.words.DhcpWord.{DhcpWord}
 use Rattle.off_lease_rules.specs.declared.words.DhcpWord.TheVariants as dhcp
 use Rattle.off_packets.specs.Packets.{Meant, Reads, Writes, Acknowledges, GivesUp, IsOther, packet_of, has_option}
 use Rattle.off_packets.specs.declared.packets.Options.{Options}
+use Rattle.off_transfer_rules.specs.Requests.{datagram_at, request_for, file_owner}
 use Rattle.off_transfer_rules.specs.declared.words.TftpWord.TheVariants.{Oack, Block}
 use Rattle.off_transfer_rules.specs.View.{View, view, holder, agrees}
 use Rattle.off_transfer_rules.specs.Transfers.{Transfers, has_no_room, is_at_last, packet_to}
-use Rattle.off_transfer_rules.specs.Steps.{Way, Denies, Repeats, Accepts, Ignores, Finishes, BreaksOff, GoesOn, Leaves, file_not_found, too_many_transfers, is_repeated, has_file, way_for_modem, way_for_holder, way_anew, way_of_last, way_of, way, Given, error_to, GivesBy, TftpStep}
+use Rattle.off_transfer_rules.specs.Steps.{Way, Denies, Repeats, Accepts, Ignores, Finishes, BreaksOff, GoesOn, Leaves, file_not_found, too_many_transfers, is_repeated, has_file, way_for_owner, owner_by_row, way_for_holder, way_anew, way_of_last, way_of, way, Given, error_to, GivesBy, TftpStep}
 use Rattle.off_transfer_rules.specs.Words.{tftp_line}
 use Rattle.off_packets.specs.declared.faults.PacketFault.{PacketFault}
 use Rattle.off_packets.specs.declared.faults.PacketFault.TheVariants as fault
@@ -116,26 +117,26 @@ FullWhere full live other = Unit {0}
 
 module _ (v : View) (now : ℕ) (ip : Ip4) (full : Bool) (live : Option Transfer) where
   full_judged : (served no_room : Bool) (mac : Mac) (owner : ℕ) (name : List ℕ) (asked : Options) → (no_room ≡ true → (full ≡ true) × (live ≡ None))
-      → FullWhere full live (if not served then Denies file_not_found else if no_room then Denies too_many_transfers else Accepts mac owner name asked)
+      → FullWhere full live (if not served then Denies file_not_found else if no_room then Denies too_many_transfers else Accepts (request_for name asked) (file_owner mac owner))
   full_judged false no_room mac owner name asked room = λ says. cc
   full_judged true true mac owner name asked room = λ says. ((room refl).0, (room refl).1, refl)
   full_judged true false mac owner name asked room = tt
 
   full_for_modem : (no_room : Bool) → (no_room ≡ true → (full ≡ true) × (live ≡ None)) → (name : List ℕ) (asked : Options) (mac : Mac) (modem : Option Modem)
-      → FullWhere full live (way_for_modem v ip no_room name asked mac modem)
+      → FullWhere full live (way_for_owner v ip no_room (request_for name asked) (owner_by_row mac modem))
   full_for_modem no_room room name asked mac None = λ says. cc
   full_for_modem no_room room name asked mac (Some modem) = full_judged (has_file v ip name mac) no_room mac modem.subscriber name asked room
 
   full_for_holder : (no_room : Bool) → (no_room ≡ true → (full ≡ true) × (live ≡ None)) → (name : List ℕ) (asked : Options) (held : Option Mac)
-      → FullWhere full live (way_for_holder v ip no_room name asked held)
+      → FullWhere full live (way_for_holder v ip no_room (request_for name asked) held)
   full_for_holder no_room room name asked None = λ says. cc
   full_for_holder no_room room name asked (Some mac) = full_for_modem no_room room name asked mac v.modem
 
   full_anew : (no_room : Bool) → (no_room ≡ true → (full ≡ true) × (live ≡ None)) → (name : List ℕ) (asked : Options)
-      → FullWhere full live (way_anew v now ip no_room name asked)
+      → FullWhere full live (way_anew v now ip no_room (request_for name asked))
   full_anew no_room room name asked = full_for_holder no_room room name asked (holder now v)
 
-  full_again : (x : Transfer) (name : List ℕ) (asked : Options) (again : Bool) → FullWhere full live (if again then Repeats x else way_anew v now ip false name asked)
+  full_again : (x : Transfer) (name : List ℕ) (asked : Options) (again : Bool) → FullWhere full live (if again then Repeats x else way_anew v now ip false (request_for name asked))
   full_again x name asked true = tt
   full_again x name asked false = full_anew false (λ e. cc) name asked
 
@@ -145,24 +146,24 @@ module _ (v : View) (now : ℕ) (ip : Ip4) (full : Bool) (live : Option Transfer
   full_at_last x false false = tt
 
   full_last : (x : Transfer) (same : Bool) → FullWhere full live (if same then way_of_last v now ip x else Ignores)
-  full_last x true = full_at_last x (is_at_last x) (agrees v now ip x.name x.modem x.subscriber)
+  full_last x true = full_at_last x (is_at_last x) (agrees v now ip x.name (file_owner x.modem x.subscriber))
   full_last x false = tt
 
-full_where : (v : View) (now : ℕ) (ip : Ip4) (full : Bool) (bytes : List ℕ) (live : Option Transfer) (read : Result Meant PacketFault)
-    → FullWhere full live (way_of v now ip full bytes live read)
-full_where v now ip full bytes live (Err fault.Form) = λ says. cc
-full_where v now ip full bytes live (Err fault.Mode) = λ says. cc
-full_where v now ip full bytes live (Ok IsOther) = λ says. cc
-full_where v now ip full bytes live (Ok Writes) = λ says. cc
-full_where v now ip full bytes live (Ok GivesUp) = tt
-full_where v now ip full bytes None (Ok (Reads name asked)) = full_anew v now ip full None full (λ e. (e, refl)) name asked
-full_where v now ip full bytes (Some x) (Ok (Reads name asked)) = full_again v now ip full (Some x) x name asked (is_repeated bytes x)
-full_where v now ip full bytes None (Ok (Acknowledges number)) = λ says. cc
-full_where v now ip full bytes (Some x) (Ok (Acknowledges number)) = full_last v now ip full (Some x) x (number == x.sent)
+full_where : (v : View) (now : ℕ) (from : Peer) (full : Bool) (bytes : List ℕ) (live : Option Transfer) (read : Result Meant PacketFault)
+    → FullWhere full live (way_of v (datagram_at now from bytes) full live read)
+full_where v now from full bytes live (Err fault.Form) = λ says. cc
+full_where v now from full bytes live (Err fault.Mode) = λ says. cc
+full_where v now from full bytes live (Ok IsOther) = λ says. cc
+full_where v now from full bytes live (Ok Writes) = λ says. cc
+full_where v now from full bytes live (Ok GivesUp) = tt
+full_where v now from full bytes None (Ok (Reads name asked)) = full_anew v now from.ip full None full (λ e. (e, refl)) name asked
+full_where v now from full bytes (Some x) (Ok (Reads name asked)) = full_again v now from.ip full (Some x) x name asked (is_repeated bytes x)
+full_where v now from full bytes None (Ok (Acknowledges number)) = λ says. cc
+full_where v now from full bytes (Some x) (Ok (Acknowledges number)) = full_last v now from.ip full (Some x) x (number == x.sent)
 
-full_way : (v : View) (now : ℕ) (xs : Transfers) (from : Peer) (bytes : List ℕ) → FullWhere (has_no_room xs) (map.get xs from) (way v now xs from bytes)
+full_way : (v : View) (now : ℕ) (xs : Transfers) (from : Peer) (bytes : List ℕ) → FullWhere (has_no_room xs) (map.get xs from) (way v xs (datagram_at now from bytes))
 unfolding way
-full_way v now xs from bytes = full_where v now from.ip (has_no_room xs) bytes (map.get xs from) (packet_of bytes)
+full_way v now xs from bytes = full_where v now from (has_no_room xs) bytes (map.get xs from) (packet_of bytes)
 
 -- what is refused so
 pub record IsFull (xs : Transfers) (from : Peer) (given : Given) : Type 0 where
@@ -178,12 +179,12 @@ module _ (v : View) (now : ℕ) (xs : Transfers) (from : Peer) (bytes : List ℕ
   not_full : says_full (tftp_line given.word) ≡ false → IsFull xs from given
   not_full other = cc
 
-  full_given : (w : Way) → FullWhere (has_no_room xs) (map.get xs from) w → GivesBy v now xs from bytes w given → IsFull xs from given
+  full_given : (w : Way) → FullWhere (has_no_room xs) (map.get xs from) w → GivesBy v xs (datagram_at now from bytes) w given → IsFull xs from given
   full_given (Denies denial) where_full p =
       let why = where_full (sym (ap (λ (g : Given). says_full (tftp_line g.word)) p) ∙ says) in
       record { no_room = why.0; without = why.1; items = ap (λ (g : Given). g.items) p ∙ ap (error_to from) why.2 }
   full_given (Repeats x) where_full p = not_full (ap (λ (g : Given). says_full (tftp_line g.word)) p)
-  full_given (Accepts mac owner name asked) where_full p = not_full (ap (λ (g : Given). says_full (tftp_line g.word)) p.1.1 ∙ first_not_full (has_option asked))
+  full_given (Accepts request owner) where_full p = not_full (ap (λ (g : Given). says_full (tftp_line g.word)) p.1.1 ∙ first_not_full (has_option request.options))
   full_given Ignores where_full p = not_full (ap (λ (g : Given). says_full (tftp_line g.word)) p)
   full_given Finishes where_full p = not_full (ap (λ (g : Given). says_full (tftp_line g.word)) p)
   full_given BreaksOff where_full p = not_full (ap (λ (g : Given). says_full (tftp_line g.word)) p)
@@ -191,10 +192,10 @@ module _ (v : View) (now : ℕ) (xs : Transfers) (from : Peer) (bytes : List ℕ
   full_given Leaves where_full p = not_full (ap (λ (g : Given). says_full (tftp_line g.word)) p)
 
 is_full_given : (t : Tables) (now : ℕ) (xs : Transfers) (from : Peer) (bytes : List ℕ) (given : Given) → says_full (tftp_line given.word) ≡ true
-    → TftpStep t now xs from bytes given → IsFull xs from given
+    → TftpStep t xs (datagram_at now from bytes) given → IsFull xs from given
 unfolding TftpStep
 is_full_given t now xs from bytes given says step =
-    full_given (view t from.ip) now xs from bytes given says (way (view t from.ip) now xs from bytes) (full_way (view t from.ip) now xs from bytes) step
+    full_given (view t from.ip) now xs from bytes given says (way (view t from.ip) xs (datagram_at now from bytes)) (full_way (view t from.ip) now xs from bytes) step
 
 -- ---- every turn
 
@@ -216,7 +217,7 @@ packet_else : (ip : Ip4) (s : State) (from : Peer) (bytes : List ℕ) (effect : 
     → Else ip s (Datagram Tftp from bytes) effect
 packet_else ip s from bytes effect false full did at says none =
     quietly ip s (Datagram Tftp from bytes) effect _ did.does
-    (back_to ip from did.given.items at (answers_go_back s.tables s.held.now s.held.transfers from bytes did.given did.step))
+    (back_to ip from did.given.items at (answers_go_back s.tables s.held.transfers (datagram_at s.held.now from bytes) did.given did.step))
 packet_else ip s from bytes effect true true did at says none =
     let line = ap (λ (e : Effect). says_full e.said.line) did.does in
     let why = is_full_given s.tables s.held.now s.held.transfers from bytes did.given (sym line ∙ says) did.step in

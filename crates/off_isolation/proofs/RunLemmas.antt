@@ -12,6 +12,7 @@ use Rattle.off_defs.specs.declared.results.Outcome.{Outcome}
 use Rattle.off_defs.specs.declared.results.Outcome.TheVariants.{Did, Memory, Keeper}
 use Rattle.off_defs.specs.State.{Tables, State, Said, Effect, at_moment}
 use Rattle.off_defs.specs.Tables.{write_all}
+use Rattle.off_transfer_rules.specs.Requests.{datagram_at}
 use Rattle.off_transfer_rules.specs.Transfers.{Transfers}
 use Rattle.off_transfer_rules.specs.Words.{tftp_line}
 use Rattle.off_transfer_laws.proofs.StepLaws.{step_is_there, others_stay, refusals_leave, answers_go_back}
@@ -49,7 +50,7 @@ module _ (ip : Ip4) (s : State) (from : Peer) (bytes : List ℕ) (effect : Effec
   of_others away =
       own_of_same ip s.held.transfers effect.after.held.transfers own
       (λ peer here e is.
-      sym (others_stay s.tables s.held.now s.held.transfers from bytes did.given did.step peer (apart_from away peer (e ∙ is)))
+      sym (others_stay s.tables s.held.transfers (datagram_at s.held.now from bytes) did.given did.step peer (apart_from away peer (e ∙ is)))
       ∙ sym (ap (λ (xs : Transfers). map.get xs peer) left))
       are
 
@@ -57,17 +58,17 @@ module _ (ip : Ip4) (s : State) (from : Peer) (bytes : List ℕ) (effect : Effec
   refused : says_full effect.said.line ≡ true → AreOwn ip effect.after.held.transfers own
   refused full =
       subst (λ (xs : Transfers). AreOwn ip xs own)
-      (sym (left ∙ refusals_leave s.tables s.held.now s.held.transfers from bytes did.given did.step (full_refuses did.given.word (sym (ap says_full line) ∙ full))))
+      (sym (left ∙ refusals_leave s.tables s.held.transfers (datagram_at s.held.now from bytes) did.given did.step (full_refuses did.given.word (sym (ap says_full line) ∙ full))))
       are
 
   -- answered
   answered : is_at ip from ≡ true → says_full effect.said.line ≡ false → Turned ip s effect own (Some (Came from bytes))
   answered here room =
-      let some = step_is_there s.tables s.held.now own from bytes in
+      let some = step_is_there s.tables own (datagram_at s.held.now from bytes) in
       let same = answered_alone ip s.tables s.held.now s.held.transfers own from bytes did.given some.0 are here (sym (ap says_full line) ∙ room) did.step some.1 in
       let items : items_to ip effect.said.items ≡ some.0.items =
       ap (λ (e : Effect). items_to ip e.said.items) did.does
-      ∙ all_back ip from did.given.items here (answers_go_back s.tables s.held.now s.held.transfers from bytes did.given did.step)
+      ∙ all_back ip from did.given.items here (answers_go_back s.tables s.held.transfers (datagram_at s.held.now from bytes) did.given did.step)
       ∙ sym same.items in
       let says : effect.said.line ≡ tftp_line some.0.word = line ∙ sym (ap tftp_line same.word) in (
         some.0.transfers,

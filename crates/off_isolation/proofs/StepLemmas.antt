@@ -9,9 +9,10 @@ use Rattle.off_defs.specs.declared.tables.Modem.{Modem}
 use Rattle.off_defs.specs.State.{Tables, Transfer}
 use Rattle.off_packets.specs.Packets.{Meant, Reads, Writes, Acknowledges, GivesUp, IsOther, packet_of}
 use Rattle.off_packets.specs.declared.packets.Options.{Options}
+use Rattle.off_transfer_rules.specs.Requests.{datagram_at, request_for, file_owner}
 use Rattle.off_transfer_rules.specs.View.{View, view, holder}
 use Rattle.off_transfer_rules.specs.Transfers.{Transfers, has_no_room, first_word, begun, gone_on, asked_again, packet_to}
-use Rattle.off_transfer_rules.specs.Steps.{Way, Denies, Repeats, Accepts, Ignores, Finishes, BreaksOff, GoesOn, Leaves, file_not_found, too_many_transfers, has_file, way_for_modem, way_for_holder, way_of, way, Given, gives, last_to, GivesBy, TftpStep}
+use Rattle.off_transfer_rules.specs.Steps.{Way, Denies, Repeats, Accepts, Ignores, Finishes, BreaksOff, GoesOn, Leaves, file_not_found, too_many_transfers, has_file, way_for_owner, owner_by_row, way_for_holder, way_of, way, Given, gives, last_to, GivesBy, TftpStep}
 use Rattle.off_transfer_rules.specs.Ticks.{tick_of, TickStep}
 use Rattle.off_transfer_rules.specs.Words.{tftp_line}
 use Rattle.off_packets.specs.declared.faults.PacketFault.{PacketFault}
@@ -31,7 +32,7 @@ use Rattle.off_isolation.proofs.OwnLemmas.{own_here, own_inserted, own_removed, 
 abbrev SameOrFull : Way → Way → Type 0
 SameOrFull one other = (one ≡ other) ⊎ (one ≡ Denies too_many_transfers)
 
-module _ (v : View) (now : ℕ) (ip : Ip4) (few : Bool) where
+module _ (v : View) (now : ℕ) (from : Peer) (few : Bool) where
   judged : (full : Bool) → (few ≡ true → full ≡ true) → (w : Way) → SameOrFull (if full then Denies too_many_transfers else w) (if few then Denies too_many_transfers else w)
   judged true room w = inr refl
   judged false room w = inl (only few room)
@@ -47,17 +48,17 @@ module _ (v : View) (now : ℕ) (ip : Ip4) (few : Bool) where
   named full room false w = inl refl
 
   for_modem : (full : Bool) → (few ≡ true → full ≡ true) → (name : List ℕ) (asked : Options) (mac : Mac) (modem : Option Modem)
-      → SameOrFull (way_for_modem v ip full name asked mac modem) (way_for_modem v ip few name asked mac modem)
+      → SameOrFull (way_for_owner v from.ip full (request_for name asked) (owner_by_row mac modem)) (way_for_owner v from.ip few (request_for name asked) (owner_by_row mac modem))
   for_modem full room name asked mac None = inl refl
-  for_modem full room name asked mac (Some modem) = named full room (has_file v ip name mac) (Accepts mac modem.subscriber name asked)
+  for_modem full room name asked mac (Some modem) = named full room (has_file v from.ip name mac) (Accepts (request_for name asked) (file_owner mac modem.subscriber))
 
   for_holder : (full : Bool) → (few ≡ true → full ≡ true) → (name : List ℕ) (asked : Options) (held : Option Mac)
-      → SameOrFull (way_for_holder v ip full name asked held) (way_for_holder v ip few name asked held)
+      → SameOrFull (way_for_holder v from.ip full (request_for name asked) held) (way_for_holder v from.ip few (request_for name asked) held)
   for_holder full room name asked None = inl refl
   for_holder full room name asked (Some mac) = for_modem full room name asked mac v.modem
 
   same_or_full : (full : Bool) → (few ≡ true → full ≡ true) → (bytes : List ℕ) (live : Option Transfer) (read : Result Meant PacketFault)
-      → SameOrFull (way_of v now ip full bytes live read) (way_of v now ip few bytes live read)
+      → SameOrFull (way_of v (datagram_at now from bytes) full live read) (way_of v (datagram_at now from bytes) few live read)
   same_or_full full room bytes live (Err fault.Form) = inl refl
   same_or_full full room bytes live (Err fault.Mode) = inl refl
   same_or_full full room bytes live (Ok IsOther) = inl refl
@@ -68,12 +69,12 @@ module _ (v : View) (now : ℕ) (ip : Ip4) (few : Bool) where
   same_or_full full room bytes (Some x) (Ok (Reads name asked)) = inl refl
 
 way_alone : (ip : Ip4) (v : View) (now : ℕ) (xs own : Transfers) (from : Peer) (bytes : List ℕ) → AreOwn ip xs own → is_at ip from ≡ true
-    → SameOrFull (way v now xs from bytes) (way v now own from bytes)
+    → SameOrFull (way v xs (datagram_at now from bytes)) (way v own (datagram_at now from bytes))
 unfolding way
 way_alone ip v now xs own from bytes are here =
-    subst (λ (live : Option Transfer). SameOrFull (way_of v now from.ip (has_no_room xs) bytes (map.get xs from) (packet_of bytes)) (way_of v now from.ip (has_no_room own) bytes live (packet_of bytes)))
+    subst (λ (live : Option Transfer). SameOrFull (way_of v (datagram_at now from bytes) (has_no_room xs) (map.get xs from) (packet_of bytes)) (way_of v (datagram_at now from bytes) (has_no_room own) live (packet_of bytes)))
     (sym (own_here ip xs own are from here))
-    (same_or_full v now from.ip (has_no_room own) (has_no_room xs) (own_room ip xs own are) bytes (map.get xs from) (packet_of bytes))
+    (same_or_full v now from (has_no_room own) (has_no_room xs) (own_room ip xs own are) bytes (map.get xs from) (packet_of bytes))
 
 -- ---- what it gives is the same
 
@@ -94,15 +95,15 @@ same_given ip given alone ys own items w p q are = record {
 }
 
 module _ (ip : Ip4) (v : View) (now : ℕ) (xs own : Transfers) (from : Peer) (bytes : List ℕ) (are : AreOwn ip xs own) (here : is_at ip from ≡ true) where
-  alone_by : (w : Way) (given alone : Given) → GivesBy v now xs from bytes w given → GivesBy v now own from bytes w alone → SameGiven ip given alone
+  alone_by : (w : Way) (given alone : Given) → GivesBy v xs (datagram_at now from bytes) w given → GivesBy v own (datagram_at now from bytes) w alone → SameGiven ip given alone
   alone_by (Denies denial) given alone p q = same_given ip given alone xs own _ denial.word p q are
   alone_by (Repeats x) given alone p q = same_given ip given alone _ _ _ word.Again p q (own_inserted ip xs own are from here (asked_again now x))
-  alone_by (Accepts mac owner name asked) given alone p q =
+  alone_by (Accepts request owner) given alone p q =
       let file : q.0 ≡ p.0 = built_is_one v now from.ip q.0 p.0 q.1.0 p.1.0 in
-      let x : Transfer = begun now bytes mac owner name asked p.0 in
-      same_given ip given alone (map.insert xs from x) (map.insert own from x) (last_to from x) (first_word asked) p.1.1
+      let x : Transfer = begun (datagram_at now from bytes) request owner p.0 in
+      same_given ip given alone (map.insert xs from x) (map.insert own from x) (last_to from x) (first_word request.options) p.1.1
       (q.1.1
-      ∙ ap (λ (f : List ℕ). gives (map.insert own from (begun now bytes mac owner name asked f)) (last_to from (begun now bytes mac owner name asked f)) (first_word asked)) file)
+      ∙ ap (λ (f : List ℕ). gives (map.insert own from (begun (datagram_at now from bytes) request owner f)) (last_to from (begun (datagram_at now from bytes) request owner f)) (first_word request.options)) file)
       (own_inserted ip xs own are from here x)
   alone_by Ignores given alone p q = same_given ip given alone xs own [] word.StaleAck p q are
   alone_by Finishes given alone p q = same_given ip given alone _ _ [] word.Done p q (own_removed ip xs own are from here)
@@ -111,20 +112,20 @@ module _ (ip : Ip4) (v : View) (now : ℕ) (xs own : Transfers) (from : Peer) (b
   alone_by Leaves given alone p q = same_given ip given alone _ _ [] word.PeerError p q (own_removed ip xs own are from here)
 
   same_by : (w u : Way) → SameOrFull w u → (given alone : Given) → says_full (tftp_line given.word) ≡ false
-      → GivesBy v now xs from bytes w given → GivesBy v now own from bytes u alone → SameGiven ip given alone
-  same_by w u (inl same) given alone room p q = alone_by w given alone p (subst (λ (x : Way). GivesBy v now own from bytes x alone) (sym same) q)
+      → GivesBy v xs (datagram_at now from bytes) w given → GivesBy v own (datagram_at now from bytes) u alone → SameGiven ip given alone
+  same_by w u (inl same) given alone room p q = alone_by w given alone p (subst (λ (x : Way). GivesBy v own (datagram_at now from bytes) x alone) (sym same) q)
   same_by w u (inr full) given alone room p q =
-      let denied : given ≡ gives xs _ word.Full = subst (λ (x : Way). GivesBy v now xs from bytes x given) full p in
+      let denied : given ≡ gives xs _ word.Full = subst (λ (x : Way). GivesBy v xs (datagram_at now from bytes) x given) full p in
       let says : says_full (tftp_line given.word) ≡ true = ap (λ (g : Given). says_full (tftp_line g.word)) denied in
       cc
 
 pub answered_alone : (ip : Ip4) (t : Tables) (now : ℕ) (xs own : Transfers) (from : Peer) (bytes : List ℕ) (given alone : Given) → AreOwn ip xs own
     → is_at ip from ≡ true → says_full (tftp_line given.word) ≡ false
-    → TftpStep t now xs from bytes given → TftpStep t now own from bytes alone → SameGiven ip given alone
+    → TftpStep t xs (datagram_at now from bytes) given → TftpStep t own (datagram_at now from bytes) alone → SameGiven ip given alone
 unfolding TftpStep
 answered_alone ip t now xs own from bytes given alone are here room p q =
     let v : View = view t from.ip in
-    same_by ip v now xs own from bytes are here (way v now xs from bytes) (way v now own from bytes) (way_alone ip v now xs own from bytes are here) given alone room p q
+    same_by ip v now xs own from bytes are here (way v xs (datagram_at now from bytes)) (way v own (datagram_at now from bytes)) (way_alone ip v now xs own from bytes are here) given alone room p q
 
 -- a line that says `full` has a word with which no transfer changes
 pub full_refuses : (w : TftpWord) → says_full (tftp_line w) ≡ true → is_refusal w ≡ true

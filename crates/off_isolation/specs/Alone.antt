@@ -5,6 +5,7 @@ use Rattle.off_base.specs.declared.addresses.Ip4.{Ip4}
 use Rattle.off_base.specs.declared.addresses.Peer.{Peer}
 use Rattle.off_defs.specs.declared.results.Sent.{Sent}
 use Rattle.off_defs.specs.State.{Tables, State, Said}
+use Rattle.off_transfer_rules.specs.Requests.{datagram_at}
 use Rattle.off_transfer_rules.specs.Transfers.{Transfers}
 use Rattle.off_transfer_rules.specs.Steps.{Given, TftpStep}
 use Rattle.off_transfer_rules.specs.Ticks.{TickStep}
@@ -18,7 +19,7 @@ pub record GetsAlone (tables : Tables) (now : ℕ) (from : Peer) (bytes : List �
     (old new : Transfers)
     (said : Said) : Type 0 where
   pub given : Given
-  pub step : TftpStep tables now old from bytes given
+  pub step : TftpStep tables old (datagram_at now from bytes) given
   pub leaves : new ≡ given.transfers
   pub says : said ≡ tftp_said given
 

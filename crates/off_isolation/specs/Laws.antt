@@ -4,6 +4,7 @@ use Rattle.std.specs.FinMap as map
 use Rattle.off_base.specs.declared.addresses.Ip4.{Ip4}
 use Rattle.off_base.specs.declared.addresses.Peer.{Peer}
 use Rattle.off_defs.specs.State.{Tables, State, Said}
+use Rattle.off_transfer_rules.specs.Requests.{Datagram}
 use Rattle.off_transfer_rules.specs.View.{view}
 use Rattle.off_transfer_rules.specs.Transfers.{Transfers}
 use Rattle.off_transfer_rules.specs.Steps.{Given, TftpStep}
@@ -47,10 +48,9 @@ SameView tables other ip = view tables ip ≡ view other ip
 -- tables that show the address the same give the same transfers, items and word
 abbrev pub ViewsGiveTheSame : Type 0
 ViewsGiveTheSame =
-    (tables other : Tables) (now : ℕ) (transfers : Transfers) (from : Peer) (bytes : List ℕ)
-    (given again : Given)
-    → SameView tables other from.ip
-    → TftpStep tables now transfers from bytes given → TftpStep other now transfers from bytes again
+    (tables other : Tables) (transfers : Transfers) (datagram : Datagram) (given again : Given)
+    → SameView tables other datagram.from.ip
+    → TftpStep tables transfers datagram given → TftpStep other transfers datagram again
     → given ≡ again
 
 -- which they do where the rows that count for the address are the same, whatever the others are

@@ -5,6 +5,7 @@ use Rattle.off_defs.specs.declared.events.What.{What}
 use Rattle.off_defs.specs.declared.events.What.TheVariants.{Datagram, Piece, Closed, Tick, End}
 use Rattle.off_defs.specs.declared.results.Outcome.TheVariants.{Did}
 use Rattle.off_defs.specs.State.{State, Effect, at_moment}
+use Rattle.off_transfer_rules.specs.Requests.{datagram_at}
 use Rattle.off_http.specs.Request.{Meaning, RequestIs}
 use Rattle.off_cpe_rules.specs.declared.results.DeviceStep.{DeviceStep}
 use Rattle.off_book.specs.Dhcp.{MessageDid, DatagramDid, device_of, device_effect, query_effect, dhcp_effect}
@@ -40,7 +41,7 @@ does_some : (s : State) (what : What) (heard : List ℕ) → Brings s what heard
 does_some s (Datagram Dhcp from bytes) heard brings says = datagram_some s bytes (query_of bytes)
 does_some s (Datagram Time from bytes) heard brings says = (_, refl)
 does_some s (Datagram Tftp from bytes) heard brings says =
-    let there = step_is_there s.tables s.held.now s.held.transfers from bytes in (
+    let there = step_is_there s.tables s.held.transfers (datagram_at s.held.now from bytes) in (
       transfers_effect s there.0.transfers (tftp_said there.0),
       record { given = there.0; step = there.1; does = refl },
     )

@@ -23,6 +23,7 @@ use Rattle.off_lease_rules.specs.Steps.{dhcp_step}
 use Rattle.off_laws.proofs.Messages.{datagram_refused, device_refused, datagram_good}
 use Rattle.off_base.specs.declared.addresses.Peer.{Peer}
 use Rattle.off_defs.specs.declared.results.Sent.{Sent}
+use Rattle.off_transfer_rules.specs.Requests.{datagram_at}
 use Rattle.off_transfer_rules.specs.Transfers.{Transfers}
 use Rattle.off_transfer_rules.specs.Steps.{Given}
 use Rattle.off_transfer_rules.specs.declared.ticks.Ticked.{Ticked}
@@ -48,7 +49,7 @@ takes_one false s conn piece one other p q =
 
 packet_one : (s : State) (from : Peer) (bytes : List ℕ) (one other : Effect) → TftpDid s from bytes one → TftpDid s from bytes other → one ≡ other
 packet_one s from bytes one other p q =
-    let same : p.given ≡ q.given = step_is_one s.tables s.held.now s.held.transfers from bytes p.given q.given p.step q.step in
+    let same : p.given ≡ q.given = step_is_one s.tables s.held.transfers (datagram_at s.held.now from bytes) p.given q.given p.step q.step in
     p.does ∙ (ap (λ (given : Given). transfers_effect s given.transfers (tftp_said given)) same ∙ sym q.does)
 
 tick_one : (s : State) (one other : Effect) → TickDid s one → TickDid s other → one ≡ other
@@ -207,7 +208,7 @@ packet_part s from bytes effect did = record {
   commit = commit_is effect _ did.does;
   connections = ap (λ (e : Effect). e.after.held.connections) did.does;
   others = λ peer apart.
-      ap (λ (e : Effect). map.get e.after.held.transfers peer) did.does ∙ others_stay s.tables s.held.now s.held.transfers from bytes did.given did.step peer apart;
+      ap (λ (e : Effect). map.get e.after.held.transfers peer) did.does ∙ others_stay s.tables s.held.transfers (datagram_at s.held.now from bytes) did.given did.step peer apart;
 }
 
 tick_part : (s : State) (effect : Effect) → TickDid s effect → Changes by_tick s effect

@@ -21,6 +21,7 @@ use Rattle.off_defs.proofs.TableLemmas.{same_key, row_with, row_without}
 use Rattle.off_account_rules.specs.Rows.{possible, as_site, as_modem, as_lease, as_pool_hub, number_or_0, pool_of, pools, has_address, hub_in, pool_hub_in, hub_of, site_of, modem_in, lease_in}
 use Rattle.off_table_laws.proofs.MadeLemmas.{made_with, made_without}
 use Rattle.off_defs.specs.Tables.{key_written}
+use Rattle.off_transfer_rules.specs.Requests.{file_owner}
 use Rattle.off_transfer_rules.specs.View.{View, view, owner_by, agrees}
 use Rattle.off_tftp.specs.declared.agreements.Agreement.{Agreement}
 use Rattle.off_tftp.specs.Agreements.{Slots, none_remembered, slot_of, StandsRight, AllAgreed, touches_all, touch_all, without_row, without_rows, without_touched}
@@ -86,14 +87,13 @@ module _ (t : Tables) (write : Write) (other : touches_all (key_written write) �
 
   -- where its lease stays it agrees as before
   agrees_stay : (ip : Ip4) → lease_in (written t write) ip ≡ lease_in t ip → (now : ℕ) (name : List ℕ) (mac : Mac) (subscriber : ℕ)
-      → agrees (view (written t write) ip) now ip name mac subscriber ≡ agrees (view t ip) now ip name mac subscriber
+      → agrees (view (written t write) ip) now ip name (file_owner mac subscriber) ≡ agrees (view t ip) now ip name (file_owner mac subscriber)
   unfolding view
   agrees_stay ip leased now name mac subscriber =
-      ap (λ (site : Option Site). agrees (seen_by site (lease_in (written t write) ip) (option_and_then (modem_in (written t write)) (owner_by (lease_in (written t write) ip)))) now ip name mac subscriber) (site_stays ip)
-      ∙ ap (λ (f : Mac → Option Modem). agrees (seen_by (site_of t ip) (lease_in (written t write) ip) (option_and_then f (owner_by (lease_in (written t write) ip)))) now ip name mac subscriber)
+      ap (λ (site : Option Site). agrees (seen_by site (lease_in (written t write) ip) (option_and_then (modem_in (written t write)) (owner_by (lease_in (written t write) ip)))) now ip name (file_owner mac subscriber)) (site_stays ip)
+      ∙ ap (λ (f : Mac → Option Modem). agrees (seen_by (site_of t ip) (lease_in (written t write) ip) (option_and_then f (owner_by (lease_in (written t write) ip)))) now ip name (file_owner mac subscriber))
       (let same : (λ (m : Mac). modem_in (written t write) m) ≡ (λ (m : Mac). modem_in t m) = λ i m. modem_stays m i in same)
-      ∙ ap (λ (lease : Option Lease). agrees (seen_by (site_of t ip) lease (option_and_then (modem_in t) (owner_by lease))) now ip name mac subscriber) leased
-
+      ∙ ap (λ (lease : Option Lease). agrees (seen_by (site_of t ip) lease (option_and_then (modem_in t) (owner_by lease))) now ip name (file_owner mac subscriber)) leased
 -- ---- one write
 
 abbrev is_lease : Key → Bool

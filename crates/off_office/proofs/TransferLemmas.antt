@@ -12,6 +12,7 @@ use Rattle.off_defs.specs.State.{Tables, Said, state_of, says_nothing, held_at_s
 use Rattle.off_defs.proofs.CountLemmas.{tallied_none}
 use Rattle.off_account_rules.specs.Rows.{hub_of}
 use Rattle.off_account_rules.specs.declared.counts.Counts.{Counts}
+use Rattle.off_transfer_rules.specs.Requests.{datagram_at}
 use Rattle.off_transfer_rules.specs.Transfers.{Transfers}
 use Rattle.off_transfer_rules.specs.Steps.{TftpStep}
 use Rattle.off_book.specs.Tftp.{tftp_said, tick_said}
@@ -92,10 +93,10 @@ packet_did datagram before after said d a b at around reads carried =
     let agreed_is : after.agreements ≡ with_agreed d.agreed before.agreements = ap (λ (k : Desk). k.agreements) carried.moves in
     record {
       given = given_by d before.held.now before.held.transfers datagram.from;
-      step = subst (λ n. TftpStep t n before.held.transfers datagram.from datagram.bytes.now (given_by d n before.held.transfers datagram.from)) at did.step;
+      step = subst (λ n. TftpStep t before.held.transfers (datagram_at n datagram.from datagram.bytes.now) (given_by d n before.held.transfers datagram.from)) at did.step;
       moves = carried.moves ∙ ap (λ (k : Desk). moved_with before (after_change d.change before.held.now before.held.transfers datagram.from) k.kept k.agreements) (sym carried.moves);
       says = carried.says;
-      keeps = kept_is ∙ (did.keeps ∙ ap (λ n. kept_after t n before.held.transfers datagram.from datagram.bytes.now before.kept) at);
+      keeps = kept_is ∙ (did.keeps ∙ ap (λ n. kept_after t before.held.transfers (datagram_at n datagram.from datagram.bytes.now) before.kept) at);
       right = subst (AllRight t) (sym kept_is) did.right;
       agreed = subst (AllAgreed t) (sym agreed_is) did.agreed;
     })

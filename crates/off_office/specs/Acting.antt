@@ -22,6 +22,7 @@ use Rattle.off_outside.specs.KeeperCalls.{Reads, NotCommitted, StaysUp, Unasked,
 use Rattle.off_outside.specs.declared.keeper.KeepErr.{KeepErr}
 use Rattle.off_outside.specs.declared.keeper.KeepErr.TheVariants as keep
 use Rattle.off_kept.specs.Entries.{Entries, without_written}
+use Rattle.off_transfer_rules.specs.Requests.{datagram_at}
 use Rattle.off_tftp.specs.Keeping.{kept_after}
 use Rattle.off_office.specs.Desk.{Desk}
 use Rattle.off_office.specs.Opening.{IsMigrated}
@@ -136,7 +137,7 @@ DoingBegins what before t u =
 -- and what is written is forgotten.
 abbrev pub kept_by_packet : Outcome → Peer → List ℕ → Desk → Tables → Entries
 kept_by_packet Did from bytes before t =
-    kept_after t before.held.now before.held.transfers from bytes before.kept
+    kept_after t before.held.transfers (datagram_at before.held.now from bytes) before.kept
 kept_by_packet Memory from bytes before t = before.kept
 kept_by_packet Keeper from bytes before t = before.kept
 

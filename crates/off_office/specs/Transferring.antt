@@ -5,6 +5,7 @@ use Rattle.off_defs.specs.State.{Tables, Said}
 use Rattle.off_defs.specs.declared.results.Outcome.{Outcome}
 use Rattle.off_defs.specs.declared.results.Outcome.TheVariants as end
 use Rattle.off_defs.specs.declared.results.Sent.{Sent}
+use Rattle.off_transfer_rules.specs.Requests.{datagram_at}
 use Rattle.off_transfer_rules.specs.Transfers.{Transfers}
 use Rattle.off_transfer_rules.specs.Steps.{Given, TftpStep}
 use Rattle.off_transfer_rules.specs.Ticks.{TickStep}
@@ -41,11 +42,11 @@ MovesTransfers before after =
 pub record DidPacket (from : Peer) (bytes : List ℕ) (before after : Desk) (said : Said)
     (tables : Tables) : Type 0 where
   pub given : Given
-  pub step : TftpStep tables before.held.now before.held.transfers from bytes given
+  pub step : TftpStep tables before.held.transfers (datagram_at before.held.now from bytes) given
   pub moves : after ≡ moved_with before given.transfers after.kept after.agreements
   pub says : said ≡ tftp_said given
   pub keeps : after.kept
-      ≡ kept_after tables before.held.now before.held.transfers from bytes before.kept
+      ≡ kept_after tables before.held.transfers (datagram_at before.held.now from bytes) before.kept
   pub right : AllRight tables after.kept
   pub agreed : AllAgreed tables after.agreements
 

@@ -16,6 +16,7 @@ use Rattle.off_defs.specs.State.{Tables, Transfer}
 use Rattle.off_account_rules.specs.Rows.{passes}
 use Rattle.off_base.specs.Macs.{is_same_mac}
 use Rattle.off_defs.specs.Tables.{key_written}
+use Rattle.off_transfer_rules.specs.Requests.{file_owner}
 use Rattle.off_transfer_rules.specs.View.{View, view, agrees}
 use Rattle.off_tftp.specs.declared.agreements.Agreement.{Agreement}
 use Rattle.off_tftp.specs.Agreements.{Slots, none_remembered, slot_of, in_slot, with_agreement, with_agreed, stands_for, is_remembered, AgreesBy, IsAgreementOf, RemembersRight, StandsRight, AllAgreed, without_row, without_rows}
@@ -99,19 +100,19 @@ stands_so now ip x a e =
       name = sym ((bytes_eq-Decides x.name a.name).0 four.1);
     }
 
-pub agrees_for : (v : View) (now : ℕ) (ip : Ip4) (x : Transfer) (a : Agreement) → StandsFor now ip x a → AgreesBy v a → agrees v now ip x.name x.modem x.subscriber ≡ true
+pub agrees_for : (v : View) (now : ℕ) (ip : Ip4) (x : Transfer) (a : Agreement) → StandsFor now ip x a → AgreesBy v a → agrees v now ip x.name (file_owner x.modem x.subscriber) ≡ true
 agrees_for v now ip x a stands right =
-    ap (λ (i : Ip4). agrees v now i x.name x.modem x.subscriber) (sym stands.here)
-    ∙ ap (λ (n : List ℕ). agrees v now a.ip n x.modem x.subscriber) (sym stands.name)
-    ∙ ap (λ (m : Mac). agrees v now a.ip a.name m x.subscriber) (sym stands.modem)
-    ∙ ap (λ (n : ℕ). agrees v now a.ip a.name a.modem n) (sym stands.subscriber)
+    ap (λ (i : Ip4). agrees v now i x.name (file_owner x.modem x.subscriber)) (sym stands.here)
+    ∙ ap (λ (n : List ℕ). agrees v now a.ip n (file_owner x.modem x.subscriber)) (sym stands.name)
+    ∙ ap (λ (m : Mac). agrees v now a.ip a.name (file_owner m x.subscriber)) (sym stands.modem)
+    ∙ ap (λ (n : ℕ). agrees v now a.ip a.name (file_owner a.modem n)) (sym stands.subscriber)
     ∙ right now stands.before
 
-agrees_in : (v : View) (now : ℕ) (ip : Ip4) (x : Transfer) (o : Option Agreement) → passes (stands_for now ip x) o ≡ true → IfSome o (λ a. a.ip ≡ ip → AgreesBy v a) → agrees v now ip x.name x.modem x.subscriber ≡ true
+agrees_in : (v : View) (now : ℕ) (ip : Ip4) (x : Transfer) (o : Option Agreement) → passes (stands_for now ip x) o ≡ true → IfSome o (λ a. a.ip ≡ ip → AgreesBy v a) → agrees v now ip x.name (file_owner x.modem x.subscriber) ≡ true
 agrees_in v now ip x None e right = cc
 agrees_in v now ip x (Some a) e right = let stands = stands_so now ip x a e in agrees_for v now ip x a stands (right stands.here)
 
-pub remembered_agrees : (v : View) (now : ℕ) (ip : Ip4) (slots : Slots) (x : Transfer) → is_remembered now ip slots x ≡ true → RemembersRight v ip slots → agrees v now ip x.name x.modem x.subscriber ≡ true
+pub remembered_agrees : (v : View) (now : ℕ) (ip : Ip4) (slots : Slots) (x : Transfer) → is_remembered now ip slots x ≡ true → RemembersRight v ip slots → agrees v now ip x.name (file_owner x.modem x.subscriber) ≡ true
 remembered_agrees v now ip slots x e right = agrees_in v now ip x (in_slot ip slots) e right
 
 -- ---- rows, one after another

@@ -26,9 +26,10 @@ use Rattle.off_outside.specs.declared.keeper.KeepErr.TheVariants.{Memory}
 use Rattle.off_outside.proofs.KeeperLemmas.{reads_then, reads_as, reads_none, reads_forgotten, failed_then, spent_none, spent_one, spent_then, spent_within}
 use Rattle.off_packets.specs.Packets.{Meant, Reads as Asks, Writes, Acknowledges, GivesUp, IsOther, packet_of}
 use Rattle.off_packets.specs.declared.packets.Options.{Options}
+use Rattle.off_transfer_rules.specs.Requests.{datagram_at, request_for, file_owner}
 use Rattle.off_transfer_rules.specs.Transfers.{Transfers, has_no_room, is_at_last}
 use Rattle.off_transfer_rules.specs.View.{View, view, owner_by, bound_to, holder, agrees}
-use Rattle.off_transfer_rules.specs.Steps.{Way, Denies, Repeats, Accepts, Ignores, Finishes, GoesOn, BreaksOff, way, way_of, way_anew, way_for_modem, way_for_holder, way_of_request, way_of_acknowledgement, has_file, is_repeated, file_not_found, too_many_transfers}
+use Rattle.off_transfer_rules.specs.Steps.{Way, Denies, Repeats, Accepts, Ignores, Finishes, GoesOn, BreaksOff, way, way_of, way_anew, way_for_owner, owner_by_row, way_for_holder, way_of_request, way_of_acknowledgement, has_file, is_repeated, file_not_found, too_many_transfers}
 use Rattle.off_packets.specs.declared.faults.PacketFault.{PacketFault}
 use Rattle.off_packets.specs.declared.faults.PacketFault.TheVariants as fault
 use Rattle.off_transfer_rules.proofs.PeerLemmas.{peer_total, own_peer}
@@ -137,18 +138,18 @@ module _ (t : Tables) (v : View) (entries : Entries) where
 
   asked_right : (no_file no_room : Bool) (mac : Mac) (subscriber : ℕ) (name : List ℕ) (asked : Options) → AllRight t entries
       → AllRight t (kept_with mac (entry_for v.modem v.profile) entries)
-      → Stay (cond no_file (Denies file_not_found) (cond no_room (Denies too_many_transfers) (Accepts mac subscriber name asked)))
+      → Stay (cond no_file (Denies file_not_found) (cond no_room (Denies too_many_transfers) (Accepts (request_for name asked) (file_owner mac subscriber))))
   asked_right true no_room mac subscriber name asked same put = same
   asked_right false true mac subscriber name asked same put = same
   asked_right false false mac subscriber name asked same put = put
 
   modem_right : (ip : Ip4) (no_room : Bool) (name : List ℕ) (asked : Options) (mac : Mac) (modem : Option Modem) → AllRight t entries
-      → AllRight t (kept_with mac (entry_for v.modem v.profile) entries) → Stay (way_for_modem v ip no_room name asked mac modem)
+      → AllRight t (kept_with mac (entry_for v.modem v.profile) entries) → Stay (way_for_owner v ip no_room (request_for name asked) (owner_by_row mac modem))
   modem_right ip no_room name asked mac None same put = same
   modem_right ip no_room name asked mac (Some modem) same put = asked_right (not (has_file v ip name mac)) no_room mac modem.subscriber name asked same put
 
   holder_right : (ip : Ip4) (no_room : Bool) (name : List ℕ) (asked : Options) (h : Option Mac) → AllRight t entries
-      → ((mac : Mac) → h ≡ Some mac → AllRight t (kept_with mac (entry_for v.modem v.profile) entries)) → Stay (way_for_holder v ip no_room name asked h)
+      → ((mac : Mac) → h ≡ Some mac → AllRight t (kept_with mac (entry_for v.modem v.profile) entries)) → Stay (way_for_holder v ip no_room (request_for name asked) h)
   holder_right ip no_room name asked None same put = same
   holder_right ip no_room name asked (Some mac) same put = modem_right ip no_room name asked mac v.modem same (put mac refl)
 
@@ -156,11 +157,11 @@ module _ (t : Tables) (v : View) (entries : Entries) where
   request_by x true w same put = same
   request_by x false w same put = put
 
-  request_right : (now : ℕ) (ip : Ip4) (full : Bool) (bytes name : List ℕ) (asked : Options) (live : Option Transfer) → AllRight t entries
-      → ((mac : Mac) → holder now v ≡ Some mac → AllRight t (kept_with mac (entry_for v.modem v.profile) entries)) → Stay (way_of_request v now ip full bytes name asked live)
-  request_right now ip full bytes name asked None same put = holder_right ip full name asked (holder now v) same put
-  request_right now ip full bytes name asked (Some x) same put =
-      request_by x (is_repeated bytes x) (way_anew v now ip false name asked) same (holder_right ip false name asked (holder now v) same put)
+  request_right : (now : ℕ) (from : Peer) (full : Bool) (bytes name : List ℕ) (asked : Options) (live : Option Transfer) → AllRight t entries
+      → ((mac : Mac) → holder now v ≡ Some mac → AllRight t (kept_with mac (entry_for v.modem v.profile) entries)) → Stay (way_of_request v (datagram_at now from bytes) full (request_for name asked) live)
+  request_right now from full bytes name asked None same put = holder_right from.ip full name asked (holder now v) same put
+  request_right now from full bytes name asked (Some x) same put =
+      request_by x (is_repeated bytes x) (way_anew v now from.ip false (request_for name asked)) same (holder_right from.ip false name asked (holder now v) same put)
 
 -- an acknowledgement leaves it
 last_keeps : (u : View) (entries : Entries) (x : Transfer) (here at agreed : Bool)
@@ -173,31 +174,31 @@ last_keeps u entries x true false false = refl
 pub acknowledgement_keeps : (u v : View) (entries : Entries) (now : ℕ) (ip : Ip4) (number : ℕ) (live : Option Transfer)
     → kept_by u (way_of_acknowledgement v now ip number live) entries ≡ entries
 acknowledgement_keeps u v entries now ip number None = refl
-acknowledgement_keeps u v entries now ip number (Some x) = last_keeps u entries x (number == x.sent) (is_at_last x) (agrees v now ip x.name x.modem x.subscriber)
+acknowledgement_keeps u v entries now ip number (Some x) = last_keeps u entries x (number == x.sent) (is_at_last x) (agrees v now ip x.name (file_owner x.modem x.subscriber))
 
 -- and so does a request that came before
-pub repeat_keeps : (v : View) (entries : Entries) (now : ℕ) (ip : Ip4) (full : Bool) (bytes name : List ℕ) (asked : Options) (live : Option Transfer) → repeats bytes live ≡ true
-    → entries ≡ kept_by v (way_of_request v now ip full bytes name asked live) entries
-repeat_keeps v entries now ip full bytes name asked None is = cc
-repeat_keeps v entries now ip full bytes name asked (Some x) is = ap (λ b. kept_by v (cond b (Repeats x) (way_anew v now ip false name asked)) entries) (sym is)
+pub repeat_keeps : (v : View) (entries : Entries) (now : ℕ) (from : Peer) (full : Bool) (bytes name : List ℕ) (asked : Options) (live : Option Transfer) → repeats bytes live ≡ true
+    → entries ≡ kept_by v (way_of_request v (datagram_at now from bytes) full (request_for name asked) live) entries
+repeat_keeps v entries now from full bytes name asked None is = cc
+repeat_keeps v entries now from full bytes name asked (Some x) is = ap (λ b. kept_by v (cond b (Repeats x) (way_anew v now from.ip false (request_for name asked))) entries) (sym is)
 
-meant_right : (t : Tables) (v : View) (entries : Entries) (now : ℕ) (ip : Ip4) (full : Bool) (bytes : List ℕ) (live : Option Transfer) (meant : Result Meant PacketFault)
+meant_right : (t : Tables) (v : View) (entries : Entries) (now : ℕ) (from : Peer) (full : Bool) (bytes : List ℕ) (live : Option Transfer) (meant : Result Meant PacketFault)
     → AllRight t entries → ((mac : Mac) → holder now v ≡ Some mac → AllRight t (kept_with mac (entry_for v.modem v.profile) entries))
-    → AllRight t (kept_by v (way_of v now ip full bytes live meant) entries)
-meant_right t v entries now ip full bytes live (Err fault.Form) same put = same
-meant_right t v entries now ip full bytes live (Err fault.Mode) same put = same
-meant_right t v entries now ip full bytes live (Ok IsOther) same put = same
-meant_right t v entries now ip full bytes live (Ok Writes) same put = same
-meant_right t v entries now ip full bytes live (Ok (Asks name asked)) same put = request_right t v entries now ip full bytes name asked live same put
-meant_right t v entries now ip full bytes live (Ok (Acknowledges number)) same put =
-    subst (AllRight t) (sym (acknowledgement_keeps v v entries now ip number live)) same
-meant_right t v entries now ip full bytes live (Ok GivesUp) same put = same
+    → AllRight t (kept_by v (way_of v (datagram_at now from bytes) full live meant) entries)
+meant_right t v entries now from full bytes live (Err fault.Form) same put = same
+meant_right t v entries now from full bytes live (Err fault.Mode) same put = same
+meant_right t v entries now from full bytes live (Ok IsOther) same put = same
+meant_right t v entries now from full bytes live (Ok Writes) same put = same
+meant_right t v entries now from full bytes live (Ok (Asks name asked)) same put = request_right t v entries now from full bytes name asked live same put
+meant_right t v entries now from full bytes live (Ok (Acknowledges number)) same put =
+    subst (AllRight t) (sym (acknowledgement_keeps v v entries now from.ip number live)) same
+meant_right t v entries now from full bytes live (Ok GivesUp) same put = same
 
 -- what is kept is right after any datagram
-pub after_right : (t : Tables) (now : ℕ) (old : Transfers) (from : Peer) (bytes : List ℕ) (entries : Entries) → AllRight t entries → AllRight t (kept_after t now old from bytes entries)
+pub after_right : (t : Tables) (now : ℕ) (old : Transfers) (from : Peer) (bytes : List ℕ) (entries : Entries) → AllRight t entries → AllRight t (kept_after t old (datagram_at now from bytes) entries)
 unfolding way
 after_right t now old from bytes entries right =
-    meant_right t (view t from.ip) entries now from.ip (has_no_room old) bytes (map.get old from) (packet_of bytes) right
+    meant_right t (view t from.ip) entries now from (has_no_room old) bytes (map.get old from) (packet_of bytes) right
     (λ mac is. view_right t from.ip mac entries (holder_owns now (view t from.ip) mac is) right)
 
 -- ---- whose a transfer is that begins

@@ -20,11 +20,13 @@ use Rattle.off_outside.specs.declared.keeper.KeepErr.TheVariants.{Memory}
 use Rattle.off_outside.proofs.KeeperLemmas.{reads_as, reads_none, reads_forgotten}
 use Rattle.off_packets.specs.Packets.{Meant, Acknowledges, GivesUp, packet_of}
 use Rattle.off_packets.specs.declared.packets.Options.{Options}
+use Rattle.off_transfer_rules.specs.Requests.{datagram_at, request_for, file_owner}
 use Rattle.off_transfer_rules.specs.Transfers.{Transfers, has_no_room, is_at_last}
 use Rattle.off_transfer_rules.specs.View.{View, view, owner_by, holder, is_own_name, agrees}
-use Rattle.off_transfer_rules.specs.Steps.{Way, Given, gives, GivesBy, Repeats, Finishes, GoesOn, BreaksOff, Ignores, Accepts, TftpStep, way, way_of, way_anew, way_for_modem, way_for_holder, file_not_found, too_many_transfers, way_of_request, way_of_last, way_of_acknowledgement, is_repeated, ended, Denial, Denies}
+use Rattle.off_transfer_rules.specs.Steps.{Way, Given, gives, GivesBy, Repeats, Finishes, GoesOn, BreaksOff, Ignores, Accepts, TftpStep, way, way_of, way_anew, way_for_owner, owner_by_row, way_for_holder, file_not_found, too_many_transfers, way_of_request, way_of_last, way_of_acknowledgement, is_repeated, ended, Denial, Denies}
 use Rattle.off_packets.specs.declared.faults.PacketFault.{PacketFault}
 use Rattle.off_transfer_rules.specs.declared.words.TftpWord.TheVariants as word
+use Rattle.off_tftp.specs.Granted.{as_came}
 use Rattle.off_tftp.specs.declared.acknowledging.Stage.TheVariants as stage
 use Rattle.off_tftp.specs.declared.requests.Datagram.{Datagram}
 use Rattle.off_tftp.specs.declared.transfers.Place.{Place}
@@ -98,23 +100,23 @@ own_view t hub ip is = ap (λ (h : Option ℕ). view_at t h ip) is
 
 module _ (now : ℕ) (old : Transfers) (from : Peer) (bytes : List ℕ) where
   abbrev DoesSo : View → Way → Decision → Type 0
-  DoesSo v w d = Does v now old from bytes w d
+  DoesSo v w d = Does v old (datagram_at now from bytes) w d
 
   abbrev ServesSo : View → Way → Decision → Type 0
-  ServesSo v w d = Serves v now old from bytes w d
+  ServesSo v w d = Serves v old (datagram_at now from bytes) w d
 
   does_as : (v : View) (w u : Way) (d : Decision) → w ≡ u → DoesSo v w d → DoesSo v u d
   does_as v w u d e does = subst (λ x. DoesSo v x d) e does
 
   -- what the tables agree with is told by all but the profile
-  last_any : (v u : View) (x : Transfer) (gave : Given) (at ag : Bool) → GivesBy u now old from bytes (cond at Finishes (cond ag (GoesOn x) BreaksOff)) gave
-      → GivesBy v now old from bytes (cond at Finishes (cond ag (GoesOn x) BreaksOff)) gave
+  last_any : (v u : View) (x : Transfer) (gave : Given) (at ag : Bool) → GivesBy u old (datagram_at now from bytes) (cond at Finishes (cond ag (GoesOn x) BreaksOff)) gave
+      → GivesBy v old (datagram_at now from bytes) (cond at Finishes (cond ag (GoesOn x) BreaksOff)) gave
   last_any v u x gave true ag g = g
   last_any v u x gave false true g = g
   last_any v u x gave false false g = g
 
   seen_last : (v : View) (ip : Ip4) (x : Transfer) (d : Decision) → DoesSo (without_profile v) (way_of_last (without_profile v) now ip x) d → DoesSo v (way_of_last v now ip x) d
-  seen_last v ip x d does = last_any v (without_profile v) x (given_by d now old from) (is_at_last x) (agrees v now ip x.name x.modem x.subscriber) does
+  seen_last v ip x d does = last_any v (without_profile v) x (given_by d now old from) (is_at_last x) (agrees v now ip x.name (file_owner x.modem x.subscriber)) does
 
   seen_next : (v : View) (ip : Ip4) (live : Option Transfer) (d : Decision) → IfSome live (λ x. DoesSo (without_profile v) (way_of_last (without_profile v) now ip x) d)
       → IfSome live (λ x. DoesSo v (way_of_last v now ip x) d)
@@ -122,27 +124,27 @@ module _ (now : ℕ) (old : Transfers) (from : Peer) (bytes : List ℕ) where
   seen_next v ip (Some x) d does = seen_last v ip x d does
 
   pub next_does : (v seen : View) (ip : Ip4) (live : Option Transfer) (step : Result Decision NoMemory) → seen ≡ without_profile v
-      → IfOk step (λ d. IfSome live (λ x. Does seen now old from bytes (way_of_last seen now ip x) d))
-      → IfOk step (λ d. IfSome live (λ x. Does v now old from bytes (way_of_last v now ip x) d))
+      → IfOk step (λ d. IfSome live (λ x. Does seen old (datagram_at now from bytes) (way_of_last seen now ip x) d))
+      → IfOk step (λ d. IfSome live (λ x. Does v old (datagram_at now from bytes) (way_of_last v now ip x) d))
   next_does v seen ip live step e done =
       if_ok_as step _ (λ d. IfSome live (λ x. DoesSo v (way_of_last v now ip x) d))
       (subst (λ (u : View). IfOk step (λ d. IfSome live (λ x. DoesSo u (way_of_last u now ip x) d))) e done) (λ d does. seen_next v ip live d does)
 
   -- where it's remembered that the tables agree the next block goes
-  on_by : (v : View) (ip : Ip4) (x : Transfer) (d : Decision) → is_at_last x ≡ false → agrees v now ip x.name x.modem x.subscriber ≡ true → DoesSo v (GoesOn x) d → DoesSo v (way_of_last v now ip x) d
+  on_by : (v : View) (ip : Ip4) (x : Transfer) (d : Decision) → is_at_last x ≡ false → agrees v now ip x.name (file_owner x.modem x.subscriber) ≡ true → DoesSo v (GoesOn x) d → DoesSo v (way_of_last v now ip x) d
   on_by v ip x d more agreed does =
       does_as v (GoesOn x) (way_of_last v now ip x) d
-      (sym (ap (λ b. cond b Finishes (cond (agrees v now ip x.name x.modem x.subscriber) (GoesOn x) BreaksOff)) more ∙ ap (λ b. cond b (GoesOn x) BreaksOff) agreed)) does
+      (sym (ap (λ b. cond b Finishes (cond (agrees v now ip x.name (file_owner x.modem x.subscriber)) (GoesOn x) BreaksOff)) more ∙ ap (λ b. cond b (GoesOn x) BreaksOff) agreed)) does
 
   pub remembered_does : (v : View) (ip : Ip4) (slots : Slots) (live : Option Transfer) (d : Decision) → passes (is_remembered now ip slots) live ≡ true → RemembersRight v ip slots
-      → IfSome live (λ x. is_at_last x ≡ false) → IfSome live (λ x. Does v now old from bytes (GoesOn x) d) → IfSome live (λ x. Does v now old from bytes (way_of_last v now ip x) d)
+      → IfSome live (λ x. is_at_last x ≡ false) → IfSome live (λ x. Does v old (datagram_at now from bytes) (GoesOn x) d) → IfSome live (λ x. Does v old (datagram_at now from bytes) (way_of_last v now ip x) d)
   remembered_does v ip slots None d is right more does = does
   remembered_does v ip slots (Some x) d is right more does = on_by v ip x d more (remembered_agrees v now ip slots x is right) does
 
   -- and so it does where they were seen to agree
-  pub seen_does_on : (v : View) (ip : Ip4) (live : Option Transfer) (step : Result Decision NoMemory) → passes (λ (x : Transfer). agrees v now ip x.name x.modem x.subscriber) live ≡ true
-      → IfSome live (λ x. is_at_last x ≡ false) → IfOk step (λ d. IfSome live (λ x. Does v now old from bytes (GoesOn x) d))
-      → IfOk step (λ d. IfSome live (λ x. Does v now old from bytes (way_of_last v now ip x) d))
+  pub seen_does_on : (v : View) (ip : Ip4) (live : Option Transfer) (step : Result Decision NoMemory) → passes (λ (x : Transfer). agrees v now ip x.name (file_owner x.modem x.subscriber)) live ≡ true
+      → IfSome live (λ x. is_at_last x ≡ false) → IfOk step (λ d. IfSome live (λ x. Does v old (datagram_at now from bytes) (GoesOn x) d))
+      → IfOk step (λ d. IfSome live (λ x. Does v old (datagram_at now from bytes) (way_of_last v now ip x) d))
   seen_does_on v ip None step is more done = done
   seen_does_on v ip (Some x) (Err err) is more done = tt
   seen_does_on v ip (Some x) (Ok d) is more done = on_by v ip x d more is done
@@ -150,84 +152,84 @@ module _ (now : ℕ) (old : Transfers) (from : Peer) (bytes : List ℕ) where
   -- ---- acknowledgements
 
   last_by : (v : View) (x : Transfer) (same at ag : Bool) → stage.Last ≡ cond same (cond at stage.Last stage.Next) stage.Stale
-      → GivesBy v now old from bytes (cond same (cond at Finishes (cond ag (GoesOn x) BreaksOff)) Ignores) (gives (ended old from) [] word.Done)
+      → GivesBy v old (datagram_at now from bytes) (cond same (cond at Finishes (cond ag (GoesOn x) BreaksOff)) Ignores) (gives (ended old from) [] word.Done)
   last_by v x true true ag is = refl
   last_by v x true false ag is = cc
   last_by v x false at ag is = cc
 
   pub last_does : (v : View) (ip : Ip4) (number : ℕ) (live : Option Transfer) → stage.Last ≡ stage_of number live
-      → GivesBy v now old from bytes (way_of_acknowledgement v now ip number live) (gives (ended old from) [] word.Done)
+      → GivesBy v old (datagram_at now from bytes) (way_of_acknowledgement v now ip number live) (gives (ended old from) [] word.Done)
   last_does v ip number None is = cc
-  last_does v ip number (Some x) is = last_by v x (number == x.sent) (is_at_last x) (agrees v now ip x.name x.modem x.subscriber) is
+  last_does v ip number (Some x) is = last_by v x (number == x.sent) (is_at_last x) (agrees v now ip x.name (file_owner x.modem x.subscriber)) is
 
   next_by : (v : View) (same at : Bool) (w : Way) (d : Decision) → stage.Next ≡ cond same (cond at stage.Last stage.Next) stage.Stale → DoesSo v w d → DoesSo v (cond same w Ignores) d
   next_by v true at w d is does = does
   next_by v false at w d is does = cc
 
   pub next_is : (v : View) (ip : Ip4) (number : ℕ) (live : Option Transfer) (d : Decision) → stage.Next ≡ stage_of number live
-      → IfSome live (λ x. Does v now old from bytes (way_of_last v now ip x) d)
-      → Does v now old from bytes (way_of_acknowledgement v now ip number live) d
+      → IfSome live (λ x. Does v old (datagram_at now from bytes) (way_of_last v now ip x) d)
+      → Does v old (datagram_at now from bytes) (way_of_acknowledgement v now ip number live) d
   next_is v ip number None d is does = cc
   next_is v ip number (Some x) d is does = next_by v (number == x.sent) (is_at_last x) (way_of_last v now ip x) d is does
 
   -- ---- requests
 
-  repeat_is : (v : View) (ip : Ip4) (full : Bool) (name : List ℕ) (asked : Options) (live : Option Transfer) (d : Decision) → repeats bytes live ≡ true
-      → IfSome live (λ x. DoesSo v (Repeats x) d) → DoesSo v (way_of_request v now ip full bytes name asked live) d
-  repeat_is v ip full name asked None d is does = cc
-  repeat_is v ip full name asked (Some x) d is does =
-      does_as v (Repeats x) (way_of_request v now ip full bytes name asked (Some x)) d (sym (ap (λ b. cond b (Repeats x) (way_anew v now ip false name asked)) is)) does
+  repeat_is : (v : View) (full : Bool) (name : List ℕ) (asked : Options) (live : Option Transfer) (d : Decision) → repeats bytes live ≡ true
+      → IfSome live (λ x. DoesSo v (Repeats x) d) → DoesSo v (way_of_request v (datagram_at now from bytes) full (request_for name asked) live) d
+  repeat_is v full name asked None d is does = cc
+  repeat_is v full name asked (Some x) d is does =
+      does_as v (Repeats x) (way_of_request v (datagram_at now from bytes) full (request_for name asked) (Some x)) d (sym (ap (λ b. cond b (Repeats x) (way_anew v now from.ip false (request_for name asked))) is)) does
 
-  pub repeat_serves : (v : View) (ip : Ip4) (full : Bool) (name : List ℕ) (asked : Options) (live : Option Transfer) (step : Result Decision NoMemory) → repeats bytes live ≡ true
-      → IfOk step (λ d. IfSome live (λ x. Does v now old from bytes (Repeats x) d)) → IfOk step KeepsNothing
-      → IfOk step (λ d. Serves v now old from bytes (way_of_request v now ip full bytes name asked live) d)
-  repeat_serves v ip full name asked live (Ok d) is done bare = record {
-    does = repeat_is v ip full name asked live d is done;
-    keeps = λ entries. bare entries ∙ repeat_keeps v entries now ip full bytes name asked live is;
+  pub repeat_serves : (v : View) (full : Bool) (name : List ℕ) (asked : Options) (live : Option Transfer) (step : Result Decision NoMemory) → repeats bytes live ≡ true
+      → IfOk step (λ d. IfSome live (λ x. Does v old (datagram_at now from bytes) (Repeats x) d)) → IfOk step KeepsNothing
+      → IfOk step (λ d. Serves v old (datagram_at now from bytes) (way_of_request v (datagram_at now from bytes) full (request_for name asked) live) d)
+  repeat_serves v full name asked live (Ok d) is done bare = record {
+    does = repeat_is v full name asked live d is done;
+    keeps = λ entries. bare entries ∙ repeat_keeps v entries now from full bytes name asked live is;
   }
-  repeat_serves v ip full name asked live (Err err) is done bare = tt
+  repeat_serves v full name asked live (Err err) is done bare = tt
 
-  anew_is : (v : View) (ip : Ip4) (full : Bool) (name : List ℕ) (asked : Options) (live : Option Transfer) → repeats bytes live ≡ false
-      → way_anew v now ip (lacks_room_by full live) name asked ≡ way_of_request v now ip full bytes name asked live
-  anew_is v ip full name asked None is = refl
-  anew_is v ip full name asked (Some x) is = sym (ap (λ b. cond b (Repeats x) (way_anew v now ip false name asked)) is)
+  anew_is : (v : View) (full : Bool) (name : List ℕ) (asked : Options) (live : Option Transfer) → repeats bytes live ≡ false
+      → way_anew v now from.ip (lacks_room_by full live) (request_for name asked) ≡ way_of_request v (datagram_at now from bytes) full (request_for name asked) live
+  anew_is v full name asked None is = refl
+  anew_is v full name asked (Some x) is = sym (ap (λ b. cond b (Repeats x) (way_anew v now from.ip false (request_for name asked))) is)
 
   -- a refusal goes by no profile
   unnamed_modem : (v : View) (ip : Ip4) (no_room : Bool) (name : List ℕ) (asked : Options) (mac : Mac) (m : Option Modem) (d : Decision) → passes (is_own_name name mac ip) v.site ≡ false
-      → DoesSo (without_profile v) (way_for_modem (without_profile v) ip no_room name asked mac m) d → DoesSo v (way_for_modem v ip no_room name asked mac m) d
+      → DoesSo (without_profile v) (way_for_owner (without_profile v) ip no_room (request_for name asked) (owner_by_row mac m)) d → DoesSo v (way_for_owner v ip no_room (request_for name asked) (owner_by_row mac m)) d
   unnamed_modem v ip no_room name asked mac None d wrong does = does
   unnamed_modem v ip no_room name asked mac (Some modem) d wrong does =
-      let refused : (there : Bool) → cond (not (passes (is_own_name name mac ip) v.site && there)) (Denies file_not_found) (cond no_room (Denies too_many_transfers) (Accepts mac modem.subscriber name asked)) ≡ Denies file_not_found
-      = λ there. ap (λ b. cond (not (b && there)) (Denies file_not_found) (cond no_room (Denies too_many_transfers) (Accepts mac modem.subscriber name asked))) wrong in
-      does_as v (Denies file_not_found) (way_for_modem v ip no_room name asked mac (Some modem)) d (sym (refused (is_some v.profile)))
-      (does_as (without_profile v) (way_for_modem (without_profile v) ip no_room name asked mac (Some modem)) (Denies file_not_found) d (refused false) does)
+      let refused : (there : Bool) → cond (not (passes (is_own_name name mac ip) v.site && there)) (Denies file_not_found) (cond no_room (Denies too_many_transfers) (Accepts (request_for name asked) (file_owner mac modem.subscriber))) ≡ Denies file_not_found
+      = λ there. ap (λ b. cond (not (b && there)) (Denies file_not_found) (cond no_room (Denies too_many_transfers) (Accepts (request_for name asked) (file_owner mac modem.subscriber)))) wrong in
+      does_as v (Denies file_not_found) (way_for_owner v ip no_room (request_for name asked) (owner_by_row mac (Some modem))) d (sym (refused (is_some v.profile)))
+      (does_as (without_profile v) (way_for_owner (without_profile v) ip no_room (request_for name asked) (owner_by_row mac (Some modem))) (Denies file_not_found) d (refused false) does)
 
   unnamed_holder : (v : View) (ip : Ip4) (no_room : Bool) (name : List ℕ) (asked : Options) (h : Option Mac) (d : Decision) → passes (λ mac. passes (is_own_name name mac ip) v.site) h ≡ false
-      → DoesSo (without_profile v) (way_for_holder (without_profile v) ip no_room name asked h) d → DoesSo v (way_for_holder v ip no_room name asked h) d
+      → DoesSo (without_profile v) (way_for_holder (without_profile v) ip no_room (request_for name asked) h) d → DoesSo v (way_for_holder v ip no_room (request_for name asked) h) d
   unnamed_holder v ip no_room name asked None d wrong does = does
   unnamed_holder v ip no_room name asked (Some mac) d wrong does = unnamed_modem v ip no_room name asked mac v.modem d wrong does
 
   -- a request with a wrong name leaves what is kept
   refused_modem : (kept : Entries) (u v : View) (ip : Ip4) (no_room : Bool) (name : List ℕ) (asked : Options) (mac : Mac) (m : Option Modem) → passes (is_own_name name mac ip) v.site ≡ false
-      → kept_by u (way_for_modem v ip no_room name asked mac m) kept ≡ kept
+      → kept_by u (way_for_owner v ip no_room (request_for name asked) (owner_by_row mac m)) kept ≡ kept
   refused_modem kept u v ip no_room name asked mac None wrong = refl
   refused_modem kept u v ip no_room name asked mac (Some modem) wrong =
-      ap (λ b. kept_by u (cond (not (b && is_some v.profile)) (Denies file_not_found) (cond no_room (Denies too_many_transfers) (Accepts mac modem.subscriber name asked))) kept) wrong
+      ap (λ b. kept_by u (cond (not (b && is_some v.profile)) (Denies file_not_found) (cond no_room (Denies too_many_transfers) (Accepts (request_for name asked) (file_owner mac modem.subscriber)))) kept) wrong
 
   refused_holder : (kept : Entries) (u v : View) (ip : Ip4) (no_room : Bool) (name : List ℕ) (asked : Options) (h : Option Mac) → passes (λ mac. passes (is_own_name name mac ip) v.site) h ≡ false
-      → kept_by u (way_for_holder v ip no_room name asked h) kept ≡ kept
+      → kept_by u (way_for_holder v ip no_room (request_for name asked) h) kept ≡ kept
   refused_holder kept u v ip no_room name asked None wrong = refl
   refused_holder kept u v ip no_room name asked (Some mac) wrong = refused_modem kept u v ip no_room name asked mac v.modem wrong
 
   -- what is seen for a file, the whole or all but the profile
   abbrev AnewDone : View → Ip4 → Bool → List ℕ → Options → Result Decision NoMemory → Type 0
-  AnewDone u ip no_room name asked step = CanServe u now ip → IfOk step (λ d. ServesSo u (way_anew u now ip no_room name asked) d)
+  AnewDone u ip no_room name asked step = CanServe u now ip → IfOk step (λ d. ServesSo u (way_anew u now ip no_room (request_for name asked)) d)
 
   seen_does : (v : View) (ip : Ip4) (no_room : Bool) (name : List ℕ) (asked : Options) (step : Result Decision NoMemory) (right : Bool) → names_file now ip name v ≡ right
-      → CanServe v now ip → AnewDone (cond right v (without_profile v)) ip no_room name asked step → IfOk step (λ d. ServesSo v (way_anew v now ip no_room name asked) d)
+      → CanServe v now ip → AnewDone (cond right v (without_profile v)) ip no_room name asked step → IfOk step (λ d. ServesSo v (way_anew v now ip no_room (request_for name asked)) d)
   seen_does v ip no_room name asked step true is serves done = done serves
   seen_does v ip no_room name asked step false is serves done =
-      if_ok_as step _ (λ d. ServesSo v (way_anew v now ip no_room name asked) d) (done (λ site profile s p. cc))
+      if_ok_as step _ (λ d. ServesSo v (way_anew v now ip no_room (request_for name asked)) d) (done (λ site profile s p. cc))
       (λ d served. record {
         does = unnamed_holder v ip no_room name asked (holder now v) d is served.does;
         keeps = λ entries. served.keeps entries ∙ (refused_holder entries (without_profile v) (without_profile v) ip no_room name asked (holder now v) is ∙ sym (refused_holder entries v v ip no_room name asked (holder now v) is));
@@ -246,42 +248,42 @@ module _ (now : ℕ) (old : Transfers) (from : Peer) (bytes : List ℕ) where
       subst (λ (w : View). AnewDone w ip no_room name asked step) (shown seen u shows.rest)
       (done u.profile (shows.entry ∙ ap (λ (w : View). entry_for w.modem u.profile) (sym shows.rest)))
 
-  pub open_does : (v : View) (seen : Seen) (ip : Ip4) (full : Bool) (name : List ℕ) (asked : Options) (live : Option Transfer) (step : Result Decision NoMemory) → repeats bytes live ≡ false
-      → Shows seen (seen_for now ip name v) → CanServe v now ip
-      → ((profile : Option (List Tree)) → seen.body ≡ entry_for seen.modem profile → CanServe (view_with seen profile) now ip
-      → IfOk step (Serves (view_with seen profile) now old from bytes (way_anew (view_with seen profile) now ip (lacks_room_by full live) name asked)))
-      → IfOk step (λ d. Serves v now old from bytes (way_of_request v now ip full bytes name asked live) d)
-  open_does v seen ip full name asked live step is shows serves done =
-      if_ok_as step _ (λ d. ServesSo v (way_of_request v now ip full bytes name asked live) d)
-      (seen_does v ip (lacks_room_by full live) name asked step (names_file now ip name v) refl serves
-      (shown_done seen (seen_for now ip name v) ip (lacks_room_by full live) name asked step shows done))
-      (λ d served. serves_as v (way_anew v now ip (lacks_room_by full live) name asked) (way_of_request v now ip full bytes name asked live) d (anew_is v ip full name asked live is) served)
+  pub open_does : (v : View) (seen : Seen) (full : Bool) (name : List ℕ) (asked : Options) (live : Option Transfer) (step : Result Decision NoMemory) → repeats bytes live ≡ false
+      → Shows seen (seen_for now from.ip name v) → CanServe v now from.ip
+      → ((profile : Option (List Tree)) → seen.body ≡ entry_for seen.modem profile → CanServe (view_with seen profile) now from.ip
+      → IfOk step (Serves (view_with seen profile) old (datagram_at now from bytes) (way_anew (view_with seen profile) now from.ip (lacks_room_by full live) (request_for name asked))))
+      → IfOk step (λ d. Serves v old (datagram_at now from bytes) (way_of_request v (datagram_at now from bytes) full (request_for name asked) live) d)
+  open_does v seen full name asked live step is shows serves done =
+      if_ok_as step _ (λ d. ServesSo v (way_of_request v (datagram_at now from bytes) full (request_for name asked) live) d)
+      (seen_does v from.ip (lacks_room_by full live) name asked step (names_file now from.ip name v) refl serves
+      (shown_done seen (seen_for now from.ip name v) from.ip (lacks_room_by full live) name asked step shows done))
+      (λ d served. serves_as v (way_anew v now from.ip (lacks_room_by full live) (request_for name asked)) (way_of_request v (datagram_at now from bytes) full (request_for name asked) live) d (anew_is v full name asked live is) served)
 
   -- ---- the whole
 
   pub decides_by : (v : View) (meant : Result Meant PacketFault) (d : Decision) → packet_of bytes ≡ meant
-      → Serves v now old from bytes (way_of v now from.ip (has_no_room old) bytes (map.get old from) meant) d → Decides v now old from bytes d
+      → Serves v old (datagram_at now from bytes) (way_of v (datagram_at now from bytes) (has_no_room old) (map.get old from) meant) d → Decides v old (datagram_at now from bytes) d
   unfolding way
   decides_by v meant d is served =
-      subst (λ (m : Result Meant PacketFault). ServesSo v (way_of v now from.ip (has_no_room old) bytes (map.get old from) m) d) (sym is) served
+      subst (λ (m : Result Meant PacketFault). ServesSo v (way_of v (datagram_at now from bytes) (has_no_room old) (map.get old from) m) d) (sym is) served
 
   pub deny_decides : (v : View) (meant : Result Meant PacketFault) (denial : Denial) (step : Result Decision NoMemory) → packet_of bytes ≡ meant
-      → way_of v now from.ip (has_no_room old) bytes (map.get old from) meant ≡ Denies denial
-      → IfOk step (λ d. d ≡ refusal_of from denial) → IfOk step (λ d. Decides v now old from bytes d)
+      → way_of v (datagram_at now from bytes) (has_no_room old) (map.get old from) meant ≡ Denies denial
+      → IfOk step (λ d. d ≡ refusal_of from denial) → IfOk step (λ d. Decides v old (datagram_at now from bytes) d)
   deny_decides v meant denial (Ok d) is denied refuses =
       decides_by v meant d is
-      (subst (λ (e : Decision). ServesSo v (way_of v now from.ip (has_no_room old) bytes (map.get old from) meant) e) (sym refuses)
-      (serves_as v (Denies denial) (way_of v now from.ip (has_no_room old) bytes (map.get old from) meant) (refusal_of from denial) (sym denied)
+      (subst (λ (e : Decision). ServesSo v (way_of v (datagram_at now from bytes) (has_no_room old) (map.get old from) meant) e) (sym refuses)
+      (serves_as v (Denies denial) (way_of v (datagram_at now from bytes) (has_no_room old) (map.get old from) meant) (refusal_of from denial) (sym denied)
       (record { does = refl; keeps = λ entries. refl })))
   deny_decides v meant denial (Err err) is denied refuses = tt
 
-  pub leave_decides : (v : View) (place : Place) → packet_of bytes ≡ Ok GivesUp → Decides v now old from bytes (record { word = word.PeerError; sent = None; change = change.Ends place; agreed = None })
+  pub leave_decides : (v : View) (place : Place) → packet_of bytes ≡ Ok GivesUp → Decides v old (datagram_at now from bytes) (record { word = word.PeerError; sent = None; change = change.Ends place; agreed = None })
   leave_decides v place is = decides_by v (Ok GivesUp) (record { word = word.PeerError; sent = None; change = change.Ends place; agreed = None }) is (record { does = refl; keeps = λ entries. refl })
 
   pub acknowledgement_decides : (v : View) (number : ℕ) (meant : Result Meant PacketFault) (d : Decision) → packet_of bytes ≡ meant
-      → way_of_acknowledgement v now from.ip number (map.get old from) ≡ way_of v now from.ip (has_no_room old) bytes (map.get old from) meant
-      → KeepsNothing d → Does v now old from bytes (way_of_acknowledgement v now from.ip number (map.get old from)) d
-      → Decides v now old from bytes d
+      → way_of_acknowledgement v now from.ip number (map.get old from) ≡ way_of v (datagram_at now from bytes) (has_no_room old) (map.get old from) meant
+      → KeepsNothing d → Does v old (datagram_at now from bytes) (way_of_acknowledgement v now from.ip number (map.get old from)) d
+      → Decides v old (datagram_at now from bytes) d
   acknowledgement_decides v number meant d is same bare does =
       decides_by v meant d is
       (serves_as v (way_of_acknowledgement v now from.ip number (map.get old from)) _ d same
@@ -341,23 +343,23 @@ unseen_remembers now from live slots (Ok d) unseen = λ on. let no : true ≡ fa
 unseen_remembers now from live slots (Err err) unseen = tt
 
 pub judged_both : (a b : KeeperSeen) (now : ℕ) (old : Transfers) (from : Peer) (bytes : List ℕ) (kept : Entries) (slots : Slots) (v : Tables → View) (result : Result Decision KeepErr)
-    → Looks result a b (λ d t. AllRight t kept → Decides (v t) now old from bytes d × SeesRight (v t) from.ip d)
-    → Looks result a b (λ d t. AllRight t kept → RemembersRight (v t) from.ip slots → Judges (v t) now old from bytes d)
+    → Looks result a b (λ d t. AllRight t kept → Decides (v t) old (datagram_at now from bytes) d × SeesRight (v t) from.ip d)
+    → Looks result a b (λ d t. AllRight t kept → RemembersRight (v t) from.ip slots → Judges (v t) old (datagram_at now from bytes) d)
 judged_both a b now old from bytes kept slots v (Ok d) looks =
     reads_as looks (λ t both right remembers. record { decides = (both right).0; sees = (both right).1 })
 judged_both a b now old from bytes kept slots v (Err err) looks = looks
 
 pub judged : (a b : KeeperSeen) (now : ℕ) (old : Transfers) (from : Peer) (bytes : List ℕ) (kept : Entries) (slots : Slots) (v : Tables → View) (result : Result Decision KeepErr) → IfOk result SeesNothing
-    → Looks result a b (λ d t. AllRight t kept → Decides (v t) now old from bytes d)
-    → Looks result a b (λ d t. AllRight t kept → RemembersRight (v t) from.ip slots → Judges (v t) now old from bytes d)
+    → Looks result a b (λ d t. AllRight t kept → Decides (v t) old (datagram_at now from bytes) d)
+    → Looks result a b (λ d t. AllRight t kept → RemembersRight (v t) from.ip slots → Judges (v t) old (datagram_at now from bytes) d)
 judged a b now old from bytes kept slots v (Ok d) unseen looks =
     reads_as looks (λ t decides right remembers. record { decides = decides right; sees = unseen_right (v t) from.ip d unseen })
 judged a b now old from bytes kept slots v (Err err) unseen looks = looks
 
 pub acknowledged_looks : (a b : KeeperSeen) (now : ℕ) (old : Transfers) (from : Peer) (bytes : List ℕ) (number : ℕ) (kept : Entries) (slots : Slots) (v : Tables → View) (result : Result Decision KeepErr)
     → packet_of bytes ≡ Ok (Acknowledges number) → IfOk result KeepsNothing
-    → Looks result a b (λ d t. RemembersRight (v t) from.ip slots → Does (v t) now old from bytes (way_of_acknowledgement (v t) now from.ip number (map.get old from)) d × SeesRight (v t) from.ip d)
-    → Looks result a b (λ d t. AllRight t kept → RemembersRight (v t) from.ip slots → Judges (v t) now old from bytes d)
+    → Looks result a b (λ d t. RemembersRight (v t) from.ip slots → Does (v t) old (datagram_at now from bytes) (way_of_acknowledgement (v t) now from.ip number (map.get old from)) d × SeesRight (v t) from.ip d)
+    → Looks result a b (λ d t. AllRight t kept → RemembersRight (v t) from.ip slots → Judges (v t) old (datagram_at now from bytes) d)
 acknowledged_looks a b now old from bytes number kept slots v (Ok d) is bare looks =
     reads_as looks (λ t does right remembers.
     let both = does remembers in
@@ -383,15 +385,15 @@ shown_sees v seen now ip name step shows right = seen_sees v (view_of seen) ip s
 
 -- the next block, where agreement is remembered, and where it was looked for
 pub next_remembered : (now : ℕ) (old : Transfers) (from : Peer) (bytes : List ℕ) (v : View) (ip : Ip4) (slots : Slots) (live : Option Transfer) (step : Result Decision NoMemory) → passes (is_remembered now ip slots) live ≡ true
-    → IfSome live (λ x. is_at_last x ≡ false) → IfOk step (λ d. IfSome live (λ x. Does v now old from bytes (GoesOn x) d)) → IfOk step (λ d. d.agreed ≡ None)
-    → IfOk step (λ d. RemembersRight v ip slots → IfSome live (λ x. Does v now old from bytes (way_of_last v now ip x) d) × SeesRight v ip d)
+    → IfSome live (λ x. is_at_last x ≡ false) → IfOk step (λ d. IfSome live (λ x. Does v old (datagram_at now from bytes) (GoesOn x) d)) → IfOk step (λ d. d.agreed ≡ None)
+    → IfOk step (λ d. RemembersRight v ip slots → IfSome live (λ x. Does v old (datagram_at now from bytes) (way_of_last v now ip x) d) × SeesRight v ip d)
 next_remembered now old from bytes v ip slots live (Err err) is more done none = tt
 next_remembered now old from bytes v ip slots live (Ok d) is more done none = λ right.
     (remembered_does now old from bytes v ip slots live d is right more done, sees_none v ip d None none refl)
 
 pub next_looked : (now : ℕ) (old : Transfers) (from : Peer) (bytes : List ℕ) (v seen : View) (ip : Ip4) (slots : Slots) (live : Option Transfer) (step : Result Decision NoMemory) → seen ≡ without_profile v
-    → IfOk step (λ d. IfSome live (λ x. Does seen now old from bytes (way_of_last seen now ip x) d)) → IfOk step (λ d. IfSome d.agreed (IsAgreementOf seen ip))
-    → IfOk step (λ d. RemembersRight v ip slots → IfSome live (λ x. Does v now old from bytes (way_of_last v now ip x) d) × SeesRight v ip d)
+    → IfOk step (λ d. IfSome live (λ x. Does seen old (datagram_at now from bytes) (way_of_last seen now ip x) d)) → IfOk step (λ d. IfSome d.agreed (IsAgreementOf seen ip))
+    → IfOk step (λ d. RemembersRight v ip slots → IfSome live (λ x. Does v old (datagram_at now from bytes) (way_of_last v now ip x) d) × SeesRight v ip d)
 next_looked now old from bytes v seen ip slots live (Err err) e done right = tt
 next_looked now old from bytes v seen ip slots live (Ok d) e done right = λ remembers.
     (next_does now old from bytes v seen ip live (Ok d) e done, seen_sees v seen ip (Ok d) e right)
@@ -420,7 +422,7 @@ not_asked now from bytes old slots a b meant is other = λ acks agreed. let no :
 
 -- ---- by the tables themselves
 
-answers : (t : Tables) (datagram : Datagram) (old : Transfers) (kept : Entries) (slots : Slots) (d : Decision) → Judges (view t datagram.from.ip) datagram.at.0 old datagram.from datagram.bytes.now d
+answers : (t : Tables) (datagram : Datagram) (old : Transfers) (kept : Entries) (slots : Slots) (d : Decision) → Judges (view t datagram.from.ip) old (as_came datagram) d
     → AllRight t kept → AllAgreed t slots → Answers t datagram old kept slots d
 unfolding TftpStep
 answers t datagram old kept slots d judges right agreed = record {
@@ -433,11 +435,11 @@ answers t datagram old kept slots d judges right agreed = record {
 -- where the hub that was told is the address's own
 pub own_answers : (a b : KeeperSeen) (datagram : Datagram) (old : Transfers) (kept : Entries) (slots : Slots) (result : Result Decision KeepErr)
     → Looks result a b (λ d t. AllRight t kept → RemembersRight (view_at t datagram.hub datagram.from.ip) datagram.from.ip slots
-    → Judges (view_at t datagram.hub datagram.from.ip) datagram.at.0 old datagram.from datagram.bytes.now d)
+    → Judges (view_at t datagram.hub datagram.from.ip) old (as_came datagram) d)
     → Looks result a b (λ d t. datagram.hub ≡ hub_of t datagram.from.ip → AllRight t kept → AllAgreed t slots → Answers t datagram old kept slots d)
 own_answers a b datagram old kept slots result looks =
     looks_as a b result _ _ looks (λ d t judges own right agreed.
     let same = own_view t datagram.hub datagram.from.ip own in
     answers t datagram old kept slots d
-    (subst (λ (v : View). Judges v datagram.at.0 old datagram.from datagram.bytes.now d) same
+    (subst (λ (v : View). Judges v old (as_came datagram) d) same
     (judges right (remembers_right t datagram.from.ip slots (view_at t datagram.hub datagram.from.ip) same agreed))) right agreed)

@@ -1,5 +1,6 @@
 pub mod KeptLemmas
 pub mod AgreementLemmas
+pub mod NameLemmas
 pub mod EntryLemmas
 pub mod TickedLemmas
 pub mod ReadLemmas

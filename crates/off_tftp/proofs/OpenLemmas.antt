@@ -12,15 +12,16 @@ use Rattle.off_defs.specs.State.{Transfer}
 use Rattle.off_account_rules.specs.Rows.{passes}
 use Rattle.off_kept.specs.declared.bodies.KeptBody.{KeptBody}
 use Rattle.off_kept.specs.Entries.{with_first}
+use Rattle.off_transfer_rules.specs.Requests.{datagram_at, file_owner}
 use Rattle.off_transfer_rules.specs.Transfers.{Transfers, begun, has_no_room}
 use Rattle.off_transfer_rules.specs.View.{View, IsBuiltBy, is_own_name}
-use Rattle.off_transfer_rules.specs.Steps.{Way, Denial, Accepts, Denies, way_anew, way_for_holder, way_for_modem, file_not_found, too_many_transfers}
+use Rattle.off_transfer_rules.specs.Steps.{Way, Denial, Accepts, Denies, way_anew, way_for_holder, way_for_owner, owner_by_row, file_not_found, too_many_transfers}
 use Rattle.off_tftp.specs.declared.deciding.Decision.{Decision}
 use Rattle.off_tftp.specs.declared.gathering.Seen.{Seen}
 use Rattle.off_tftp.specs.Keeping.{entry_of, entry_for, kept_with, BeginsFor}
 use Rattle.off_tftp.specs.Kept.{HasRoomFor}
 use Rattle.off_tftp.specs.Places.{IsPlaceOf}
-use Rattle.off_tftp.specs.Granted.{begun_by, IsFor}
+use Rattle.off_tftp.specs.Granted.{begun_by, IsFor, came_in, asked_in}
 use Rattle.off_tftp.specs.Deciding.{Serves, CanBe, SeesNothing, Starts, after_change, start_of, refusal_of, denial_of}
 use Rattle.off_tftp.specs.declared.requests.Request.{Request}
 use Rattle.off_tftp.specs.declared.requests.Grant.{Grant}
@@ -98,13 +99,13 @@ started_begins old request mac subscriber entry grant (Err err) whose new is = t
 module _ (old : Transfers) (request : Request) where
   module _ (seen : Seen) (modem : Modem) (found : KeptBody) (mac : Mac) where
     abbrev made : List ℕ → Transfer
-    made file = begun request.at.0 request.bytes.now mac modem.subscriber request.name.now request.options file
+    made file = begun (came_in request) (asked_in request) (file_owner mac modem.subscriber) file
 
     abbrev Done : Option (List Tree) → Way → Decision → Type 0
-    Done profile w d = Serves (view_with seen profile) request.at.0 old request.from request.bytes.now w d
+    Done profile w d = Serves (view_with seen profile) old (came_in request) w d
 
     accepted : (p : List Tree) (file : List ℕ) → IsBuiltBy (view_with seen (Some p)) request.at.0 request.from.ip file → seen.modem ≡ Some modem → entry_of modem p ≡ found
-        → Done (Some p) (Accepts mac modem.subscriber request.name.now request.options) (start_of request found (made file))
+        → Done (Some p) (Accepts (asked_in request) (file_owner mac modem.subscriber)) (start_of request found (made file))
     accepted p file built there entry = record {
       does = (file, (built, refl));
       keeps = λ entries.
@@ -113,8 +114,8 @@ module _ (old : Transfers) (request : Request) where
     }
 
     way_is : (own no_room : Bool) → own ≡ true → no_room ≡ false
-        → Accepts mac modem.subscriber request.name.now request.options
-        ≡ cond (not (own && true)) (Denies file_not_found) (cond no_room (Denies too_many_transfers) (Accepts mac modem.subscriber request.name.now request.options))
+        → Accepts (asked_in request) (file_owner mac modem.subscriber)
+        ≡ cond (not (own && true)) (Denies file_not_found) (cond no_room (Denies too_many_transfers) (Accepts (asked_in request) (file_owner mac modem.subscriber)))
     way_is true false is room = refl
     way_is true true is room = cc
     way_is false no_room is room = cc
@@ -122,25 +123,25 @@ module _ (old : Transfers) (request : Request) where
     -- the transfer is the one of the modem and its subscriber
     begun_is : (grant : Grant) → IsFor mac modem.subscriber grant → begun_by request grant ≡ made grant.file
     begun_is grant whose =
-        ap (λ (m : Mac). begun request.at.0 request.bytes.now m grant.subscriber request.name.now request.options grant.file) whose.modem_is
-        ∙ ap (λ n. begun request.at.0 request.bytes.now mac n request.name.now request.options grant.file) whose.subscriber_is
+        ap (λ (m : Mac). begun (came_in request) (asked_in request) (file_owner m grant.subscriber) grant.file) whose.modem_is
+        ∙ ap (λ n. begun (came_in request) (asked_in request) (file_owner mac n) grant.file) whose.subscriber_is
 
     begun_serves : (p : List Tree) (grant : Grant) (step : Result Decision NoMemory) (no_room : Bool)
         → IsBuiltBy (view_with seen (Some p)) request.at.0 request.from.ip grant.file → IsFor mac modem.subscriber grant
         → passes (is_own_name request.name.now mac request.from.ip) seen.site ≡ true → no_room ≡ false
         → IfOk step (Starts request found (Some grant)) → seen.modem ≡ Some modem → entry_of modem p ≡ found
-        → IfOk step (Done (Some p) (way_for_modem (view_with seen (Some p)) request.from.ip no_room request.name.now request.options mac (Some modem)))
+        → IfOk step (Done (Some p) (way_for_owner (view_with seen (Some p)) request.from.ip no_room (asked_in request) (owner_by_row mac (Some modem))))
     begun_serves p grant (Err err) no_room built whose own room starts there entry = tt
     begun_serves p grant (Ok d) no_room built whose own room starts there entry =
         let whole : d ≡ start_of request found (made grant.file) = starts ∙ ap (λ (x : Transfer). start_of request found x) (begun_is grant whose) in
         subst (λ (y : Way). Done (Some p) y d) (way_is (passes (is_own_name request.name.now mac request.from.ip) seen.site) no_room own room)
-        (subst (λ (e : Decision). Done (Some p) (Accepts mac modem.subscriber request.name.now request.options) e) (sym whole) (accepted p grant.file built there entry))
+        (subst (λ (e : Decision). Done (Some p) (Accepts (asked_in request) (file_owner mac modem.subscriber)) e) (sym whole) (accepted p grant.file built there entry))
 
     start_serves : (profile : Option (List Tree)) (grant : Option Grant) (step : Result Decision NoMemory) (no_room : Bool)
         → Some found ≡ option_map (entry_of modem) profile → IsBegun (view_with seen profile) request.at.0 request.from.ip (option_map (λ (g : Grant). g.file) grant)
         → IfSome grant (IsFor mac modem.subscriber)
         → passes (is_own_name request.name.now mac request.from.ip) seen.site ≡ true → no_room ≡ false → IfOk step (Starts request found grant) → seen.modem ≡ Some modem
-        → IfOk step (Done profile (way_for_modem (view_with seen profile) request.from.ip no_room request.name.now request.options mac (Some modem)))
+        → IfOk step (Done profile (way_for_owner (view_with seen profile) request.from.ip no_room (asked_in request) (owner_by_row mac (Some modem))))
     start_serves None grant step no_room entry built whose own room starts there = cc
     start_serves (Some p) None step no_room entry built whose own room starts there =
         absurd (let e : (true && true) ≡ false = ap (λ b. b && true) (sym (site_there seen.site (is_own_name request.name.now mac request.from.ip) own)) ∙ built in cc)
@@ -156,8 +157,8 @@ module _ (old : Transfers) (request : Request) where
       → IsBegun (view_with seen profile) request.at.0 request.from.ip (option_map (λ (g : Grant). g.file) grant))
       → CanServe (view_with seen profile) request.at.0 request.from.ip → IfSome grant (IsFor mac subscriber)
       → HasName request.from.ip request.name.now mac seen → no_room ≡ false → IfOk step (Starts request entry grant) → seen.modem ≡ Some modem
-      → IfOk step (Serves (view_with seen profile) request.at.0 old request.from request.bytes.now
-      (way_for_modem (view_with seen profile) request.from.ip no_room request.name.now request.options mac (Some modem)))
+      → IfOk step (Serves (view_with seen profile) old (came_in request)
+      (way_for_owner (view_with seen profile) request.from.ip no_room (asked_in request) (owner_by_row mac (Some modem))))
   start_for seen modem found entry shared mac subscriber profile grant step no_room numbered there same shared_is made built serves whose own room starts row =
       let whole : Some found ≡ option_map (entry_of modem) profile = sym there ∙ made in
       start_serves seen modem found mac profile grant step no_room whole
@@ -181,18 +182,18 @@ found_named request seen no_room found finds named =
     own_by (held_by request.at.0 seen.lease) found.modem (λ mac. passes (is_own_name request.name.now mac request.from.ip) seen.site) finds.modem_is (named (ap is_some finds.body_is))
 
 found_way : (request : Request) (seen : Seen) (no_room : Bool) (found : Found) (profile : Option (List Tree)) (finds : Finds request.at.0 seen no_room found)
-    → way_for_modem (view_with seen profile) request.from.ip no_room request.name.now request.options found.modem (Some finds.row)
-    ≡ way_anew (view_with seen profile) request.at.0 request.from.ip no_room request.name.now request.options
+    → way_for_owner (view_with seen profile) request.from.ip no_room (asked_in request) (owner_by_row found.modem (Some finds.row))
+    ≡ way_anew (view_with seen profile) request.at.0 request.from.ip no_room (asked_in request)
 found_way request seen no_room found profile finds =
-    ap (λ (m : Option Modem). way_for_modem (view_with seen profile) request.from.ip no_room request.name.now request.options found.modem m) (sym finds.row_is)
-    ∙ ap (λ (h : Option Mac). way_for_holder (view_with seen profile) request.from.ip no_room request.name.now request.options h) (sym finds.modem_is)
+    ap (λ (m : Option Modem). way_for_owner (view_with seen profile) request.from.ip no_room (asked_in request) (owner_by_row found.modem m)) (sym finds.row_is)
+    ∙ ap (λ (h : Option Mac). way_for_holder (view_with seen profile) request.from.ip no_room (asked_in request) h) (sym finds.modem_is)
 
 found_one : (old : Transfers) (request : Request) (seen : Seen) (no_room : Bool) (found : Found) (profile : Option (List Tree)) (d : Decision)
     → Finds request.at.0 seen no_room found → IsNamed request.at.0 request.from.ip request.name.now seen → seen.body ≡ entry_for seen.modem profile
     → CanServe (view_with seen profile) request.at.0 request.from.ip → Begins request seen.site found d
-    → Serves (view_with seen profile) request.at.0 old request.from request.bytes.now (way_anew (view_with seen profile) request.at.0 request.from.ip no_room request.name.now request.options) d
+    → Serves (view_with seen profile) old (came_in request) (way_anew (view_with seen profile) request.at.0 request.from.ip no_room (asked_in request)) d
 found_one old request seen no_room found profile d finds named entry serves begins =
-    subst (λ (w : Way). Serves (view_with seen profile) request.at.0 old request.from request.bytes.now w d) (found_way request seen no_room found profile finds)
+    subst (λ (w : Way). Serves (view_with seen profile) old (came_in request) w d) (found_way request seen no_room found profile finds)
     (start_for old request seen finds.row found.body.now found.body.now found.body.now.body found.modem found.subscriber profile begins.grant (Ok d) no_room
     (sym finds.subscriber_is) finds.body_is refl refl (entry ∙ ap (λ (m : Option Modem). entry_for m profile) finds.row_is)
     (begins.built (view_with seen profile)) serves begins.whose (λ there. found_named request seen no_room found finds named) finds.room begins.starts finds.row_is)
@@ -200,9 +201,9 @@ found_one old request seen no_room found profile d finds named entry serves begi
 pub found_serves : (old : Transfers) (request : Request) (seen : Seen) (no_room : Bool) (found : Found) (profile : Option (List Tree)) (step : Result Decision NoMemory)
     → Finds request.at.0 seen no_room found → no_room ≡ lacks_room old request.from → IsNamed request.at.0 request.from.ip request.name.now seen → seen.body ≡ entry_for seen.modem profile
     → CanServe (view_with seen profile) request.at.0 request.from.ip → IfOk step (Begins request seen.site found)
-    → IfOk step (Serves (view_with seen profile) request.at.0 old request.from request.bytes.now (way_anew (view_with seen profile) request.at.0 request.from.ip (lacks_room old request.from) request.name.now request.options))
+    → IfOk step (Serves (view_with seen profile) old (came_in request) (way_anew (view_with seen profile) request.at.0 request.from.ip (lacks_room old request.from) (asked_in request)))
 found_serves old request seen no_room found profile (Ok d) finds full named entry serves begins =
-    subst (λ b. Serves (view_with seen profile) request.at.0 old request.from request.bytes.now (way_anew (view_with seen profile) request.at.0 request.from.ip b request.name.now request.options) d) full
+    subst (λ b. Serves (view_with seen profile) old (came_in request) (way_anew (view_with seen profile) request.at.0 request.from.ip b (asked_in request)) d) full
     (found_one old request seen no_room found profile d finds named entry serves begins)
 found_serves old request seen no_room found profile (Err err) finds full named entry serves begins = tt
 
@@ -230,9 +231,9 @@ found_unseen request site found (Ok d) begins = started_unseen request found.bod
 found_unseen request site found (Err err) begins = tt
 
 -- nor does what is seen of agreement change what it serves
-pub serves_seen : (v : View) (now : ℕ) (old : Transfers) (from : Peer) (bytes : List ℕ) (w : Way) (d e : Decision) → e ≡ record d { agreed = e.agreed } → Serves v now old from bytes w d → Serves v now old from bytes w e
+pub serves_seen : (v : View) (now : ℕ) (old : Transfers) (from : Peer) (bytes : List ℕ) (w : Way) (d e : Decision) → e ≡ record d { agreed = e.agreed } → Serves v old (datagram_at now from bytes) w d → Serves v old (datagram_at now from bytes) w e
 serves_seen v now old from bytes w d e same served =
-    subst (λ (x : Decision). Serves v now old from bytes w x) (sym same) (record { does = served.does; keeps = served.keeps })
+    subst (λ (x : Decision). Serves v old (datagram_at now from bytes) w x) (sym same) (record { does = served.does; keeps = served.keeps })
 
 -- what begins, by what the calls answered
 pub begun_of : (request : Request) (site : Option Site) (found : Found) (entry : KeptBody) (shared : List ℕ) (grant : Option Grant) (step : Result Decision NoMemory)
@@ -251,11 +252,11 @@ begun_of request site found entry shared grant (Err err) same alike starts whose
 
 pub refused_serves : (old : Transfers) (request : Request) (seen : Seen) (no_room : Bool) (why : Refusal) (profile : Option (List Tree)) (step : Result Decision NoMemory) → Refuses request seen no_room why
     → no_room ≡ lacks_room old request.from → IsNamed request.at.0 request.from.ip request.name.now seen → seen.body ≡ entry_for seen.modem profile → IfOk step (λ d. d ≡ refusal_of request.from (denial_of why))
-    → IfOk step (Serves (view_with seen profile) request.at.0 old request.from request.bytes.now (way_anew (view_with seen profile) request.at.0 request.from.ip (lacks_room old request.from) request.name.now request.options))
+    → IfOk step (Serves (view_with seen profile) old (came_in request) (way_anew (view_with seen profile) request.at.0 request.from.ip (lacks_room old request.from) (asked_in request)))
 refused_serves old request seen no_room why profile (Ok d) refuses full named entry is =
-    subst (λ b. Serves (view_with seen profile) request.at.0 old request.from request.bytes.now (way_anew (view_with seen profile) request.at.0 request.from.ip b request.name.now request.options) d) full
-    (subst (λ (w : Way). Serves (view_with seen profile) request.at.0 old request.from request.bytes.now w d) (sym (refuses profile entry named))
-    (subst (λ (e : Decision). Serves (view_with seen profile) request.at.0 old request.from request.bytes.now (Denies (denial_of why)) e) (sym is) (record { does = refl; keeps = λ entries. refl })))
+    subst (λ b. Serves (view_with seen profile) old (came_in request) (way_anew (view_with seen profile) request.at.0 request.from.ip b (asked_in request)) d) full
+    (subst (λ (w : Way). Serves (view_with seen profile) old (came_in request) w d) (sym (refuses profile entry named))
+    (subst (λ (e : Decision). Serves (view_with seen profile) old (came_in request) (Denies (denial_of why)) e) (sym is) (record { does = refl; keeps = λ entries. refl })))
 refused_serves old request seen no_room why profile (Err err) refuses full named entry is = tt
 
 pub refused_fits : (old : Transfers) (from : Peer) (denial : Denial) (step : Result Decision NoMemory) → IfOk step (λ d. d ≡ refusal_of from denial) → IfOk step (λ d. CanBe d.change old from)
@@ -275,20 +276,20 @@ refused_begins old request holder denial (Err err) new is = tt
 module _ (request : Request) (seen : Seen) (no_room : Bool) where
   pub not_held : (h : Option Mac) → h ≡ held_by request.at.0 seen.lease → h ≡ None → Refuses request seen no_room why.NoLease
   not_held h is none = λ profile entry named.
-      ap (λ (o : Option Mac). way_for_holder (view_with seen profile) request.from.ip no_room request.name.now request.options o) (sym is ∙ none)
+      ap (λ (o : Option Mac). way_for_holder (view_with seen profile) request.from.ip no_room (asked_in request) o) (sym is ∙ none)
 
   by_row : (h : Option Mac) (mac : Mac) (profile : Option (List Tree)) (m : Option Modem) → h ≡ held_by request.at.0 seen.lease → h ≡ Some mac → seen.modem ≡ m
-      → way_anew (view_with seen profile) request.at.0 request.from.ip no_room request.name.now request.options
-      ≡ way_for_modem (view_with seen profile) request.from.ip no_room request.name.now request.options mac m
+      → way_anew (view_with seen profile) request.at.0 request.from.ip no_room (asked_in request)
+      ≡ way_for_owner (view_with seen profile) request.from.ip no_room (asked_in request) (owner_by_row mac m)
   by_row h mac profile m is held there =
-      ap (λ (o : Option Mac). way_for_holder (view_with seen profile) request.from.ip no_room request.name.now request.options o) (sym is ∙ held)
-      ∙ ap (λ (o : Option Modem). way_for_modem (view_with seen profile) request.from.ip no_room request.name.now request.options mac o) there
+      ap (λ (o : Option Mac). way_for_holder (view_with seen profile) request.from.ip no_room (asked_in request) o) (sym is ∙ held)
+      ∙ ap (λ (o : Option Modem). way_for_owner (view_with seen profile) request.from.ip no_room (asked_in request) (owner_by_row mac o)) there
 
   pub not_agreed : (h : Option Mac) (mac : Mac) → h ≡ held_by request.at.0 seen.lease → h ≡ Some mac → seen.modem ≡ None → Refuses request seen no_room why.Agreement
   not_agreed h mac is held none = λ profile entry named. by_row h mac profile None is held none
 
   nameless : (mac : Mac) (row : Modem) (own : Bool) (profile : Option (List Tree)) → None ≡ option_map (entry_of row) profile
-      → cond (not (own && is_some profile)) (Denies file_not_found) (cond no_room (Denies too_many_transfers) (Accepts mac row.subscriber request.name.now request.options)) ≡ Denies file_not_found
+      → cond (not (own && is_some profile)) (Denies file_not_found) (cond no_room (Denies too_many_transfers) (Accepts (asked_in request) (file_owner mac row.subscriber))) ≡ Denies file_not_found
   nameless mac row true None entry = refl
   nameless mac row false None entry = refl
   nameless mac row own (Some p) entry = cc
@@ -299,11 +300,11 @@ module _ (request : Request) (seen : Seen) (no_room : Bool) where
       ∙ nameless mac row (passes (is_own_name request.name.now mac request.from.ip) seen.site) profile (sym none ∙ entry ∙ ap (λ (m : Option Modem). entry_for m profile) there)
 
   crowded : (mac : Mac) (row : Modem) (own : Bool) (profile : Option (List Tree)) (body : KeptBody) → own ≡ true → no_room ≡ true → Some body ≡ option_map (entry_of row) profile
-      → cond (not (own && is_some profile)) (Denies file_not_found) (cond no_room (Denies too_many_transfers) (Accepts mac row.subscriber request.name.now request.options)) ≡ Denies too_many_transfers
+      → cond (not (own && is_some profile)) (Denies file_not_found) (cond no_room (Denies too_many_transfers) (Accepts (asked_in request) (file_owner mac row.subscriber))) ≡ Denies too_many_transfers
   crowded mac row own None body is full entry = cc
   crowded mac row own (Some p) body is full entry =
-      ap (λ b. cond (not (b && true)) (Denies file_not_found) (cond no_room (Denies too_many_transfers) (Accepts mac row.subscriber request.name.now request.options))) is
-      ∙ ap (λ b. cond b (Denies too_many_transfers) (Accepts mac row.subscriber request.name.now request.options)) full
+      ap (λ b. cond (not (b && true)) (Denies file_not_found) (cond no_room (Denies too_many_transfers) (Accepts (asked_in request) (file_owner mac row.subscriber)))) is
+      ∙ ap (λ b. cond b (Denies too_many_transfers) (Accepts (asked_in request) (file_owner mac row.subscriber))) full
 
   pub no_place : (h : Option Mac) (mac : Mac) (row : Modem) (body : KeptBody) → h ≡ held_by request.at.0 seen.lease → h ≡ Some mac → seen.modem ≡ Some row → seen.body ≡ Some body → no_room ≡ true
       → Refuses request seen no_room why.Full

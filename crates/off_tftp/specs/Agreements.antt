@@ -13,6 +13,7 @@ use Rattle.off_defs.specs.State.{Tables, Transfer}
 use Rattle.off_account_rules.specs.Rows.{passes}
 use Rattle.off_base.specs.Macs.{is_same_mac}
 use Rattle.off_defs.specs.Tables.{key_written}
+use Rattle.off_transfer_rules.specs.Requests.{file_owner}
 use Rattle.off_transfer_rules.specs.View.{View, view, agrees}
 use Rattle.off_tftp.specs.declared.agreements.Agreement.{Agreement}
 
@@ -60,7 +61,7 @@ is_remembered now ip slots x = passes (stands_for now ip x) (in_slot ip slots)
 -- what there is for its address agrees at each moment before its end
 abbrev pub AgreesBy : View → Agreement → Type 0
 AgreesBy v a =
-    (now : ℕ) → now < a.until.0 → agrees v now a.ip a.name a.modem a.subscriber ≡ true
+    (now : ℕ) → now < a.until.0 → agrees v now a.ip a.name (file_owner a.modem a.subscriber) ≡ true
 
 pub record IsAgreementOf (v : View) (ip : Ip4) (a : Agreement) : Type 0 where
   pub here : a.ip ≡ ip

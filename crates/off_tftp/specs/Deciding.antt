@@ -11,6 +11,7 @@ use Rattle.off_kept.specs.Right.{AllRight}
 use Rattle.off_account_rules.specs.Rows.{passes}
 use Rattle.off_tftp.specs.Agreements.{Slots, stands_for, is_remembered, with_agreed, IsAgreementOf, AllAgreed}
 use Rattle.off_packets.specs.Replies.{error_packet}
+use Rattle.off_transfer_rules.specs.Requests.{Datagram}
 use Rattle.off_transfer_rules.specs.Transfers.{Transfers, asked_again, gone_on, is_at_last, first_word, last_packet, packet_to}
 use Rattle.off_transfer_rules.specs.View.{View}
 use Rattle.off_transfer_rules.specs.Steps.{Denial, Way, Given, GivesBy, TftpStep, gives, way}
@@ -19,8 +20,8 @@ use Rattle.off_transfer_rules.specs.Steps.{illegal_operation, access_violation, 
 use Rattle.off_tftp.specs.Kept.{HasRoomFor, changed}
 use Rattle.off_tftp.specs.Places.{IsPlaceOf}
 use Rattle.off_tftp.specs.Keeping.{kept_by, kept_after}
-use Rattle.off_tftp.specs.Granted.{begun_by}
-use Rattle.off_tftp.specs.declared.requests.Datagram.{Datagram}
+use Rattle.off_tftp.specs.Granted.{as_came, begun_by}
+use Rattle.off_tftp.specs.declared.requests.Datagram.{Datagram as Received}
 use Rattle.off_tftp.specs.declared.requests.Request.{Request}
 use Rattle.off_tftp.specs.declared.requests.Grant.{Grant}
 use Rattle.off_tftp.specs.declared.deciding.Change.{Change}
@@ -129,34 +130,32 @@ given_by d now transfers from =
     gives (after_change d.change now transfers from) (items_of d.sent) d.word
 
 -- what is decided is what the way gives, by what is read for the peer
-abbrev pub Does : View → ℕ → Transfers → Peer → List ℕ → Way → Decision → Type 0
-Does v now transfers from bytes way d =
-    GivesBy v now transfers from bytes way (given_by d now transfers from)
+abbrev pub Does : View → Transfers → Datagram → Way → Decision → Type 0
+Does v transfers datagram way d =
+    GivesBy v transfers datagram way (given_by d datagram.at transfers datagram.from)
 
 -- and what it keeps is what the way keeps
-pub record Serves (v : View) (now : ℕ) (transfers : Transfers) (from : Peer) (bytes : List ℕ)
-    (way : Way) (d : Decision) : Type 0 where
-  pub does : Does v now transfers from bytes way d
+pub record Serves (v : View) (transfers : Transfers) (datagram : Datagram) (way : Way)
+    (d : Decision) : Type 0 where
+  pub does : Does v transfers datagram way d
   pub keeps : (entries : Entries) → kept_behind d.change entries ≡ kept_by v way entries
 
 -- a datagram, by what there is for its peer
-abbrev pub Decides : View → ℕ → Transfers → Peer → List ℕ → Decision → Type 0
-Decides v now transfers from bytes d =
-    Serves v now transfers from bytes (way v now transfers from bytes) d
+abbrev pub Decides : View → Transfers → Datagram → Decision → Type 0
+Decides v transfers datagram d = Serves v transfers datagram (way v transfers datagram) d
 
 -- and what was seen of agreement is right
-pub record Judges (v : View) (now : ℕ) (transfers : Transfers) (from : Peer) (bytes : List ℕ)
-    (d : Decision) : Type 0 where
-  pub decides : Decides v now transfers from bytes d
-  pub sees : SeesRight v from.ip d
+pub record Judges (v : View) (transfers : Transfers) (datagram : Datagram) (d : Decision) : Type 0
+  where
+    pub decides : Decides v transfers datagram d
+    pub sees : SeesRight v datagram.from.ip d
 
 -- by the tables themselves: what is decided is the step that answers the datagram, and what it
 -- keeps and remembers is right by them again
-pub record Answers (tables : Tables) (datagram : Datagram) (transfers : Transfers)
+pub record Answers (tables : Tables) (received : Received) (transfers : Transfers)
     (kept : Entries) (slots : Slots) (d : Decision) : Type 0 where
-  pub step : TftpStep tables datagram.at.0 transfers datagram.from datagram.bytes.now
-      (given_by d datagram.at.0 transfers datagram.from)
-  pub keeps : kept_behind d.change kept
-      ≡ kept_after tables datagram.at.0 transfers datagram.from datagram.bytes.now kept
+  pub step : TftpStep tables transfers (as_came received)
+      (given_by d received.at.0 transfers received.from)
+  pub keeps : kept_behind d.change kept ≡ kept_after tables transfers (as_came received) kept
   pub right : AllRight tables (kept_behind d.change kept)
   pub agreed : AllAgreed tables (with_agreed d.agreed slots)

@@ -12,6 +12,7 @@ use Rattle.off_kept.specs.Entries.{Entries, kept_of, with_first}
 use Rattle.off_kept.specs.declared.bodies.KeptBody.{KeptBody}
 use Rattle.off_outside.specs.KeeperSeen.{KeeperSeen}
 use Rattle.off_outside.specs.KeeperCalls.{Spent}
+use Rattle.off_transfer_rules.specs.Requests.{Datagram}
 use Rattle.off_transfer_rules.specs.Transfers.{Transfers}
 use Rattle.off_transfer_rules.specs.View.{View, view, owner_by}
 use Rattle.off_transfer_rules.specs.Steps.{Way, Accepts, way, is_repeated}
@@ -54,11 +55,12 @@ kept_with mac (Some entry) entries = with_first mac entry entries
 
 -- where a transfer begins, its modem's entry is put first; nothing else changes what is kept
 abbrev pub kept_by : View → Way → Entries → Entries
-kept_by v (Accepts mac subscriber name asked) entries =
-    kept_with mac (entry_for v.modem v.profile) entries
+kept_by v (Accepts request owner) entries =
+    kept_with owner.modem (entry_for v.modem v.profile) entries
 kept_by v other entries = entries
 
 -- what is kept after a datagram
-abbrev pub kept_after : Tables → ℕ → Transfers → Peer → List ℕ → Entries → Entries
-kept_after tables now transfers from bytes entries =
-    kept_by (view tables from.ip) (way (view tables from.ip) now transfers from bytes) entries
+abbrev pub kept_after : Tables → Transfers → Datagram → Entries → Entries
+kept_after tables transfers datagram entries =
+    let v = view tables datagram.from.ip in
+    kept_by v (way v transfers datagram) entries

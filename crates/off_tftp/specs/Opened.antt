@@ -9,7 +9,7 @@ use Rattle.off_transfer_rules.specs.View.{View, IsBuiltBy}
 use Rattle.off_transfer_rules.specs.Steps.{Denies, way_anew}
 use Rattle.off_tftp.specs.Keeping.{entry_for}
 use Rattle.off_tftp.specs.Seen.{view_with, held_by, IsNamed, CanServe}
-use Rattle.off_tftp.specs.Granted.{IsFor}
+use Rattle.off_tftp.specs.Granted.{IsFor, asked_in}
 use Rattle.off_tftp.specs.Deciding.{Starts, denial_of}
 use Rattle.off_tftp.specs.declared.gathering.Seen.{Seen}
 use Rattle.off_tftp.specs.declared.opening.Found.{Found}
@@ -39,8 +39,8 @@ abbrev pub Refuses : Request → Seen → Bool → Refusal → Type 0
 Refuses request seen lacks_room why =
     (profile : Option (List Tree)) → seen.body ≡ entry_for seen.modem profile
     → IsNamed request.at.0 request.from.ip request.name.now seen
-    → way_anew (view_with seen profile) request.at.0 request.from.ip lacks_room
-    request.name.now request.options ≡ Denies (denial_of why)
+    → way_anew (view_with seen profile) request.at.0 request.from.ip lacks_room (asked_in request)
+    ≡ Denies (denial_of why)
 
 -- a transfer of what was found begins, where there is a file
 pub record Begins (request : Request) (site : Option Site) (found : Found) (d : Decision) : Type 0

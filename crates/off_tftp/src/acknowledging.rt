@@ -3,6 +3,7 @@
 ghost use Rattle.std.specs.Prelude.{◌≡◌, List, ℕ, None, true, false, is_some, IfOk, IfSome};
 ghost use Rattle.std.specs.FinMap as map;
 ghost use Rattle.off_account_rules.specs.Rows.{passes};
+ghost use Rattle.off_transfer_rules.specs.Requests.{datagram_at, file_owner};
 ghost use Rattle.off_transfer_rules.specs.View.{View, agrees};
 ghost use Rattle.off_transfer_rules.specs.Steps.{Repeats, GoesOn, way_of_last, no_longer_agreed};
 ghost use Rattle.off_transfer_rules.specs.Transfers.{is_at_last};
@@ -78,11 +79,8 @@ impl Transfers {
         ensures { result ≡ passes (is_remembered now.0 from.ip agreements.now)
             (map.get self.now from) }
     {
-        let Some(live) = self.get(from, place) else {
-            return false;
-        };
-        match agreements.in_slot(from.ip) {
-            Some(agreement) => agreement.stands_for(now, from.ip, live),
+        match self.get(from, place) {
+            Some(live) => agreements.has(now, from.ip, live),
             None => false,
         }
     }
@@ -97,7 +95,7 @@ impl Transfers {
         requires { IsPlaceOf self.now from place }
         ensures done { (v : View) (now : ℕ) (bytes : List ℕ) → IfOk result
             (λ d. IfSome (map.get self.now from)
-            (λ x. Does v now self.now from bytes (Repeats x) d)) }
+            (λ x. Does v self.now (datagram_at now from bytes) (Repeats x) d)) }
         ensures bare { IfOk result KeepsNothing }
         ensures able { IfOk result (λ d. CanBe d.change self.now from) }
         ensures unseen { IfOk result SeesNothing }
@@ -132,7 +130,7 @@ impl Transfers {
         requires more { IfSome (map.get self.now from) (λ x. is_at_last x ≡ false) }
         ensures done { (bytes : List ℕ) → IfOk result
             (λ d. IfSome (map.get self.now from)
-            (λ x. Does (view_of seen.now) now.0 self.now from bytes
+            (λ x. Does (view_of seen.now) self.now (datagram_at now.0 from bytes)
             (way_of_last (view_of seen.now) now.0 from.ip x) d)) }
         ensures bare { IfOk result KeepsNothing }
         ensures able { IfOk result (λ d. CanBe d.change self.now from) }
@@ -152,7 +150,7 @@ impl Transfers {
     fn seen_to_agree(&self, seen: &Seen, now: Moment, from: Peer, place: Place) -> Option<Agreement>
         requires { IsPlaceOf self.now from place }
         ensures agrees { is_some result ≡ passes
-            (λ x. agrees (view_of seen.now) now.0 from.ip x.name x.modem x.subscriber)
+            (λ x. agrees (view_of seen.now) now.0 from.ip x.name (file_owner x.modem x.subscriber))
             (map.get self.now from) }
         ensures right { IfSome result (IsAgreementOf (view_of seen.now) from.ip) }
         ensures stands { IfSome (map.get self.now from) (λ x. IfSome result
@@ -176,7 +174,7 @@ impl Transfers {
         requires more { IfSome (map.get self.now from) (λ x. is_at_last x ≡ false) }
         ensures done { (v : View) (now : ℕ) (bytes : List ℕ) → IfOk result
             (λ d. IfSome (map.get self.now from)
-            (λ x. Does v now self.now from bytes (GoesOn x) d)) }
+            (λ x. Does v self.now (datagram_at now from bytes) (GoesOn x) d)) }
         ensures bare { IfOk result KeepsNothing }
         ensures able { IfOk result (λ d. CanBe d.change self.now from) }
         ensures agreed { IfOk result (λ d. d.agreed ≡ agreed) }

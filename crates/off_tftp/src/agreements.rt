@@ -1,7 +1,7 @@
 ghost use Rattle.std.specs.Prelude.{◌≡◌, ◌<◌, ℕ, Some, None, length, slice_index_or, IfOk, IfSome};
 ghost use Rattle.off_defs.specs.Tables.{key_written};
 ghost use Rattle.off_tftp.specs.Agreements.{none_remembered, slot_of, in_slot, stands_for};
-ghost use Rattle.off_tftp.specs.Agreements.{with_agreement, with_agreed, touches_all, touch_all};
+ghost use Rattle.off_tftp.specs.Agreements.{is_remembered, with_agreed, touches_all, touch_all};
 ghost use Rattle.off_tftp.specs.Agreements.{without_row, without_rows, without_touched};
 
 use crate::live::Live;
@@ -70,19 +70,14 @@ impl Agreements {
         Ok(Agreements { slots })
     }
 
-    /// What stands in the slot of an address.
-    pub(crate) fn in_slot(&self, ip: Ip4) -> Option<Agreement>
-        ensures { result ≡ in_slot ip self.now }
+    /// Whether it's remembered that the tables agree with a transfer of an address.
+    pub(crate) fn has(&self, now: Moment, ip: Ip4, live: &Live) -> bool
+        ensures { result ≡ is_remembered now.0 ip self.now live.now }
     {
-        self.slots[slot_of(ip)]
-    }
-
-    // Remembers it, in place of what stands in its slot.
-    fn put(&mut self, agreement: Agreement)
-        ensures put { self.new ≡ with_agreement agreement self.old }
-        ensures there { in_slot agreement.ip self.new ≡ Some agreement }
-    {
-        self.slots[slot_of(agreement.ip)] = Some(agreement);
+        match self.slots[slot_of(ip)] {
+            Some(agreement) => agreement.stands_for(now, ip, live),
+            None => false,
+        }
     }
 
     /// Remembers what was seen, if anything was, in place of what stands in its slot. It takes no
@@ -92,7 +87,7 @@ impl Agreements {
         ensures there { IfSome agreed (λ a. in_slot a.ip self.new ≡ agreed) }
     {
         if let Some(agreement) = agreed {
-            self.put(agreement);
+            self.slots[slot_of(agreement.ip)] = Some(agreement);
         }
     }
 

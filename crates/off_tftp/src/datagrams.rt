@@ -11,6 +11,7 @@ ghost use Rattle.off_account_rules.specs.Rows.{hub_of};
 ghost use Rattle.off_kept.specs.Right.{AllRight};
 ghost use Rattle.off_outside.specs.declared.keeper.KeepErr.TheVariants.{Memory};
 ghost use Rattle.off_outside.specs.KeeperCalls.{Looks, Spent};
+ghost use Rattle.off_tftp.specs.Granted.{as_came, came_in, asked_in};
 ghost use Rattle.off_tftp.specs.Agreements.{AllAgreed, RemembersRight};
 ghost use Rattle.off_tftp.specs.Calls.{datagram_calls, reading_calls, acknowledgement_calls};
 ghost use Rattle.off_tftp.specs.Calls.{agrees_with, UnaskedWhereAgreed};
@@ -94,7 +95,7 @@ impl Transfers {
         ensures told { Looks result (K.seen keeper.old) (K.seen keeper.new)
             (λ d t. let v = view_at t datagram.now.hub datagram.now.from.ip in
             AllRight t kept.now → RemembersRight v datagram.now.from.ip agreements.now
-            → Judges v datagram.now.at.0 self.now datagram.now.from datagram.now.bytes.now d) }
+            → Judges v self.now (as_came datagram.now) d) }
         ensures able { IfOk result (λ d. CanBe d.change self.now datagram.now.from) }
         ensures spent { Spent (datagram_calls self.now datagram.now.from datagram.now.bytes.now)
             (K.seen keeper.old) (K.seen keeper.new) }
@@ -167,10 +168,9 @@ impl Transfers {
         ensures told { Looks result (K.seen keeper.old) (K.seen keeper.new)
             (λ d t. AllRight t kept.now
             → let v = view_at t request.now.hub request.now.from.ip in
-            Serves v request.now.at.0 self.now request.now.from request.now.bytes.now
-            (way_of_request v request.now.at.0 request.now.from.ip
-            (has_no_room self.now) request.now.bytes.now request.now.name.now
-            request.now.options (map.get self.now request.now.from)) d
+            Serves v self.now (came_in request.now)
+            (way_of_request v (came_in request.now) (has_no_room self.now)
+            (asked_in request.now) (map.get self.now request.now.from)) d
             × SeesRight v request.now.from.ip d) }
         ensures able { IfOk result (λ d. CanBe d.change self.now request.now.from) }
         ensures ends { IfOk result (λ d. goes_on d.change ≡ false) }
@@ -210,7 +210,7 @@ impl Transfers {
         ensures told { Looks result (K.seen keeper.old) (K.seen keeper.new)
             (λ d t. let v = view_at t datagram.now.hub datagram.now.from.ip in
             RemembersRight v datagram.now.from.ip agreements.now
-            → Does v datagram.now.at.0 self.now datagram.now.from datagram.now.bytes.now
+            → Does v self.now (as_came datagram.now)
             (way_of_acknowledgement v datagram.now.at.0 datagram.now.from.ip number
             (map.get self.now datagram.now.from)) d
             × SeesRight v datagram.now.from.ip d) }
@@ -260,7 +260,7 @@ impl Transfers {
             (λ d t. let v = view_at t datagram.now.hub datagram.now.from.ip in
             RemembersRight v datagram.now.from.ip agreements.now
             → IfSome (map.get self.now datagram.now.from)
-            (λ x. Does v datagram.now.at.0 self.now datagram.now.from datagram.now.bytes.now
+            (λ x. Does v self.now (as_came datagram.now)
             (way_of_last v datagram.now.at.0 datagram.now.from.ip x) d)
             × SeesRight v datagram.now.from.ip d) }
         ensures bare { IfOk result KeepsNothing }

@@ -4,6 +4,7 @@ ghost use Rattle.std.specs.Prelude.{◌≡◌, true, is_some, IfSome};
 ghost use Rattle.off_account_rules.specs.Rows.{passes};
 ghost use Rattle.off_account_rules.specs.Good.{is_mac};
 ghost use Rattle.off_lease_rules.specs.Free.{has_ended};
+ghost use Rattle.off_transfer_rules.specs.Requests.{file_owner};
 ghost use Rattle.off_transfer_rules.specs.View.{bound_to, is_own_name, is_of_subscriber, agrees};
 ghost use Rattle.off_tftp.specs.Agreements.{stands_for, IsAgreementOf};
 ghost use Rattle.off_tftp.specs.Seen.{view_of, held_by, names_file};
@@ -16,35 +17,33 @@ use off_defs::{Hold, Lease, Modem, Site};
 use off_files::file_name;
 use std::cmp::Ordering;
 
-/// What of the tables agrees with a transfer, by what was seen, or nothing where they don't.
+/// What of the tables agrees with a transfer, by what was seen, or nothing where they don't. The
+/// name of its modem's file is computed where the rows agree.
 pub(crate) fn agreement_of(seen: &Seen, now: Moment, ip: Ip4, live: &Live) -> Option<Agreement>
     ensures agrees { is_some result ≡ agrees (view_of seen.now) now.0 ip live.now.name
-        live.now.modem live.now.subscriber }
+        (file_owner live.now.modem live.now.subscriber) }
     ensures right { IfSome result (IsAgreementOf (view_of seen.now) ip) }
     ensures stands { IfSome result (λ a. stands_for now.0 ip live.now a ≡ true) }
 {
-    if !agrees(seen, now, ip, live) {
+    if !is_held_by(now, seen.lease, live.modem()) {
+        return None;
+    }
+    if !is_of_subscriber(&seen.modem, live.subscriber()) {
         return None;
     }
     let Some(lease) = seen.lease else { return None };
     let Some(site) = &seen.site else { return None };
+    let name = file_name(site.secret.as_slice(), live.modem(), ip);
+    if live.name() != name.as_slice() {
+        return None;
+    }
     Some(Agreement {
         ip,
-        name: file_name(site.secret.as_slice(), live.modem(), ip),
+        name,
         modem: live.modem(),
         subscriber: live.subscriber(),
         until: lease.expiry,
     })
-}
-
-// Whether the tables agree with a transfer.
-fn agrees(seen: &Seen, now: Moment, ip: Ip4, live: &Live) -> bool
-    ensures { result ≡ agrees (view_of seen.now) now.0 ip live.now.name live.now.modem
-        live.now.subscriber }
-{
-    is_held_by(now, seen.lease, live.modem())
-        && is_of_subscriber(&seen.modem, live.subscriber())
-        && has_own_name(&seen.site, live, ip)
 }
 
 /// Whether the name is that of the file of the modem to which the address is bound.
@@ -102,15 +101,6 @@ fn is_of_subscriber(modem: &Option<Modem>, subscriber: u32) -> bool
 {
     match modem {
         Some(modem) => modem.subscriber == subscriber,
-        None => false,
-    }
-}
-
-fn has_own_name(site: &Option<Site>, live: &Live, ip: Ip4) -> bool
-    ensures { result ≡ passes (is_own_name live.now.name live.now.modem ip) site.now }
-{
-    match site {
-        Some(site) => live.has_own_name(site, ip),
         None => false,
     }
 }

@@ -1,9 +1,7 @@
 ghost use Rattle.std.specs.Prelude.{◌≡◌, ◌≤◌, suc, true, false, length, Ok, IfOk, IfSome};
 ghost use Rattle.off_file_rules.specs.File.{most_file_bytes};
-ghost use Rattle.off_file_rules.specs.Name.{name_of};
 ghost use Rattle.off_packets.specs.Packets.{Reads, packet_of};
 ghost use Rattle.off_transfer_rules.specs.Steps.{is_repeated};
-ghost use Rattle.off_transfer_rules.specs.View.{is_own_name};
 ghost use Rattle.off_transfer_rules.specs.Transfers.{packet_of_number, last_packet, is_at_last};
 ghost use Rattle.off_transfer_rules.specs.Transfers.{gone_on, asked_again, sent_again};
 ghost use Rattle.off_transfer_rules.specs.Transfers.{first_number, size_for, seconds_for};
@@ -12,10 +10,8 @@ ghost use Rattle.off_transfer_rules.specs.Ticks.{is_due, has_resend};
 ghost use Rattle.off_tftp.specs.Granted.{begun_by};
 
 use crate::files::File;
-use crate::judging::is_own_name;
-use crate::requests::{Grant, Named, Request};
-use off_base::{Bytes, Ip4, Mac, Moment, NoMemory};
-use off_defs::Site;
+use crate::requests::{Grant, Request};
+use off_base::{Bytes, Mac, Moment, NoMemory};
 use off_packets::{Options, data_packet, oack_packet};
 use std::alloc::Global;
 use std::marker::Model;
@@ -42,13 +38,13 @@ pub struct Live {
 /// What a live transfer holds.
 #[derive(Drop)]
 struct Held {
-    name: Bytes,
-    named: Named,
     modem: Mac,
     subscriber: u32,
     file: File,
     size: u16,
     request: Bytes,
+    // The name has so many bytes, behind the two of the request that tell its kind.
+    name_len: usize,
     options: Options,
     sent: u16,
     is_acknowledged: bool,
@@ -57,9 +53,8 @@ struct Held {
 }
 
 impl Model for Live {
-    ghost use Rattle.std.specs.Prelude.{◌≡◌, ◌≤◌, length};
+    ghost use Rattle.std.specs.Prelude.{◌≡◌, ◌+◌, ◌≤◌, length, take, drop};
     ghost use Rattle.off_file_rules.specs.File.{most_file_bytes};
-    ghost use Rattle.off_file_rules.specs.Name.{name_of};
     ghost use Rattle.off_packets.specs.Packets.{packet_of, options_by};
     ghost use Rattle.off_defs.specs.State.{Transfer};
     ghost use Rattle.off_defs.specs.Codes.{transfer_code};
@@ -69,7 +64,7 @@ impl Model for Live {
     ghost coded = { transfer_code };
 
     ghost view = { λ l. record {
-      name = l.held.value.name;
+      name = take l.held.value.name_len (drop 2 l.held.value.request);
       modem = l.held.value.modem;
       subscriber = l.held.value.subscriber;
       file = l.held.value.file;
@@ -84,12 +79,12 @@ impl Model for Live {
     ghost invariant = { λ l. (8 ≤ l.held.value.size) × (l.held.value.size ≤ 1428)
         × (length l.held.value.file ≤ most_file_bytes)
         × (options_by (packet_of l.held.value.request) ≡ l.held.value.options)
-        × (l.held.value.name
-        ≡ name_of l.held.value.named.secret l.held.value.modem l.held.value.named.ip) };
+        × (2 + l.held.value.name_len ≤ length l.held.value.request) };
 }
 
 impl Live {
     /// A transfer as its read request makes it.
+    #[tactic(auto, using(crate::proofs::NameLemmas::name_stands))]
     pub(crate) fn begin(
         alloc: Global,
         request: &Request<'_>,
@@ -99,22 +94,17 @@ impl Live {
         requires read { packet_of request.now.bytes.now
             ≡ Ok (Reads request.now.name.now request.now.options) }
         requires few { length grant.file ≤ most_file_bytes }
-        requires right { request.now.name.now
-            ≡ name_of grant.named.secret grant.modem grant.named.ip }
         ensures { IfOk result (λ live. live ≡ begun_by request.now grant) }
     {
-        let mut name = Bytes::new(alloc);
-        name.push_all(request.name)?;
         let mut asked = Bytes::new(alloc);
         asked.push_all(request.bytes)?;
         let held = Held {
-            name,
-            named: grant.named,
             modem: grant.modem,
             subscriber: grant.subscriber,
             file: grant.file,
             size: size_for(request.options),
             request: asked,
+            name_len: request.name.len(),
             options: request.options,
             sent: first_number(request.options),
             is_acknowledged: false,
@@ -159,18 +149,7 @@ impl Live {
     pub(crate) fn name(&self) -> &[u8]
         ensures { result.now ≡ self.now.name }
     {
-        self.held.name.as_slice()
-    }
-
-    /// Whether the name is that of its modem's file at an address. It's computed anew only where
-    /// the transfer began under another secret, or for another address.
-    pub(crate) fn has_own_name(&self, site: &Site, ip: Ip4) -> bool
-        ensures { result ≡ is_own_name self.now.name self.now.modem ip site.now }
-    {
-        if self.held.named.ip == ip && self.held.named.secret.as_slice() == site.secret.as_slice() {
-            return true;
-        }
-        is_own_name(site, self.held.name.as_slice(), self.held.modem, ip)
+        &self.held.request.as_slice()[2..][..self.held.name_len]
     }
 
     /// Whether the last block was sent.

@@ -4,17 +4,15 @@ ghost use Rattle.std.specs.Prelude.{◌≡◌, ◌≤◌, List, Option, Some, le
 ghost use Rattle.std.specs.Prelude.{true, false, is_some, Ok, IfOk, IfSome, MatchResult};
 ghost use Rattle.std.specs.FinMap as map;
 ghost use Rattle.off_base.specs.Tree.{Tree, spelling};
-ghost use Rattle.off_account_rules.specs.Rows.{passes};
 ghost use Rattle.off_file_rules.specs.File.{most_file_bytes};
-ghost use Rattle.off_file_rules.specs.Name.{name_of};
 ghost use Rattle.off_packets.specs.Packets.{Reads, packet_of};
-ghost use Rattle.off_transfer_rules.specs.View.{View, is_own_name};
+ghost use Rattle.off_transfer_rules.specs.View.{View};
 ghost use Rattle.off_transfer_rules.specs.Steps.{way_anew};
 ghost use Rattle.off_transfer_rules.specs.Transfers.{first_word};
 ghost use Rattle.off_tftp.specs.Keeping.{entry_for, BeginsFor};
 ghost use Rattle.off_tftp.specs.Opened.{IsBegun, Finds, Refuses, Begins};
 ghost use Rattle.off_tftp.specs.Places.{IsPlaceOf};
-ghost use Rattle.off_tftp.specs.Granted.{IsFor};
+ghost use Rattle.off_tftp.specs.Granted.{IsFor, came_in, asked_in};
 ghost use Rattle.off_tftp.specs.Deciding.{Serves, CanBe, SeesNothing, Starts, goes_on};
 ghost use Rattle.off_tftp.specs.Deciding.{after_change};
 ghost use Rattle.off_tftp.specs.Agreements.{IsAgreementOf};
@@ -27,7 +25,7 @@ use crate::files::File;
 use crate::gathering::Seen;
 use crate::judging::{agreement_of, holder};
 use crate::live::Live;
-use crate::requests::{Grant, Named, Request};
+use crate::requests::{Grant, Request};
 use crate::transfers::Transfers;
 use off_base::{Mac, NoMemory};
 use off_defs::Site;
@@ -59,10 +57,9 @@ impl Transfers {
         ensures done { (profile : Option (List Tree))
             → seen.now.body ≡ entry_for seen.now.modem profile
             → CanServe (view_with seen.now profile) request.now.at.0 request.now.from.ip
-            → IfOk result (Serves (view_with seen.now profile) request.now.at.0 self.now
-            request.now.from request.now.bytes.now
+            → IfOk result (Serves (view_with seen.now profile) self.now (came_in request.now)
             (way_anew (view_with seen.now profile) request.now.at.0 request.now.from.ip
-            (lacks_room self.now request.now.from) request.now.name.now request.now.options)) }
+            (lacks_room self.now request.now.from) (asked_in request.now))) }
         ensures able { IfOk result (λ d. CanBe d.change self.now request.now.from) }
         ensures unseen { IfOk result SeesNothing }
         ensures begins { repeats request.now.bytes.now (map.get self.now request.now.from) ≡ false
@@ -94,10 +91,9 @@ impl Transfers {
         ensures done { (profile : Option (List Tree))
             → seen.now.body ≡ entry_for seen.now.modem profile
             → CanServe (view_with seen.now profile) request.now.at.0 request.now.from.ip
-            → IfOk result (Serves (view_with seen.now profile) request.now.at.0 self.now
-            request.now.from request.now.bytes.now
+            → IfOk result (Serves (view_with seen.now profile) self.now (came_in request.now)
             (way_anew (view_with seen.now profile) request.now.at.0 request.now.from.ip
-            (lacks_room self.now request.now.from) request.now.name.now request.now.options)) }
+            (lacks_room self.now request.now.from) (asked_in request.now))) }
         ensures able { IfOk result (λ d. CanBe d.change self.now request.now.from) }
         ensures ends { IfOk result (λ d. goes_on d.change ≡ false) }
         ensures sees { IfOk result (λ d. IfSome d.agreed
@@ -187,8 +183,6 @@ fn begin(
     requires least { IfSome request.now.options.blksize (λ size. 8 ≤ size) }
     requires read { packet_of request.now.bytes.now
         ≡ Ok (Reads request.now.name.now request.now.options) }
-    requires named { passes (is_own_name request.now.name.now found.now.modem request.now.from.ip)
-        site.now ≡ true }
     ensures { IfOk result (Begins request.now site.now found.now) }
 {
     let entry = shared(found.body)?;
@@ -207,8 +201,6 @@ fn start(
     requires read { packet_of request.now.bytes.now
         ≡ Ok (Reads request.now.name.now request.now.options) }
     requires few { IfSome grant (λ grant. length grant.file ≤ most_file_bytes) }
-    requires right { IfSome grant (λ grant. request.now.name.now
-        ≡ name_of grant.named.secret grant.modem grant.named.ip) }
     ensures { IfOk result (Starts request.now entry grant) }
 {
     let Some(grant) = grant else {
@@ -239,7 +231,7 @@ fn shared(found: &KeptBody) -> Result<KeptBody, NoMemory>
     })
 }
 
-// The file of a modem's body, with what its name was found right by, where there is a site.
+// The file of a modem's body, where there is a site.
 fn grant_for(
     site: &Option<Site>,
     body: Body,
@@ -249,9 +241,6 @@ fn grant_for(
     ensures built { (v : View) → v.site ≡ site.now → option_map spelling v.profile ≡ Some body
         → CanServe v request.now.at.0 request.now.from.ip
         → IsBegun v request.now.at.0 request.now.from.ip (option_map (λ g. g.file) result) }
-    ensures right { passes (is_own_name request.now.name.now found.now.modem request.now.from.ip)
-        site.now ≡ true → IfSome result (λ grant. request.now.name.now
-        ≡ name_of grant.named.secret grant.modem grant.named.ip) }
     ensures whose { IfSome result (IsFor found.now.modem found.now.subscriber) }
     ensures few { IfSome result (λ grant. length grant.file ≤ most_file_bytes) }
     ensures sited { is_some result ≡ true → is_some site.now ≡ true }
@@ -261,14 +250,9 @@ fn grant_for(
     let Some(file) = File::signed(body, request.at, ip, site.secret.as_slice()) else {
         return None;
     };
-    let named = Named {
-        secret: site.secret.copy(),
-        ip,
-    };
     Some(Grant {
         modem: found.modem,
         subscriber: found.subscriber,
-        named,
         file,
     })
 }

@@ -2,7 +2,7 @@
 
 use crate::files::File;
 use crate::transfers::Place;
-use off_base::{Ip4, Mac, Moment, Peer, Secret};
+use off_base::{Mac, Moment, Peer};
 use off_packets::Options;
 
 /// A datagram.
@@ -32,18 +32,10 @@ pub(crate) struct Request<'a> {
     pub(crate) options: Options,
 }
 
-/// Under which secret, and for which address, a file's name was found right.
-#[derive(Drop)]
-pub(crate) struct Named {
-    pub(crate) secret: Secret,
-    pub(crate) ip: Ip4,
-}
-
 /// What was found for a request: its modem, whose subscriber that is, and its file.
 #[derive(Drop)]
 pub(crate) struct Grant {
     pub(crate) modem: Mac,
     pub(crate) subscriber: u32,
-    pub(crate) named: Named,
     pub(crate) file: File,
 }

@@ -7,6 +7,7 @@ use Rattle.off_base.specs.declared.addresses.Peer.{Peer}
 use Rattle.off_defs.specs.State.{Tables, Transfer, peer_cmp}
 use Rattle.off_account_rules.specs.Rows.{lease_in}
 use Rattle.off_packets.specs.Packets.{Acknowledges, packet_of}
+use Rattle.off_transfer_rules.specs.Requests.{datagram_at, file_owner}
 use Rattle.off_transfer_rules.specs.View.{View, view, agrees}
 use Rattle.off_transfer_rules.specs.Transfers.{Transfers, has_no_room, is_at_last, begun, gone_on, asked_again}
 use Rattle.off_transfer_rules.specs.Steps.{Way, Denies, Repeats, Accepts, Ignores, Finishes, BreaksOff, GoesOn, Leaves, way_of_last, way_of, way, Given, GivesBy, TftpStep}
@@ -26,36 +27,36 @@ asks : (now : ℕ) (x : Transfer) → SameServed x (asked_again now x)
 asks now x = record { names = refl; modems = refl; owners = refl; files = refl; sizes = refl; requests = refl }
 
 module _ (t : Tables) (now : ℕ) (xs : Transfers) (from : Peer) (bytes : List ℕ) where
-  origin_with : (x y : Transfer) (peer : Peer) (b : Bool) → eq_by_cmp peer_cmp peer from ≡ b → (peer ≡ from → Origin t now xs from bytes peer x)
-      → cond b (Some x) (map.get xs peer) ≡ Some y → Origin t now xs from bytes peer y
-  origin_with x y peer true same here e = let is : x ≡ y = cc in subst (Origin t now xs from bytes peer) is (here (same_peer peer from same))
+  origin_with : (x y : Transfer) (peer : Peer) (b : Bool) → eq_by_cmp peer_cmp peer from ≡ b → (peer ≡ from → Origin t xs (datagram_at now from bytes) peer x)
+      → cond b (Some x) (map.get xs peer) ≡ Some y → Origin t xs (datagram_at now from bytes) peer y
+  origin_with x y peer true same here e = let is : x ≡ y = cc in subst (Origin t xs (datagram_at now from bytes) peer) is (here (same_peer peer from same))
   origin_with x y peer false same here e = stood y e (itself y)
 
-  origin_without : (y : Transfer) (peer : Peer) (b : Bool) → cond b None (map.get xs peer) ≡ Some y → Origin t now xs from bytes peer y
+  origin_without : (y : Transfer) (peer : Peer) (b : Bool) → cond b None (map.get xs peer) ≡ Some y → Origin t xs (datagram_at now from bytes) peer y
   origin_without y peer true e = cc
   origin_without y peer false e = stood y e (itself y)
 
-  origin_inserted : (x : Transfer) → ((peer : Peer) → peer ≡ from → Origin t now xs from bytes peer x)
-      → (peer : Peer) (y : Transfer) → map.get (map.insert xs from x) peer ≡ Some y → Origin t now xs from bytes peer y
+  origin_inserted : (x : Transfer) → ((peer : Peer) → peer ≡ from → Origin t xs (datagram_at now from bytes) peer x)
+      → (peer : Peer) (y : Transfer) → map.get (map.insert xs from x) peer ≡ Some y → Origin t xs (datagram_at now from bytes) peer y
   origin_inserted x here peer y e = origin_with x y peer (eq_by_cmp peer_cmp peer from) refl (here peer) (sym (inserted xs from x peer) ∙ e)
 
-  origin_removed : (peer : Peer) (y : Transfer) → map.get (map.remove xs from) peer ≡ Some y → Origin t now xs from bytes peer y
+  origin_removed : (peer : Peer) (y : Transfer) → map.get (map.remove xs from) peer ≡ Some y → Origin t xs (datagram_at now from bytes) peer y
   origin_removed peer y e = origin_without y peer (eq_by_cmp peer_cmp peer from) (sym (removed xs from peer) ∙ e)
 
   there : (x : Transfer) → map.get xs from ≡ Some x → (peer : Peer) → peer ≡ from → map.get xs peer ≡ Some x
   there x e peer same = ap (λ (p : Peer). map.get xs p) same ∙ e
 
-  origin_by : (w : Way) (given : Given) → Standing (view t from.ip) now from.ip (has_no_room xs) (map.get xs from) w → GivesBy (view t from.ip) now xs from bytes w given
-      → (peer : Peer) (y : Transfer) → map.get given.transfers peer ≡ Some y → Origin t now xs from bytes peer y
+  origin_by : (w : Way) (given : Given) → Standing (view t from.ip) now from.ip (has_no_room xs) (map.get xs from) w → GivesBy (view t from.ip) xs (datagram_at now from bytes) w given
+      → (peer : Peer) (y : Transfer) → map.get given.transfers peer ≡ Some y → Origin t xs (datagram_at now from bytes) peer y
   origin_by (Denies denial) given s e peer y is = stood y (ap (λ (g : Given). map.get g.transfers peer) (sym e) ∙ is) (itself y)
   origin_by (Repeats x) given s e peer y is =
       origin_inserted (asked_again now x) (λ p same. stood x (there x s p same) (asks now x)) peer y (ap (λ (g : Given). map.get g.transfers peer) (sym e) ∙ is)
-  origin_by (Accepts mac owner name asked) given s e peer y is =
-      let own = owner_held now (lease_in t from.ip) mac (live_in t now from.ip mac (held_of (view t from.ip) now mac s.0.held)) in
-      origin_inserted (begun now bytes mac owner name asked e.0)
+  origin_by (Accepts request owner) given s e peer y is =
+      let own = owner_held now (lease_in t from.ip) owner.modem (live_in t now from.ip owner.modem (held_of (view t from.ip) now owner.modem s.0.held)) in
+      origin_inserted (begun (datagram_at now from bytes) request owner e.0)
       (λ p same. began same (record {
-        agreed = accepting_agrees t now from.ip mac owner name s.0;
-        own_file = file_of_built t now from.ip mac e.0 own e.1.0;
+        agreed = accepting_agrees t now from.ip owner.modem owner.subscriber request.name s.0;
+        own_file = file_of_built t now from.ip owner.modem e.0 own e.1.0;
         request = refl;
         unacknowledged = refl;
         sent_now = refl;
@@ -70,22 +71,22 @@ module _ (t : Tables) (now : ℕ) (xs : Transfers) (from : Peer) (bytes : List �
 
 pub each_has_an_origin : EachHasAnOrigin
 unfolding TftpStep
-each_has_an_origin t now xs from bytes given step =
-    origin_by t now xs from bytes (way (view t from.ip) now xs from bytes) given (standing_way (view t from.ip) now xs from bytes) step
+each_has_an_origin t xs d given step =
+    origin_by t d.at xs d.from d.bytes (way (view t d.from.ip) xs d) given (standing_way (view t d.from.ip) d.at xs d.from d.bytes) step
 
 -- ---- the next block
 
 acknowledged_way : (v : View) (now : ℕ) (from : Peer) (xs : Transfers) (bytes : List ℕ) (x : Transfer) → map.get xs from ≡ Some x → packet_of bytes ≡ Ok (Acknowledges x.sent)
-    → is_at_last x ≡ false → agrees v now from.ip x.name x.modem x.subscriber ≡ true → way v now xs from bytes ≡ GoesOn x
+    → is_at_last x ≡ false → agrees v now from.ip x.name (file_owner x.modem x.subscriber) ≡ true → way v xs (datagram_at now from bytes) ≡ GoesOn x
 unfolding way
 acknowledged_way v now from xs bytes x live read last agreed =
-    (λ i. way_of v now from.ip (has_no_room xs) bytes (live i) (read i))
+    (λ i. way_of v (datagram_at now from bytes) (has_no_room xs) (live i) (read i))
     ∙ ap (λ b. cond b (way_of_last v now from.ip x) Ignores) (eq-eqb x.sent x.sent refl)
-    ∙ ap (λ b. cond b Finishes (cond (agrees v now from.ip x.name x.modem x.subscriber) (GoesOn x) BreaksOff)) last
+    ∙ ap (λ b. cond b Finishes (cond (agrees v now from.ip x.name (file_owner x.modem x.subscriber)) (GoesOn x) BreaksOff)) last
     ∙ ap (λ b. cond b (GoesOn x) BreaksOff) agreed
 
 pub next_block_goes : NextBlockGoes
 unfolding TftpStep
-next_block_goes t now xs from bytes given x live read last agreed step =
-    subst (λ (w : Way). GivesBy (view t from.ip) now xs from bytes w given)
-    (acknowledged_way (view t from.ip) now from xs bytes x live read last (agrees_from t now from.ip x.name x.modem x.subscriber agreed)) step
+next_block_goes t xs d given x live read last agreed step =
+    subst (λ (w : Way). GivesBy (view t d.from.ip) xs d w given)
+    (acknowledged_way (view t d.from.ip) d.at d.from xs d.bytes x live read last (agrees_from t d.at d.from.ip x.name x.modem x.subscriber agreed)) step

@@ -44,4 +44,4 @@ same_view t u ip same =
     λ i. record { site = same.sites i; lease = same.leases i; modem = modems i; profile = profiles i }
 
 pub rows_decide : RowsDecide
-rows_decide t u now xs from bytes given same step = views_decide t u now xs from bytes given (same_view t u from.ip same) step
+rows_decide t u xs d given same step = views_decide t u xs d given (same_view t u d.from.ip same) step

@@ -12,6 +12,7 @@ use Rattle.off_file_rules.specs.File.{most_file_bytes}
 use Rattle.off_file_laws.proofs.LawLemmas.{files_are_short}
 use Rattle.off_packets.specs.Packets.{has_option}
 use Rattle.off_packets.specs.declared.packets.Options.{Options}
+use Rattle.off_transfer_rules.specs.Requests.{datagram_at, request_for, file_owner}
 use Rattle.off_transfer_rules.specs.View.{view, IsBuiltBy}
 use Rattle.off_transfer_rules.specs.Transfers.{Transfers, has_no_room, size_for, begun, is_last_number, is_at_last, gone_on, asked_again, sent_again}
 use Rattle.off_transfer_rules.specs.Steps.{Way, Denies, Repeats, Accepts, Ignores, Finishes, BreaksOff, GoesOn, Leaves, way, Given, GivesBy, TftpStep}
@@ -40,9 +41,9 @@ least_by : (any : Bool) → (if any then 0 else 1) ≤ 1
 least_by true = lit≤ tt
 least_by false = lit≤ tt
 
-pub begun_sound : (now : ℕ) (request : List ℕ) (mac : Mac) (owner : ℕ) (name : List ℕ) (asked : Options) (file : List ℕ) → length file ≤ most_file_bytes → Fits asked
-    → IsSound (begun now request mac owner name asked file)
-begun_sound now request mac owner name asked file short fits = record {
+pub begun_sound : (now : ℕ) (from : Peer) (request : List ℕ) (mac : Mac) (owner : ℕ) (name : List ℕ) (asked : Options) (file : List ℕ) → length file ≤ most_file_bytes → Fits asked
+    → IsSound (begun (datagram_at now from request) (request_for name asked) (file_owner mac owner) file)
+begun_sound now from request mac owner name asked file short fits = record {
   short = short;
   least_size = size_by asked.blksize fits.size;
   most_size = size_most asked;
@@ -107,14 +108,14 @@ accepted_short t now ip mac owner name file a built =
     files_are_short t mac now ip file (file_of_built t now ip mac file (owner_held now (lease_in t ip) mac (live_in t now ip mac (held_of (view t ip) now mac a.held))) built)
 
 sound_by : (t : Tables) (now : ℕ) (xs : Transfers) (from : Peer) (bytes : List ℕ) (w : Way) (given : Given) → Standing (view t from.ip) now from.ip (has_no_room xs) (map.get xs from) w
-    → GivesBy (view t from.ip) now xs from bytes w given → AllSound xs → AllSound given.transfers
+    → GivesBy (view t from.ip) xs (datagram_at now from bytes) w given → AllSound xs → AllSound given.transfers
 sound_by t now xs from bytes (Denies denial) given s e all = subst (λ (g : Given). AllSound g.transfers) (sym e) all
 sound_by t now xs from bytes (Repeats x) given s e all =
     subst (λ (g : Given). AllSound g.transfers) (sym e) (sound_inserted xs from (asked_again now x) all (asked_again_sound now x (all from x s)))
-sound_by t now xs from bytes (Accepts mac owner name asked) given s e all =
+sound_by t now xs from bytes (Accepts request owner) given s e all =
     subst (λ (g : Given). AllSound g.transfers) (sym e.1.1)
-    (sound_inserted xs from (begun now bytes mac owner name asked e.0) all
-    (begun_sound now bytes mac owner name asked e.0 (accepted_short t now from.ip mac owner name e.0 s.0 e.1.0) s.2))
+    (sound_inserted xs from (begun (datagram_at now from bytes) request owner e.0) all
+    (begun_sound now from bytes owner.modem owner.subscriber request.name request.options e.0 (accepted_short t now from.ip owner.modem owner.subscriber request.name e.0 s.0 e.1.0) s.2))
 sound_by t now xs from bytes Ignores given s e all = subst (λ (g : Given). AllSound g.transfers) (sym e) all
 sound_by t now xs from bytes Finishes given s e all = subst (λ (g : Given). AllSound g.transfers) (sym e) (sound_removed xs from all)
 sound_by t now xs from bytes BreaksOff given s e all = subst (λ (g : Given). AllSound g.transfers) (sym e) (sound_removed xs from all)
@@ -124,8 +125,8 @@ sound_by t now xs from bytes Leaves given s e all = subst (λ (g : Given). AllSo
 
 pub step_keeps_sound : StepKeepsSound
 unfolding TftpStep
-step_keeps_sound t now xs from bytes given step all =
-    sound_by t now xs from bytes (way (view t from.ip) now xs from bytes) given (standing_way (view t from.ip) now xs from bytes) step all
+step_keeps_sound t xs d given step all =
+    sound_by t d.at xs d.from d.bytes (way (view t d.from.ip) xs d) given (standing_way (view t d.from.ip) d.at xs d.from d.bytes) step all
 
 sound_fate : (now : ℕ) (x y : Transfer) (after : Option Transfer) → IsSound x → after ≡ Some y → Ticks now x after → IsSound y
 sound_fate now x y after s e (waits due is) = let same : x ≡ y = cc in subst IsSound same s

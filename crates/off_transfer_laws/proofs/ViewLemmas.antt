@@ -4,6 +4,7 @@ use Rattle.std.proofs.lemmas.Bool.{leb-false, lt-leb, eqb-true, eq-eqb, and_part
 use Rattle.std.proofs.lemmas.Slice.Eq.{bytes_eq-Decides}
 use Rattle.off_defs.specs.declared.keys.Key.TheVariants as key
 use Rattle.off_table_laws.proofs.TableLaws.{modems_stand}
+use Rattle.off_transfer_rules.specs.Requests.{file_owner}
 use Rattle.off_transfer_rules.specs.Steps.{has_file}
 use Rattle.off_base.specs.Tree.{Tree}
 use Rattle.off_base.specs.declared.addresses.Ip4.{Ip4}
@@ -79,7 +80,7 @@ owner_is lease mac row is bound = ap owner_by is ∙ ap owner_of bound
 pub owner_held : (now : ℕ) (lease : Option Lease) (mac : Mac) → LiveLease now lease mac → owner_by lease ≡ Some mac
 owner_held now lease mac held = owner_is lease mac held.row held.row_is held.bound
 
-pub owner_agreed : (t : Tables) (now : ℕ) (ip : Ip4) (name : List ℕ) (mac : Mac) (owner : ℕ) → Agreement t now ip name mac owner → owner_by (lease_in t ip) ≡ Some mac
+pub owner_agreed : (t : Tables) (now : ℕ) (ip : Ip4) (name : List ℕ) (mac : Mac) (owner : ℕ) → Agreement t now ip name (file_owner mac owner) → owner_by (lease_in t ip) ≡ Some mac
 owner_agreed t now ip name mac owner a = owner_is (lease_in t ip) mac a.lease a.lease_is a.bound
 
 -- what stands in the view for the modem is what stands in the tables
@@ -118,7 +119,7 @@ live_seen t now ip mac held = subst (λ (o : Option Lease). LiveLease now o mac)
 
 -- the parts of an agreement, from what the view has
 pub agreement_from : (t : Tables) (now : ℕ) (ip : Ip4) (name : List ℕ) (mac : Mac) (owner : ℕ) → holder now (view t ip) ≡ Some mac
-    → passes (is_of_subscriber owner) (view t ip).modem ≡ true → passes (is_own_name name mac ip) (view t ip).site ≡ true → Agreement t now ip name mac owner
+    → passes (is_of_subscriber owner) (view t ip).modem ≡ true → passes (is_own_name name mac ip) (view t ip).site ≡ true → Agreement t now ip name (file_owner mac owner)
 agreement_from t now ip name mac owner held modem site =
     let live = live_in t now ip mac (held_of (view t ip) now mac held) in
     let owned = owner_held now (lease_in t ip) mac live in
@@ -138,23 +139,23 @@ agreement_from t now ip name mac owner held modem site =
     }
 
 agrees_by : (t : Tables) (now : ℕ) (ip : Ip4) (name : List ℕ) (mac other : Mac) (owner : ℕ) → holder now (view t ip) ≡ Some other → is_mac mac other ≡ true
-    → passes (is_of_subscriber owner) (view t ip).modem ≡ true → passes (is_own_name name mac ip) (view t ip).site ≡ true → Agreement t now ip name mac owner
+    → passes (is_of_subscriber owner) (view t ip).modem ≡ true → passes (is_own_name name mac ip) (view t ip).site ≡ true → Agreement t now ip name (file_owner mac owner)
 agrees_by t now ip name mac other owner held same modem site = agreement_from t now ip name mac owner (held ∙ ap Some (sym (mac_same mac other same))) modem site
 
-pub agreement_of : (t : Tables) (now : ℕ) (ip : Ip4) (name : List ℕ) (mac : Mac) (owner : ℕ) → agrees (view t ip) now ip name mac owner ≡ true → Agreement t now ip name mac owner
+pub agreement_of : (t : Tables) (now : ℕ) (ip : Ip4) (name : List ℕ) (mac : Mac) (owner : ℕ) → agrees (view t ip) now ip name (file_owner mac owner) ≡ true → Agreement t now ip name (file_owner mac owner)
 agreement_of t now ip name mac owner e =
     let first = and_parts (passes (is_mac mac) (holder now (view t ip))) (passes (is_of_subscriber owner) (view t ip).modem && passes (is_own_name name mac ip) (view t ip).site) e in
     let more = and_parts (passes (is_of_subscriber owner) (view t ip).modem) (passes (is_own_name name mac ip) (view t ip).site) first.1 in
     let held = passes_some (is_mac mac) (holder now (view t ip)) first.0 in
     agrees_by t now ip name mac held.0 owner held.1 held.2 more.0 more.1
 
-pub live_agreed : (t : Tables) (now : ℕ) (ip : Ip4) (name : List ℕ) (mac : Mac) (owner : ℕ) → Agreement t now ip name mac owner → LiveLease now (lease_in t ip) mac
+pub live_agreed : (t : Tables) (now : ℕ) (ip : Ip4) (name : List ℕ) (mac : Mac) (owner : ℕ) → Agreement t now ip name (file_owner mac owner) → LiveLease now (lease_in t ip) mac
 live_agreed t now ip name mac owner a = record { row = a.lease; row_is = a.lease_is; bound = a.bound; live = a.live }
 
-own_name : (t : Tables) (now : ℕ) (ip : Ip4) (name : List ℕ) (mac : Mac) (owner : ℕ) → Agreement t now ip name mac owner → passes (is_own_name name mac ip) (view t ip).site ≡ true
+own_name : (t : Tables) (now : ℕ) (ip : Ip4) (name : List ℕ) (mac : Mac) (owner : ℕ) → Agreement t now ip name (file_owner mac owner) → passes (is_own_name name mac ip) (view t ip).site ≡ true
 own_name t now ip name mac owner a = ap (passes (is_own_name name mac ip)) (site_seen t ip ∙ a.site_is) ∙ (bytes_eq-Decides name (name_of a.site.secret mac ip)).1 a.named
 
-pub agrees_from : (t : Tables) (now : ℕ) (ip : Ip4) (name : List ℕ) (mac : Mac) (owner : ℕ) → Agreement t now ip name mac owner → agrees (view t ip) now ip name mac owner ≡ true
+pub agrees_from : (t : Tables) (now : ℕ) (ip : Ip4) (name : List ℕ) (mac : Mac) (owner : ℕ) → Agreement t now ip name (file_owner mac owner) → agrees (view t ip) now ip name (file_owner mac owner) ≡ true
 agrees_from t now ip name mac owner a =
     let held : passes (is_mac mac) (holder now (view t ip)) ≡ true =
     ap (passes (is_mac mac)) (holder_is (view t ip) now mac (live_seen t now ip mac (live_agreed t now ip name mac owner a))) ∙ mac_own mac in
@@ -234,7 +235,7 @@ profile_there t mac modem good is =
     (subscriber_in t modem.subscriber) who who_is
     (map_is (λ (c : Class). profile_of who.active who.cpes c.settings (add_ons_in t modem.subscriber)) (class_in t modem.class) rows.1)))
 
-pub good_has_file : (t : Tables) (now : ℕ) (ip : Ip4) (name : List ℕ) (mac : Mac) (owner : ℕ) → Good t → Agreement t now ip name mac owner → has_file (view t ip) ip name mac ≡ true
+pub good_has_file : (t : Tables) (now : ℕ) (ip : Ip4) (name : List ℕ) (mac : Mac) (owner : ℕ) → Good t → Agreement t now ip name (file_owner mac owner) → has_file (view t ip) ip name mac ≡ true
 good_has_file t now ip name mac owner good a =
     and_from (passes (is_own_name name mac ip) (view t ip).site) (is_some (view t ip).profile) (own_name t now ip name mac owner a)
     (ap is_some (profile_seen t ip mac (owner_agreed t now ip name mac owner a)) ∙ profile_there t mac a.modem good a.modem_is)

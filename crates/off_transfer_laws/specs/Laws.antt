@@ -3,12 +3,11 @@ use Rattle.std.specs.Prelude.{◌≡◌, ◌≢◌, ◌⊎◌, ◌↔◌, ℕ, �
 use Rattle.std.specs.FinMap as map
 use Rattle.off_base.specs.declared.addresses.Ip4.{Ip4}
 use Rattle.off_base.specs.declared.addresses.Peer.{Peer}
-use Rattle.off_base.specs.declared.macs.Mac.{Mac}
 use Rattle.off_defs.specs.declared.results.Sent.{Sent}
 use Rattle.off_defs.specs.State.{Tables, Transfer}
 use Rattle.off_account_rules.specs.Good.{Good}
 use Rattle.off_file_rules.specs.File.{IsFile}
-use Rattle.off_packets.specs.declared.packets.Options.{Options}
+use Rattle.off_transfer_rules.specs.Requests.{Datagram, ReadRequest, FileOwner}
 use Rattle.off_transfer_rules.specs.View.{view, agrees, IsBuiltBy}
 use Rattle.off_transfer_rules.specs.Transfers.{Transfers, most_transfers, sent_again, packet_to}
 use Rattle.off_transfer_rules.specs.Steps.{Accepts, has_file, way, Given, TftpStep}
@@ -22,30 +21,27 @@ use Rattle.off_transfer_laws.specs.Agreement.{Agreement}
 
 abbrev pub TransferStepIsOne : Type 0
 TransferStepIsOne =
-    (tables : Tables) (now : ℕ) (transfers : Transfers)
-    (from : Peer) (bytes : List ℕ) (one other : Given)
-    → TftpStep tables now transfers from bytes one → TftpStep tables now transfers from bytes other
+    (tables : Tables) (transfers : Transfers) (datagram : Datagram) (one other : Given)
+    → TftpStep tables transfers datagram one → TftpStep tables transfers datagram other
     → one ≡ other
 
 abbrev pub TransferStepIsThere : Type 0
 TransferStepIsThere =
-    (tables : Tables) (now : ℕ) (transfers : Transfers) (from : Peer) (bytes : List ℕ)
-    → (given : Given) × TftpStep tables now transfers from bytes given
+    (tables : Tables) (transfers : Transfers) (datagram : Datagram)
+    → (given : Given) × TftpStep tables transfers datagram given
 
 -- ---- what a datagram leaves
 
 abbrev pub OthersStay : Type 0
 OthersStay =
-    (tables : Tables) (now : ℕ) (transfers : Transfers)
-    (from : Peer) (bytes : List ℕ) (given : Given)
-    → TftpStep tables now transfers from bytes given
-    → (peer : Peer) → peer ≢ from → map.get given.transfers peer ≡ map.get transfers peer
+    (tables : Tables) (transfers : Transfers) (datagram : Datagram) (given : Given)
+    → TftpStep tables transfers datagram given
+    → (peer : Peer) → peer ≢ datagram.from → map.get given.transfers peer ≡ map.get transfers peer
 
 abbrev pub FewStay : Type 0
 FewStay =
-    (tables : Tables) (now : ℕ) (transfers : Transfers)
-    (from : Peer) (bytes : List ℕ) (given : Given)
-    → TftpStep tables now transfers from bytes given
+    (tables : Tables) (transfers : Transfers) (datagram : Datagram) (given : Given)
+    → TftpStep tables transfers datagram given
     → map.len transfers ≤ most_transfers → map.len given.transfers ≤ most_transfers
 
 -- nothing is sent, or one packet to the peer
@@ -54,9 +50,8 @@ IsAnswerTo from items = (items ≡ []) ⊎ (packet : List ℕ) × (items ≡ pac
 
 abbrev pub AnswersGoBack : Type 0
 AnswersGoBack =
-    (tables : Tables) (now : ℕ) (transfers : Transfers)
-    (from : Peer) (bytes : List ℕ) (given : Given)
-    → TftpStep tables now transfers from bytes given → IsAnswerTo from given.items
+    (tables : Tables) (transfers : Transfers) (datagram : Datagram) (given : Given)
+    → TftpStep tables transfers datagram given → IsAnswerTo datagram.from given.items
 
 -- the words with which no transfer changes
 abbrev pub is_refusal : TftpWord → Bool
@@ -72,9 +67,8 @@ is_refusal word = false
 
 abbrev pub RefusalsLeave : Type 0
 RefusalsLeave =
-    (tables : Tables) (now : ℕ) (transfers : Transfers)
-    (from : Peer) (bytes : List ℕ) (given : Given)
-    → TftpStep tables now transfers from bytes given → is_refusal given.word ≡ true
+    (tables : Tables) (transfers : Transfers) (datagram : Datagram) (given : Given)
+    → TftpStep tables transfers datagram given → is_refusal given.word ≡ true
     → given.transfers ≡ transfers
 
 -- ---- what is read of the tables
@@ -82,38 +76,36 @@ RefusalsLeave =
 -- of the tables nothing counts but what is read for the peer's address
 abbrev pub ViewsDecide : Type 0
 ViewsDecide =
-    (tables other : Tables) (now : ℕ) (transfers : Transfers)
-    (from : Peer) (bytes : List ℕ) (given : Given)
-    → view tables from.ip ≡ view other from.ip
-    → TftpStep tables now transfers from bytes given → TftpStep other now transfers from bytes given
+    (tables other : Tables) (transfers : Transfers) (datagram : Datagram) (given : Given)
+    → view tables datagram.from.ip ≡ view other datagram.from.ip
+    → TftpStep tables transfers datagram given → TftpStep other transfers datagram given
 
 abbrev pub AgreementStands : Type 0
 AgreementStands =
-    (tables : Tables) (now : ℕ) (ip : Ip4) (name : List ℕ) (mac : Mac) (owner : ℕ)
-    → IsTrue (agrees (view tables ip) now ip name mac owner)
-    ↔ Agreement tables now ip name mac owner
+    (tables : Tables) (now : ℕ) (ip : Ip4) (name : List ℕ) (owner : FileOwner)
+    → IsTrue (agrees (view tables ip) now ip name owner) ↔ Agreement tables now ip name owner
 
 -- a request that is accepted agrees with the tables
 abbrev pub AcceptedAgree : Type 0
 AcceptedAgree =
-    (tables : Tables) (now : ℕ) (transfers : Transfers) (from : Peer) (bytes : List ℕ)
-    (mac : Mac) (owner : ℕ) (name : List ℕ) (asked : Options)
-    → way (view tables from.ip) now transfers from bytes ≡ Accepts mac owner name asked
-    → Agreement tables now from.ip name mac owner
+    (tables : Tables) (transfers : Transfers) (datagram : Datagram)
+    (request : ReadRequest) (owner : FileOwner)
+    → way (view tables datagram.from.ip) transfers datagram ≡ Accepts request owner
+    → Agreement tables datagram.at datagram.from.ip request.name owner
 
 -- where they agree, what is built for the address is the modem's file, and nothing else is
 abbrev pub FilesAreOwn : Type 0
 FilesAreOwn =
-    (tables : Tables) (now : ℕ) (ip : Ip4) (name : List ℕ) (mac : Mac) (owner : ℕ) (file : List ℕ)
-    → Agreement tables now ip name mac owner
-    → IsBuiltBy (view tables ip) now ip file ↔ IsFile tables mac now ip file
+    (tables : Tables) (now : ℕ) (ip : Ip4) (name : List ℕ) (owner : FileOwner) (file : List ℕ)
+    → Agreement tables now ip name owner
+    → IsBuiltBy (view tables ip) now ip file ↔ IsFile tables owner.modem now ip file
 
 -- in good tables there is one
 abbrev pub GoodHaveFiles : Type 0
 GoodHaveFiles =
-    (tables : Tables) (now : ℕ) (ip : Ip4) (name : List ℕ) (mac : Mac) (owner : ℕ)
-    → Good tables → Agreement tables now ip name mac owner
-    → IsTrue (has_file (view tables ip) ip name mac)
+    (tables : Tables) (now : ℕ) (ip : Ip4) (name : List ℕ) (owner : FileOwner)
+    → Good tables → Agreement tables now ip name owner
+    → IsTrue (has_file (view tables ip) ip name owner.modem)
 
 -- ---- Ticks
 

@@ -1,12 +1,12 @@
 -- The rows that count for a peer's address: the site, the lease, and where a modem owns it the
 -- modem's own row, its class, its subscriber and the subscriber's add-ons.
-use Rattle.std.specs.Prelude.{◌≡◌, ℕ, List, Some}
+use Rattle.std.specs.Prelude.{◌≡◌, ℕ, Some}
 use Rattle.off_base.specs.declared.addresses.Ip4.{Ip4}
-use Rattle.off_base.specs.declared.addresses.Peer.{Peer}
 use Rattle.off_base.specs.declared.macs.Mac.{Mac}
 use Rattle.off_defs.specs.declared.tables.Modem.{Modem}
 use Rattle.off_defs.specs.State.{Tables}
 use Rattle.off_account_rules.specs.Rows.{site_of, subscriber_in, add_on_in, modem_in, class_in, lease_in}
+use Rattle.off_transfer_rules.specs.Requests.{Datagram}
 use Rattle.off_transfer_rules.specs.View.{owner_by}
 use Rattle.off_transfer_rules.specs.Transfers.{Transfers}
 use Rattle.off_transfer_rules.specs.Steps.{Given, TftpStep}
@@ -29,7 +29,6 @@ pub record SameRows (tables other : Tables) (ip : Ip4) : Type 0 where
 -- no other row counts
 abbrev pub RowsDecide : Type 0
 RowsDecide =
-    (tables other : Tables) (now : ℕ) (transfers : Transfers) (from : Peer) (bytes : List ℕ)
-    (given : Given)
-    → SameRows tables other from.ip
-    → TftpStep tables now transfers from bytes given → TftpStep other now transfers from bytes given
+    (tables other : Tables) (transfers : Transfers) (datagram : Datagram) (given : Given)
+    → SameRows tables other datagram.from.ip
+    → TftpStep tables transfers datagram given → TftpStep other transfers datagram given

@@ -6,6 +6,7 @@ use Rattle.off_base.specs.declared.addresses.Peer.{Peer}
 use Rattle.off_defs.specs.declared.results.Sent.{Sent}
 use Rattle.off_defs.specs.State.{Tables, Transfer}
 use Rattle.off_file_rules.specs.File.{most_file_bytes}
+use Rattle.off_transfer_rules.specs.Requests.{Datagram}
 use Rattle.off_transfer_rules.specs.Transfers.{Transfers}
 use Rattle.off_transfer_rules.specs.Steps.{Given, TftpStep}
 use Rattle.off_transfer_rules.specs.Ticks.{TickStep}
@@ -31,9 +32,8 @@ AllSound transfers = (peer : Peer) (x : Transfer) → map.get transfers peer ≡
 
 abbrev pub StepKeepsSound : Type 0
 StepKeepsSound =
-    (tables : Tables) (now : ℕ) (transfers : Transfers) (from : Peer) (bytes : List ℕ)
-    (given : Given)
-    → TftpStep tables now transfers from bytes given → AllSound transfers
+    (tables : Tables) (transfers : Transfers) (datagram : Datagram) (given : Given)
+    → TftpStep tables transfers datagram given → AllSound transfers
     → AllSound given.transfers
 
 abbrev pub TickKeepsSound : Type 0

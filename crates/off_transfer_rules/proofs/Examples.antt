@@ -5,6 +5,7 @@ use Rattle.std.specs.Fmt.{digits}
 use Rattle.md5.specs.Md5.{block_words, rounds, compress, hash_after, digest_bytes, md5}
 use Rattle.hex.proofs.OnLiterals.{hex_on_literals}
 use Rattle.off_base.specs.declared.addresses.Ip4.{Ip4}
+use Rattle.off_base.specs.declared.addresses.Peer.{Peer}
 use Rattle.off_base.specs.declared.macs.Mac.{Mac}
 use Rattle.off_defs.specs.declared.tables.Site.{Site}
 use Rattle.off_defs.specs.declared.tables.Modem.{Modem}
@@ -15,6 +16,7 @@ use Rattle.off_mic.specs.Hmac.{hmac}
 use Rattle.off_file_rules.specs.Name.{name_of}
 use Rattle.off_base.specs.Number.{number_read}
 use Rattle.off_packets.specs.Packets.{Reads, Acknowledges, packet_of, no_options, only_size}
+use Rattle.off_transfer_rules.specs.Requests.{datagram_at, request_for, file_owner}
 use Rattle.off_transfer_rules.specs.View.{View}
 use Rattle.off_transfer_rules.specs.Transfers.{size_for, begun, last_packet, gone_on, sent_again}
 use Rattle.off_transfer_rules.specs.Steps.{Denies, Repeats, Accepts, Ignores, Finishes, BreaksOff, GoesOn, no_lease, file_not_found, too_many_transfers, unknown_transfer, way_of}
@@ -33,6 +35,9 @@ largest_served = refl
 abbrev address : Ip4
 address = record { 0 = 0x0a40000a }
 
+abbrev from : Peer
+from = record { ip = address; port = 49152 }
+
 abbrev mac : Mac
 mac = record { 0 = 2 ∷ 0xaa ∷ 0xbb ∷ 0xcc ∷ 0xdd ∷ 0xee ∷ [] }
 
@@ -49,53 +54,53 @@ abbrev seen : Modem → View
 seen modem = record { site = Some site; lease = Some lease; modem = Some modem; profile = Some [] }
 
 abbrev at_start : Transfer
-at_start = begun 1700000000 (asking (codes "44")) mac 7 file_name (only_size 44) (1 ∷ 2 ∷ 3 ∷ [])
+at_start = begun (datagram_at 1700000000 from (asking (codes "44"))) (request_for file_name (only_size 44)) (file_owner mac 7) (1 ∷ 2 ∷ 3 ∷ [])
 
-accepted : way_of (seen (modem_of 7)) 1700000000 address false (asking (codes "44")) None (Ok (Reads file_name (only_size 44))) ≡ Accepts mac 7 file_name (only_size 44)
+accepted : way_of (seen (modem_of 7)) (datagram_at 1700000000 from (asking (codes "44"))) false None (Ok (Reads file_name (only_size 44))) ≡ Accepts (request_for file_name (only_size 44)) (file_owner mac 7)
 unfolding block_words rounds compress hash_after digest_bytes md5 hmac name_of hex_on_literals
 accepted = refl
 
-wrong_name : way_of (seen (modem_of 7)) 1700000000 address false plain None (Ok (Reads (codes "modem.cm") no_options)) ≡ Denies file_not_found
+wrong_name : way_of (seen (modem_of 7)) (datagram_at 1700000000 from plain) false None (Ok (Reads (codes "modem.cm") no_options)) ≡ Denies file_not_found
 unfolding block_words rounds compress hash_after digest_bytes md5 hmac name_of hex_on_literals
 wrong_name = refl
 
-ended_lease : way_of (seen (modem_of 7)) 1700086400 address false plain None (Ok (Reads file_name no_options)) ≡ Denies no_lease
+ended_lease : way_of (seen (modem_of 7)) (datagram_at 1700086400 from plain) false None (Ok (Reads file_name no_options)) ≡ Denies no_lease
 ended_lease = refl
 
 -- with 256 transfers another peer's request is refused, and one of a peer that has a transfer isn't
-no_room : way_of (seen (modem_of 7)) 1700000000 address true plain None (Ok (Reads file_name no_options)) ≡ Denies too_many_transfers
+no_room : way_of (seen (modem_of 7)) (datagram_at 1700000000 from plain) true None (Ok (Reads file_name no_options)) ≡ Denies too_many_transfers
 unfolding block_words rounds compress hash_after digest_bytes md5 hmac name_of hex_on_literals
 no_room = refl
 
-replaced : way_of (seen (modem_of 7)) 1700000000 address true plain (Some at_start) (Ok (Reads file_name no_options)) ≡ Accepts mac 7 file_name no_options
+replaced : way_of (seen (modem_of 7)) (datagram_at 1700000000 from plain) true (Some at_start) (Ok (Reads file_name no_options)) ≡ Accepts (request_for file_name no_options) (file_owner mac 7)
 unfolding block_words rounds compress hash_after digest_bytes md5 hmac name_of hex_on_literals
 replaced = refl
 
 -- the same request again before the first acknowledgement, also when the lease has ended; and after it
-again : way_of (seen (modem_of 7)) 1700086400 address false (asking (codes "44")) (Some at_start) (Ok (Reads file_name (only_size 44))) ≡ Repeats at_start
+again : way_of (seen (modem_of 7)) (datagram_at 1700086400 from (asking (codes "44"))) false (Some at_start) (Ok (Reads file_name (only_size 44))) ≡ Repeats at_start
 again = refl
 
-anew : way_of (seen (modem_of 7)) 1700000000 address false (asking (codes "44")) (Some (gone_on 1700000000 at_start)) (Ok (Reads file_name (only_size 44))) ≡ Accepts mac 7 file_name (only_size 44)
+anew : way_of (seen (modem_of 7)) (datagram_at 1700000000 from (asking (codes "44"))) false (Some (gone_on 1700000000 at_start)) (Ok (Reads file_name (only_size 44))) ≡ Accepts (request_for file_name (only_size 44)) (file_owner mac 7)
 unfolding block_words rounds compress hash_after digest_bytes md5 hmac name_of hex_on_literals
 anew = refl
 
-first_acknowledged : way_of (seen (modem_of 7)) 1700000000 address false (0 ∷ 4 ∷ 0 ∷ 0 ∷ []) (Some at_start) (Ok (Acknowledges 0)) ≡ GoesOn at_start
+first_acknowledged : way_of (seen (modem_of 7)) (datagram_at 1700000000 from (0 ∷ 4 ∷ 0 ∷ 0 ∷ [])) false (Some at_start) (Ok (Acknowledges 0)) ≡ GoesOn at_start
 unfolding block_words rounds compress hash_after digest_bytes md5 hmac name_of hex_on_literals
 first_acknowledged = refl
 
 -- once block 1 is sent, the OACK's acknowledgement is stale, and that of block 1 ends a file of three bytes
-stale : way_of (seen (modem_of 7)) 1700000000 address false (0 ∷ 4 ∷ 0 ∷ 0 ∷ []) (Some (gone_on 1700000000 at_start)) (Ok (Acknowledges 0)) ≡ Ignores
+stale : way_of (seen (modem_of 7)) (datagram_at 1700000000 from (0 ∷ 4 ∷ 0 ∷ 0 ∷ [])) false (Some (gone_on 1700000000 at_start)) (Ok (Acknowledges 0)) ≡ Ignores
 stale = refl
 
-finished : way_of (seen (modem_of 7)) 1700000000 address false (0 ∷ 4 ∷ 0 ∷ 1 ∷ []) (Some (gone_on 1700000000 at_start)) (Ok (Acknowledges 1)) ≡ Finishes
+finished : way_of (seen (modem_of 7)) (datagram_at 1700000000 from (0 ∷ 4 ∷ 0 ∷ 1 ∷ [])) false (Some (gone_on 1700000000 at_start)) (Ok (Acknowledges 1)) ≡ Finishes
 finished = refl
 
 -- the modem was put under another subscriber meanwhile
-disagreed : way_of (seen (modem_of 8)) 1700000000 address false (0 ∷ 4 ∷ 0 ∷ 0 ∷ []) (Some at_start) (Ok (Acknowledges 0)) ≡ BreaksOff
+disagreed : way_of (seen (modem_of 8)) (datagram_at 1700000000 from (0 ∷ 4 ∷ 0 ∷ 0 ∷ [])) false (Some at_start) (Ok (Acknowledges 0)) ≡ BreaksOff
 unfolding block_words rounds compress hash_after digest_bytes md5 hmac name_of hex_on_literals
 disagreed = refl
 
-unknown : way_of (seen (modem_of 7)) 1700000000 address false (0 ∷ 4 ∷ 0 ∷ 0 ∷ []) None (Ok (Acknowledges 0)) ≡ Denies unknown_transfer
+unknown : way_of (seen (modem_of 7)) (datagram_at 1700000000 from (0 ∷ 4 ∷ 0 ∷ 0 ∷ [])) false None (Ok (Acknowledges 0)) ≡ Denies unknown_transfer
 unknown = refl
 
 -- ---- Ticks: at 1, 2, 4, 6, 8, 10 and 12 seconds behind the last send
@@ -134,7 +139,7 @@ abbrev with_times : List ℕ
 with_times = plain ++ codes "tsize" ++ 0 ∷ (codes "0" ++ 0 ∷ (codes "timeout" ++ 0 ∷ (codes "5" ++ 0 ∷ [])))
 
 abbrev with_seconds : Transfer
-with_seconds = begun 1700000000 with_times mac 7 file_name (record no_options { tsize = true; timeout = Some 5 }) (1 ∷ 2 ∷ 3 ∷ [])
+with_seconds = begun (datagram_at 1700000000 from with_times) (request_for file_name (record no_options { tsize = true; timeout = Some 5 })) (file_owner mac 7) (1 ∷ 2 ∷ 3 ∷ [])
 
 -- the OACK, which is the same when it's sent again
 opened : last_packet with_seconds ≡ 0 ∷ 6 ∷ (codes "tsize" ++ 0 ∷ 51 ∷ 0 ∷ (codes "timeout" ++ 0 ∷ 53 ∷ 0 ∷ []))

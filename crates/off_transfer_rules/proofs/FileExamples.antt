@@ -10,6 +10,7 @@ use Rattle.off_file_rules.specs.Profile.{profile_of}
 use Rattle.off_file_rules.specs.File.{with_stamps}
 use Rattle.off_defs.specs.State.{Transfer}
 use Rattle.off_packets.specs.Packets.{only_size}
+use Rattle.off_transfer_rules.specs.Requests.{datagram_at, request_for, file_owner}
 use Rattle.off_transfer_rules.specs.Transfers.{begun, gone_on, last_packet, is_at_last}
 
 abbrev flow : ℕ → ℕ → List ℕ → Tree
@@ -31,7 +32,7 @@ file = refl
 
 -- in blocks of 44 bytes: two whole ones, and an empty one
 abbrev begins : Transfer
-begins = begun 1700000000 [] (record { 0 = 2 ∷ 0xaa ∷ 0xbb ∷ 0xcc ∷ 0xdd ∷ 0xee ∷ [] }) 7 [] (only_size 44) (first ++ second)
+begins = begun (datagram_at 1700000000 (record { ip = record { 0 = 0x0a40000a }; port = 49152 }) []) (request_for [] (only_size 44)) (file_owner (record { 0 = 2 ∷ 0xaa ∷ 0xbb ∷ 0xcc ∷ 0xdd ∷ 0xee ∷ [] }) 7) (first ++ second)
 
 abbrev later : Transfer → Transfer
 later x = gone_on 1700000000 x

@@ -1,3 +1,4 @@
+pub mod Requests
 pub mod View
 pub mod Transfers
 pub mod Steps

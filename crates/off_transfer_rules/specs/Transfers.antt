@@ -3,7 +3,6 @@
 use Rattle.std.specs.Prelude.{ℕ, zero, suc, Bool, true, false, List, length, min, nat_le, nat_lt, unwrap_or, if◌then◌else◌}
 use Rattle.std.specs.FinMap as map
 use Rattle.off_base.specs.declared.addresses.Peer.{Peer}
-use Rattle.off_base.specs.declared.macs.Mac.{Mac}
 use Rattle.off_defs.specs.declared.events.Service.TheVariants as service
 use Rattle.off_defs.specs.declared.results.Sent.{Sent}
 use Rattle.off_defs.specs.declared.results.Sent.TheVariants as sent
@@ -12,6 +11,7 @@ use Rattle.off_file_rules.specs.Block.{block}
 use Rattle.off_packets.specs.Packets.{packet_of, has_option, options_by}
 use Rattle.off_packets.specs.declared.packets.Options.{Options}
 use Rattle.off_packets.specs.Replies.{data_packet, oack_packet}
+use Rattle.off_transfer_rules.specs.Requests.{Datagram, ReadRequest, FileOwner}
 use Rattle.off_transfer_rules.specs.declared.words.TftpWord.{TftpWord}
 use Rattle.off_transfer_rules.specs.declared.words.TftpWord.TheVariants as word
 
@@ -44,17 +44,17 @@ abbrev pub first_word : Options → TftpWord
 first_word asked = if has_option asked then word.Oack else word.Block 1
 
 -- a transfer as its read request makes it
-abbrev pub begun : ℕ → List ℕ → Mac → ℕ → List ℕ → Options → List ℕ → Transfer
-begun now request mac subscriber name asked file = record {
-  name = name;
-  modem = mac;
-  subscriber = subscriber;
+abbrev pub begun : Datagram → ReadRequest → FileOwner → List ℕ → Transfer
+begun datagram request owner file = record {
+  name = request.name;
+  modem = owner.modem;
+  subscriber = owner.subscriber;
   file = file;
-  size = size_for asked;
-  request = request;
-  sent = first_number asked;
+  size = size_for request.options;
+  request = datagram.bytes;
+  sent = first_number request.options;
   is_acknowledged = false;
-  last_send = now;
+  last_send = datagram.at;
   resends = 0;
 }
 

@@ -17,6 +17,7 @@ use Rattle.off_file_rules.specs.Name.{name_of}
 use Rattle.off_file_rules.specs.Profile.{profile_in}
 use Rattle.off_file_rules.specs.File.{IsBuilt}
 use Rattle.off_lease_rules.specs.Free.{has_ended}
+use Rattle.off_transfer_rules.specs.Requests.{FileOwner}
 
 -- the site of the address's hub, the lease of the address, and of the modem that owns it the row and the profile
 pub record View : Type 0 where
@@ -57,10 +58,11 @@ is_of_subscriber subscriber modem = modem.subscriber == subscriber
 
 -- The tables agree with a file of this name for a modem of a subscriber: the address is bound to
 -- the modem, the modem is the subscriber's, and the name is that of its file.
-abbrev pub agrees : View → ℕ → Ip4 → List ℕ → Mac → ℕ → Bool
-agrees v now ip name mac subscriber =
-    passes (is_mac mac) (holder now v)
-    && (passes (is_of_subscriber subscriber) v.modem && passes (is_own_name name mac ip) v.site)
+abbrev pub agrees : View → ℕ → Ip4 → List ℕ → FileOwner → Bool
+agrees v now ip name owner =
+    passes (is_mac owner.modem) (holder now v)
+    && (passes (is_of_subscriber owner.subscriber) v.modem
+    && passes (is_own_name name owner.modem ip) v.site)
 
 -- the file that is built of all this at a moment
 pub record IsBuiltBy (v : View) (now : ℕ) (ip : Ip4) (file : List ℕ) : Type 0 where

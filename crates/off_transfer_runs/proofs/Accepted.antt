@@ -6,6 +6,7 @@ use Rattle.off_base.specs.declared.macs.Mac.{Mac}
 use Rattle.off_defs.specs.State.{Tables}
 use Rattle.off_packets.specs.Packets.{Meant, Reads, packet_of}
 use Rattle.off_packets.specs.declared.packets.Options.{Options}
+use Rattle.off_transfer_rules.specs.Requests.{datagram_at, request_for, file_owner}
 use Rattle.off_transfer_rules.specs.View.{View, view, IsBuiltBy}
 use Rattle.off_transfer_rules.specs.Transfers.{Transfers, has_no_room, first_word, begun}
 use Rattle.off_transfer_rules.specs.Steps.{Way, Denies, Repeats, Accepts, Ignores, Finishes, BreaksOff, GoesOn, Leaves, way, Given, gives, with_transfer, last_to, GivesBy, TftpStep}
@@ -23,7 +24,7 @@ pub record Begins (v : View) (now : ℕ) (xs : Transfers) (from : Peer) (bytes :
   pub accepting : Accepting v now from.ip mac owner name
   pub fits : Fits asked
   pub built : IsBuiltBy v now from.ip file
-  pub gave : given ≡ gives (with_transfer xs from (begun now bytes mac owner name asked file)) (last_to from (begun now bytes mac owner name asked file)) (first_word asked)
+  pub gave : given ≡ gives (with_transfer xs from (begun (datagram_at now from bytes) (request_for name asked) (file_owner mac owner) file)) (last_to from (begun (datagram_at now from bytes) (request_for name asked) (file_owner mac owner) file)) (first_word asked)
 
 module _ (v : View) (now : ℕ) (xs : Transfers) (from : Peer) (bytes : List ℕ) (given : Given) (name : List ℕ) (asked : Options) where
   breaks : (read : Result Meant PacketFault) (line : List ℕ) → read ≡ Ok (Reads name asked) → says_accepted line ≡ true → fate_of read line ≡ Breaks
@@ -43,17 +44,17 @@ module _ (v : View) (now : ℕ) (xs : Transfers) (from : Peer) (bytes : List ℕ
   moves_on f number a b = cc
 
   begins_by : (read : Result Meant PacketFault) (w : Way) → read ≡ Ok (Reads name asked) → says_accepted (tftp_line given.word) ≡ true
-      → Means (map.get xs from) read w → Standing v now from.ip (has_no_room xs) (map.get xs from) w → GivesBy v now xs from bytes w given
+      → Means (map.get xs from) read w → Standing v now from.ip (has_no_room xs) (map.get xs from) w → GivesBy v xs (datagram_at now from bytes) w given
       → Begins v now xs from bytes given name asked
   begins_by read (Denies denial) is says m s e = stays_on _ (breaks read (tftp_line given.word) is says) (word_is read _ e ∙ m)
   begins_by read (Repeats x) is says m s e = not_accepted _ e says refl
-  begins_by read (Accepts mac owner other size) is says m s e =
-      let same : Ok (Reads other size) ≡ Ok (Reads name asked) = sym m.0 ∙ is in
-      let names : other ≡ name = cc in
-      let sizes : size ≡ asked = cc in
-      subst (λ n. Begins v now xs from bytes given n asked) names (subst (λ a. Begins v now xs from bytes given other a) sizes (record {
-        mac = mac;
-        owner = owner;
+  begins_by read (Accepts request owner) is says m s e =
+      let same : Ok (Reads request.name request.options) ≡ Ok (Reads name asked) = sym m.0 ∙ is in
+      let names : request.name ≡ name = cc in
+      let sizes : request.options ≡ asked = cc in
+      subst (λ n. Begins v now xs from bytes given n asked) names (subst (λ a. Begins v now xs from bytes given request.name a) sizes (record {
+        mac = owner.modem;
+        owner = owner.subscriber;
         file = e.0;
         accepting = s.0;
         fits = s.2;
@@ -67,9 +68,9 @@ module _ (v : View) (now : ℕ) (xs : Transfers) (from : Peer) (bytes : List ℕ
   begins_by read Leaves is says m s e = not_accepted _ e says refl
 
 pub begins : (t : Tables) (now : ℕ) (xs : Transfers) (from : Peer) (bytes : List ℕ) (given : Given) (name : List ℕ) (asked : Options)
-    → packet_of bytes ≡ Ok (Reads name asked) → says_accepted (tftp_line given.word) ≡ true → TftpStep t now xs from bytes given
+    → packet_of bytes ≡ Ok (Reads name asked) → says_accepted (tftp_line given.word) ≡ true → TftpStep t xs (datagram_at now from bytes) given
     → Begins (view t from.ip) now xs from bytes given name asked
 unfolding TftpStep
 begins t now xs from bytes given name asked read says step =
-    begins_by (view t from.ip) now xs from bytes given name asked (packet_of bytes) (way (view t from.ip) now xs from bytes) read says
+    begins_by (view t from.ip) now xs from bytes given name asked (packet_of bytes) (way (view t from.ip) xs (datagram_at now from bytes)) read says
     (means_way (view t from.ip) now xs from bytes) (standing_way (view t from.ip) now xs from bytes) step

@@ -14,6 +14,7 @@ use Rattle.off_defs.specs.declared.results.Outcome.TheVariants.{Did, Memory, Kee
 use Rattle.off_defs.specs.State.{Tables, State, Transfer, Effect, only_line}
 use Rattle.off_packets.specs.Packets.{Meant, Reads, Acknowledges, packet_of}
 use Rattle.off_packets.specs.declared.packets.Options.{Options}
+use Rattle.off_transfer_rules.specs.Requests.{datagram_at, request_for, file_owner}
 use Rattle.off_transfer_rules.specs.View.{View, view, agrees}
 use Rattle.off_transfer_rules.specs.Transfers.{Transfers, has_no_room, is_at_last, gone_on, asked_again, sent_again}
 use Rattle.off_transfer_rules.specs.Steps.{Way, Repeats, Finishes, Ignores, BreaksOff, GoesOn, is_repeated, way_anew, way_of_last, way_of, way, Given, gives, with_transfer, last_to, ended, GivesBy, TftpStep}
@@ -63,50 +64,50 @@ moving f number e later = ap (λ (g : Fate). is_done_by g later) e
 -- ---- the ways of an acknowledgement
 
 module _ (v : View) (now : ℕ) (from : Peer) (xs : Transfers) (bytes : List ℕ) (x : Transfer) where
-  finishing : map.get xs from ≡ Some x → packet_of bytes ≡ Ok (Acknowledges x.sent) → is_at_last x ≡ true → way v now xs from bytes ≡ Finishes
+  finishing : map.get xs from ≡ Some x → packet_of bytes ≡ Ok (Acknowledges x.sent) → is_at_last x ≡ true → way v xs (datagram_at now from bytes) ≡ Finishes
   unfolding way
   finishing live read last =
-      (λ i. way_of v now from.ip (has_no_room xs) bytes (live i) (read i))
+      (λ i. way_of v (datagram_at now from bytes) (has_no_room xs) (live i) (read i))
       ∙ ap (λ b. cond b (way_of_last v now from.ip x) Ignores) (eq-eqb x.sent x.sent refl)
-      ∙ ap (λ b. cond b Finishes (cond (agrees v now from.ip x.name x.modem x.subscriber) (GoesOn x) BreaksOff)) last
+      ∙ ap (λ b. cond b Finishes (cond (agrees v now from.ip x.name (file_owner x.modem x.subscriber)) (GoesOn x) BreaksOff)) last
 
   ignored_by : (number : ℕ) (same : Bool) → (number == x.sent) ≡ same → number ≢ x.sent → cond same (way_of_last v now from.ip x) Ignores ≡ Ignores
   ignored_by number true e other = absurd (other (eqb-true number x.sent e))
   ignored_by number false e other = refl
 
-  ignoring : (number : ℕ) → map.get xs from ≡ Some x → packet_of bytes ≡ Ok (Acknowledges number) → number ≢ x.sent → way v now xs from bytes ≡ Ignores
+  ignoring : (number : ℕ) → map.get xs from ≡ Some x → packet_of bytes ≡ Ok (Acknowledges number) → number ≢ x.sent → way v xs (datagram_at now from bytes) ≡ Ignores
   unfolding way
   ignoring number live read other =
-      (λ i. way_of v now from.ip (has_no_room xs) bytes (live i) (read i)) ∙ ignored_by number (number == x.sent) refl other
+      (λ i. way_of v (datagram_at now from bytes) (has_no_room xs) (live i) (read i)) ∙ ignored_by number (number == x.sent) refl other
 
   again_is : x.is_acknowledged ≡ false → x.request ≡ bytes → is_repeated bytes x ≡ true
   again_is fresh same = and_from (not x.is_acknowledged) (bytes_eq x.request bytes) (ap not fresh) ((bytes_eq-Decides x.request bytes).1 same)
 
   repeating : (name : List ℕ) (asked : Options) → map.get xs from ≡ Some x → packet_of bytes ≡ Ok (Reads name asked) → x.is_acknowledged ≡ false → x.request ≡ bytes
-      → way v now xs from bytes ≡ Repeats x
+      → way v xs (datagram_at now from bytes) ≡ Repeats x
   unfolding way
   repeating name asked live read fresh same =
-      (λ i. way_of v now from.ip (has_no_room xs) bytes (live i) (read i))
-      ∙ ap (λ b. cond b (Repeats x) (way_anew v now from.ip false name asked)) (again_is fresh same)
+      (λ i. way_of v (datagram_at now from bytes) (has_no_room xs) (live i) (read i))
+      ∙ ap (λ b. cond b (Repeats x) (way_anew v now from.ip false (request_for name asked))) (again_is fresh same)
 
 finished_step : (t : Tables) (now : ℕ) (xs : Transfers) (from : Peer) (bytes : List ℕ) (given : Given) (x : Transfer) → map.get xs from ≡ Some x
-    → packet_of bytes ≡ Ok (Acknowledges x.sent) → is_at_last x ≡ true → TftpStep t now xs from bytes given → given ≡ gives (ended xs from) [] word.Done
+    → packet_of bytes ≡ Ok (Acknowledges x.sent) → is_at_last x ≡ true → TftpStep t xs (datagram_at now from bytes) given → given ≡ gives (ended xs from) [] word.Done
 unfolding TftpStep
 finished_step t now xs from bytes given x live read last step =
-    subst (λ (w : Way). GivesBy (view t from.ip) now xs from bytes w given) (finishing (view t from.ip) now from xs bytes x live read last) step
+    subst (λ (w : Way). GivesBy (view t from.ip) xs (datagram_at now from bytes) w given) (finishing (view t from.ip) now from xs bytes x live read last) step
 
 ignored_step : (t : Tables) (now : ℕ) (xs : Transfers) (from : Peer) (bytes : List ℕ) (given : Given) (x : Transfer) (number : ℕ) → map.get xs from ≡ Some x
-    → packet_of bytes ≡ Ok (Acknowledges number) → number ≢ x.sent → TftpStep t now xs from bytes given → given ≡ gives xs [] word.StaleAck
+    → packet_of bytes ≡ Ok (Acknowledges number) → number ≢ x.sent → TftpStep t xs (datagram_at now from bytes) given → given ≡ gives xs [] word.StaleAck
 unfolding TftpStep
 ignored_step t now xs from bytes given x number live read other step =
-    subst (λ (w : Way). GivesBy (view t from.ip) now xs from bytes w given) (ignoring (view t from.ip) now from xs bytes x number live read other) step
+    subst (λ (w : Way). GivesBy (view t from.ip) xs (datagram_at now from bytes) w given) (ignoring (view t from.ip) now from xs bytes x number live read other) step
 
 repeated_step : (t : Tables) (now : ℕ) (xs : Transfers) (from : Peer) (bytes : List ℕ) (given : Given) (x : Transfer) (name : List ℕ) (asked : Options)
-    → map.get xs from ≡ Some x → packet_of bytes ≡ Ok (Reads name asked) → x.is_acknowledged ≡ false → x.request ≡ bytes → TftpStep t now xs from bytes given
+    → map.get xs from ≡ Some x → packet_of bytes ≡ Ok (Reads name asked) → x.is_acknowledged ≡ false → x.request ≡ bytes → TftpStep t xs (datagram_at now from bytes) given
     → given ≡ gives (with_transfer xs from (asked_again now x)) (last_to from x) word.Again
 unfolding TftpStep
 repeated_step t now xs from bytes given x name asked live read fresh same step =
-    subst (λ (w : Way). GivesBy (view t from.ip) now xs from bytes w given) (repeating (view t from.ip) now from xs bytes x name asked live read fresh same) step
+    subst (λ (w : Way). GivesBy (view t from.ip) xs (datagram_at now from bytes) w given) (repeating (view t from.ip) now from xs bytes x name asked live read fresh same) step
 
 -- ---- what a turn does
 
@@ -163,7 +164,7 @@ no_fate peer End line e = refl
 module _ (peer : Peer) (file : List ℕ) (size : ℕ) (request : List ℕ) (first : ℕ) (name : List ℕ) (modem : Mac) (owner : ℕ)
     (asked : Options) (read : packet_of request ≡ Ok (Reads name asked)) where
   abbrev Agree : Tables → ℕ → Type 0
-  Agree tables now = Agreement tables now peer.ip name modem owner
+  Agree tables now = Agreement tables now peer.ip name (file_owner modem owner)
 
   abbrev LivesOn : ℕ → ℕ → Option Transfer → Type 0
   LivesOn k ticks live = Lives file size request first name modem owner k ticks live
@@ -250,10 +251,10 @@ module _ (peer : Peer) (file : List ℕ) (size : ℕ) (request : List ℕ) (firs
 
   -- the peer's own datagram
   agreed_as : (tables : Tables) (now : ℕ) (x : Transfer) → x.name ≡ name → x.modem ≡ modem → x.subscriber ≡ owner → Agree tables now
-      → Agreement tables now peer.ip x.name x.modem x.subscriber
+      → Agreement tables now peer.ip x.name (file_owner x.modem x.subscriber)
   agreed_as tables now x names modems owners agree =
-      subst (λ n. Agreement tables now peer.ip n x.modem x.subscriber) (sym names)
-      (subst (λ m. Agreement tables now peer.ip name m x.subscriber) (sym modems) (subst (λ o. Agreement tables now peer.ip name modem o) (sym owners) agree))
+      subst (λ n. Agreement tables now peer.ip n (file_owner x.modem x.subscriber)) (sym names)
+      (subst (λ m. Agreement tables now peer.ip name (file_owner m x.subscriber)) (sym modems) (subst (λ o. Agreement tables now peer.ip name (file_owner modem o)) (sym owners) agree))
 
   advances : (s : State) (bytes : List ℕ) (effect : Effect) (k : ℕ) (Later : ℕ → ℕ → Type 0) → TftpDid s peer bytes effect
       → (x : Transfer) → map.get s.held.transfers peer ≡ Some x → IsAt file size k x → x.name ≡ name → x.modem ≡ modem → x.subscriber ≡ owner
@@ -265,7 +266,7 @@ module _ (peer : Peer) (file : List ℕ) (size : ℕ) (request : List ℕ) (firs
       (ap (λ (e : Effect). fate_of (packet_of bytes) e.said.line) did.does ∙ ap (λ (g : Given). fate_of (packet_of bytes) (tftp_line g.word)) gave
       ∙ ap (λ (r : Result Meant PacketFault). fate_of r (tftp_line word.Done)) read)
   advances s bytes effect k Later did x live at names modems owners requests past read agree later false last =
-      let gave = next_block_goes s.tables s.held.now s.held.transfers peer bytes did.given x live read last
+      let gave = next_block_goes s.tables s.held.transfers (datagram_at s.held.now peer bytes) did.given x live read last
       (agreed_as s.tables s.held.now x names modems owners agree) did.step in
       onward (suc k) 5
       (moving (fate_of (packet_of bytes) effect.said.line) x.sent

@@ -11,6 +11,7 @@ use Rattle.off_defs.specs.declared.results.Outcome.TheVariants.{Did, Memory, Kee
 use Rattle.off_defs.specs.State.{State, Effect, at_moment}
 use Rattle.off_http.specs.Request.{Meaning, Waits, Refused, Asked}
 use Rattle.off_packets.specs.Packets.{Meant, Reads, Writes, Acknowledges, GivesUp, IsOther, packet_of}
+use Rattle.off_transfer_rules.specs.Requests.{datagram_at}
 use Rattle.off_transfer_rules.specs.Transfers.{Transfers}
 use Rattle.off_transfer_rules.specs.Steps.{TftpStep}
 use Rattle.off_transfer_rules.specs.Words.{tftp_line}
@@ -84,7 +85,7 @@ module _ (peer : Peer) (file : List ℕ) (size k : ℕ) where
       (map.get effect.after.held.transfers peer)
   came_from s from bytes effect true e did st =
       let here : from ≡ peer = sym (same_peer peer from e) in
-      let step = subst (λ (p : Peer). TftpStep s.tables s.held.now s.held.transfers p bytes did.given) here did.step in
+      let step = subst (λ (p : Peer). TftpStep s.tables s.held.transfers (datagram_at s.held.now p bytes) did.given) here did.step in
       after_as file size k _ (fate_of (packet_of bytes) (tftp_line did.given.word)) _ (packets_to peer did.given.items) _ (map.get did.given.transfers peer)
       (ap (λ (f : Effect). fate_of (packet_of bytes) f.said.line) did.does) (ap (λ (f : Effect). packets_to peer f.said.items) did.does)
       (ap (λ (f : Effect). map.get f.after.held.transfers peer) did.does)
@@ -93,9 +94,9 @@ module _ (peer : Peer) (file : List ℕ) (size k : ℕ) where
       let apart : peer ≢ from = λ is. true≢false (sym (own_peer peer) ∙ ap (is_peer peer) is ∙ e) in
       after_as file size k _ Remains _ [] _ (map.get s.held.transfers peer) refl
       (ap (λ (f : Effect). packets_to peer f.said.items) did.does
-      ∙ not_to_others peer from did.given.items apart (answers_go_back s.tables s.held.now s.held.transfers from bytes did.given did.step))
+      ∙ not_to_others peer from did.given.items apart (answers_go_back s.tables s.held.transfers (datagram_at s.held.now from bytes) did.given did.step))
       (ap (λ (f : Effect). map.get f.after.held.transfers peer) did.does
-      ∙ others_stay s.tables s.held.now s.held.transfers from bytes did.given did.step peer apart)
+      ∙ others_stay s.tables s.held.transfers (datagram_at s.held.now from bytes) did.given did.step peer apart)
       (nothing_new file size k (map.get s.held.transfers peer) st)
 
   -- a datagram to the other port

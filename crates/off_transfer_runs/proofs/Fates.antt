@@ -10,9 +10,10 @@ use Rattle.off_defs.specs.declared.tables.Modem.{Modem}
 use Rattle.off_defs.specs.State.{Transfer}
 use Rattle.off_packets.specs.Packets.{Meant, Reads, Writes, Acknowledges, GivesUp, IsOther, packet_of, has_option}
 use Rattle.off_packets.specs.declared.packets.Options.{Options}
+use Rattle.off_transfer_rules.specs.Requests.{datagram_at, request_for, file_owner}
 use Rattle.off_transfer_rules.specs.View.{View, holder, agrees}
 use Rattle.off_transfer_rules.specs.Transfers.{Transfers, has_no_room, first_word, is_at_last}
-use Rattle.off_transfer_rules.specs.Steps.{Way, Denies, Repeats, Accepts, Ignores, Finishes, BreaksOff, GoesOn, Leaves, file_not_found, too_many_transfers, is_repeated, has_file, way_for_modem, way_for_holder, way_anew, way_of_last, way_of, way}
+use Rattle.off_transfer_rules.specs.Steps.{Way, Denies, Repeats, Accepts, Ignores, Finishes, BreaksOff, GoesOn, Leaves, file_not_found, too_many_transfers, is_repeated, has_file, way_for_owner, owner_by_row, way_for_holder, way_anew, way_of_last, way_of, way}
 use Rattle.off_transfer_rules.specs.Words.{tftp_line}
 use Rattle.off_packets.specs.declared.faults.PacketFault.{PacketFault}
 use Rattle.off_packets.specs.declared.faults.PacketFault.TheVariants as fault
@@ -34,7 +35,7 @@ pub record IsNext (live : Option Transfer) (x : Transfer) (fate : Fate) : Type 0
 abbrev pub Means : Option Transfer → Result Meant PacketFault → Way → Type 0
 Means live read (Denies denial) = fate_of read (tftp_line denial.word) ≡ Remains
 Means live read (Repeats x) = (live ≡ Some x) × (fate_of read (tftp_line word.Again) ≡ Remains)
-Means live read (Accepts mac owner name asked) = (read ≡ Ok (Reads name asked)) × (fate_of read (tftp_line (first_word asked)) ≡ Breaks)
+Means live read (Accepts request owner) = (read ≡ Ok (Reads request.name request.options)) × (fate_of read (tftp_line (first_word request.options)) ≡ Breaks)
 Means live read Ignores = fate_of read (tftp_line word.StaleAck) ≡ Remains
 Means live read Finishes = IsLast live (fate_of read (tftp_line word.Done))
 Means live read BreaksOff = fate_of read (tftp_line word.Agreement) ≡ Breaks
@@ -48,25 +49,25 @@ accepted_breaks name asked false = refl
 module _ (v : View) (now : ℕ) (ip : Ip4) (bytes : List ℕ) (live : Option Transfer) where
   judged : (name : List ℕ) (asked : Options) (mac : Mac) (modem : Modem) (served no_room : Bool)
       → Means live (Ok (Reads name asked))
-      (if not served then Denies file_not_found else if no_room then Denies too_many_transfers else Accepts mac modem.subscriber name asked)
+      (if not served then Denies file_not_found else if no_room then Denies too_many_transfers else Accepts (request_for name asked) (file_owner mac modem.subscriber))
   judged name asked mac modem false no_room = refl
   judged name asked mac modem true true = refl
   judged name asked mac modem true false = (refl, accepted_breaks name asked (has_option asked))
 
   for_modem : (name : List ℕ) (asked : Options) (no_room : Bool) (mac : Mac) (modem : Option Modem)
-      → Means live (Ok (Reads name asked)) (way_for_modem v ip no_room name asked mac modem)
+      → Means live (Ok (Reads name asked)) (way_for_owner v ip no_room (request_for name asked) (owner_by_row mac modem))
   for_modem name asked no_room mac None = refl
   for_modem name asked no_room mac (Some modem) = judged name asked mac modem (has_file v ip name mac) no_room
 
-  for_holder : (name : List ℕ) (asked : Options) (no_room : Bool) (held : Option Mac) → Means live (Ok (Reads name asked)) (way_for_holder v ip no_room name asked held)
+  for_holder : (name : List ℕ) (asked : Options) (no_room : Bool) (held : Option Mac) → Means live (Ok (Reads name asked)) (way_for_holder v ip no_room (request_for name asked) held)
   for_holder name asked no_room None = refl
   for_holder name asked no_room (Some mac) = for_modem name asked no_room mac v.modem
 
-  anew : (name : List ℕ) (asked : Options) (no_room : Bool) → Means live (Ok (Reads name asked)) (way_anew v now ip no_room name asked)
+  anew : (name : List ℕ) (asked : Options) (no_room : Bool) → Means live (Ok (Reads name asked)) (way_anew v now ip no_room (request_for name asked))
   anew name asked no_room = for_holder name asked no_room (holder now v)
 
   repeated : (x : Transfer) (name : List ℕ) (asked : Options) → live ≡ Some x → (b : Bool)
-      → Means live (Ok (Reads name asked)) (if b then Repeats x else way_anew v now ip false name asked)
+      → Means live (Ok (Reads name asked)) (if b then Repeats x else way_anew v now ip false (request_for name asked))
   repeated x name asked is true = (is, refl)
   repeated x name asked is false = anew name asked false
 
@@ -78,21 +79,21 @@ module _ (v : View) (now : ℕ) (ip : Ip4) (bytes : List ℕ) (live : Option Tra
 
   acknowledged : (x : Transfer) (number : ℕ) → live ≡ Some x → (b : Bool) → (number == x.sent) ≡ b
       → Means live (Ok (Acknowledges number)) (if b then way_of_last v now ip x else Ignores)
-  acknowledged x number is true e = last_by x number is (eqb-true number x.sent e) (is_at_last x) (agrees v now ip x.name x.modem x.subscriber) refl
+  acknowledged x number is true e = last_by x number is (eqb-true number x.sent e) (is_at_last x) (agrees v now ip x.name (file_owner x.modem x.subscriber)) refl
   acknowledged x number is false e = refl
 
-means : (v : View) (now : ℕ) (ip : Ip4) (full : Bool) (bytes : List ℕ) (live : Option Transfer) (read : Result Meant PacketFault)
-    → Means live read (way_of v now ip full bytes live read)
-means v now ip full bytes live (Err fault.Form) = refl
-means v now ip full bytes live (Err fault.Mode) = refl
-means v now ip full bytes live (Ok IsOther) = refl
-means v now ip full bytes live (Ok Writes) = refl
-means v now ip full bytes live (Ok GivesUp) = refl
-means v now ip full bytes None (Ok (Reads name asked)) = anew v now ip bytes None name asked full
-means v now ip full bytes (Some x) (Ok (Reads name asked)) = repeated v now ip bytes (Some x) x name asked refl (is_repeated bytes x)
-means v now ip full bytes None (Ok (Acknowledges number)) = refl
-means v now ip full bytes (Some x) (Ok (Acknowledges number)) = acknowledged v now ip bytes (Some x) x number refl (number == x.sent) refl
+means : (v : View) (now : ℕ) (from : Peer) (full : Bool) (bytes : List ℕ) (live : Option Transfer) (read : Result Meant PacketFault)
+    → Means live read (way_of v (datagram_at now from bytes) full live read)
+means v now from full bytes live (Err fault.Form) = refl
+means v now from full bytes live (Err fault.Mode) = refl
+means v now from full bytes live (Ok IsOther) = refl
+means v now from full bytes live (Ok Writes) = refl
+means v now from full bytes live (Ok GivesUp) = refl
+means v now from full bytes None (Ok (Reads name asked)) = anew v now from.ip bytes None name asked full
+means v now from full bytes (Some x) (Ok (Reads name asked)) = repeated v now from.ip bytes (Some x) x name asked refl (is_repeated bytes x)
+means v now from full bytes None (Ok (Acknowledges number)) = refl
+means v now from full bytes (Some x) (Ok (Acknowledges number)) = acknowledged v now from.ip bytes (Some x) x number refl (number == x.sent) refl
 
-pub means_way : (v : View) (now : ℕ) (xs : Transfers) (from : Peer) (bytes : List ℕ) → Means (map.get xs from) (packet_of bytes) (way v now xs from bytes)
+pub means_way : (v : View) (now : ℕ) (xs : Transfers) (from : Peer) (bytes : List ℕ) → Means (map.get xs from) (packet_of bytes) (way v xs (datagram_at now from bytes))
 unfolding way
-means_way v now xs from bytes = means v now from.ip (has_no_room xs) bytes (map.get xs from) (packet_of bytes)
+means_way v now xs from bytes = means v now from (has_no_room xs) bytes (map.get xs from) (packet_of bytes)

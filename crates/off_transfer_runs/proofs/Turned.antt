@@ -6,6 +6,7 @@ use Rattle.off_defs.specs.State.{Tables, Transfer}
 use Rattle.off_file_rules.specs.Block.{block}
 use Rattle.off_packets.specs.declared.packets.Options.{Options}
 use Rattle.off_packets.specs.Packets.{packet_of}
+use Rattle.off_transfer_rules.specs.Requests.{datagram_at}
 use Rattle.off_transfer_rules.specs.View.{View, view}
 use Rattle.off_transfer_rules.specs.Transfers.{Transfers, options_of, last_packet, packet_of_number, is_last_number, is_at_last, gone_on, asked_again}
 use Rattle.off_packets.specs.Replies.{data_packet, error_packet}
@@ -119,7 +120,7 @@ module _ (v : View) (now : ℕ) (xs : Transfers) (from : Peer) (bytes : List ℕ
   unfolding Turned
   broken given e = after_as file size k _ Breaks _ _ _ _ e refl refl tt
 
-  turned_by : (w : Way) (given : Given) → Means (map.get xs from) (packet_of bytes) w → GivesBy v now xs from bytes w given
+  turned_by : (w : Way) (given : Given) → Means (map.get xs from) (packet_of bytes) w → GivesBy v xs (datagram_at now from bytes) w given
       → Stands file size k (map.get xs from) → Turned given
   unfolding Turned
   turned_by (Denies denial) given m e s =
@@ -131,7 +132,7 @@ module _ (v : View) (now : ℕ) (xs : Transfers) (from : Peer) (bytes : List ℕ
       after_as file size k _ Remains _ (last_packet x ∷ []) _ (Some (asked_again now x)) (word_is given _ e ∙ m.1)
       (items_are given _ e ∙ one_packet from (last_packet x)) (live_is given _ e ∙ inserted_here xs from (asked_again now x))
       (again file size k x (Some (asked_again now x)) at (stands (asked_again now x) refl (asked_at file size k now x at)))
-  turned_by (Accepts mac owner name asked) given m e s = broken given (word_is given _ e.1.1 ∙ m.1)
+  turned_by (Accepts request owner) given m e s = broken given (word_is given _ e.1.1 ∙ m.1)
   turned_by Ignores given m e s =
       after_as file size k _ Remains _ [] _ (map.get xs from) (word_is given _ e ∙ m) (items_are given _ e) (live_is given _ e)
       (nothing_new file size k (map.get xs from) s)
@@ -149,8 +150,8 @@ module _ (v : View) (now : ℕ) (xs : Transfers) (from : Peer) (bytes : List ℕ
 
 -- a datagram of the peer
 pub packet_turned : (t : Tables) (now : ℕ) (xs : Transfers) (from : Peer) (bytes : List ℕ) (given : Given) (file : List ℕ) (size k : ℕ)
-    → TftpStep t now xs from bytes given → Stands file size k (map.get xs from)
+    → TftpStep t xs (datagram_at now from bytes) given → Stands file size k (map.get xs from)
     → After (fate_of (packet_of bytes) (tftp_line given.word)) file size k (packets_to from given.items) (map.get given.transfers from)
 unfolding TftpStep Turned
 packet_turned t now xs from bytes given file size k step s =
-    turned_by (view t from.ip) now xs from bytes file size k (way (view t from.ip) now xs from bytes) given (means_way (view t from.ip) now xs from bytes) step s
+    turned_by (view t from.ip) now xs from bytes file size k (way (view t from.ip) xs (datagram_at now from bytes)) given (means_way (view t from.ip) now xs from bytes) step s

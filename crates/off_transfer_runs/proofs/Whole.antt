@@ -14,6 +14,7 @@ use Rattle.off_file_rules.specs.File.{IsFile}
 use Rattle.off_file_laws.proofs.LawLemmas.{file_is_one}
 use Rattle.off_packets.specs.Packets.{Reads, packet_of}
 use Rattle.off_packets.specs.declared.packets.Options.{Options}
+use Rattle.off_transfer_rules.specs.Requests.{file_owner}
 use Rattle.off_transfer_rules.specs.View.{view}
 use Rattle.off_transfer_rules.specs.Transfers.{size_for, first_number, is_last_number}
 use Rattle.off_transfer_laws.specs.Agreement.{Agreement}
@@ -70,7 +71,7 @@ each_file_ends file size some =
 module _ (peer : Peer) (file : List ℕ) (size : ℕ) (request : List ℕ) (from : ℕ) (name : List ℕ) (modem : Mac) (owner : ℕ) (asked : Options)
     (read : packet_of request ≡ Ok (Reads name asked)) (n : ℕ) (last_is : is_last_number file size n ≡ true) where
   abbrev Agreed : Tables → ℕ → Type 0
-  Agreed tables now = Agreement tables now peer.ip name modem owner
+  Agreed tables now = Agreement tables now peer.ip name (file_owner modem owner)
 
   abbrev UpTo : Tables → ℕ → List Turn → ℕ → ℕ → Type 0
   UpTo tables now turns k ticks = AnswersUpTo request from (suc n) peer Agreed tables now k ticks turns
@@ -106,16 +107,16 @@ module _ (peer : Peer) (file : List ℕ) (size : ℕ) (request : List ℕ) (from
 
 -- ---- the modem and the file are those of the transfer
 
-pub same_modem : (t : Tables) (now : ℕ) (ip : Ip4) (name : List ℕ) (one other : Mac) (owner else_owner : ℕ) → Agreement t now ip name one owner
-    → Agreement t now ip name other else_owner → one ≡ other
+pub same_modem : (t : Tables) (now : ℕ) (ip : Ip4) (name : List ℕ) (one other : Mac) (owner else_owner : ℕ) → Agreement t now ip name (file_owner one owner)
+    → Agreement t now ip name (file_owner other else_owner) → one ≡ other
 same_modem t now ip name one other owner else_owner a b =
     let rows : Some a.lease ≡ Some b.lease = sym a.lease_is ∙ b.lease_is in
     let row : a.lease ≡ b.lease = cc in
     let bounds : Bound one ≡ Bound other = sym a.bound ∙ ap (λ (l : _). l.hold) row ∙ b.bound in
     cc
 
-same_owner : (t : Tables) (now : ℕ) (ip : Ip4) (name : List ℕ) (mac : Mac) (owner other : ℕ) → Agreement t now ip name mac owner
-    → Agreement t now ip name mac other → owner ≡ other
+same_owner : (t : Tables) (now : ℕ) (ip : Ip4) (name : List ℕ) (mac : Mac) (owner other : ℕ) → Agreement t now ip name (file_owner mac owner)
+    → Agreement t now ip name (file_owner mac other) → owner ≡ other
 same_owner t now ip name mac owner other a b =
     let rows : Some a.modem ≡ Some b.modem = sym a.modem_is ∙ b.modem_is in
     let row : a.modem ≡ b.modem = cc in
@@ -141,20 +142,20 @@ module _ (s : State) (turn : Turn) (after last : State) (later : List Turn) (pee
   }
 
   lives_as : (did : TftpDid s peer bytes (effect_of turn after)) (b : Begins (view s.tables peer.ip) s.held.now s.held.transfers peer bytes did.given name asked)
-      → (file : List ℕ) (modem : Mac) (owner : ℕ) → Agreement s.tables s.held.now peer.ip name modem owner → IsFile s.tables modem s.held.now peer.ip file
+      → (file : List ℕ) (modem : Mac) (owner : ℕ) → Agreement s.tables s.held.now peer.ip name (file_owner modem owner) → IsFile s.tables modem s.held.now peer.ip file
       → Lives file (size_for asked) bytes (first_number asked) name modem owner (first_number asked) 5 (map.get after.held.transfers peer)
   lives_as did b file modem owner agreed own =
       let mine = accepting_agrees s.tables s.held.now peer.ip b.mac b.owner name b.accepting in
       let modems : modem ≡ b.mac = same_modem s.tables s.held.now peer.ip name modem b.mac owner b.owner agreed mine in
       let owners : owner ≡ b.owner =
-      same_owner s.tables s.held.now peer.ip name b.mac owner b.owner (subst (λ m. Agreement s.tables s.held.now peer.ip name m owner) modems agreed) mine in
+      same_owner s.tables s.held.now peer.ip name b.mac owner b.owner (subst (λ m. Agreement s.tables s.held.now peer.ip name (file_owner m owner)) modems agreed) mine in
       let files : file ≡ b.file =
       file_is_one s.tables b.mac s.held.now peer.ip file b.file (subst (λ m. IsFile s.tables m s.held.now peer.ip file) modems own)
       (own_file s turn after last later peer bytes name asked did b) in
       lives_first did b file modem owner files modems owners
 
   lives_did : TftpDid s peer bytes (effect_of turn after) → packet_of bytes ≡ Ok (Reads name asked) → says_accepted turn.said.line ≡ true
-      → (file : List ℕ) (modem : Mac) (owner : ℕ) → Agreement s.tables s.held.now peer.ip name modem owner → IsFile s.tables modem s.held.now peer.ip file
+      → (file : List ℕ) (modem : Mac) (owner : ℕ) → Agreement s.tables s.held.now peer.ip name (file_owner modem owner) → IsFile s.tables modem s.held.now peer.ip file
       → Lives file (size_for asked) bytes (first_number asked) name modem owner (first_number asked) 5 (map.get after.held.transfers peer)
   lives_did did read says file modem owner agreed own = lives_as did (beginning s turn after last later peer bytes name asked did read says) file modem owner agreed own
 
@@ -173,7 +174,7 @@ pub who_answers_gets_all : WhoAnswersGetsAll
 who_answers_gets_all s last turn soon rest peer name asked n run accepts served last_is up =
     let tables = tables_by_commit s turn.event turn.outcome (effect_of turn run.0) run.1.0 in
     let moment = moment_is_greatest s turn.event turn.outcome (effect_of turn run.0) run.1.0 in
-    let agree : Tables → ℕ → Type 0 = λ t now. Agreement t now peer.ip name served.modem served.subscriber in
+    let agree : Tables → ℕ → Type 0 = λ t now. Agreement t now peer.ip name (file_owner served.modem served.subscriber) in
     let done : is_done peer (soon ++ rest) ≡ true =
     answers_done peer served.file (size_for asked) accepts.bytes (first_number asked) name served.modem served.subscriber asked accepts.read n last_is run.0 last soon rest (first_number asked) 5 run.1.1
     (lives_at s turn run.0 last (soon ++ rest) peer name asked run.1.0 accepts served)

@@ -10,6 +10,7 @@ use Rattle.off_defs.specs.State.{Tables, State}
 use Rattle.off_defs.specs.Tables.{write_all}
 use Rattle.off_packets.specs.Packets.{Acknowledges, packet_of}
 use Rattle.off_packets.specs.declared.packets.Options.{Options}
+use Rattle.off_transfer_rules.specs.Requests.{file_owner}
 use Rattle.off_transfer_rules.specs.Transfers.{size_for, first_number, is_last_number}
 use Rattle.off_transfer_laws.specs.Agreement.{Agreement}
 use Rattle.off_book.specs.Run.{Turn, Run}
@@ -90,7 +91,7 @@ WhoAnswersGetsAll =
     (soon ++ rest))
     → is_last_number served.file (size_for asked) n ≡ true
     → AnswersUpTo accepts.bytes (first_number asked) (suc n) peer
-    (λ tables now. Agreement tables now peer.ip name served.modem served.subscriber)
+    (λ tables now. Agreement tables now peer.ip name (file_owner served.modem served.subscriber))
     (write_all s.tables turn.commit) (max s.held.now turn.event.at.0) (first_number asked) 5 soon
     → (is_done peer (soon ++ rest) ≡ true)
     × (got peer (block_given peer turn) (soon ++ rest) ≡ served.file)

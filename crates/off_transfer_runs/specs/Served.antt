@@ -13,6 +13,7 @@ use Rattle.off_file_laws.specs.Laws.{Boots}
 use Rattle.off_packets.specs.Packets.{Reads, packet_of}
 use Rattle.off_packets.specs.Replies.{data_packet}
 use Rattle.off_packets.specs.declared.packets.Options.{Options}
+use Rattle.off_transfer_rules.specs.Requests.{file_owner}
 use Rattle.off_transfer_rules.specs.Transfers.{size_for, first_number, first_word, packet_of_number, is_last_number}
 use Rattle.off_transfer_rules.specs.Words.{tftp_line}
 use Rattle.off_transfer_laws.specs.Agreement.{Agreement}
@@ -74,7 +75,7 @@ pub record FileIsServed (tables : Tables) (now : ℕ) (peer : Peer) (name : List
   pub modem : Mac
   pub subscriber : ℕ
   pub file : List ℕ
-  pub agreed : Agreement tables now peer.ip name modem subscriber
+  pub agreed : Agreement tables now peer.ip name (file_owner modem subscriber)
   pub own : IsFile tables modem now peer.ip file
   pub only : (other : List ℕ) → IsFile tables modem now peer.ip other → other ≡ file
   pub boots : Boots own.site.secret file (with_stamps own.profile now peer.ip)

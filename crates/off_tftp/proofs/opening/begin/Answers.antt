@@ -1,9 +1,6 @@
 use Rattle.off_tftp.proofs.OpenLemmas.{begun_of}
 use Rattle.off_tftp.proofs.opening.begin.Goals as goal
 
-pub start-requires-clause-right : goal.start-requires-clause-right
-start-requires-clause-right c = c.grant_for-grant.ensures.right c.requires.named
-
 pub returns : goal.returns
 returns c =
     begun_of c.args.request.now c.args.site.now c.args.found.now c.in_ok-entry.entry c.in_ok-share.field-0 c.grant_for-grant.result c.start.result c.in_ok-entry.ensures

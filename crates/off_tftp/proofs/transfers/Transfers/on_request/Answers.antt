@@ -14,7 +14,7 @@ returns-then-repeats-clause-told g c =
     (λ t. let v = view_at t c.args.request.now.hub c.args.request.now.from.ip in
     if_ok_as c.repeat.result _ _
     (if_ok_both c.repeat.result _ _
-    (repeat_serves c.args.request.now.at.0 c.args.self.now c.args.request.now.from c.args.request.now.bytes.now v c.args.request.now.from.ip (has_no_room c.args.self.now) c.args.request.now.name.now c.args.request.now.options
+    (repeat_serves c.args.request.now.at.0 c.args.self.now c.args.request.now.from c.args.request.now.bytes.now v (has_no_room c.args.self.now) c.args.request.now.name.now c.args.request.now.options
     (map.get c.args.self.now c.args.request.now.from) c.repeat.result (sym c.repeats.ensures ∙ c.if-repeats.true) (c.repeat.ensures.done v c.args.request.now.at.0 c.args.request.now.bytes.now) c.repeat.ensures.bare)
     (unseen_sees v c.args.request.now.from.ip c.repeat.result c.repeat.ensures.unseen))
     (λ d served right. served))
@@ -25,7 +25,7 @@ returns-clause-told g c =
     (λ t shows. if_ok_under c.open_by.result _ (λ right.
     let v = view_at t c.args.request.now.hub c.args.request.now.from.ip in
     if_ok_both c.open_by.result _ _
-    (open_does c.args.request.now.at.0 c.args.self.now c.args.request.now.from c.args.request.now.bytes.now v c.in_ok-seen.seen c.args.request.now.from.ip (has_no_room c.args.self.now)
+    (open_does c.args.request.now.at.0 c.args.self.now c.args.request.now.from c.args.request.now.bytes.now v c.in_ok-seen.seen (has_no_room c.args.self.now)
     c.args.request.now.name.now c.args.request.now.options (map.get c.args.self.now c.args.request.now.from) c.open_by.result (sym c.repeats.ensures ∙ c.if-repeats.false) (shows right) (can_serve t c.args.request.now.hub c.args.request.now.at.0 c.args.request.now.from.ip) c.open_by.ensures.done)
     (shown_sees v c.in_ok-seen.seen c.args.request.now.at.0 c.args.request.now.from.ip c.args.request.now.name.now c.open_by.result (shows right) c.open_by.ensures.sees)))
 

@@ -1,11 +1,8 @@
 use Rattle.off_tftp.specs.Seen.{held_by}
 use Rattle.off_tftp.specs.Deciding.{denial_of}
 use Rattle.off_tftp.proofs.DoesLemmas.{refused_unseen}
-use Rattle.off_tftp.proofs.OpenLemmas.{found_named, found_serves, found_fits, found_begins, found_unseen, refused_serves, refused_fits, refused_begins}
+use Rattle.off_tftp.proofs.OpenLemmas.{found_serves, found_fits, found_begins, found_unseen, refused_serves, refused_fits, refused_begins}
 use Rattle.off_tftp.proofs.transfers.Transfers.open.Goals as goal
-
-pub begin-requires-clause-named : goal.begin-requires-clause-named
-begin-requires-clause-named c = found_named c.args.request.now c.args.seen.now c.lacks_room.result c.in-Ok.found c.in-Ok.ensures c.requires.named
 
 pub returns-in-Ok-clause-done : goal.returns-in-Ok-clause-done
 returns-in-Ok-clause-done c = λ profile entry serves.
