@@ -26,7 +26,7 @@ use Rattle.off_asking.specs.Asking.{client, claimed}
 use Rattle.off_lease_rules.specs.Free.{pool_for, case_of, chosen_in}
 use Rattle.off_asking.specs.Claims.{refused_by}
 use Rattle.off_lease_rules.specs.Rules.{rules_for}
-use Rattle.off_lease_rules.specs.Steps.{accepts, unless_refused, settled, lease_step, dhcp_step}
+use Rattle.off_lease_rules.specs.Steps.{accepts, unless_refused, lease_step_for, lease_step, dhcp_step}
 use Rattle.off_lease_laws.specs.Outcomes.{WasOffered}
 use Rattle.off_lease_laws.specs.Effects.{bound_until, IsBoundBy}
 use Rattle.off_lease_laws.proofs.EffectLemmas.{acks_bind}
@@ -63,7 +63,7 @@ module _ (t : Tables) (now : ℕ) (m : Received) where
   accepted = accepts now m (case_of t m) chosen (option_and_then (lease_in t) chosen)
 
   settled_or : IsRefusedOr accepted.word (lease_step t now m)
-  unfolding lease_step settled
+  unfolding lease_step lease_step_for
   settled_or = refused_or m (case_of t m) accepted (refused_by (rules_for m (case_of t m) chosen))
 
 module _ (t : Tables) (now : ℕ) (m : Received) where

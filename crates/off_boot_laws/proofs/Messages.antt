@@ -34,7 +34,7 @@ use Rattle.off_asking.specs.Choice.{provided}
 use Rattle.off_lease_rules.specs.Free.{pool_for, site_for, case_of, has_ended, is_free, choice, chosen_in, least_free}
 use Rattle.off_asking.specs.Claims.{is_another, names_another_server, claims_own, claims_wrongly, refused_by}
 use Rattle.off_lease_rules.specs.Rules.{has_cut_part, relays_another, is_no_modem, has_other_serial, is_for_a_server, rules_for}
-use Rattle.off_lease_rules.specs.Steps.{offer_to, accepts, unless_refused, settled, settled_in, lease_step}
+use Rattle.off_lease_rules.specs.Steps.{offer_to, accepts, unless_refused, lease_step_for, lease_step_in, lease_step}
 use Rattle.off_lease_rules.specs.declared.cases.Case.{Case}
 use Rattle.off_lease_rules.specs.declared.results.LeaseStep.{LeaseStep}
 use Rattle.off_lease_rules.specs.declared.words.DhcpWord.TheVariants as word
@@ -150,13 +150,13 @@ module _ (t : Tables) (now : ℕ) (m : Received) (k : Known t m) where
   case_known = λ j. record { site = k.site_is j; pool = k.pool_is j; modem = k.modem_is j; held = held_in t (client m) }
 
   -- the rows and the chosen address decide
-  by_case : (a : Ip4) → chosen_in t now m known_case ≡ Some a → lease_step t now m ≡ settled now m known_case (Some a) (lease_in t a)
+  by_case : (a : Ip4) → chosen_in t now m known_case ≡ Some a → lease_step t now m ≡ lease_step_for now m known_case (Some a) (lease_in t a)
   unfolding lease_step
-  by_case a chosen = ap (λ (x : Case). settled_in t now m x (chosen_in t now m x)) case_known ∙ ap (settled_in t now m known_case) chosen
+  by_case a chosen = ap (λ (x : Case). lease_step_in t now m x (chosen_in t now m x)) case_known ∙ ap (lease_step_in t now m known_case) chosen
 
   accepted : (a : Ip4) → chosen_in t now m known_case ≡ Some a → refused_by (rules_for m known_case (Some a)) ≡ None
       → lease_step t now m ≡ accepts now m known_case (Some a) (lease_in t a)
-  unfolding settled
+  unfolding lease_step_for
   accepted a chosen none =
       by_case a chosen ∙ ap (unless_refused m known_case (accepts now m known_case (Some a) (lease_in t a))) none
 

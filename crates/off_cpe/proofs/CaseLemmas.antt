@@ -13,7 +13,7 @@ use Rattle.off_asking.specs.Claims.{refused_by}
 use Rattle.off_asking.proofs.ClaimLemmas.{refused_none, refused_some, refused_passes}
 use Rattle.off_cpe_rules.specs.Behind.{device_case, chosen_in}
 use Rattle.off_cpe_rules.specs.Rules.{early, late, rules_for}
-use Rattle.off_cpe_rules.specs.Steps.{is_live_bound, own_drop, own_elsewhere, device_row, reply_for, settled, settled_in, step_behind, accepts, offers, acknowledges, declines, releases, refuses, reply_to_refused, step_by, unless_refused}
+use Rattle.off_cpe_rules.specs.Steps.{is_live_bound, own_drop, own_elsewhere, device_row, reply_for, device_step_for, device_step_in, step_behind, accepts, offers, acknowledges, declines, releases, refuses, reply_to_refused, step_by, unless_refused}
 use Rattle.off_cpe_rules.specs.declared.cases.DeviceCase.{DeviceCase}
 use Rattle.off_cpe_rules.specs.declared.results.DeviceStep.{DeviceStep}
 use Rattle.off_cpe_rules.specs.declared.words.DeviceWord.{DeviceWord}
@@ -38,24 +38,24 @@ early_broken m c w own rows = refused_none (own_rules m) (row_rules m c) own ∙
 
 module _ (now : ℕ) (modem : Mac) (m : Received) (c : DeviceCase) where
   -- who is refused early is refused whatever address is chosen
-  settled_early : (chosen : Option Ip4) (lease : Option DeviceLease) (w : DeviceWord) → refused_by (early m c) ≡ Some w → settled now modem m c chosen lease ≡ refuses m c w
-  unfolding settled
+  settled_early : (chosen : Option Ip4) (lease : Option DeviceLease) (w : DeviceWord) → refused_by (early m c) ≡ Some w → device_step_for now modem m c chosen lease ≡ refuses m c w
+  unfolding device_step_for
   settled_early chosen lease w broken =
       ap (unless_refused m c (accepts now modem m c chosen lease)) (refused_some (early m c) (late m c chosen) w broken)
 
   settled_late : (chosen : Option Ip4) (lease : Option DeviceLease) → refused_by (early m c) ≡ None
-      → settled now modem m c chosen lease ≡ unless_refused m c (accepts now modem m c chosen lease) (refused_by (late m c chosen))
-  unfolding settled
+      → device_step_for now modem m c chosen lease ≡ unless_refused m c (accepts now modem m c chosen lease) (refused_by (late m c chosen))
+  unfolding device_step_for
   settled_late chosen lease passed =
       ap (unless_refused m c (accepts now modem m c chosen lease)) (refused_none (early m c) (late m c chosen) passed)
 
   pub late_refuses : (chosen : Option Ip4) (lease : Option DeviceLease) (w : DeviceWord) → refused_by (early m c) ≡ None → refused_by (late m c chosen) ≡ Some w
-      → refuses m c w ≡ settled now modem m c chosen lease
+      → refuses m c w ≡ device_step_for now modem m c chosen lease
   late_refuses chosen lease w passed broken =
       sym (settled_late chosen lease passed ∙ ap (unless_refused m c (accepts now modem m c chosen lease)) broken)
 
   pub late_accepts : (chosen : Option Ip4) (lease : Option DeviceLease) → refused_by (early m c) ≡ None → refused_by (late m c chosen) ≡ None
-      → accepts now modem m c chosen lease ≡ settled now modem m c chosen lease
+      → accepts now modem m c chosen lease ≡ device_step_for now modem m c chosen lease
   late_accepts chosen lease passed none =
       sym (settled_late chosen lease passed ∙ ap (unless_refused m c (accepts now modem m c chosen lease)) none)
 
@@ -78,20 +78,20 @@ module _ (now : ℕ) (modem : Mac) (m : Received) (c : DeviceCase) where
       ] same
 
   lease_matters : (chosen : Option Ip4) (lease other : Option DeviceLease) → (is_discover m ≡ true → lasts lease ≡ lasts other)
-      → settled now modem m c chosen lease ≡ settled now modem m c chosen other
-  unfolding settled
+      → device_step_for now modem m c chosen lease ≡ device_step_for now modem m c chosen other
+  unfolding device_step_for
   lease_matters chosen lease other same = ap (λ s. unless_refused m c s (refused_by (rules_for m c chosen))) (accepts_same chosen lease other same)
 
   pub case_answered : (t : Tables) (chosen : Option Ip4) (lease : Option DeviceLease) → chosen ≡ chosen_in t now m c
       → (is_discover m ≡ true → lasts lease ≡ lasts (option_and_then (device_in t) chosen))
-      → settled now modem m c chosen lease ≡ settled_in t now modem m c (chosen_in t now m c)
+      → device_step_for now modem m c chosen lease ≡ device_step_in t now modem m c (chosen_in t now m c)
   case_answered t chosen lease chose leased =
-      lease_matters chosen lease (option_and_then (device_in t) chosen) leased ∙ ap (settled_in t now modem m c) chose
+      lease_matters chosen lease (option_and_then (device_in t) chosen) leased ∙ ap (device_step_in t now modem m c) chose
 
 -- ---- what is answered is what a message does
 
 abbrev in_full : Tables → ℕ → Mac → Received → DeviceCase → DeviceStep
-in_full t now modem m c = settled_in t now modem m c (chosen_in t now m c)
+in_full t now modem m c = device_step_in t now modem m c (chosen_in t now m c)
 
 pub own_step : (t : Tables) (now : ℕ) (modem : Mac) (m : Received) (w : DeviceWord) → Some w ≡ refused_by (own_rules m) → step_by w [] None ≡ step_behind t now m modem
 unfolding step_behind
@@ -112,7 +112,7 @@ unfolding device_case
 cased_pool t now modem m c seen = ap (λ (v : DeviceCase). v.pool) seen
 
 pub late_step : (t : Tables) (now : ℕ) (modem : Mac) (m : Received) (c : DeviceCase) (step : DeviceStep) → c ≡ device_case t now m modem
-    → step ≡ settled_in t now modem m c (chosen_in t now m c) → step ≡ step_behind t now m modem
+    → step ≡ device_step_in t now modem m c (chosen_in t now m c) → step ≡ step_behind t now m modem
 unfolding step_behind
 late_step t now modem m c step seen is = is ∙ ap (in_full t now modem m) seen
 

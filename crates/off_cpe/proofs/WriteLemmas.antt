@@ -16,7 +16,7 @@ use Rattle.off_asking.specs.Asking.{client, is_discover, is_request, is_decline,
 use Rattle.off_asking.specs.Claims.{is_served, has_no_form, refused_by, claims_own, claims_in_pool, lacks_record, claims_wrongly}
 use Rattle.off_behind.specs.Neighbours.{is_elsewhere, elsewhere}
 use Rattle.off_cpe_rules.specs.Rules.{early, late, rules_for}
-use Rattle.off_cpe_rules.specs.Steps.{is_live_bound, device_row, own_drop, own_elsewhere, offered, bound, settled, accepts, refuses, offers, acknowledges, declines, releases, unless_refused}
+use Rattle.off_cpe_rules.specs.Steps.{is_live_bound, device_row, own_drop, own_elsewhere, offered, bound, device_step_for, accepts, refuses, offers, acknowledges, declines, releases, unless_refused}
 use Rattle.off_asking.specs.Choice.{for_some}
 use Rattle.off_cpe_rules.specs.declared.cases.DeviceCase.{DeviceCase}
 use Rattle.off_cpe_rules.specs.declared.results.DeviceStep.{DeviceStep}
@@ -70,8 +70,8 @@ module _ (now : ℕ) (modem : Mac) (m : Received) (c : DeviceCase) (chosen : Opt
   unless_few step None few = few
   unless_few step (Some word) few = omega arith
 
-  pub settled_few : IsFew (settled now modem m c chosen lease)
-  unfolding settled
+  pub settled_few : IsFew (device_step_for now modem m c chosen lease)
+  unfolding device_step_for
   settled_few = unless_few (accepts now modem m c chosen lease) (refused_by (rules_for m c chosen)) accepts_few
 
 -- ---- and how many of them are elsewhere than at the device's own address
@@ -189,6 +189,6 @@ module _ (now : ℕ) (modem : Mac) (m : Received) (c : DeviceCase) (own : Option
       ∙ claims_own_address chosen passed (sym (refused_none (early m c) (late m c chosen) passed) ∙ is) d)
 
   pub settled_aside : (chosen : Option Ip4) (lease : Option DeviceLease) → refused_by (early m c) ≡ None → (is_discover m ≡ false → chosen ≡ claimed m)
-      → Aside (settled now modem m c chosen lease) (most_elsewhere m)
-  unfolding settled
+      → Aside (device_step_for now modem m c chosen lease) (most_elsewhere m)
+  unfolding device_step_for
   settled_aside chosen lease passed claims_it = unless_aside chosen lease (refused_by (rules_for m c chosen)) refl passed claims_it

@@ -6,7 +6,7 @@ ghost use Rattle.off_asking.specs.Choice.{pool_among};
 ghost use Rattle.off_asking.specs.Claims.{refused_by};
 ghost use Rattle.off_cpe_rules.specs.Behind.{device_case, chosen_in};
 ghost use Rattle.off_cpe_rules.specs.Rules.{early};
-ghost use Rattle.off_cpe_rules.specs.Steps.{settled_in, step_behind, device_step};
+ghost use Rattle.off_cpe_rules.specs.Steps.{device_step_in, step_behind, device_step};
 ghost use Rattle.off_behind.specs.Buckets.{Indexes};
 ghost use Rattle.off_behind.specs.Neighbours.{StandsIn, elsewhere};
 ghost use Rattle.off_runs.specs.Held.{StandsFor};
@@ -270,7 +270,7 @@ fn settle_chosen(
     ensures step { IfOk result (λ step. (t : Tables)
         → StandsFor pools.now (device_ground t) now.0 → StandsIn own t
         → case.now.pool ≡ pool_among (device_pools t) m.now
-        → step ≡ settled_in t now.0 modem m.now case.now (chosen_in t now.0 m.now case.now)) }
+        → step ≡ device_step_in t now.0 modem m.now case.now (chosen_in t now.0 m.now case.now)) }
     ensures writes { IfOk result (λ step. length step.writes ≤ 2) }
     ensures aside { IfOk result
         (λ step. length (elsewhere own step.writes) ≤ most_elsewhere m.now) }

@@ -4,7 +4,7 @@ ghost use Rattle.std.specs.Prelude.{◌≡◌, IfOk, None};
 ghost use Rattle.off_asking.specs.Asking.{client};
 ghost use Rattle.off_asking.specs.Claims.{refused_by};
 ghost use Rattle.off_cpe_rules.specs.Rules.{early};
-ghost use Rattle.off_cpe_rules.specs.Steps.{settled, accepts, refuses, reply_to_refused};
+ghost use Rattle.off_cpe_rules.specs.Steps.{device_step_for, accepts, refuses, reply_to_refused};
 ghost use Rattle.off_cpe_rules.specs.Steps.{step_by, offered, bound, set_aside};
 ghost use Rattle.off_asking.specs.Choice.{for_some};
 ghost use Rattle.off_cpe_rules.specs.Steps.{given_up, offers, acknowledges, declines, releases};
@@ -37,7 +37,7 @@ pub(crate) fn settle(
 ) -> Result<DeviceStep, NoMemory>
     requires early { refused_by (early m.now case.now) ≡ None }
     requires fits { HasGoodPool case.now }
-    ensures { IfOk result (λ step. step ≡ settled now.0 modem m.now case.now chosen lease) }
+    ensures { IfOk result (λ step. step ≡ device_step_for now.0 modem m.now case.now chosen lease) }
 {
     match late_refusal(m, case, chosen) {
         Some(word) => refuse(alloc, m, case, word),

@@ -14,7 +14,7 @@ use Rattle.off_asking.specs.Claims.{is_served, claims_own, claims_in_pool, refus
 use Rattle.off_lease_laws.proofs.Tests.{held_claim, second_false}
 use Rattle.off_cpe_rules.specs.Behind.{is_free, own_among, device_case, chosen_in}
 use Rattle.off_cpe_rules.specs.Rules.{rules_for}
-use Rattle.off_cpe_rules.specs.Steps.{offered, bound, set_aside, given_up, offers, acknowledges, declines, releases, accepts, unless_refused, settled, step_behind}
+use Rattle.off_cpe_rules.specs.Steps.{offered, bound, set_aside, given_up, offers, acknowledges, declines, releases, accepts, unless_refused, device_step_for, step_behind}
 use Rattle.off_cpe_rules.specs.declared.cases.DeviceCase.{DeviceCase}
 use Rattle.off_cpe_rules.specs.declared.results.DeviceStep.{DeviceStep}
 use Rattle.off_cpe_rules.specs.declared.words.DeviceWord.{DeviceWord}
@@ -119,8 +119,8 @@ module _ (t : Tables) (now : ℕ) (modem : Mac) (m : Received) (c : DeviceCase) 
   settled_by None none = accept_aims (is_discover m) refl none
   settled_by (Some said) broken = idle refl
 
-  settled_aims : A (settled now modem m c chosen (option_and_then (device_in t) chosen))
-  unfolding settled
+  settled_aims : A (device_step_for now modem m c chosen (option_and_then (device_in t) chosen))
+  unfolding device_step_for
   settled_aims = settled_by (refused_by (rules_for m c chosen)) refl
 
 chooses_in : (t : Tables) (now : ℕ) (m : Received) (c : DeviceCase) → is_discover m ≡ true

@@ -19,7 +19,7 @@ use Rattle.off_asking.proofs.ClaimLemmas.{none_broken}
 use Rattle.off_lease_laws.proofs.GoodLemmas.{good_agree}
 use Rattle.off_cpe_rules.specs.Behind.{is_free, is_online, own_among, others_among, device_case, chosen_in}
 use Rattle.off_cpe_rules.specs.Rules.{rules_for}
-use Rattle.off_cpe_rules.specs.Steps.{offers, acknowledges, accepts, unless_refused, settled, settled_in, step_behind}
+use Rattle.off_cpe_rules.specs.Steps.{offers, acknowledges, accepts, unless_refused, device_step_for, device_step_in, step_behind}
 use Rattle.off_cpe_rules.specs.declared.cases.DeviceCase.{DeviceCase}
 use Rattle.off_boot_laws.proofs.Messages.{of_kind, kind_is, formed, no_lack}
 use Rattle.off_cpe_boot_laws.specs.Known.{IsOfDevice, IsBelowLimit}
@@ -84,10 +84,10 @@ module _ (t : Tables) (now : ℕ) (m : Received) (modem : Mac) (k : Known t now 
   -- the rows and the chosen address decide
   accepted : (a : Ip4) → chosen_in t now m known_case ≡ Some a → refused_by (rules_for m known_case (Some a)) ≡ None
       → step_behind t now m modem ≡ accepts now modem m known_case (Some a) (device_in t a)
-  unfolding step_behind settled
+  unfolding step_behind device_step_for
   accepted a chosen none =
-      ap (λ (c : DeviceCase). settled_in t now modem m c (chosen_in t now m c)) case_known
-      ∙ ap (settled_in t now modem m known_case) chosen
+      ap (λ (c : DeviceCase). device_step_in t now modem m c (chosen_in t now m c)) case_known
+      ∙ ap (device_step_in t now modem m known_case) chosen
       ∙ ap (unless_refused m known_case (accepts now modem m known_case (Some a) (device_in t a))) none
 
 -- ---- a DISCOVER

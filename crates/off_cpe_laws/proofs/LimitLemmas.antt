@@ -21,7 +21,7 @@ use Rattle.off_asking.specs.Claims.{refused_by}
 use Rattle.off_cpe_rules.specs.Words.{acts}
 use Rattle.off_cpe_rules.specs.Behind.{is_live, is_owned, is_behind, is_other, own_among, others_among, behind_among, device_case, chosen_in}
 use Rattle.off_cpe_rules.specs.Rules.{is_full, rules_for}
-use Rattle.off_cpe_rules.specs.Steps.{own_drop, own_elsewhere, offers, acknowledges, declines, releases, accepts, unless_refused, settled, step_behind}
+use Rattle.off_cpe_rules.specs.Steps.{own_drop, own_elsewhere, offers, acknowledges, declines, releases, accepts, unless_refused, device_step_for, step_behind}
 use Rattle.off_cpe_rules.specs.declared.cases.DeviceCase.{DeviceCase}
 use Rattle.off_cpe_rules.specs.declared.words.DeviceWord.{DeviceWord}
 use Rattle.off_cpe_rules.specs.declared.words.DeviceWord.TheVariants as word
@@ -126,8 +126,8 @@ module _ (now : ℕ) (modem : Mac) (m : Received) (c : DeviceCase) (chosen : Opt
       no_refusal_other w (inl e) idle = true≢false (sym (ap grants e) ∙ idle)
       no_refusal_other w (inr e) idle = true≢false (sym (ap grants e) ∙ idle)
 
-  below : (subscriber : Subscriber) → c.subscriber ≡ Some subscriber → Says (settled now modem m c chosen lease).word → c.others < subscriber.cpes
-  unfolding settled
+  below : (subscriber : Subscriber) → c.subscriber ≡ Some subscriber → Says (device_step_for now modem m c chosen lease).word → c.others < subscriber.cpes
+  unfolding device_step_for
   below subscriber is says =
       elim (refused_by (rules_for m c chosen)) as (λ o. refused_by (rules_for m c chosen) ≡ o → Says (unless_refused m c (accepts now modem m c chosen lease) o).word → c.others < subscriber.cpes) [
         | None ↦ λ none s.

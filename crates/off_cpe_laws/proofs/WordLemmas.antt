@@ -12,7 +12,7 @@ use Rattle.off_asking.specs.Claims.{refused_by}
 use Rattle.off_cpe_rules.specs.Words.{acts}
 use Rattle.off_cpe_rules.specs.Behind.{device_case, chosen_in}
 use Rattle.off_cpe_rules.specs.Rules.{has_service, rules_for}
-use Rattle.off_cpe_rules.specs.Steps.{offers, acknowledges, declines, releases, accepts, unless_refused, settled, step_behind}
+use Rattle.off_cpe_rules.specs.Steps.{offers, acknowledges, declines, releases, accepts, unless_refused, device_step_for, step_behind}
 use Rattle.off_cpe_rules.specs.declared.cases.DeviceCase.{DeviceCase}
 use Rattle.off_cpe_rules.specs.declared.words.DeviceWord.TheVariants as word
 use Rattle.off_cpe_laws.proofs.RuleLemmas.{unbroken, refusals}
@@ -37,16 +37,16 @@ module _ (now : ℕ) (modem : Mac) (m : Received) (c : DeviceCase) (chosen : Opt
         ]
       ]
 
-  settled_quiet : acts (settled now modem m c chosen lease).word ≡ false → (settled now modem m c chosen lease).writes ≡ []
-  unfolding settled
+  settled_quiet : acts (device_step_for now modem m c chosen lease).word ≡ false → (device_step_for now modem m c chosen lease).writes ≡ []
+  unfolding device_step_for
   settled_quiet refused =
       elim (refused_by (rules_for m c chosen)) as (λ o. acts (unless_refused m c (accepts now modem m c chosen lease) o).word ≡ false → (unless_refused m c (accepts now modem m c chosen lease) o).writes ≡ []) [
         | None ↦ λ r. absurd (true≢false (sym accepted_acts ∙ r))
         | Some w ↦ λ r. refl
       ] refused
 
-  service : Says now modem m c chosen lease (settled now modem m c chosen lease).word → has_service c ≡ true
-  unfolding settled
+  service : Says now modem m c chosen lease (device_step_for now modem m c chosen lease).word → has_service c ≡ true
+  unfolding device_step_for
   service says =
       elim (refused_by (rules_for m c chosen)) as (λ o. refused_by (rules_for m c chosen) ≡ o → Says now modem m c chosen lease (unless_refused m c (accepts now modem m c chosen lease) o).word → has_service c ≡ true) [
         | None ↦ λ none s.

@@ -23,7 +23,7 @@ use Rattle.off_asking.specs.Claims.{claims_own, claims_in_pool, refused_by}
 use Rattle.off_defs.specs.declared.tables.Pool.{Pool}
 use Rattle.off_cpe_rules.specs.Behind.{has_ended, is_free, is_owned, own_among, device_case, chosen_in}
 use Rattle.off_cpe_rules.specs.Rules.{rules_for}
-use Rattle.off_cpe_rules.specs.Steps.{lease_for, own_drop, own_elsewhere, is_live_bound, bound, accepts, offers, acknowledges, declines, releases, settled, step_behind, unless_refused}
+use Rattle.off_cpe_rules.specs.Steps.{lease_for, own_drop, own_elsewhere, is_live_bound, bound, accepts, offers, acknowledges, declines, releases, device_step_for, step_behind, unless_refused}
 use Rattle.off_cpe_rules.specs.declared.cases.DeviceCase.{DeviceCase}
 use Rattle.off_cpe_rules.specs.declared.results.DeviceStep.{DeviceStep}
 use Rattle.off_table_laws.specs.Laws.{device_owner_in, OneAddress}
@@ -146,8 +146,8 @@ module _ (now : ℕ) (modem : Mac) (m : Received) (c : DeviceCase) (chosen : Opt
             ] refl
       ] refl
 
-  settled_wrote : W (settled now modem m c chosen lease)
-  unfolding settled
+  settled_wrote : W (device_step_for now modem m c chosen lease)
+  unfolding device_step_for
   settled_wrote =
       elim (refused_by (rules_for m c chosen)) as (λ o. refused_by (rules_for m c chosen) ≡ o → W (unless_refused m c (accepts now modem m c chosen lease) o)) [
         | None ↦ λ none. accept_wrote none

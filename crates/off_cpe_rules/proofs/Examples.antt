@@ -14,7 +14,7 @@ use Rattle.off_defs.specs.declared.results.Sent.{Sent}
 use Rattle.off_defs.specs.declared.results.Sent.TheVariants as sent
 use Rattle.off_dhcp.specs.Reply.{head, relay_options, nak_bytes, reply_bytes}
 use Rattle.off_asking.specs.Asking.{ip}
-use Rattle.off_cpe_rules.specs.Steps.{settled}
+use Rattle.off_cpe_rules.specs.Steps.{device_step_for}
 use Rattle.off_cpe_rules.specs.declared.results.DeviceStep.{DeviceStep}
 use Rattle.off_cpe_rules.specs.declared.words.DeviceWord.{DeviceWord}
 use Rattle.off_cpe_rules.specs.declared.words.DeviceWord.TheVariants as word
@@ -82,117 +82,117 @@ refusal_by word = step_by word [] None
 abbrev put : ℕ → DeviceHold → ℕ → Write
 put last hold moment = Put (key.Device (address last)) (row.Device (lease_by hold moment))
 
-first_offer : settled 1700000000 (mac modem) (said 1 0xa1 []) (served None 0) (Some (address 10)) None
+first_offer : device_step_for 1700000000 (mac modem) (said 1 0xa1 []) (served None 0) (Some (address 10)) None
     ≡ step_by word.Offer (put 10 (offered_to 0xa1) 1700000120 ∷ []) (to_relay (given 2 0xa1 10))
-unfolding settled parts_in head relay_options reply_bytes
+unfolding device_step_for parts_in head relay_options reply_bytes
 first_offer = refl
 
-second_offer : settled 1700000000 (mac modem) (said 1 0xa2 []) (served None 1) (Some (address 11)) None
+second_offer : device_step_for 1700000000 (mac modem) (said 1 0xa2 []) (served None 1) (Some (address 11)) None
     ≡ step_by word.Offer (put 11 (offered_to 0xa2) 1700000120 ∷ []) (to_relay (given 2 0xa2 11))
-unfolding settled parts_in head relay_options reply_bytes
+unfolding device_step_for parts_in head relay_options reply_bytes
 second_offer = refl
 
-third_refused : settled 1700000119 (mac modem) (said 1 0xa3 []) (served None 2) (Some (address 12)) None ≡ refusal_by word.Limit
-unfolding settled parts_in
+third_refused : device_step_for 1700000119 (mac modem) (said 1 0xa3 []) (served None 2) (Some (address 12)) None ≡ refusal_by word.Limit
+unfolding device_step_for parts_in
 third_refused = refl
 
-third_offer : settled 1700000120 (mac modem) (said 1 0xa3 []) (served None 0) (Some (address 10)) (Some (lease_by (offered_to 0xa1) 1700000120))
+third_offer : device_step_for 1700000120 (mac modem) (said 1 0xa3 []) (served None 0) (Some (address 10)) (Some (lease_by (offered_to 0xa1) 1700000120))
     ≡ step_by word.Offer (put 10 (offered_to 0xa3) 1700000240 ∷ []) (to_relay (given 2 0xa3 10))
-unfolding settled parts_in head relay_options reply_bytes
+unfolding device_step_for parts_in head relay_options reply_bytes
 third_offer = refl
 
-no_service : settled 1700000000 (mac modem) (said 1 0xa1 []) (case_by false true None 0) (Some (address 10)) None ≡ refusal_by word.Suspended
-unfolding settled parts_in
+no_service : device_step_for 1700000000 (mac modem) (said 1 0xa1 []) (case_by false true None 0) (Some (address 10)) None ≡ refusal_by word.Suspended
+unfolding device_step_for parts_in
 no_service = refl
 
-not_online : settled 1700000000 (mac modem) (said 1 0xa1 []) (case_by true false None 0) (Some (address 10)) None ≡ refusal_by word.Offline
-unfolding settled parts_in
+not_online : device_step_for 1700000000 (mac modem) (said 1 0xa1 []) (case_by true false None 0) (Some (address 10)) None ≡ refusal_by word.Offline
+unfolding device_step_for parts_in
 not_online = refl
 
 -- an OFFER has no ciaddr, whatever the DISCOVER has there
-offer_without_ciaddr : (settled 1700000000 (mac modem) (through 1 0xa1 0x0a80000a []) (served None 0) (Some (address 10)) None).reply ≡ to_relay (given 2 0xa1 10)
-unfolding settled parts_in head relay_options reply_bytes
+offer_without_ciaddr : (device_step_for 1700000000 (mac modem) (through 1 0xa1 0x0a80000a []) (served None 0) (Some (address 10)) None).reply ≡ to_relay (given 2 0xa1 10)
+unfolding device_step_for parts_in head relay_options reply_bytes
 offer_without_ciaddr = refl
 
 -- a device to which its address was offered already is offered it once more, for two minutes from
 -- now
-offered_again : settled 1700000060 (mac modem) (said 1 0xa1 []) (served (Some (address 10)) 0) (Some (address 10)) (Some (lease_by (offered_to 0xa1) 1700000120))
+offered_again : device_step_for 1700000060 (mac modem) (said 1 0xa1 []) (served (Some (address 10)) 0) (Some (address 10)) (Some (lease_by (offered_to 0xa1) 1700000120))
     ≡ step_by word.Offer (put 10 (offered_to 0xa1) 1700000180 ∷ []) (to_relay (given 2 0xa1 10))
-unfolding settled parts_in head relay_options reply_bytes
+unfolding device_step_for parts_in head relay_options reply_bytes
 offered_again = refl
 
 -- one that is bound to it stays so until its lease ends
-bound_already : settled 1700086399 (mac modem) (said 1 0xa1 []) (served (Some (address 10)) 0) (Some (address 10)) (Some (lease_by (bound_to 0xa1) 1700086400))
+bound_already : device_step_for 1700086399 (mac modem) (said 1 0xa1 []) (served (Some (address 10)) 0) (Some (address 10)) (Some (lease_by (bound_to 0xa1) 1700086400))
     ≡ step_by word.Offer [] (to_relay (given 2 0xa1 10))
-unfolding settled parts_in head relay_options reply_bytes
+unfolding device_step_for parts_in head relay_options reply_bytes
 bound_already = refl
 
-bound_before : settled 1700086400 (mac modem) (said 1 0xa1 []) (served (Some (address 10)) 0) (Some (address 10)) (Some (lease_by (bound_to 0xa1) 1700086400))
+bound_before : device_step_for 1700086400 (mac modem) (said 1 0xa1 []) (served (Some (address 10)) 0) (Some (address 10)) (Some (lease_by (bound_to 0xa1) 1700086400))
     ≡ step_by word.Offer (put 10 (offered_to 0xa1) 1700086520 ∷ []) (to_relay (given 2 0xa1 10))
-unfolding settled parts_in head relay_options reply_bytes
+unfolding device_step_for parts_in head relay_options reply_bytes
 bound_before = refl
 
 -- behind another relay than before a device gives up the address that it had there
-moved : settled 1700000000 (mac modem) (said 1 0xa1 []) (served (Some elsewhere) 0) (Some (address 10)) None
+moved : device_step_for 1700000000 (mac modem) (said 1 0xa1 []) (served (Some elsewhere) 0) (Some (address 10)) None
     ≡ step_by word.Offer (Drop (key.Device elsewhere) ∷ put 10 (offered_to 0xa1) 1700000120 ∷ []) (to_relay (given 2 0xa1 10))
-unfolding settled parts_in head relay_options reply_bytes
+unfolding device_step_for parts_in head relay_options reply_bytes
 moved = refl
 
 -- a device that is bound may renew although it's one of as many as there may be
-acknowledged : settled 1700000060 (mac modem) (said 3 0xa1 (asked 10 ++ meant 2)) (served (Some (address 10)) 1) (Some (address 10)) None
+acknowledged : device_step_for 1700000060 (mac modem) (said 3 0xa1 (asked 10 ++ meant 2)) (served (Some (address 10)) 1) (Some (address 10)) None
     ≡ step_by word.Ack (put 10 (bound_to 0xa1) 1700086460 ∷ []) (to_relay (given 5 0xa1 10))
-unfolding settled parts_in head relay_options reply_bytes
+unfolding device_step_for parts_in head relay_options reply_bytes
 acknowledged = refl
 
 -- one that began anew asks for the address that it had before
-rebooted : settled 1700000060 (mac modem) (said 3 0xa1 (asked 10)) (served (Some (address 10)) 1) (Some (address 10)) None
+rebooted : device_step_for 1700000060 (mac modem) (said 3 0xa1 (asked 10)) (served (Some (address 10)) 1) (Some (address 10)) None
     ≡ step_by word.Ack (put 10 (bound_to 0xa1) 1700086460 ∷ []) (to_relay (given 5 0xa1 10))
-unfolding settled parts_in head relay_options reply_bytes
+unfolding device_step_for parts_in head relay_options reply_bytes
 rebooted = refl
 
 -- one that renews without the relay is answered at its own address, also where its lease had ended
-renewed : settled 1700043260 (mac modem) (direct 3 0xa1 0x0a80000a []) (served (Some (address 10)) 1) (Some (address 10)) (Some (lease_by (bound_to 0xa1) 1700043260))
+renewed : device_step_for 1700043260 (mac modem) (direct 3 0xa1 0x0a80000a []) (served (Some (address 10)) 1) (Some (address 10)) (Some (lease_by (bound_to 0xa1) 1700043260))
     ≡ step_by word.Ack (put 10 (bound_to 0xa1) 1700129660 ∷ []) (sent_to (address 10) 68 (confirmed_direct 0xa1 10))
-unfolding settled parts_in head relay_options reply_bytes
+unfolding device_step_for parts_in head relay_options reply_bytes
 renewed = refl
 
 -- and through the relay where its message came that way
-rebound : settled 1700075660 (mac modem) (through 3 0xa1 0x0a80000a []) (served (Some (address 10)) 1) (Some (address 10)) (Some (lease_by (bound_to 0xa1) 1700086460))
+rebound : device_step_for 1700075660 (mac modem) (through 3 0xa1 0x0a80000a []) (served (Some (address 10)) 1) (Some (address 10)) (Some (lease_by (bound_to 0xa1) 1700086460))
     ≡ step_by word.Ack (put 10 (bound_to 0xa1) 1700162060 ∷ []) (to_relay (confirmed 0xa1 10))
-unfolding settled parts_in head relay_options reply_bytes
+unfolding device_step_for parts_in head relay_options reply_bytes
 rebound = refl
 
 -- who asks for an address that isn't its own is told so, and nothing is written
-not_yours : settled 1700000060 (mac modem) (said 3 0xa1 (asked 10 ++ meant 2)) (served (Some (address 11)) 1) (Some (address 10)) None
+not_yours : device_step_for 1700000060 (mac modem) (said 3 0xa1 (asked 10 ++ meant 2)) (served (Some (address 11)) 1) (Some (address 10)) None
     ≡ step_by word.NotYours [] (to_relay (denied (128 ∷ 0 ∷ []) relay 0xa1))
-unfolding settled parts_in head relay_options nak_bytes
+unfolding device_step_for parts_in head relay_options nak_bytes
 not_yours = refl
 
 -- so is who takes an offer that was never made, and who has an address that isn't of this pool
-never_offered : settled 1700000060 (mac modem) (said 3 0xa1 (asked 10 ++ meant 2)) (served None 1) (Some (address 10)) None
+never_offered : device_step_for 1700000060 (mac modem) (said 3 0xa1 (asked 10 ++ meant 2)) (served None 1) (Some (address 10)) None
     ≡ step_by word.NotYours [] (to_relay (denied (128 ∷ 0 ∷ []) relay 0xa1))
-unfolding settled parts_in head relay_options nak_bytes
+unfolding device_step_for parts_in head relay_options nak_bytes
 never_offered = refl
 
-of_another_pool : settled 1700000060 (mac modem) (through 3 0xa1 0x0a80010a []) (served (Some elsewhere) 1) (Some elsewhere) None
+of_another_pool : device_step_for 1700000060 (mac modem) (through 3 0xa1 0x0a80010a []) (served (Some elsewhere) 1) (Some elsewhere) None
     ≡ step_by word.NotYours [] (to_relay (denied (128 ∷ 0 ∷ []) relay 0xa1))
-unfolding settled parts_in head relay_options nak_bytes
+unfolding device_step_for parts_in head relay_options nak_bytes
 of_another_pool = refl
 
 -- without a relay it's told to everybody, whatever address it says that it has
-not_yours_direct : settled 1700000060 (mac modem) (direct 3 0xa1 0x0a80000a relayed_by) (served (Some (address 11)) 1) (Some (address 10)) None
+not_yours_direct : device_step_for 1700000060 (mac modem) (direct 3 0xa1 0x0a80000a relayed_by) (served (Some (address 11)) 1) (Some (address 10)) None
     ≡ step_by word.NotYours [] (sent_to (ip 0xffffffff) 68 (denied (0 ∷ 0 ∷ []) none 0xa1))
-unfolding settled parts_in head relay_options nak_bytes
+unfolding device_step_for parts_in head relay_options nak_bytes
 not_yours_direct = refl
 
 -- an address that is declined rests, also where the modem has no service any more
-declined : settled 1700000060 (mac modem) (said 4 0xa1 (asked 10)) (case_by false true (Some (address 10)) 2) (Some (address 10)) None
+declined : device_step_for 1700000060 (mac modem) (said 4 0xa1 (asked 10)) (case_by false true (Some (address 10)) 2) (Some (address 10)) None
     ≡ step_by word.Declined (put 10 Declined 1700000660 ∷ []) None
-unfolding settled parts_in
+unfolding device_step_for parts_in
 declined = refl
 
 -- one that is released is free at once, and its device needs no relay
-released : settled 1700000060 (mac modem) (direct 7 0xa1 0x0a80000a []) (without_pool (case_by false true (Some (address 10)) 2)) (Some (address 10)) (Some (lease_by (bound_to 0xa1) 1700086460))
+released : device_step_for 1700000060 (mac modem) (direct 7 0xa1 0x0a80000a []) (without_pool (case_by false true (Some (address 10)) 2)) (Some (address 10)) (Some (lease_by (bound_to 0xa1) 1700086460))
     ≡ step_by word.Released (Drop (key.Device (address 10)) ∷ []) None
-unfolding settled parts_in
+unfolding device_step_for parts_in
 released = refl

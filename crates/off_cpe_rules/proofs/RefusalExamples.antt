@@ -5,7 +5,7 @@ use Rattle.off_base.specs.Parts.{parts_in}
 use Rattle.off_base.specs.declared.addresses.Ip4.{Ip4}
 use Rattle.off_dhcp.specs.Datagram.{Received}
 use Rattle.off_asking.specs.Choice.{least_of, chosen_by}
-use Rattle.off_cpe_rules.specs.Steps.{settled}
+use Rattle.off_cpe_rules.specs.Steps.{device_step_for}
 use Rattle.off_cpe_rules.specs.declared.cases.DeviceCase.{DeviceCase}
 use Rattle.off_cpe_rules.specs.declared.results.DeviceStep.{DeviceStep}
 use Rattle.off_cpe_rules.specs.declared.words.DeviceWord.{DeviceWord}
@@ -15,7 +15,7 @@ use Rattle.off_cpe_rules.proofs.Office.{address, elsewhere, mac, modem, direct, 
 -- a message by its rows, where all addresses of its pool are free, or none is
 abbrev step : Bool → Received → DeviceCase → DeviceStep
 step free m c =
-    settled 1700000060 (mac modem) m c (chosen_by (λ pool address. free) m c.pool c.own) None
+    device_step_for 1700000060 (mac modem) m c (chosen_by (λ pool address. free) m c.pool c.own) None
 
 -- messages that write nothing and have no reply, all with this word
 abbrev refusal_by : DeviceWord → DeviceStep
@@ -47,7 +47,7 @@ not_served : Refuses true word.NotServed
     ((said 8 0xa1 [], served None 0)
     ∷ (said 2 0xa1 [], offline None 0)
     ∷ [])
-unfolding settled parts_in least_of
+unfolding device_step_for parts_in least_of
 not_served = refl
 
 -- a REQUEST for an address beside the one that the device has, for none, and for half of one
@@ -57,7 +57,7 @@ no_form : Refuses true word.Form
     ∷ (said 3 0xa1 (50 ∷ 2 ∷ 10 ∷ 128 ∷ meant 2), served own 0)
     ∷ (direct 3 0xa1 0 [], without_pool (served own 0))
     ∷ [])
-unfolding settled parts_in least_of
+unfolding device_step_for parts_in least_of
 no_form = refl
 
 -- who asks through a relay that has no pool, also without service
@@ -66,7 +66,7 @@ no_pool : Refuses true word.NoPool
     ∷ (said 3 0xa1 taken, without_pool (served own 0))
     ∷ (said 1 0xa1 [], without_pool (suspended None 0))
     ∷ [])
-unfolding settled parts_in least_of
+unfolding device_step_for parts_in least_of
 no_pool = refl
 
 -- who asks behind a modem without service, also where that is offline
@@ -75,7 +75,7 @@ no_service : Refuses true word.Suspended
     ∷ (said 3 0xa1 taken, suspended own 0)
     ∷ (said 1 0xa1 [], case_by false false None 0)
     ∷ [])
-unfolding settled parts_in least_of
+unfolding device_step_for parts_in least_of
 no_service = refl
 
 -- or without a subscriber
@@ -83,7 +83,7 @@ no_subscriber : Refuses true word.Suspended
     ((said 1 0xa1 [], without_subscriber (served None 0))
     ∷ (said 3 0xa1 taken, without_subscriber (served own 0))
     ∷ [])
-unfolding settled parts_in least_of
+unfolding device_step_for parts_in least_of
 no_subscriber = refl
 
 -- whatever a device says behind a modem that is offline, and to which server
@@ -94,7 +94,7 @@ not_online : Refuses true word.Offline
     ∷ (direct 7 0xa1 0x0a80000a [], offline own 0)
     ∷ (said 3 0xa1 (asked 10 ++ meant 9), offline own 0)
     ∷ [])
-unfolding settled parts_in least_of
+unfolding device_step_for parts_in least_of
 not_online = refl
 
 -- what is meant for the server 10.0.0.9, of one of too many too, and of one without an address
@@ -105,7 +105,7 @@ for_another_server : Refuses true word.OtherServer
     ∷ (said 3 0xa1 (asked 10 ++ meant 9), served own 2)
     ∷ (direct 7 0xa1 0x0a80000a (meant 9), served None 0)
     ∷ [])
-unfolding settled parts_in least_of
+unfolding device_step_for parts_in least_of
 for_another_server = refl
 
 -- who asks where two others have addresses, or more: for its own, or for one that it has not
@@ -114,7 +114,7 @@ too_many : Refuses true word.Limit
     ∷ (said 3 0xa1 taken, served own 2)
     ∷ (said 3 0xa1 (asked 10), served None 3)
     ∷ [])
-unfolding settled parts_in least_of
+unfolding device_step_for parts_in least_of
 too_many = refl
 
 -- who has no address: it began anew, it renews, it declines, it releases
@@ -124,7 +124,7 @@ no_address : Refuses true word.NoRecord
     ∷ (said 4 0xa1 (asked 10), served None 1)
     ∷ (direct 7 0xa1 0x0a80000a [], served None 1)
     ∷ [])
-unfolding settled parts_in least_of
+unfolding device_step_for parts_in least_of
 no_address = refl
 
 -- who declines or releases another address than its own, or declines none
@@ -133,7 +133,7 @@ another_address : Refuses true word.NoRecord
     ∷ (direct 7 0xa1 0x0a80000b [], served own 1)
     ∷ (said 4 0xa1 [], served own 1)
     ∷ [])
-unfolding settled parts_in least_of
+unfolding device_step_for parts_in least_of
 another_address = refl
 
 -- a full pool has no address for who has none of it
@@ -141,14 +141,14 @@ full : Refuses false word.PoolFull
     ((said 1 0xa1 [], served None 0)
     ∷ (said 1 0xa1 (asked 12), served (Some elsewhere) 0)
     ∷ [])
-unfolding settled parts_in least_of
+unfolding device_step_for parts_in least_of
 full = refl
 
 -- also where there are too many
 full_and_too_many : Refuses false word.Limit
     ((said 1 0xa1 [], served None 2)
     ∷ [])
-unfolding settled parts_in least_of
+unfolding device_step_for parts_in least_of
 full_and_too_many = refl
 
 -- A full pool serves who has an address of it. A DISCOVER may name another server, and one other
@@ -157,7 +157,7 @@ offered : Serves word.Offer
     ((said 1 0xa1 (meant 9), served own 0)
     ∷ (said 1 0xa1 [], served own 1)
     ∷ [])
-unfolding settled parts_in least_of
+unfolding device_step_for parts_in least_of
 offered = refl
 
 -- so it does a REQUEST
@@ -165,14 +165,14 @@ acknowledged : Serves word.Ack
     ((said 3 0xa1 taken, served own 1)
     ∷ (said 3 0xa1 (asked 10), served own 1)
     ∷ [])
-unfolding settled parts_in least_of
+unfolding device_step_for parts_in least_of
 acknowledged = refl
 
 -- an address is given back without a pool, without service, to this server, by one of too many
 declined : Serves word.Declined
     ((direct 4 0xa1 0 (asked 10 ++ meant 2), without_pool (suspended own 2))
     ∷ [])
-unfolding settled parts_in least_of
+unfolding device_step_for parts_in least_of
 declined = refl
 
 -- also where there's no subscriber any more
@@ -180,5 +180,5 @@ released : Serves word.Released
     ((direct 7 0xa1 0x0a80000a (meant 2), without_pool (suspended own 2))
     ∷ (direct 7 0xa1 0x0a80000a [], without_subscriber (served own 0))
     ∷ [])
-unfolding settled parts_in least_of
+unfolding device_step_for parts_in least_of
 released = refl

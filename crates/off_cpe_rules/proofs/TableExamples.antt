@@ -15,7 +15,7 @@ use Rattle.off_defs.specs.State.{Tables}
 use Rattle.off_account_rules.specs.Rows.{modem_in, subscriber_in, lease_in, held_in, device_in, device_pools, devices, site_of}
 use Rattle.off_asking.specs.Asking.{ip}
 use Rattle.off_cpe_rules.specs.Behind.{modem_behind, is_free, device_case}
-use Rattle.off_cpe_rules.specs.Steps.{settled, step_behind, device_step}
+use Rattle.off_cpe_rules.specs.Steps.{device_step_for, step_behind, device_step}
 use Rattle.off_cpe_rules.specs.declared.words.DeviceWord.{DeviceWord}
 use Rattle.off_cpe_rules.specs.declared.words.DeviceWord.TheVariants as word
 use Rattle.off_cpe_rules.proofs.Office.{site, pool, address, elsewhere, ann, mac, modem, direct, through, said, asked, lease_by, offered_to, bound_to}
@@ -127,6 +127,6 @@ renewed_by_the_tables : (tables : Tables)
     → site_of tables modem_address ≡ Some site
     → option_map {U = DeviceWord × List Write} (λ step. (step.word, step.writes)) (device_step tables 1700000060 (direct 3 0xa1 0x0a80000a []))
     ≡ Some (word.Ack, Put (key.Device (address 10)) (row_of.Device (lease_by (bound_to 0xa1) 1700086460)) ∷ [])
-unfolding device_step modem_behind step_behind device_case settled parts_in
+unfolding device_step modem_behind step_behind device_case device_step_for parts_in
 renewed_by_the_tables tables own all there known active held leased placed =
     rw (own, all, there, known, active, held, leased, placed) refl

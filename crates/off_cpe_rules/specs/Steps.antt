@@ -125,19 +125,19 @@ unless_refused m c accepted None = accepted
 unless_refused m c accepted (Some word) = refuses m c word
 
 -- by the rows, the address that the message is about, and that address's lease
-unfoldable pub settled : ℕ → Mac → Received → DeviceCase → Option Ip4 → Option DeviceLease →
+unfoldable pub device_step_for : ℕ → Mac → Received → DeviceCase → Option Ip4 → Option DeviceLease →
     DeviceStep
-settled now modem m c chosen lease =
+device_step_for now modem m c chosen lease =
     unless_refused m c (accepts now modem m c chosen lease) (refused_by (rules_for m c chosen))
 
-abbrev pub settled_in : Tables → ℕ → Mac → Received → DeviceCase → Option Ip4 → DeviceStep
-settled_in tables now modem m c chosen =
-    settled now modem m c chosen (option_and_then (device_in tables) chosen)
+abbrev pub device_step_in : Tables → ℕ → Mac → Received → DeviceCase → Option Ip4 → DeviceStep
+device_step_in tables now modem m c chosen =
+    device_step_for now modem m c chosen (option_and_then (device_in tables) chosen)
 
 -- the step of a device behind a modem
 unfoldable pub step_behind : Tables → ℕ → Received → Mac → DeviceStep
 step_behind tables now m modem =
-    settled_in tables now modem m (device_case tables now m modem)
+    device_step_in tables now modem m (device_case tables now m modem)
     (chosen_in tables now m (device_case tables now m modem))
 
 -- A message at a moment, where it's a device's: what it writes, its reply and its word. All that is

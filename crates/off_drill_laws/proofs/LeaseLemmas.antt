@@ -27,7 +27,7 @@ use Rattle.off_cpe_rules.specs.Behind.{modem_by, modem_behind}
 use Rattle.off_lease_rules.specs.Free.{case_of, has_ended, is_free, least_free, chosen_in}
 use Rattle.off_asking.specs.Claims.{claims_wrongly, refused_by}
 use Rattle.off_lease_rules.specs.Rules.{rules_for}
-use Rattle.off_lease_rules.specs.Steps.{lease_row, reply_for, settled, settled_in, lease_step, step_of, dhcp_step, unless_refused, accepts}
+use Rattle.off_lease_rules.specs.Steps.{lease_row, reply_for, lease_step_for, lease_step_in, lease_step, step_of, dhcp_step, unless_refused, accepts}
 use Rattle.off_lease_rules.specs.declared.cases.Case.{Case}
 use Rattle.off_lease_rules.specs.declared.results.LeaseStep.{LeaseStep}
 use Rattle.off_lease_rules.specs.declared.words.DhcpWord.TheVariants as word
@@ -104,8 +104,8 @@ offer_step i = record {
   word = word.Offer;
 }
 
-discover_settled : (i : ℕ) → settled (moment i) (discovered i) (held_case None i) (Some (address i)) None ≡ offer_step i
-unfolding settled
+discover_settled : (i : ℕ) → lease_step_for (moment i) (discovered i) (held_case None i) (Some (address i)) None ≡ offer_step i
+unfolding lease_step_for
 discover_settled i =
     ap (unless_refused (discovered i) (held_case None i) (accepts (moment i) (discovered i) (held_case None i) (Some (address i)) None)) (discover_rules i)
 
@@ -161,12 +161,12 @@ module _ (n k : ℕ) (more : k < n) (few : n ≤ 4000) where
 
 module _ (t : Tables) (now i : ℕ) (m : Received) (c : Case) (a : Ip4) (before : Option Lease) (step : LeaseStep) where
   -- the rows, the chosen address and its lease decide
-  by_case : case_of t m ≡ c → chosen_in t now m c ≡ Some a → lease_in t a ≡ before → settled now m c (Some a) before ≡ step → lease_step t now m ≡ step
+  by_case : case_of t m ≡ c → chosen_in t now m c ≡ Some a → lease_in t a ≡ before → lease_step_for now m c (Some a) before ≡ step → lease_step t now m ≡ step
   unfolding lease_step
   by_case case chosen lease is =
-      ap (λ (x : Case). settled_in t now m x (chosen_in t now m x)) case
-      ∙ ap (settled_in t now m c) chosen
-      ∙ ap (settled now m c (Some a)) lease
+      ap (λ (x : Case). lease_step_in t now m x (chosen_in t now m x)) case
+      ∙ ap (lease_step_in t now m c) chosen
+      ∙ ap (lease_step_for now m c (Some a)) lease
       ∙ is
 
 module _ (t : Tables) (i : ℕ) (h : HasRows t i) where
@@ -235,8 +235,8 @@ ack_step i = record {
   word = word.Ack;
 }
 
-request_settled : (i : ℕ) → 1 ≤ i → i ≤ 4000 → (before : Option Lease) → settled (moment i) (requested i) (held_case (Some (address i)) i) (Some (address i)) before ≡ ack_step i
-unfolding settled
+request_settled : (i : ℕ) → 1 ≤ i → i ≤ 4000 → (before : Option Lease) → lease_step_for (moment i) (requested i) (held_case (Some (address i)) i) (Some (address i)) before ≡ ack_step i
+unfolding lease_step_for
 request_settled i first few before =
     ap (unless_refused (requested i) (held_case (Some (address i)) i) (accepts (moment i) (requested i) (held_case (Some (address i)) i) (Some (address i)) before))
     (request_rules i first few)

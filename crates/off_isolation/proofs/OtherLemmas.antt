@@ -25,7 +25,7 @@ use Rattle.off_asking.specs.Asking.{is_discover, is_request, is_decline}
 use Rattle.off_lease_rules.specs.Free.{case_of}
 use Rattle.off_asking.specs.Claims.{refused_by}
 use Rattle.off_lease_rules.specs.Rules.{rules_for}
-use Rattle.off_lease_rules.specs.Steps.{offer_to, reply_to_refused, offers, acknowledges, declines, releases, accepts, unless_refused, settled, step_of, lease_step, dhcp_step}
+use Rattle.off_lease_rules.specs.Steps.{offer_to, reply_to_refused, offers, acknowledges, declines, releases, accepts, unless_refused, lease_step_for, step_of, lease_step, dhcp_step}
 use Rattle.off_lease_rules.specs.declared.cases.Case.{Case}
 use Rattle.off_lease_rules.specs.declared.words.DhcpWord.{DhcpWord}
 use Rattle.off_lease_rules.specs.declared.words.DhcpWord.TheVariants as dhcp
@@ -86,8 +86,8 @@ module _ (ip : Ip4) (m : Received) (c : Case) where
   judged_quiet now chosen lease None = accepted_quiet now chosen lease (is_discover m) (is_request m) (is_decline m)
   judged_quiet now chosen lease (Some w) = nak_quiet c.site w refl
 
-  settled_quiet : (now : ℕ) (chosen : Option Ip4) (lease : Option Lease) → Quiet ip (replies_of (settled now m c chosen lease).reply)
-  unfolding settled
+  settled_quiet : (now : ℕ) (chosen : Option Ip4) (lease : Option Lease) → Quiet ip (replies_of (lease_step_for now m c chosen lease).reply)
+  unfolding lease_step_for
   settled_quiet now chosen lease = judged_quiet now chosen lease (refused_by (rules_for m c chosen))
 
 message_quiet : (ip : Ip4) (t : Tables) (now : ℕ) (read : Result Received DhcpFault) → Quiet ip (replies_of (step_of t now read).reply)

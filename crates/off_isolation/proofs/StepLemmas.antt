@@ -11,7 +11,7 @@ use Rattle.off_packets.specs.Packets.{Meant, Reads, Writes, Acknowledges, GivesU
 use Rattle.off_packets.specs.declared.packets.Options.{Options}
 use Rattle.off_transfer_rules.specs.Requests.{datagram_at, request_for, file_owner}
 use Rattle.off_transfer_rules.specs.View.{View, view, holder}
-use Rattle.off_transfer_rules.specs.Transfers.{Transfers, has_no_room, first_word, begun, gone_on, asked_again, packet_to}
+use Rattle.off_transfer_rules.specs.Transfers.{Transfers, has_no_room, first_word, new_transfer, gone_on, asked_again, packet_to}
 use Rattle.off_transfer_rules.specs.Steps.{Way, Denies, Repeats, Accepts, Ignores, Finishes, BreaksOff, GoesOn, Leaves, file_not_found, too_many_transfers, has_file, way_for_owner, owner_by_row, way_for_holder, way_of, way, Given, gives, last_to, GivesBy, TftpStep}
 use Rattle.off_transfer_rules.specs.Ticks.{tick_of, TickStep}
 use Rattle.off_transfer_rules.specs.Words.{tftp_line}
@@ -100,10 +100,10 @@ module _ (ip : Ip4) (v : View) (now : ℕ) (xs own : Transfers) (from : Peer) (b
   alone_by (Repeats x) given alone p q = same_given ip given alone _ _ _ word.Again p q (own_inserted ip xs own are from here (asked_again now x))
   alone_by (Accepts request owner) given alone p q =
       let file : q.0 ≡ p.0 = built_is_one v now from.ip q.0 p.0 q.1.0 p.1.0 in
-      let x : Transfer = begun (datagram_at now from bytes) request owner p.0 in
+      let x : Transfer = new_transfer (datagram_at now from bytes) request owner p.0 in
       same_given ip given alone (map.insert xs from x) (map.insert own from x) (last_to from x) (first_word request.options) p.1.1
       (q.1.1
-      ∙ ap (λ (f : List ℕ). gives (map.insert own from (begun (datagram_at now from bytes) request owner f)) (last_to from (begun (datagram_at now from bytes) request owner f)) (first_word request.options)) file)
+      ∙ ap (λ (f : List ℕ). gives (map.insert own from (new_transfer (datagram_at now from bytes) request owner f)) (last_to from (new_transfer (datagram_at now from bytes) request owner f)) (first_word request.options)) file)
       (own_inserted ip xs own are from here x)
   alone_by Ignores given alone p q = same_given ip given alone xs own [] word.StaleAck p q are
   alone_by Finishes given alone p q = same_given ip given alone _ _ [] word.Done p q (own_removed ip xs own are from here)

@@ -12,7 +12,7 @@ use Rattle.off_query_rules.specs.declared.cases.QueryCase.{QueryCase}
 use Rattle.off_query_rules.specs.declared.words.QueryWord.{QueryWord}
 use Rattle.off_query_rules.specs.declared.words.QueryWord.TheVariants as query
 use Rattle.off_query_rules.specs.Asked.{question_of}
-use Rattle.off_query_rules.specs.Answers.{bound_mac, query_words, first_word, query_case, to_relay, active_bytes, seconds_left, active_for, reply_by_word, settled, query_step}
+use Rattle.off_query_rules.specs.Answers.{bound_mac, query_words, first_word, query_case, to_relay, active_bytes, seconds_left, active_for, reply_by_word, query_step_for, query_step}
 
 -- it's a datagram of the DHCP port, where it's there
 abbrev pub IsOfDhcp : Option Sent → Type 0
@@ -46,5 +46,5 @@ module _ (now : ℕ) (q : List ℕ) where
   site_goes c said (Some site) = word_goes c site said
 
 pub reply_goes : (t : Tables) (now : ℕ) (q : List ℕ) → IsOfDhcp (query_step t now q).reply
-unfolding settled query_step
+unfolding query_step_for query_step
 reply_goes t now q = site_goes now q (query_case t q) (first_word (query_words now (question_of q) (query_case t q))) (query_case t q).site

@@ -13,7 +13,7 @@ use Rattle.off_asking.specs.Claims.{refused_by}
 use Rattle.off_asking.specs.Sending.{nak_to, offer_named, reply_to}
 use Rattle.off_cpe_rules.specs.Behind.{device_case, chosen_in}
 use Rattle.off_cpe_rules.specs.Rules.{rules_for}
-use Rattle.off_cpe_rules.specs.Steps.{no_name, reply_to_refused, offers, acknowledges, declines, releases, accepts, unless_refused, settled, step_behind}
+use Rattle.off_cpe_rules.specs.Steps.{no_name, reply_to_refused, offers, acknowledges, declines, releases, accepts, unless_refused, device_step_for, step_behind}
 use Rattle.off_cpe_rules.specs.declared.cases.DeviceCase.{DeviceCase}
 use Rattle.off_cpe_rules.specs.declared.words.DeviceWord.{DeviceWord}
 use Rattle.off_cpe_rules.specs.declared.words.DeviceWord.TheVariants as word
@@ -53,8 +53,8 @@ module _ (m : Received) where
     judged_goes None = accepted_goes
     judged_goes (Some w) = refused_goes c w
 
-    settled_goes : IsOfDhcp (settled now modem m c chosen lease).reply
-    unfolding settled
+    settled_goes : IsOfDhcp (device_step_for now modem m c chosen lease).reply
+    unfolding device_step_for
     settled_goes = judged_goes (refused_by (rules_for m c chosen))
 
 pub device_goes : (t : Tables) (now : ℕ) (m : Received) (modem : Mac) → IsOfDhcp (step_behind t now m modem).reply

@@ -14,7 +14,7 @@ use Rattle.off_lease_rules.specs.Free.{case_of, chosen_in, pool_for, site_for}
 use Rattle.off_asking.specs.Claims.{refused_by, is_served, has_no_form}
 use Rattle.off_asking.proofs.ClaimLemmas.{refused_none, refused_some, refused_passes}
 use Rattle.off_lease_rules.specs.Rules.{early, late, rules_for, has_cut_part, relays_another, is_no_modem}
-use Rattle.off_lease_rules.specs.Steps.{lease_step_by, settled, settled_in, lease_step, accepts, offers, acknowledges, declines, releases, refuses, unless_refused, reply_to_refused}
+use Rattle.off_lease_rules.specs.Steps.{lease_step_by, lease_step_for, lease_step_in, lease_step, accepts, offers, acknowledges, declines, releases, refuses, unless_refused, reply_to_refused}
 use Rattle.off_lease_rules.specs.declared.cases.Case.{Case}
 use Rattle.off_lease_rules.specs.declared.results.LeaseStep.{LeaseStep}
 use Rattle.off_lease_rules.specs.declared.words.DhcpWord.{DhcpWord}
@@ -56,24 +56,24 @@ early_broken : (m : Received) (c : Case) (w : DhcpWord) → refused_by (own_rule
 early_broken m c w own rows = refused_none (own_rules m) (row_rules m c) own ∙ rows
 
 settled_early : (now : ℕ) (m : Received) (c : Case) (chosen : Option Ip4) (lease : Option Lease) (w : DhcpWord) → refused_by (early m c) ≡ Some w
-    → settled now m c chosen lease ≡ refuses m c w
-unfolding settled
+    → lease_step_for now m c chosen lease ≡ refuses m c w
+unfolding lease_step_for
 settled_early now m c chosen lease w broken =
     ap (unless_refused m c (accepts now m c chosen lease)) (refused_some (early m c) (late m c chosen) w broken)
 
 settled_late : (now : ℕ) (m : Received) (c : Case) (chosen : Option Ip4) (lease : Option Lease) → refused_by (early m c) ≡ None
-    → settled now m c chosen lease ≡ unless_refused m c (accepts now m c chosen lease) (refused_by (late m c chosen))
-unfolding settled
+    → lease_step_for now m c chosen lease ≡ unless_refused m c (accepts now m c chosen lease) (refused_by (late m c chosen))
+unfolding lease_step_for
 settled_late now m c chosen lease passed =
     ap (unless_refused m c (accepts now m c chosen lease)) (refused_none (early m c) (late m c chosen) passed)
 
 pub late_refuses : (now : ℕ) (m : Received) (c : Case) (chosen : Option Ip4) (lease : Option Lease) (w : DhcpWord) → refused_by (early m c) ≡ None
-    → refused_by (late m c chosen) ≡ Some w → refuses m (knowing c.site) w ≡ settled now m c chosen lease
+    → refused_by (late m c chosen) ≡ Some w → refuses m (knowing c.site) w ≡ lease_step_for now m c chosen lease
 late_refuses now m c chosen lease w passed broken =
     refuses_same m c w ∙ sym (settled_late now m c chosen lease passed ∙ ap (unless_refused m c (accepts now m c chosen lease)) broken)
 
 pub late_accepts : (now : ℕ) (m : Received) (c : Case) (chosen : Option Ip4) (lease : Option Lease) → refused_by (early m c) ≡ None
-    → refused_by (late m c chosen) ≡ None → accepts now m c chosen lease ≡ settled now m c chosen lease
+    → refused_by (late m c chosen) ≡ None → accepts now m c chosen lease ≡ lease_step_for now m c chosen lease
 late_accepts now m c chosen lease passed none =
     sym (settled_late now m c chosen lease passed ∙ ap (unless_refused m c (accepts now m c chosen lease)) none)
 
@@ -90,8 +90,8 @@ accepts_same now m c chosen lease other same =
     ] same
 
 pub lease_matters : (now : ℕ) (m : Received) (c : Case) (chosen : Option Ip4) (lease other : Option Lease) → (is_discover m ≡ true → lease ≡ other)
-    → settled now m c chosen lease ≡ settled now m c chosen other
-unfolding settled
+    → lease_step_for now m c chosen lease ≡ lease_step_for now m c chosen other
+unfolding lease_step_for
 lease_matters now m c chosen lease other same = ap (λ s. unless_refused m c s (refused_by (rules_for m c chosen))) (accepts_same now m c chosen lease other same)
 
 -- the rows that are read for a message are enough
@@ -101,8 +101,8 @@ bare c = record { site = c.site; pool = None; modem = None; held = c.held }
 abbrev seen_by : Tables → Received → Bool → Case
 seen_by t m asking = cond asking (case_of t m) (record { site = site_for t m; pool = None; modem = None; held = held_in t (client m) })
 
-bare_enough : (t : Tables) (now : ℕ) (m : Received) (c : Case) → asks m ≡ false → settled_in t now m (bare c) (chosen_in t now m (bare c)) ≡ settled_in t now m c (chosen_in t now m c)
-unfolding settled
+bare_enough : (t : Tables) (now : ℕ) (m : Received) (c : Case) → asks m ≡ false → lease_step_in t now m (bare c) (chosen_in t now m (bare c)) ≡ lease_step_in t now m c (chosen_in t now m c)
+unfolding lease_step_for
 bare_enough t now m c none =
     let both = or_parts (is_discover m) (is_request m) none in
     let d : is_discover m ≡ false = both.0 in
@@ -110,14 +110,14 @@ bare_enough t now m c none =
     rw (d, r) refl
 
 unseen : (t : Tables) (now : ℕ) (m : Received) → asks m ≡ false
-    → settled_in t now m (seen_by t m false) (chosen_in t now m (seen_by t m false)) ≡ settled_in t now m (case_of t m) (chosen_in t now m (case_of t m))
+    → lease_step_in t now m (seen_by t m false) (chosen_in t now m (seen_by t m false)) ≡ lease_step_in t now m (case_of t m) (chosen_in t now m (case_of t m))
 unfolding case_of
 unseen t now m none = bare_enough t now m (case_of t m) none
 
-pub seen_enough : (t : Tables) (now : ℕ) (m : Received) → settled_in t now m (seen_case t m) (chosen_in t now m (seen_case t m)) ≡ lease_step t now m
+pub seen_enough : (t : Tables) (now : ℕ) (m : Received) → lease_step_in t now m (seen_case t m) (chosen_in t now m (seen_case t m)) ≡ lease_step t now m
 unfolding lease_step
 seen_enough t now m =
-    elim (asks m) as (λ b. asks m ≡ b → settled_in t now m (seen_by t m b) (chosen_in t now m (seen_by t m b)) ≡ settled_in t now m (case_of t m) (chosen_in t now m (case_of t m))) [
+    elim (asks m) as (λ b. asks m ≡ b → lease_step_in t now m (seen_by t m b) (chosen_in t now m (seen_by t m b)) ≡ lease_step_in t now m (case_of t m) (chosen_in t now m (case_of t m))) [
       | true ↦ λ e. refl
       | false ↦ λ e. unseen t now m e
     ] refl
@@ -131,7 +131,7 @@ asked_pool t m c seen d =
 -- ---- what is answered at each stage is what a message does
 
 abbrev in_full : Tables → ℕ → Received → Case → LeaseStep
-in_full t now m c = settled_in t now m c (chosen_in t now m c)
+in_full t now m c = lease_step_in t now m c (chosen_in t now m c)
 
 pub own_step : (t : Tables) (now : ℕ) (m : Received) (w : DhcpWord) → Some w ≡ refused_by (own_rules m) → lease_step_by w [] None ≡ lease_step t now m
 unfolding lease_step
@@ -147,14 +147,14 @@ rows_refuse t now m c w seen passed broken =
     ∙ ap (in_full t now m) seen
     ∙ seen_enough t now m
 
-pub rows_accept : (t : Tables) (now : ℕ) (m : Received) (c : Case) (step : LeaseStep) → c ≡ seen_case t m → step ≡ settled_in t now m c (chosen_in t now m c)
+pub rows_accept : (t : Tables) (now : ℕ) (m : Received) (c : Case) (step : LeaseStep) → c ≡ seen_case t m → step ≡ lease_step_in t now m c (chosen_in t now m c)
     → step ≡ lease_step t now m
 rows_accept t now m c step seen is = is ∙ ap (in_full t now m) seen ∙ seen_enough t now m
 
 pub case_answered : (t : Tables) (now : ℕ) (m : Received) (c : Case) (chosen : Option Ip4) (lease : Option Lease) → chosen ≡ chosen_in t now m c
-    → (is_discover m ≡ true → lease ≡ option_and_then (lease_in t) chosen) → settled now m c chosen lease ≡ settled_in t now m c (chosen_in t now m c)
+    → (is_discover m ≡ true → lease ≡ option_and_then (lease_in t) chosen) → lease_step_for now m c chosen lease ≡ lease_step_in t now m c (chosen_in t now m c)
 case_answered t now m c chosen lease chose leased =
-    lease_matters now m c chosen lease (option_and_then (lease_in t) chosen) leased ∙ ap (settled_in t now m c) chose
+    lease_matters now m c chosen lease (option_and_then (lease_in t) chosen) leased ∙ ap (lease_step_in t now m c) chose
 
 -- ---- calls
 

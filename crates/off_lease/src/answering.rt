@@ -4,7 +4,7 @@ ghost use Rattle.off_lease_rules.specs.Rules.{early};
 ghost use Rattle.off_runs.specs.Held.{StandsFor};
 ghost use Rattle.off_runs.specs.Leases.{ground};
 ghost use Rattle.off_asking.specs.Asking.{is_discover};
-ghost use Rattle.off_lease_rules.specs.Steps.{lease_step, settled_in};
+ghost use Rattle.off_lease_rules.specs.Steps.{lease_step, lease_step_in};
 ghost use Rattle.off_lease_rules.specs.Free.{chosen_in, pool_for};
 ghost use Rattle.off_lease.specs.Stages.{own_rules, HasGoodPool};
 ghost use Rattle.off_lease.specs.Calls.{message_calls, row_calls};
@@ -86,7 +86,7 @@ fn answer_case<K: Keeper>(
     ensures told { Looks result (K.seen keeper.old) (K.seen keeper.new)
         (λ step t. StandsFor runs.now (ground t) now.0
         → (is_discover m.now ≡ true → case.now.pool ≡ pool_for t m.now)
-        → step ≡ settled_in t now.0 m.now case.now (chosen_in t now.0 m.now case.now)) }
+        → step ≡ lease_step_in t now.0 m.now case.now (chosen_in t now.0 m.now case.now)) }
     ensures spent { Spent (if is_discover m.now then 1 else 0)
         (K.seen keeper.old) (K.seen keeper.new) }
 {

@@ -6,7 +6,7 @@ ghost use Rattle.off_lease_rules.specs.declared.words.DhcpWord.TheVariants as wo
 ghost use Rattle.off_asking.specs.Asking.{client, claimed, is_discover};
 ghost use Rattle.off_asking.specs.Claims.{refused_by};
 ghost use Rattle.off_lease_rules.specs.Rules.{early, late};
-ghost use Rattle.off_lease_rules.specs.Steps.{settled, accepts, refuses, reply_to_refused};
+ghost use Rattle.off_lease_rules.specs.Steps.{lease_step_for, accepts, refuses, reply_to_refused};
 ghost use Rattle.off_lease_rules.specs.Steps.{lease_step_by, offered, bound, offer_to};
 ghost use Rattle.off_lease_rules.specs.Steps.{declines, releases};
 ghost use Rattle.off_lease.specs.Stages.{knowing, HasGoodPool};
@@ -38,7 +38,7 @@ pub(crate) fn settle(
     requires early { refused_by (early m.now case.now) ≡ None }
     requires fits { HasGoodPool case.now }
     requires about { is_discover m.now ≡ false → chosen ≡ claimed m.now }
-    ensures { IfOk result (λ step. step ≡ settled now.0 m.now case.now chosen lease) }
+    ensures { IfOk result (λ step. step ≡ lease_step_for now.0 m.now case.now chosen lease) }
 {
     match late_refusal(m, case, chosen) {
         Some(word) => refuse(alloc, m, &case.site, word),

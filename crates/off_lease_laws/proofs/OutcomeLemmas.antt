@@ -13,7 +13,7 @@ use Rattle.off_asking.specs.Asking.{client, is_discover, is_request, is_decline,
 use Rattle.off_lease_rules.specs.Free.{case_of, choice, chosen_in}
 use Rattle.off_asking.specs.Claims.{claims_own, claims_in_pool, refused_by}
 use Rattle.off_lease_rules.specs.Rules.{rules_for}
-use Rattle.off_lease_rules.specs.Steps.{offered, bound, set_aside, given_up, offer_to, offers, acknowledges, declines, releases, accepts, unless_refused, settled, lease_step}
+use Rattle.off_lease_rules.specs.Steps.{offered, bound, set_aside, given_up, offer_to, offers, acknowledges, declines, releases, accepts, unless_refused, lease_step_for, lease_step}
 use Rattle.off_asking.specs.Choice.{for_some}
 use Rattle.off_lease_laws.specs.Outcomes.{Outcome, refusal, offering, binding, declining, releasing}
 use Rattle.off_lease_laws.proofs.Tests.{second_false, second_true, some_of, held_claim}
@@ -154,7 +154,7 @@ module _ (t : Tables) (now : ℕ) (m : Received) where
       ] refl
 
   pub outcome : Outcome t now m (lease_step t now m)
-  unfolding lease_step settled
+  unfolding lease_step lease_step_for
   outcome =
       elim (refused_by (rules_for m (case_of t m) chosen)) as (λ (o : Option DhcpWord). refused_by (rules_for m (case_of t m) chosen) ≡ o
       → Outcome t now m (unless_refused m (case_of t m) (accepts now m (case_of t m) chosen lease) o)) [

@@ -29,7 +29,7 @@ use Rattle.off_lease_rules.specs.declared.results.LeaseStep.{LeaseStep}
 use Rattle.off_lease_rules.specs.declared.words.DhcpWord.{DhcpWord}
 use Rattle.off_lease_rules.specs.declared.words.DhcpWord.TheVariants as word
 use Rattle.off_asking.specs.Asking.{ip}
-use Rattle.off_lease_rules.specs.Steps.{settled}
+use Rattle.off_lease_rules.specs.Steps.{lease_step_for}
 
 -- an office at 10.0.0.2 with a pool of 10.64.0.10 to 10.64.0.99 behind the relay 10.64.0.1, and a
 -- modem with the serial number SN01
@@ -94,61 +94,61 @@ given kind =
 abbrev to_relay : List ℕ → Option Sent
 to_relay bytes = Some (sent.Datagram service.Dhcp (record { ip = ip 0x0a400001; port = 67 }) bytes)
 
-offer : settled 1700000000 (by_relay 1 []) (holding None) (Some (ip 0x0a40000a)) None
+offer : lease_step_for 1700000000 (by_relay 1 []) (holding None) (Some (ip 0x0a40000a)) None
     ≡ record {
       writes = Put (key.Lease (ip 0x0a40000a)) (row.Lease (lease_until (Offered mac) 1700000120)) ∷ Put (key.Held mac) (row.Held (ip 0x0a40000a)) ∷ [];
       reply = to_relay (given 2);
       word = word.Offer;
     }
-unfolding settled parts_in begins_as_modem head relay_options reply_bytes name_of hmac block_words rounds compress hash_after digest_bytes md5 hex_on_literals
+unfolding lease_step_for parts_in begins_as_modem head relay_options reply_bytes name_of hmac block_words rounds compress hash_after digest_bytes md5 hex_on_literals
 offer = refl
 
 -- the same again a second later: the same bytes, and the lease ends a second later
-again : settled 1700000001 (by_relay 1 []) (holding (Some (ip 0x0a40000a))) (Some (ip 0x0a40000a)) (Some (lease_until (Offered mac) 1700000120))
+again : lease_step_for 1700000001 (by_relay 1 []) (holding (Some (ip 0x0a40000a))) (Some (ip 0x0a40000a)) (Some (lease_until (Offered mac) 1700000120))
     ≡ record {
       writes = Put (key.Lease (ip 0x0a40000a)) (row.Lease (lease_until (Offered mac) 1700000121)) ∷ Put (key.Held mac) (row.Held (ip 0x0a40000a)) ∷ [];
       reply = to_relay (given 2);
       word = word.Offer;
     }
-unfolding settled parts_in begins_as_modem head relay_options reply_bytes name_of hmac block_words rounds compress hash_after digest_bytes md5 hex_on_literals
+unfolding lease_step_for parts_in begins_as_modem head relay_options reply_bytes name_of hmac block_words rounds compress hash_after digest_bytes md5 hex_on_literals
 again = refl
 
 -- who is bound already is offered its address, and nothing is written
-bound_already : (settled 1700000001 (by_relay 1 []) (holding (Some (ip 0x0a40000a))) (Some (ip 0x0a40000a)) (Some (lease_until (Bound mac) 1700000120))).writes ≡ []
-unfolding settled parts_in begins_as_modem
+bound_already : (lease_step_for 1700000001 (by_relay 1 []) (holding (Some (ip 0x0a40000a))) (Some (ip 0x0a40000a)) (Some (lease_until (Bound mac) 1700000120))).writes ≡ []
+unfolding lease_step_for parts_in begins_as_modem
 bound_already = refl
 
-ack : settled 1700000000 (by_relay 3 (meant 2 ++ asked 10)) (holding (Some (ip 0x0a40000a))) (Some (ip 0x0a40000a)) (Some (lease_until (Offered mac) 1700000120))
+ack : lease_step_for 1700000000 (by_relay 3 (meant 2 ++ asked 10)) (holding (Some (ip 0x0a40000a))) (Some (ip 0x0a40000a)) (Some (lease_until (Offered mac) 1700000120))
     ≡ record {
       writes = Put (key.Lease (ip 0x0a40000a)) (row.Lease (lease_until (Bound mac) 1700086400)) ∷ [];
       reply = to_relay (given 5);
       word = word.Ack;
     }
-unfolding settled parts_in begins_as_modem head relay_options reply_bytes name_of hmac block_words rounds compress hash_after digest_bytes md5 hex_on_literals
+unfolding lease_step_for parts_in begins_as_modem head relay_options reply_bytes name_of hmac block_words rounds compress hash_after digest_bytes md5 hex_on_literals
 ack = refl
 
-other_server : settled 1700000000 (by_relay 3 (meant 9 ++ asked 10)) (holding (Some (ip 0x0a40000a))) (Some (ip 0x0a40000a)) None ≡ refusal_by word.OtherServer
-unfolding settled parts_in begins_as_modem
+other_server : lease_step_for 1700000000 (by_relay 3 (meant 9 ++ asked 10)) (holding (Some (ip 0x0a40000a))) (Some (ip 0x0a40000a)) None ≡ refusal_by word.OtherServer
+unfolding lease_step_for parts_in begins_as_modem
 other_server = refl
 
-pool_full : settled 1700000119 (by_relay 1 []) (holding None) None None ≡ refusal_by word.PoolFull
-unfolding settled parts_in begins_as_modem
+pool_full : lease_step_for 1700000119 (by_relay 1 []) (holding None) None None ≡ refusal_by word.PoolFull
+unfolding lease_step_for parts_in begins_as_modem
 pool_full = refl
 
 -- the owner of a lease that had ended loses it
 abbrev another_mac : Mac
 another_mac = record { 0 = 2 ∷ 0 ∷ 0 ∷ 0 ∷ 0 ∷ 1 ∷ [] }
 
-passed_on : (settled 1700000120 (by_relay 1 []) (holding None) (Some (ip 0x0a40000a)) (Some (lease_until (Offered another_mac) 1700000120))).writes
+passed_on : (lease_step_for 1700000120 (by_relay 1 []) (holding None) (Some (ip 0x0a40000a)) (Some (lease_until (Offered another_mac) 1700000120))).writes
     ≡ Drop (key.Held another_mac)
     ∷ Put (key.Lease (ip 0x0a40000a)) (row.Lease (lease_until (Offered mac) 1700000240))
     ∷ Put (key.Held mac) (row.Held (ip 0x0a40000a))
     ∷ []
-unfolding settled parts_in begins_as_modem
+unfolding lease_step_for parts_in begins_as_modem
 passed_on = refl
 
-init_reboot : settled 1700000000 (by_relay 3 (asked 10)) (holding None) (Some (ip 0x0a40000a)) None ≡ refusal_by word.NoRecord
-unfolding settled parts_in begins_as_modem
+init_reboot : lease_step_for 1700000000 (by_relay 3 (asked 10)) (holding None) (Some (ip 0x0a40000a)) None ≡ refusal_by word.NoRecord
+unfolding lease_step_for parts_in begins_as_modem
 init_reboot = refl
 
 -- without a relay the reply goes to the client's own address, and has no option 82
@@ -161,13 +161,13 @@ direct =
     ++ address ++ replicate 74 0 ++ codes "02aabbccddee-82d91cd0f5ff2dc7.cm" ++ replicate 96 0 ++ (99 ∷ 130 ∷ 83 ∷ 99 ∷ 53 ∷ 1 ∷ 5 ∷ [])
     ++ options_given ++ (255 ∷ []) ++ replicate 8 0
 
-renewal : settled 1700043200 (said 3 0x0a40000a 0 spoken) (holding (Some (ip 0x0a40000a))) (Some (ip 0x0a40000a)) (Some (lease_until (Bound mac) 1700086400))
+renewal : lease_step_for 1700043200 (said 3 0x0a40000a 0 spoken) (holding (Some (ip 0x0a40000a))) (Some (ip 0x0a40000a)) (Some (lease_until (Bound mac) 1700086400))
     ≡ record {
       writes = Put (key.Lease (ip 0x0a40000a)) (row.Lease (lease_until (Bound mac) 1700129600)) ∷ [];
       reply = Some (sent.Datagram service.Dhcp (record { ip = ip 0x0a40000a; port = 68 }) direct);
       word = word.Ack;
     }
-unfolding settled parts_in begins_as_modem head relay_options reply_bytes name_of hmac block_words rounds compress hash_after digest_bytes md5 hex_on_literals
+unfolding lease_step_for parts_in begins_as_modem head relay_options reply_bytes name_of hmac block_words rounds compress hash_after digest_bytes md5 hex_on_literals
 renewal = refl
 
 abbrev refused : List ℕ
@@ -175,40 +175,40 @@ refused =
     (2 ∷ 1 ∷ 6 ∷ 0 ∷ 0x11 ∷ 0x22 ∷ 0x33 ∷ 0x44 ∷ 0 ∷ 0 ∷ 128 ∷ 0 ∷ []) ++ replicate 12 0 ++ (10 ∷ 64 ∷ 0 ∷ 1 ∷ []) ++ address ++ replicate 202 0
     ++ (99 ∷ 130 ∷ 83 ∷ 99 ∷ 53 ∷ 1 ∷ 6 ∷ 54 ∷ 4 ∷ 10 ∷ 0 ∷ 0 ∷ 2 ∷ []) ++ relayed_by ++ (255 ∷ []) ++ replicate 34 0
 
-nak : settled 1700000000 (by_relay 3 (meant 2 ++ asked 50)) (holding (Some (ip 0x0a40000a))) (Some (ip 0x0a400032)) None
+nak : lease_step_for 1700000000 (by_relay 3 (meant 2 ++ asked 50)) (holding (Some (ip 0x0a40000a))) (Some (ip 0x0a400032)) None
     ≡ record { writes = []; reply = to_relay refused; word = word.NotYourAddress }
-unfolding settled parts_in begins_as_modem head relay_options nak_bytes
+unfolding lease_step_for parts_in begins_as_modem head relay_options nak_bytes
 nak = refl
 
-request_form : settled 1700000000 (said 3 0x0a40000a 0 (asked 10 ++ own_options)) (holding (Some (ip 0x0a40000a))) None None ≡ refusal_by word.RequestForm
-unfolding settled parts_in begins_as_modem
+request_form : lease_step_for 1700000000 (said 3 0x0a40000a 0 (asked 10 ++ own_options)) (holding (Some (ip 0x0a40000a))) None None ≡ refusal_by word.RequestForm
+unfolding lease_step_for parts_in begins_as_modem
 request_form = refl
 
-declined : settled 1700000000 (by_relay 4 (asked 10)) (holding (Some (ip 0x0a40000a))) (Some (ip 0x0a40000a)) (Some (lease_until (Bound mac) 1700086400))
+declined : lease_step_for 1700000000 (by_relay 4 (asked 10)) (holding (Some (ip 0x0a40000a))) (Some (ip 0x0a40000a)) (Some (lease_until (Bound mac) 1700086400))
     ≡ record {
       writes = Put (key.Lease (ip 0x0a40000a)) (row.Lease (lease_until Declined 1700000600)) ∷ Drop (key.Held mac) ∷ [];
       reply = None;
       word = word.Declined;
     }
-unfolding settled parts_in
+unfolding lease_step_for parts_in
 declined = refl
 
-released : settled 1700000000 (said 7 0x0a40000a 0 own_options) (holding (Some (ip 0x0a40000a))) (Some (ip 0x0a40000a)) (Some (lease_until (Bound mac) 1700086400))
+released : lease_step_for 1700000000 (said 7 0x0a40000a 0 own_options) (holding (Some (ip 0x0a40000a))) (Some (ip 0x0a40000a)) (Some (lease_until (Bound mac) 1700086400))
     ≡ record { writes = Drop (key.Lease (ip 0x0a40000a)) ∷ Drop (key.Held mac) ∷ []; reply = None; word = word.Released }
-unfolding settled parts_in
+unfolding lease_step_for parts_in
 released = refl
 
 -- a REQUEST without a relay that isn't a renewal has no pool, and the office serves no INFORM
-no_relay : settled 1700000000 (said 3 0 0 (meant 2 ++ asked 10 ++ spoken)) (record { site = Some site; pool = None; modem = Some modem; held = None }) (Some (ip 0x0a40000a)) None
+no_relay : lease_step_for 1700000000 (said 3 0 0 (meant 2 ++ asked 10 ++ spoken)) (record { site = Some site; pool = None; modem = Some modem; held = None }) (Some (ip 0x0a40000a)) None
     ≡ refusal_by word.NoRelayPool
-unfolding settled parts_in begins_as_modem
+unfolding lease_step_for parts_in begins_as_modem
 no_relay = refl
 
-inform : settled 1700000000 (by_relay 8 []) (holding None) None None ≡ refusal_by word.NotServed
-unfolding settled parts_in
+inform : lease_step_for 1700000000 (by_relay 8 []) (holding None) None None ≡ refusal_by word.NotServed
+unfolding lease_step_for parts_in
 inform = refl
 
 -- of several remote identifiers the first counts
-mismatch : settled 1700000000 (said 1 0 0x0a400001 (82 ∷ 16 ∷ 2 ∷ 6 ∷ 2 ∷ 0 ∷ 0 ∷ 0 ∷ 0 ∷ 1 ∷ 2 ∷ 6 ∷ address)) (holding None) None None ≡ refusal_by word.RelayMismatch
-unfolding settled parts_in
+mismatch : lease_step_for 1700000000 (said 1 0 0x0a400001 (82 ∷ 16 ∷ 2 ∷ 6 ∷ 2 ∷ 0 ∷ 0 ∷ 0 ∷ 0 ∷ 1 ∷ 2 ∷ 6 ∷ address)) (holding None) None None ≡ refusal_by word.RelayMismatch
+unfolding lease_step_for parts_in
 mismatch = refl

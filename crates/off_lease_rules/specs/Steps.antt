@@ -135,18 +135,18 @@ unless_refused m c accepted None = accepted
 unless_refused m c accepted (Some word) = refuses m c word
 
 -- by the rows, the address that the message is about, and that address's lease
-unfoldable pub settled : ℕ → Received → Case → Option Ip4 → Option Lease → LeaseStep
-settled now m c chosen lease =
+unfoldable pub lease_step_for : ℕ → Received → Case → Option Ip4 → Option Lease → LeaseStep
+lease_step_for now m c chosen lease =
     unless_refused m c (accepts now m c chosen lease) (refused_by (rules_for m c chosen))
 
-abbrev pub settled_in : Tables → ℕ → Received → Case → Option Ip4 → LeaseStep
-settled_in tables now m c chosen = settled now m c chosen (option_and_then (lease_in tables) chosen)
+abbrev pub lease_step_in : Tables → ℕ → Received → Case → Option Ip4 → LeaseStep
+lease_step_in tables now m c chosen = lease_step_for now m c chosen (option_and_then (lease_in tables) chosen)
 
 -- A message at a moment: what it writes, its reply and its word. All that is read of the tables is
 -- read by kind.
 unfoldable pub lease_step : Tables → ℕ → Received → LeaseStep
 lease_step tables now m =
-    settled_in tables now m (case_of tables m) (chosen_in tables now m (case_of tables m))
+    lease_step_in tables now m (case_of tables m) (chosen_in tables now m (case_of tables m))
 
 -- A datagram: what isn't a message has a word, and does nothing
 abbrev pub step_of : Tables → ℕ → Result Received DhcpFault → LeaseStep

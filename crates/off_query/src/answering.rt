@@ -1,7 +1,7 @@
 ghost use Rattle.std.specs.Prelude.{◌≡◌, IfOk, MatchResult, Ok};
 ghost use Rattle.off_runs.specs.Held.{KeepsPools};
 ghost use Rattle.off_runs.specs.Leases.{ground};
-ghost use Rattle.off_query_rules.specs.Answers.{settled, query_step};
+ghost use Rattle.off_query_rules.specs.Answers.{query_step_for, query_step};
 ghost use Rattle.off_query.specs.Calls.{query_calls};
 ghost use Rattle.off_outside.specs.declared.keeper.KeepErr.TheVariants.{Memory};
 ghost use Rattle.off_outside.specs.KeeperCalls.{Looks, Spent};
@@ -52,14 +52,14 @@ pub fn reply_by<K: Keeper>(
 }
 
 // What becomes of a query, by its rows.
-#[tactic(auto, unfolding(off_query_rules::specs::Answers::settled))]
+#[tactic(auto, unfolding(off_query_rules::specs::Answers::query_step_for))]
 fn settle(
     alloc: Global,
     now: Moment,
     q: &Query<'_>,
     case: &QueryCase,
 ) -> Result<QueryStep, NoMemory>
-    ensures { IfOk result (λ step. step ≡ settled now.0 q.now case.now) }
+    ensures { IfOk result (λ step. step ≡ query_step_for now.0 q.now case.now) }
 {
     let word = word_of(now, question_of(q), case);
     let reply = match &case.site {

@@ -10,7 +10,7 @@ use Rattle.off_table_laws.proofs.TableLaws.{owners_hold}
 use Rattle.off_asking.specs.Choice.{provided}
 use Rattle.off_query_rules.specs.Asked.{giaddr_of, question_of}
 use Rattle.off_query_rules.specs.Hubs.{wanted_hub, lies_in_hub}
-use Rattle.off_query_rules.specs.Answers.{asked_address, case_at, query_case, settled, query_step}
+use Rattle.off_query_rules.specs.Answers.{asked_address, case_at, query_case, query_step_for, query_step}
 use Rattle.off_query_rules.specs.declared.questions.Question.{Question}
 use Rattle.off_query_rules.specs.declared.questions.Question.TheVariants.{ByAddress, ByMac, Formless}
 use Rattle.off_query_rules.specs.declared.wanted.Wanted.TheVariants.{Relay}
@@ -82,4 +82,4 @@ module _ (t u : Tables) (q : List ℕ) (good : Good t) (fine : Good u) (alike : 
 
 pub seen_alike : SeenAlike
 unfolding query_step
-seen_alike t u now q good fine alike = ap (settled now q) (cases_alike t u q good fine alike)
+seen_alike t u now q good fine alike = ap (query_step_for now q) (cases_alike t u q good fine alike)

@@ -14,7 +14,7 @@ use Rattle.off_asking.specs.Asking.{ip}
 use Rattle.off_query_rules.specs.declared.cases.QueryCase.{QueryCase}
 use Rattle.off_query_rules.specs.declared.words.QueryWord.TheVariants as word
 use Rattle.off_query_rules.specs.Asked.{is_query}
-use Rattle.off_query_rules.specs.Answers.{query_head, plain_bytes, active_bytes, settled}
+use Rattle.off_query_rules.specs.Answers.{query_head, plain_bytes, active_bytes, query_step_for}
 
 abbrev site : Site
 site = record { server = ip 0x0a000002; secret = codes "secret"; offset = pos 3600; lease = 86400; log = ip 0 }
@@ -67,29 +67,29 @@ active =
     fixed (2 ∷ 1 ∷ 6 ∷ []) (10 ∷ 64 ∷ 0 ∷ 10 ∷ []) relay (modem ++ replicate 10 0)
     ++ (53 ∷ 1 ∷ 13 ∷ []) ++ server ++ (51 ∷ 4 ∷ 0 ∷ 1 ∷ 0x4f ∷ 0xf0 ∷ 255 ∷ []) ++ replicate 44 0
 
-address_is_active : settled 1700000400 (by_address 10) (knowing (Some (ip 0x0a40000a)) (Some (lease (Bound mac)))) ≡ record { reply = to active; word = word.Active }
-unfolding settled parts_in query_head active_bytes
+address_is_active : query_step_for 1700000400 (by_address 10) (knowing (Some (ip 0x0a40000a)) (Some (lease (Bound mac)))) ≡ record { reply = to active; word = word.Active }
+unfolding query_step_for parts_in query_head active_bytes
 address_is_active = refl
 
-mac_is_active : settled 1700000400 (by_mac modem) (knowing (Some (ip 0x0a40000a)) (Some (lease (Bound mac)))) ≡ record { reply = to active; word = word.Active }
-unfolding settled parts_in query_head active_bytes
+mac_is_active : query_step_for 1700000400 (by_mac modem) (knowing (Some (ip 0x0a40000a)) (Some (lease (Bound mac)))) ≡ record { reply = to active; word = word.Active }
+unfolding query_step_for parts_in query_head active_bytes
 mac_is_active = refl
 
 abbrev unassigned : List ℕ
 unassigned =
     fixed (2 ∷ 0 ∷ 0 ∷ []) (10 ∷ 64 ∷ 0 ∷ 50 ∷ []) relay (replicate 16 0) ++ (53 ∷ 1 ∷ 11 ∷ []) ++ server ++ (255 ∷ []) ++ replicate 50 0
 
-address_is_unassigned : settled 1700000400 (by_address 50) (knowing (Some (ip 0x0a400032)) None) ≡ record { reply = to unassigned; word = word.Unassigned }
-unfolding settled parts_in query_head plain_bytes
+address_is_unassigned : query_step_for 1700000400 (by_address 50) (knowing (Some (ip 0x0a400032)) None) ≡ record { reply = to unassigned; word = word.Unassigned }
+unfolding query_step_for parts_in query_head plain_bytes
 address_is_unassigned = refl
 
 -- an address that is offered isn't active, and one that is bound isn't when it has ended
-offered_is_unassigned : (settled 1700000400 (by_address 10) (knowing (Some (ip 0x0a40000a)) (Some (lease (Offered mac))))).word ≡ word.Unassigned
-unfolding settled parts_in
+offered_is_unassigned : (query_step_for 1700000400 (by_address 10) (knowing (Some (ip 0x0a40000a)) (Some (lease (Offered mac))))).word ≡ word.Unassigned
+unfolding query_step_for parts_in
 offered_is_unassigned = refl
 
-ended_is_unassigned : (settled 1700086400 (by_address 10) (knowing (Some (ip 0x0a40000a)) (Some (lease (Bound mac))))).word ≡ word.Unassigned
-unfolding settled parts_in
+ended_is_unassigned : (query_step_for 1700086400 (by_address 10) (knowing (Some (ip 0x0a40000a)) (Some (lease (Bound mac))))).word ≡ word.Unassigned
+unfolding query_step_for parts_in
 ended_is_unassigned = refl
 
 abbrev other : List ℕ
@@ -99,15 +99,15 @@ abbrev unknown : List ℕ
 unknown =
     fixed (2 ∷ 1 ∷ 6 ∷ []) (replicate 4 0) relay (other ++ replicate 10 0) ++ (53 ∷ 1 ∷ 12 ∷ []) ++ server ++ (255 ∷ []) ++ replicate 50 0
 
-mac_is_unknown : settled 1700000400 (by_mac other) (knowing None None) ≡ record { reply = to unknown; word = word.Unknown }
-unfolding settled parts_in query_head plain_bytes
+mac_is_unknown : query_step_for 1700000400 (by_mac other) (knowing None None) ≡ record { reply = to unknown; word = word.Unknown }
+unfolding query_step_for parts_in query_head plain_bytes
 mac_is_unknown = refl
 
-no_relay : settled 1700000400 (by_address 10) (record { site = None; address = None; lease = None }) ≡ record { reply = None; word = word.Relay }
-unfolding settled parts_in
+no_relay : query_step_for 1700000400 (by_address 10) (record { site = None; address = None; lease = None }) ≡ record { reply = None; word = word.Relay }
+unfolding query_step_for parts_in
 no_relay = refl
 
-by_identifier : settled 1700000400 (fixed (1 ∷ 0 ∷ 0 ∷ []) (10 ∷ 64 ∷ 0 ∷ 10 ∷ []) relay (replicate 16 0) ++ (53 ∷ 1 ∷ 10 ∷ 61 ∷ 2 ∷ 1 ∷ 1 ∷ 255 ∷ [])) (knowing None None)
+by_identifier : query_step_for 1700000400 (fixed (1 ∷ 0 ∷ 0 ∷ []) (10 ∷ 64 ∷ 0 ∷ 10 ∷ []) relay (replicate 16 0) ++ (53 ∷ 1 ∷ 10 ∷ 61 ∷ 2 ∷ 1 ∷ 1 ∷ 255 ∷ [])) (knowing None None)
     ≡ record { reply = None; word = word.Form }
-unfolding settled parts_in
+unfolding query_step_for parts_in
 by_identifier = refl

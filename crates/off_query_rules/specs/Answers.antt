@@ -1,4 +1,4 @@
--- How a query is answered (RFC 4388 section 6.4), byte for byte. The words, their order and the
+-- How a query is query_step_by (RFC 4388 section 6.4), byte for byte. The words, their order and the
 -- layout of what isn't active are this project's profile.
 use Rattle.std.specs.Prelude.{ℕ, ◌-◌, Bool, true, ◌&&◌, min, List, [], ◌∷◌, ◌++◌, slice_index, Option, Some, None, is_some, is_none, option_map, option_and_then, if◌then◌else◌}
 use Rattle.std.specs.List.{slice_range}
@@ -120,17 +120,17 @@ reply_by_word now q c site word.Unassigned = Some (to_relay q (plain_bytes 11 q 
 reply_by_word now q c site word.Unknown = Some (to_relay q (plain_bytes 12 q site.server))
 reply_by_word now q c site word = None
 
-abbrev pub answered : ℕ → List ℕ → QueryCase → QueryWord → QueryStep
-answered now q c word =
+abbrev pub query_step_by : ℕ → List ℕ → QueryCase → QueryWord → QueryStep
+query_step_by now q c word =
     record {
       reply = option_and_then (λ site. reply_by_word now q c site word) c.site;
       word = word;
     }
 
 -- by the rows, the first word whose condition holds, and its reply
-unfoldable pub settled : ℕ → List ℕ → QueryCase → QueryStep
-settled now q c = answered now q c (first_word (query_words now (question_of q) c))
+unfoldable pub query_step_for : ℕ → List ℕ → QueryCase → QueryStep
+query_step_for now q c = query_step_by now q c (first_word (query_words now (question_of q) c))
 
 -- A query at a moment. It changes no table.
 unfoldable pub query_step : Tables → ℕ → List ℕ → QueryStep
-query_step tables now q = settled now q (query_case tables q)
+query_step tables now q = query_step_for now q (query_case tables q)

@@ -13,7 +13,7 @@ use Rattle.off_account_rules.specs.Rows.{passes}
 use Rattle.off_kept.specs.declared.bodies.KeptBody.{KeptBody}
 use Rattle.off_kept.specs.Entries.{with_first}
 use Rattle.off_transfer_rules.specs.Requests.{datagram_at, file_owner}
-use Rattle.off_transfer_rules.specs.Transfers.{Transfers, begun, has_no_room}
+use Rattle.off_transfer_rules.specs.Transfers.{Transfers, new_transfer, has_no_room}
 use Rattle.off_transfer_rules.specs.View.{View, IsBuiltBy, is_own_name}
 use Rattle.off_transfer_rules.specs.Steps.{Way, Denial, Accepts, Denies, way_anew, way_for_holder, way_for_owner, owner_by_row, file_not_found, too_many_transfers}
 use Rattle.off_tftp.specs.declared.deciding.Decision.{Decision}
@@ -99,7 +99,7 @@ started_begins old request mac subscriber entry grant (Err err) whose new is = t
 module _ (old : Transfers) (request : Request) where
   module _ (seen : Seen) (modem : Modem) (found : KeptBody) (mac : Mac) where
     abbrev made : List ℕ → Transfer
-    made file = begun (came_in request) (asked_in request) (file_owner mac modem.subscriber) file
+    made file = new_transfer (came_in request) (asked_in request) (file_owner mac modem.subscriber) file
 
     abbrev Done : Option (List Tree) → Way → Decision → Type 0
     Done profile w d = Serves (view_with seen profile) old (came_in request) w d
@@ -123,8 +123,8 @@ module _ (old : Transfers) (request : Request) where
     -- the transfer is the one of the modem and its subscriber
     begun_is : (grant : Grant) → IsFor mac modem.subscriber grant → begun_by request grant ≡ made grant.file
     begun_is grant whose =
-        ap (λ (m : Mac). begun (came_in request) (asked_in request) (file_owner m grant.subscriber) grant.file) whose.modem_is
-        ∙ ap (λ n. begun (came_in request) (asked_in request) (file_owner mac n) grant.file) whose.subscriber_is
+        ap (λ (m : Mac). new_transfer (came_in request) (asked_in request) (file_owner m grant.subscriber) grant.file) whose.modem_is
+        ∙ ap (λ n. new_transfer (came_in request) (asked_in request) (file_owner mac n) grant.file) whose.subscriber_is
 
     begun_serves : (p : List Tree) (grant : Grant) (step : Result Decision NoMemory) (no_room : Bool)
         → IsBuiltBy (view_with seen (Some p)) request.at.0 request.from.ip grant.file → IsFor mac modem.subscriber grant

@@ -3,7 +3,7 @@ use Rattle.std.specs.Prelude.{◌≡◌, ℕ}
 use Rattle.off_base.specs.declared.macs.Mac.{Mac}
 use Rattle.off_defs.specs.State.{Transfer}
 use Rattle.off_transfer_rules.specs.Requests.{Datagram, ReadRequest, datagram_at, request_for, file_owner}
-use Rattle.off_transfer_rules.specs.Transfers.{begun}
+use Rattle.off_transfer_rules.specs.Transfers.{new_transfer}
 use Rattle.off_tftp.specs.declared.requests.Datagram.{Datagram as Received}
 use Rattle.off_tftp.specs.declared.requests.Request.{Request}
 use Rattle.off_tftp.specs.declared.requests.Grant.{Grant}
@@ -23,7 +23,7 @@ asked_in request = request_for request.name.now request.options
 -- the transfer with which it begins
 abbrev pub begun_by : Request → Grant → Transfer
 begun_by request grant =
-    begun (came_in request) (asked_in request) (file_owner grant.modem grant.subscriber) grant.file
+    new_transfer (came_in request) (asked_in request) (file_owner grant.modem grant.subscriber) grant.file
 
 -- it was found for this modem of this subscriber
 pub record IsFor (modem : Mac) (subscriber : ℕ) (grant : Grant) : Type 0 where

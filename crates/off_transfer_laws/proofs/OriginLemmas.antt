@@ -9,7 +9,7 @@ use Rattle.off_account_rules.specs.Rows.{lease_in}
 use Rattle.off_packets.specs.Packets.{Acknowledges, packet_of}
 use Rattle.off_transfer_rules.specs.Requests.{datagram_at, file_owner}
 use Rattle.off_transfer_rules.specs.View.{View, view, agrees}
-use Rattle.off_transfer_rules.specs.Transfers.{Transfers, has_no_room, is_at_last, begun, gone_on, asked_again}
+use Rattle.off_transfer_rules.specs.Transfers.{Transfers, has_no_room, is_at_last, new_transfer, gone_on, asked_again}
 use Rattle.off_transfer_rules.specs.Steps.{Way, Denies, Repeats, Accepts, Ignores, Finishes, BreaksOff, GoesOn, Leaves, way_of_last, way_of, way, Given, GivesBy, TftpStep}
 use Rattle.off_transfer_rules.proofs.PeerLemmas.{same_peer, inserted, removed}
 use Rattle.off_transfer_laws.specs.Origins.{SameServed, Origin, stood, began, EachHasAnOrigin, NextBlockGoes}
@@ -53,7 +53,7 @@ module _ (t : Tables) (now : ℕ) (xs : Transfers) (from : Peer) (bytes : List �
       origin_inserted (asked_again now x) (λ p same. stood x (there x s p same) (asks now x)) peer y (ap (λ (g : Given). map.get g.transfers peer) (sym e) ∙ is)
   origin_by (Accepts request owner) given s e peer y is =
       let own = owner_held now (lease_in t from.ip) owner.modem (live_in t now from.ip owner.modem (held_of (view t from.ip) now owner.modem s.0.held)) in
-      origin_inserted (begun (datagram_at now from bytes) request owner e.0)
+      origin_inserted (new_transfer (datagram_at now from bytes) request owner e.0)
       (λ p same. began same (record {
         agreed = accepting_agrees t now from.ip owner.modem owner.subscriber request.name s.0;
         own_file = file_of_built t now from.ip owner.modem e.0 own e.1.0;

@@ -14,7 +14,7 @@ use Rattle.off_packets.specs.Packets.{has_option}
 use Rattle.off_packets.specs.declared.packets.Options.{Options}
 use Rattle.off_transfer_rules.specs.Requests.{datagram_at, request_for, file_owner}
 use Rattle.off_transfer_rules.specs.View.{view, IsBuiltBy}
-use Rattle.off_transfer_rules.specs.Transfers.{Transfers, has_no_room, size_for, begun, is_last_number, is_at_last, gone_on, asked_again, sent_again}
+use Rattle.off_transfer_rules.specs.Transfers.{Transfers, has_no_room, size_for, new_transfer, is_last_number, is_at_last, gone_on, asked_again, sent_again}
 use Rattle.off_transfer_rules.specs.Steps.{Way, Denies, Repeats, Accepts, Ignores, Finishes, BreaksOff, GoesOn, Leaves, way, Given, GivesBy, TftpStep}
 use Rattle.off_transfer_rules.proofs.PeerLemmas.{inserted, removed}
 use Rattle.off_transfer_laws.specs.Laws.{Ticks, waits, goes_again, closes}
@@ -42,7 +42,7 @@ least_by true = lit≤ tt
 least_by false = lit≤ tt
 
 pub begun_sound : (now : ℕ) (from : Peer) (request : List ℕ) (mac : Mac) (owner : ℕ) (name : List ℕ) (asked : Options) (file : List ℕ) → length file ≤ most_file_bytes → Fits asked
-    → IsSound (begun (datagram_at now from request) (request_for name asked) (file_owner mac owner) file)
+    → IsSound (new_transfer (datagram_at now from request) (request_for name asked) (file_owner mac owner) file)
 begun_sound now from request mac owner name asked file short fits = record {
   short = short;
   least_size = size_by asked.blksize fits.size;
@@ -114,7 +114,7 @@ sound_by t now xs from bytes (Repeats x) given s e all =
     subst (λ (g : Given). AllSound g.transfers) (sym e) (sound_inserted xs from (asked_again now x) all (asked_again_sound now x (all from x s)))
 sound_by t now xs from bytes (Accepts request owner) given s e all =
     subst (λ (g : Given). AllSound g.transfers) (sym e.1.1)
-    (sound_inserted xs from (begun (datagram_at now from bytes) request owner e.0) all
+    (sound_inserted xs from (new_transfer (datagram_at now from bytes) request owner e.0) all
     (begun_sound now from bytes owner.modem owner.subscriber request.name request.options e.0 (accepted_short t now from.ip owner.modem owner.subscriber request.name e.0 s.0 e.1.0) s.2))
 sound_by t now xs from bytes Ignores given s e all = subst (λ (g : Given). AllSound g.transfers) (sym e) all
 sound_by t now xs from bytes Finishes given s e all = subst (λ (g : Given). AllSound g.transfers) (sym e) (sound_removed xs from all)

@@ -10,7 +10,7 @@ use Rattle.off_account_rules.specs.Rows.{passes, lease_in}
 use Rattle.off_packets.specs.Packets.{has_option}
 use Rattle.off_transfer_rules.specs.Requests.{datagram_at, file_owner}
 use Rattle.off_transfer_rules.specs.View.{View, view, is_of_subscriber, is_own_name, IsBuiltBy}
-use Rattle.off_transfer_rules.specs.Transfers.{Transfers, has_no_room, first_word, begun, gone_on, asked_again}
+use Rattle.off_transfer_rules.specs.Transfers.{Transfers, has_no_room, first_word, new_transfer, gone_on, asked_again}
 use Rattle.off_transfer_rules.specs.Steps.{Way, Denies, Repeats, Accepts, Ignores, Finishes, BreaksOff, GoesOn, Leaves, way, Given, gives, error_to, last_to, GivesBy, TftpStep, no_longer_agreed}
 use Rattle.off_transfer_rules.specs.declared.words.TftpWord.TheVariants as word
 use Rattle.off_transfer_rules.proofs.PeerLemmas.{peer_total, inserted_apart, removed_apart}
@@ -28,7 +28,7 @@ given_is_one v now xs from bytes (Repeats x) one other p q = p ∙ sym q
 given_is_one v now xs from bytes (Accepts request owner) one other p q =
     let file : p.0 ≡ q.0 = built_is_one v now from.ip p.0 q.0 p.1.0 q.1.0 in
     p.1.1
-    ∙ ap (λ (f : List ℕ). gives (map.insert xs from (begun (datagram_at now from bytes) request owner f)) (last_to from (begun (datagram_at now from bytes) request owner f)) (first_word request.options)) file
+    ∙ ap (λ (f : List ℕ). gives (map.insert xs from (new_transfer (datagram_at now from bytes) request owner f)) (last_to from (new_transfer (datagram_at now from bytes) request owner f)) (first_word request.options)) file
     ∙ sym q.1.1
 given_is_one v now xs from bytes Ignores one other p q = p ∙ sym q
 given_is_one v now xs from bytes Finishes one other p q = p ∙ sym q
@@ -54,7 +54,7 @@ given_there t now xs from bytes (Denies denial) s = (gives xs (error_to from den
 given_there t now xs from bytes (Repeats x) s = (gives (map.insert xs from (asked_again now x)) (last_to from x) word.Again, refl)
 given_there t now xs from bytes (Accepts request owner) s =
     let f = accepted_file t now from.ip owner.modem owner.subscriber request.name s.0 in (
-      gives (map.insert xs from (begun (datagram_at now from bytes) request owner f.0)) (last_to from (begun (datagram_at now from bytes) request owner f.0)) (first_word request.options),
+      gives (map.insert xs from (new_transfer (datagram_at now from bytes) request owner f.0)) (last_to from (new_transfer (datagram_at now from bytes) request owner f.0)) (first_word request.options),
       (f.0, (f.1, refl)),
     )
 given_there t now xs from bytes Ignores s = (gives xs [] word.StaleAck, refl)
@@ -75,7 +75,7 @@ others_by : (v : View) (now : ℕ) (xs : Transfers) (from : Peer) (bytes : List 
 others_by v now xs from bytes (Denies denial) given e peer apart = ap (λ (g : Given). map.get g.transfers peer) e
 others_by v now xs from bytes (Repeats x) given e peer apart = ap (λ (g : Given). map.get g.transfers peer) e ∙ inserted_apart xs from (asked_again now x) peer apart
 others_by v now xs from bytes (Accepts request owner) given e peer apart =
-    ap (λ (g : Given). map.get g.transfers peer) e.1.1 ∙ inserted_apart xs from (begun (datagram_at now from bytes) request owner e.0) peer apart
+    ap (λ (g : Given). map.get g.transfers peer) e.1.1 ∙ inserted_apart xs from (new_transfer (datagram_at now from bytes) request owner e.0) peer apart
 others_by v now xs from bytes Ignores given e peer apart = ap (λ (g : Given). map.get g.transfers peer) e
 others_by v now xs from bytes Finishes given e peer apart = ap (λ (g : Given). map.get g.transfers peer) e ∙ removed_apart xs from peer apart
 others_by v now xs from bytes BreaksOff given e peer apart = ap (λ (g : Given). map.get g.transfers peer) e ∙ removed_apart xs from peer apart
@@ -108,7 +108,7 @@ few_by v now xs from bytes (Denies denial) given s e few = subst (λ (g : Given)
 few_by v now xs from bytes (Repeats x) given s e few =
     subst (λ (g : Given). map.len g.transfers ≤ 256) (sym e) (few_inserted xs from (asked_again now x) (λ full. ap is_some s) few)
 few_by v now xs from bytes (Accepts request owner) given s e few =
-    subst (λ (g : Given). map.len g.transfers ≤ 256) (sym e.1.1) (few_inserted xs from (begun (datagram_at now from bytes) request owner e.0) s.1 few)
+    subst (λ (g : Given). map.len g.transfers ≤ 256) (sym e.1.1) (few_inserted xs from (new_transfer (datagram_at now from bytes) request owner e.0) s.1 few)
 few_by v now xs from bytes Ignores given s e few = subst (λ (g : Given). map.len g.transfers ≤ 256) (sym e) few
 few_by v now xs from bytes Finishes given s e few = subst (λ (g : Given). map.len g.transfers ≤ 256) (sym e) (few_removed xs from few)
 few_by v now xs from bytes BreaksOff given s e few = subst (λ (g : Given). map.len g.transfers ≤ 256) (sym e) (few_removed xs from few)

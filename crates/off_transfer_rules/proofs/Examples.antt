@@ -18,7 +18,7 @@ use Rattle.off_base.specs.Number.{number_read}
 use Rattle.off_packets.specs.Packets.{Reads, Acknowledges, packet_of, no_options, only_size}
 use Rattle.off_transfer_rules.specs.Requests.{datagram_at, request_for, file_owner}
 use Rattle.off_transfer_rules.specs.View.{View}
-use Rattle.off_transfer_rules.specs.Transfers.{size_for, begun, last_packet, gone_on, sent_again}
+use Rattle.off_transfer_rules.specs.Transfers.{size_for, new_transfer, last_packet, gone_on, sent_again}
 use Rattle.off_transfer_rules.specs.Steps.{Denies, Repeats, Accepts, Ignores, Finishes, BreaksOff, GoesOn, no_lease, file_not_found, too_many_transfers, unknown_transfer, way_of}
 use Rattle.off_transfer_rules.specs.Ticks.{tick_of, is_resent}
 use Rattle.off_transfer_rules.specs.Words.{tftp_line, tick_line}
@@ -54,7 +54,7 @@ abbrev seen : Modem → View
 seen modem = record { site = Some site; lease = Some lease; modem = Some modem; profile = Some [] }
 
 abbrev at_start : Transfer
-at_start = begun (datagram_at 1700000000 from (asking (codes "44"))) (request_for file_name (only_size 44)) (file_owner mac 7) (1 ∷ 2 ∷ 3 ∷ [])
+at_start = new_transfer (datagram_at 1700000000 from (asking (codes "44"))) (request_for file_name (only_size 44)) (file_owner mac 7) (1 ∷ 2 ∷ 3 ∷ [])
 
 accepted : way_of (seen (modem_of 7)) (datagram_at 1700000000 from (asking (codes "44"))) false None (Ok (Reads file_name (only_size 44))) ≡ Accepts (request_for file_name (only_size 44)) (file_owner mac 7)
 unfolding block_words rounds compress hash_after digest_bytes md5 hmac name_of hex_on_literals
@@ -139,7 +139,7 @@ abbrev with_times : List ℕ
 with_times = plain ++ codes "tsize" ++ 0 ∷ (codes "0" ++ 0 ∷ (codes "timeout" ++ 0 ∷ (codes "5" ++ 0 ∷ [])))
 
 abbrev with_seconds : Transfer
-with_seconds = begun (datagram_at 1700000000 from with_times) (request_for file_name (record no_options { tsize = true; timeout = Some 5 })) (file_owner mac 7) (1 ∷ 2 ∷ 3 ∷ [])
+with_seconds = new_transfer (datagram_at 1700000000 from with_times) (request_for file_name (record no_options { tsize = true; timeout = Some 5 })) (file_owner mac 7) (1 ∷ 2 ∷ 3 ∷ [])
 
 -- the OACK, which is the same when it's sent again
 opened : last_packet with_seconds ≡ 0 ∷ 6 ∷ (codes "tsize" ++ 0 ∷ 51 ∷ 0 ∷ (codes "timeout" ++ 0 ∷ 53 ∷ 0 ∷ []))

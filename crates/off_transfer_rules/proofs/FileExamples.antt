@@ -11,7 +11,7 @@ use Rattle.off_file_rules.specs.File.{with_stamps}
 use Rattle.off_defs.specs.State.{Transfer}
 use Rattle.off_packets.specs.Packets.{only_size}
 use Rattle.off_transfer_rules.specs.Requests.{datagram_at, request_for, file_owner}
-use Rattle.off_transfer_rules.specs.Transfers.{begun, gone_on, last_packet, is_at_last}
+use Rattle.off_transfer_rules.specs.Transfers.{new_transfer, gone_on, last_packet, is_at_last}
 
 abbrev flow : ℕ → ℕ → List ℕ → Tree
 flow code reference rate = group code (followed (leaf 1 (0 ∷ reference ∷ [])) (followed (leaf 6 (7 ∷ [])) (followed (leaf 8 rate) no_more)))
@@ -32,7 +32,7 @@ file = refl
 
 -- in blocks of 44 bytes: two whole ones, and an empty one
 abbrev begins : Transfer
-begins = begun (datagram_at 1700000000 (record { ip = record { 0 = 0x0a40000a }; port = 49152 }) []) (request_for [] (only_size 44)) (file_owner (record { 0 = 2 ∷ 0xaa ∷ 0xbb ∷ 0xcc ∷ 0xdd ∷ 0xee ∷ [] }) 7) (first ++ second)
+begins = new_transfer (datagram_at 1700000000 (record { ip = record { 0 = 0x0a40000a }; port = 49152 }) []) (request_for [] (only_size 44)) (file_owner (record { 0 = 2 ∷ 0xaa ∷ 0xbb ∷ 0xcc ∷ 0xdd ∷ 0xee ∷ [] }) 7) (first ++ second)
 
 abbrev later : Transfer → Transfer
 later x = gone_on 1700000000 x

@@ -15,7 +15,7 @@ use Rattle.off_packets.specs.Replies.{error_packet}
 use Rattle.off_transfer_rules.specs.Requests.{Datagram, ReadRequest, FileOwner}
 use Rattle.off_transfer_rules.specs.Requests.{request_for, file_owner}
 use Rattle.off_transfer_rules.specs.View.{View, view, holder, is_own_name, agrees, IsBuiltBy}
-use Rattle.off_transfer_rules.specs.Transfers.{Transfers, has_no_room, first_word, begun, last_packet, is_at_last, gone_on, asked_again, packet_to}
+use Rattle.off_transfer_rules.specs.Transfers.{Transfers, has_no_room, first_word, new_transfer, last_packet, is_at_last, gone_on, asked_again, packet_to}
 use Rattle.off_packets.specs.declared.faults.PacketFault.{PacketFault}
 use Rattle.off_packets.specs.declared.faults.PacketFault.TheVariants as fault
 use Rattle.off_transfer_rules.specs.declared.words.TftpWord.{TftpWord}
@@ -169,7 +169,7 @@ GivesBy v transfers datagram (Repeats x) gave =
 GivesBy v transfers datagram (Accepts request owner) gave =
     (file : List ℕ)
     × (IsBuiltBy v datagram.at datagram.from.ip file
-    × (gave ≡ opened transfers datagram.from request (begun datagram request owner file)))
+    × (gave ≡ opened transfers datagram.from request (new_transfer datagram request owner file)))
 GivesBy v transfers datagram Ignores gave = gave ≡ gives transfers [] word.StaleAck
 GivesBy v transfers datagram Finishes gave =
     gave ≡ gives (ended transfers datagram.from) [] word.Done

@@ -44,8 +44,8 @@ abbrev pub first_word : Options → TftpWord
 first_word asked = if has_option asked then word.Oack else word.Block 1
 
 -- a transfer as its read request makes it
-abbrev pub begun : Datagram → ReadRequest → FileOwner → List ℕ → Transfer
-begun datagram request owner file = record {
+abbrev pub new_transfer : Datagram → ReadRequest → FileOwner → List ℕ → Transfer
+new_transfer datagram request owner file = record {
   name = request.name;
   modem = owner.modem;
   subscriber = owner.subscriber;

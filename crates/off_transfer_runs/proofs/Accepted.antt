@@ -8,7 +8,7 @@ use Rattle.off_packets.specs.Packets.{Meant, Reads, packet_of}
 use Rattle.off_packets.specs.declared.packets.Options.{Options}
 use Rattle.off_transfer_rules.specs.Requests.{datagram_at, request_for, file_owner}
 use Rattle.off_transfer_rules.specs.View.{View, view, IsBuiltBy}
-use Rattle.off_transfer_rules.specs.Transfers.{Transfers, has_no_room, first_word, begun}
+use Rattle.off_transfer_rules.specs.Transfers.{Transfers, has_no_room, first_word, new_transfer}
 use Rattle.off_transfer_rules.specs.Steps.{Way, Denies, Repeats, Accepts, Ignores, Finishes, BreaksOff, GoesOn, Leaves, way, Given, gives, with_transfer, last_to, GivesBy, TftpStep}
 use Rattle.off_transfer_rules.specs.Words.{tftp_line}
 use Rattle.off_packets.specs.declared.faults.PacketFault.{PacketFault}
@@ -24,7 +24,7 @@ pub record Begins (v : View) (now : ℕ) (xs : Transfers) (from : Peer) (bytes :
   pub accepting : Accepting v now from.ip mac owner name
   pub fits : Fits asked
   pub built : IsBuiltBy v now from.ip file
-  pub gave : given ≡ gives (with_transfer xs from (begun (datagram_at now from bytes) (request_for name asked) (file_owner mac owner) file)) (last_to from (begun (datagram_at now from bytes) (request_for name asked) (file_owner mac owner) file)) (first_word asked)
+  pub gave : given ≡ gives (with_transfer xs from (new_transfer (datagram_at now from bytes) (request_for name asked) (file_owner mac owner) file)) (last_to from (new_transfer (datagram_at now from bytes) (request_for name asked) (file_owner mac owner) file)) (first_word asked)
 
 module _ (v : View) (now : ℕ) (xs : Transfers) (from : Peer) (bytes : List ℕ) (given : Given) (name : List ℕ) (asked : Options) where
   breaks : (read : Result Meant PacketFault) (line : List ℕ) → read ≡ Ok (Reads name asked) → says_accepted line ≡ true → fate_of read line ≡ Breaks

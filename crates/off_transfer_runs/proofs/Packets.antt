@@ -17,7 +17,7 @@ use Rattle.off_lease_rules.specs.Free.{case_of, chosen_in}
 use Rattle.off_asking.specs.Claims.{refused_by}
 use Rattle.off_lease_rules.specs.Rules.{rules_for}
 use Rattle.off_asking.specs.Sending.{nak_to}
-use Rattle.off_lease_rules.specs.Steps.{offer_to, reply_to_refused, offers, acknowledges, declines, releases, accepts, unless_refused, settled, lease_step, step_of, dhcp_step}
+use Rattle.off_lease_rules.specs.Steps.{offer_to, reply_to_refused, offers, acknowledges, declines, releases, accepts, unless_refused, lease_step_for, lease_step, step_of, dhcp_step}
 use Rattle.off_lease_rules.specs.declared.cases.Case.{Case}
 use Rattle.off_lease_rules.specs.declared.words.DhcpWord.{DhcpWord}
 use Rattle.off_lease_rules.specs.declared.words.DhcpWord.TheVariants as word
@@ -77,7 +77,7 @@ module _ (peer : Peer) where
   settled_none now m c chosen lease (Some w) = refused_none m c w
 
   lease_none : (t : Tables) (now : ℕ) (m : Received) → packets_to peer (replies_of (lease_step t now m).reply) ≡ []
-  unfolding lease_step settled
+  unfolding lease_step lease_step_for
   lease_none t now m =
       settled_none now m (case_of t m) (chosen_in t now m (case_of t m)) (option_and_then (lease_in t) (chosen_in t now m (case_of t m)))
       (refused_by (rules_for m (case_of t m) (chosen_in t now m (case_of t m))))

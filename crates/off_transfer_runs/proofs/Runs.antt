@@ -17,7 +17,7 @@ use Rattle.off_packets.specs.Packets.{Reads, packet_of, has_option, options_by}
 use Rattle.off_packets.specs.declared.packets.Options.{Options}
 use Rattle.off_transfer_rules.specs.Requests.{datagram_at, request_for, file_owner}
 use Rattle.off_transfer_rules.specs.View.{view}
-use Rattle.off_transfer_rules.specs.Transfers.{size_for, first_number, packet_of_number, last_packet, begun}
+use Rattle.off_transfer_rules.specs.Transfers.{size_for, first_number, packet_of_number, last_packet, new_transfer}
 use Rattle.off_transfer_rules.specs.Steps.{Given}
 use Rattle.off_transfer_rules.specs.Words.{tftp_line}
 use Rattle.off_transfer_rules.proofs.PeerLemmas.{inserted_here}
@@ -75,7 +75,7 @@ acted_on s Keeper peer bytes effect p says = absurd (true≢false (sym says ∙ 
 module _ (s : State) (turn : Turn) (after last : State) (later : List Turn) (peer : Peer) (bytes name : List ℕ) (asked : Options) where
   module _ (did : TftpDid s peer bytes (effect_of turn after)) (b : Begins (view s.tables peer.ip) s.held.now s.held.transfers peer bytes did.given name asked) where
     unfoldable pub first : Transfer
-    first = begun (datagram_at s.held.now peer bytes) (request_for name asked) (file_owner b.mac b.owner) b.file
+    first = new_transfer (datagram_at s.held.now peer bytes) (request_for name asked) (file_owner b.mac b.owner) b.file
 
     pub first_lives : map.get after.held.transfers peer ≡ Some first
     unfolding first

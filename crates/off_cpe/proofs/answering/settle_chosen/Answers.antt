@@ -3,7 +3,7 @@ use Rattle.off_defs.specs.declared.tables.DeviceLease.{DeviceLease}
 use Rattle.off_account_rules.specs.Rows.{passes}
 use Rattle.off_behind.specs.Neighbours.{elsewhere}
 use Rattle.off_cpe_rules.specs.Behind.{chosen_in}
-use Rattle.off_cpe_rules.specs.Steps.{is_live_bound, settled}
+use Rattle.off_cpe_rules.specs.Steps.{is_live_bound, device_step_for}
 use Rattle.off_cpe_rules.specs.declared.results.DeviceStep.{DeviceStep}
 use Rattle.off_cpe.specs.Calls.{most_elsewhere}
 use Rattle.off_cpe.proofs.CaseLemmas.{case_answered}
@@ -19,7 +19,7 @@ returns-clause-step c =
     let case = c.args.case.now in
     let chosen = c.choose-chosen.result in
     let lease = c.own_lease-lease.result in
-    made_so c.settle.result (settled now c.args.modem m case chosen lease) _ c.settle.ensures (λ t stands had pool.
+    made_so c.settle.result (device_step_for now c.args.modem m case chosen lease) _ c.settle.ensures (λ t stands had pool.
     let chose : chosen ≡ chosen_in t now m case = c.choose-chosen.ensures.is t stands.keeps pool ∙ ap (λ (n : ℕ). chosen_in t n m case) stands.moment in
     case_answered now c.args.modem m case t chosen lease chose (λ d.
     ap (λ (o : Option DeviceLease). passes (is_live_bound now) o) c.own_lease-lease.ensures ∙ own_lasts t now m case c.args.own chosen c.requires.own had chose d))

@@ -4,7 +4,7 @@ use Rattle.off_runs.specs.Held.{StandsFor}
 use Rattle.off_runs.specs.Leases.{ground}
 use Rattle.off_asking.specs.Asking.{is_discover}
 use Rattle.off_lease_rules.specs.Free.{chosen_in, pool_for}
-use Rattle.off_lease_rules.specs.Steps.{lease_step, settled_in, refuses}
+use Rattle.off_lease_rules.specs.Steps.{lease_step, lease_step_in, refuses}
 use Rattle.off_lease_rules.specs.declared.results.LeaseStep.{LeaseStep}
 use Rattle.off_lease.specs.Stages.{knowing}
 use Rattle.off_lease.proofs.CaseLemmas.{rows_refuse, rows_accept, asked_pool, gathered_enough, both_enough}
@@ -25,7 +25,7 @@ returns-in-None-clause-told g c =
     let now = c.args.now.0 in
     let m = c.args.m.now in
     let case = c.in_ok-case.case in
-    looks_then _ c.answer_case.result (λ (step : LeaseStep) (t : Tables). StandsFor c.args.runs.now (ground t) now → (is_discover m ≡ true → case.pool ≡ pool_for t m) → step ≡ settled_in t now m case (chosen_in t now m case))
+    looks_then _ c.answer_case.result (λ (step : LeaseStep) (t : Tables). StandsFor c.args.runs.now (ground t) now → (is_discover m ≡ true → case.pool ≡ pool_for t m) → step ≡ lease_step_in t now m case (chosen_in t now m case))
     (λ (step : LeaseStep) (t : Tables). StandsFor c.args.runs.now (ground t) now → step ≡ lease_step t now m) c.in_ok-case.ensures.told c.answer_case.ensures.told
     (λ step t seen is stands. rows_accept t now m case step (seen stands.keeps) (is stands (asked_pool t m case (seen stands.keeps))))
 
