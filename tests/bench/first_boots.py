@@ -3,8 +3,9 @@
 
     python3 tests/bench/first_boots.py [pools [MODEMS[:RELAYS] ..] | all [MODEMS[:RELAYS]] | kea | removals [SUBSCRIBERS ..]]
 
-pools: DORA a second with 1, 16 and 64 modems at once, in pools that are empty, and in pools that are full but for those who boot, whatever the number of
-modems in the tables; behind it how long questions for the time take under 20,000 DISCOVERs a second of modems for which no address is free.
+pools: DORA a second with 1, 16 and 64 modems at once, in pools that are empty, and in pools that are full but for those who boot. As many modems boot
+whatever the number in the tables, again and again, so that only the tables differ: half of the least number, 1,530 at most. Then how long questions for the
+time take under 20,000 DISCOVERs a second of modems for which no address is free.
 all: each of so many modems boots once, 16 at once.
 kea: three times 3,800 modems in three pools of 4,096 addresses, a tenth at a time, beside Debian's kea-dhcp4 with one thread and its leases in memory and
 a plain file (`memfile`), and a bare echo of the same datagrams, by turns.
@@ -99,10 +100,10 @@ class Boots(Measured):
             best.append(rates[-1])
         return best
 
-    def pools(self):
+    def pools(self, booting):
         relays, modems = self.rows.relays, self.rows.modems
         # The clients want to begin with a modem of the first relay.
-        chunk = modems - max(modems - CHUNK, modems // 2) // relays * relays
+        chunk = modems - (modems - booting) // relays * relays
         empty = self.rounds("empty pools", 0, chunk)
         told = self.all_once("boot", 16, 0, modems - chunk)
         print(f"  {modems - chunk} modems booted, 16 at once: {told.done / told.seconds:.0f} DORA/s", flush=True)
@@ -129,10 +130,10 @@ def over(program, rows, what):
 
 
 def pools(program, sizes):
-    found = {}
+    found, booting = {}, min(CHUNK, min(modems for modems, _ in sizes) // 2)
     for modems, relays in sizes:
         print(f"{modems} modems behind {relays} relays; {load()}", flush=True)
-        found[modems] = over(program, ManyRows(modems, relays), Boots.pools)
+        found[modems] = over(program, ManyRows(modems, relays), lambda boots: boots.pools(booting))
     for place, at_once in enumerate(AT_ONCE):
         rates = [rate for both in found.values() for rate in (both[0][place], both[1][place])]
         print(f"{at_once} at once: the most over the least of {', '.join(f'{rate:.0f}' for rate in rates)}: {max(rates) / min(rates):.2f} (goal: under 1.3)")

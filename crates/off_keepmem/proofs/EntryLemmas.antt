@@ -11,7 +11,7 @@ use Rattle.off_defs.specs.declared.keys.Key.{Key}
 use Rattle.off_defs.specs.declared.tables.Row.{Row}
 use Rattle.off_defs.specs.Keys.{key_cmp}
 use Rattle.off_defs.proofs.KeyLemmas.{key_total}
-use Rattle.off_keepmem.specs.Entries.{Rises, row_in, put_entry, but_key, next_in, compared, AreBelow, NoneBelow, is_in_front}
+use Rattle.off_keepmem.specs.Entries.{Rises, row_in, put_entry, but_key, next_in, compared, AreBelow, NoneBelow, IsPlace, is_in_front}
 use Rattle.off_keepmem.specs.Shelves.{StartsAt, starts_by}
 use Rattle.off_keepmem.proofs.PlaceLemmas.{opened, parted, parted_at, taken_at, Past, Reached, is_first, past_more, past_front, sorted_rest, below_all_of, find_here, put_here, but_here, next_here, find_apart, put_apart, but_apart, next_apart}
 
@@ -69,6 +69,38 @@ none_here k es n e within item is =
     subst (λ (v : List (Key × Row)). NoneBelow k v) (sym open_) (none_part k e (drop (suc n) es) is)
 
 pub ruleset search_rules = (below_begun, none_begun, below_more, none_here)
+
+-- ---- a place that is right
+
+front_at : (k : Key) (es : List (Key × Row)) (n : ℕ) (e : Key × Row) → Rises es → n < length es → e ≡ get_or es n e → ¬ (key_cmp k e.0 ≡ Less) → AreBelow k (take n es)
+unfolding Rises AreBelow
+front_at k es n e h within item not_less =
+    let open_ : es ≡ take n es ++ e ∷ drop (suc n) es = subst (λ (x : Key × Row). es ≡ take n es ++ x ∷ drop (suc n) es) (sym item) (parted_at es n e within) in
+    past_front key_cmp key_total k (take n es) e (drop (suc n) es) (subst (λ (v : List (Key × Row)). T (list.is_sorted key_cmp v)) open_ h) not_less
+
+pub place_same : (k : Key) (es : List (Key × Row)) (n : ℕ) (e : Key × Row) → Rises es → n < length es → e ≡ get_or es n e → compared k e.0 ≡ Equal → IsPlace k n es
+unfolding compared
+place_same k es n e h within item is = record {
+  within = within;
+  front = front_at k es n e h within item (λ less. let no : Equal ≡ Less = sym is ∙ less in cc);
+  behind = none_here k es n e within item (ap is_gt is);
+}
+
+pub place_first : (k : Key) (es : List (Key × Row)) (n : ℕ) (e : Key × Row) → n < length es → e ≡ get_or es n e → compared k e.0 ≡ Less → n ≡ 0 → IsPlace k n es
+unfolding compared
+place_first k es n e within item is first = record {
+  within = within;
+  front = subst (λ m. AreBelow k (take m es)) (sym first) (below_begun k es);
+  behind = none_here k es n e within item (ap is_gt is);
+}
+
+pub place_between : (k : Key) (es : List (Key × Row)) (n m : ℕ) (e d : Key × Row) → Rises es → n < length es → e ≡ get_or es n e → compared k e.0 ≡ Less → m + 1 ≡ n → d ≡ get_or es m d → is_gt (compared k d.0) ≡ true → IsPlace k n es
+unfolding compared
+place_between k es n m e d h within item is next former more = record {
+  within = within;
+  front = subst (λ i. AreBelow k (take i es)) next (below_more k es m d h (omega (arith, within, next)) former more);
+  behind = none_here k es n e within item (ap is_gt is);
+}
 
 -- ---- whether the key's own stands at a place
 

@@ -164,6 +164,10 @@ module _ {K X : Type 0} (R : K → K → Ordering) where
   below_front x [] m h = tt
   below_front x (y ∷ l) m h = both _ _ (first _ _ h) (below_front x l m (second _ _ h))
 
+  pub below_back : (x : K) (l m : List (K × X)) → T (list.below_all R x (l ++ m)) → T (list.below_all R x m)
+  below_back x [] m h = h
+  below_back x (y ∷ l) m h = below_back x l m (second _ _ h)
+
   pub sorted_front : (l m : List (K × X)) → T (list.is_sorted R (l ++ m)) → T (list.is_sorted R l)
   sorted_front [] m h = tt
   sorted_front (x ∷ l) m h = both _ _ (below_front x.0 l m (first _ _ h)) (sorted_front l m (second _ _ h))

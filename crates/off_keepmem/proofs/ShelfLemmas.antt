@@ -17,9 +17,9 @@ use Rattle.off_defs.specs.declared.writes.Write.TheVariants.{Put, Drop}
 use Rattle.off_defs.specs.Keys.{key_cmp}
 use Rattle.off_defs.proofs.KeyLemmas.{key_total}
 use Rattle.off_defs.proofs.EntryLemmas.{held}
-use Rattle.off_keepmem.specs.Entries.{Rises, row_in, put_entry, but_key, next_in, AreBelow, AreAbove, entries_written}
+use Rattle.off_keepmem.specs.Entries.{IsPlace, NoneBelow, Rises, row_in, put_entry, but_key, next_in, AreBelow, AreAbove, entries_written}
 use Rattle.off_keepmem.specs.Shelves.{Shelf, entries_on, starts_by, IsStocked, cut_at}
-use Rattle.off_keepmem.proofs.PlaceLemmas.{both, parted_at, opened, past_front, below_others, sorted_rest, sorted_front, find_within, put_within, but_within, next_within}
+use Rattle.off_keepmem.proofs.PlaceLemmas.{both, parted_at, opened, past_front, below_others, below_back, sorted_rest, sorted_front, find_within, put_within, but_within, next_within}
 
 pub get_default : {A : Type 0} (xs : List A) (i : ℕ) (d e : A) → i < length xs → get_or xs i d ≡ get_or xs i e
 get_default [] i d e within = absurd (omega (arith, within))
@@ -143,6 +143,33 @@ below_first k ss = tt
 pub above_none : (k : Key) (ss : List Shelf) (n : ℕ) → length ss ≤ n → AreAbove k (entries_on (drop n ss))
 unfolding AreAbove
 above_none k ss n all = subst (λ (v : List Shelf). T (list.below_all key_cmp k (entries_on v))) (sym (drop_all n ss all)) tt
+
+above_part : (k : Key) (l : List (Key × Row)) (e : Key × Row) (r m : List (Key × Row)) → T (list.is_sorted key_cmp ((l ++ e ∷ r) ++ m)) → ¬ (key_cmp k e.0 ≡ Greater) → T (list.below_all key_cmp k m)
+above_part k l e r m h not_above =
+    below_back key_cmp k r m
+    (below_others key_cmp key_total k e (r ++ m)
+    (sorted_rest key_cmp l (e ∷ (r ++ m)) (subst (λ (v : List (Key × Row)). T (list.is_sorted key_cmp v)) (append_assoc l (e ∷ r) m) h))
+    not_above)
+
+not_above_at : (k : Key) (s : Shelf) (p : ℕ) (d : Key × Row) → IsPlace k p s → ¬ (key_cmp k (get_or s p d).0 ≡ Greater)
+unfolding NoneBelow
+not_above_at k s p d is = subst (λ (v : List (Key × Row)). NoneBelow k v) (opened s p d is.within) is.behind
+
+item_of : (s : Shelf) (p : ℕ) → p < length s → Key × Row
+item_of [] p within = absurd (omega (arith, within))
+item_of (e ∷ es) p within = e
+
+pub above_place : (k : Key) (ss : List Shelf) (at : ℕ) (s : Shelf) (p : ℕ) → Rises (entries_on ss) → at < length ss → s ≡ get_or ss at s → IsPlace k p s → AreAbove k (entries_on (drop (at + 1) ss))
+unfolding Rises AreAbove
+above_place k ss at s p h within item is =
+    let here : s ≡ get_or ss at [] = item ∙ get_default ss at s [] within in
+    let whole = subst (λ (v : List (Key × Row)). T (list.is_sorted key_cmp v)) (on_parted ss at within) h in
+    let rest = sorted_rest key_cmp (entries_on (take at ss)) (get_or ss at [] ++ entries_on (drop (suc at) ss)) whole in
+    let own : T (list.is_sorted key_cmp (s ++ entries_on (drop (suc at) ss))) = subst (λ (v : Shelf). T (list.is_sorted key_cmp (v ++ entries_on (drop (suc at) ss)))) (sym here) rest in
+    let d = item_of s p is.within in
+    let parts = subst (λ (v : Shelf). T (list.is_sorted key_cmp (v ++ entries_on (drop (suc at) ss)))) (parted_at s p d is.within) own in
+    subst (λ n. T (list.below_all key_cmp k (entries_on (drop n ss)))) (sym (add-one at))
+    (above_part k (take p s) (get_or s p d) (drop (suc p) s) (entries_on (drop (suc at) ss)) parts (not_above_at k s p d is))
 
 pub ruleset search_rules = (below_shelf, above_shelf, below_first, above_none)
 

@@ -1,5 +1,5 @@
 -- The entries of a keeper in memory, in the order of their keys.
-use Rattle.std.specs.Prelude.{◌≡◌, Bool, false, not, Option, List, [], ◌∷◌}
+use Rattle.std.specs.Prelude.{◌≡◌, ℕ, ◌<◌, Bool, false, not, Option, List, [], ◌∷◌, length, take, drop}
 use lib.Dec.{T}
 use Rattle.std.specs.List.{filter, find}
 use Rattle.std.specs.Ordering.{eq_by_cmp, is_eq}
@@ -54,6 +54,12 @@ NoneBelowFirst key (e ∷ es) = ¬ (key_cmp key e.0 ≡ Greater)
 
 unfoldable pub NoneBelow : Key → List (Key × Row) → Type 0
 NoneBelow key entries = NoneBelowFirst key entries
+
+-- where an entry of this key stands, or would stand in front of another one
+pub record IsPlace (key : Key) (place : ℕ) (entries : List (Key × Row)) : Type 0 where
+  pub within : place < length entries
+  pub front : AreBelow key (take place entries)
+  pub behind : NoneBelow key (drop place entries)
 
 abbrev is_first : Key → List (Key × Row) → Bool
 is_first key [] = false

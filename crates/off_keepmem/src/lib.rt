@@ -7,6 +7,7 @@
 mod brief;
 mod brief_rows;
 mod entry;
+mod hints;
 mod kept_row;
 mod mem_keeper;
 mod order;

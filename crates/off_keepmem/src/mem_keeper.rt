@@ -17,8 +17,8 @@ use off_outside::{Calls, Failing, KeepErr, Keeper, one_more};
 use std::alloc::Global;
 use std::marker::Model;
 
-/// A keeper that holds its tables in memory, on shelves of rows. A call looks through the list of
-/// shelves and then through one of them, by halves.
+/// A keeper that holds its tables in memory, on shelves of rows. A call looks where the row stood
+/// last, and else through the list of shelves and then through one of them, by halves.
 #[derive(Drop)]
 pub struct MemKeeper {
     rows: Table,
@@ -152,15 +152,14 @@ impl MemKeeper {
         Ok(())
     }
 
-    /// The row of a key. It isn't counted as a call.
+    /// The row of a key, and where it stands is remembered for the next look. It isn't counted as a
+    /// call.
     #[tactic(auto, using(crate::proofs::MemKeeperLemmas::row_held))]
-    pub fn row(&self, alloc: Global, key: Key) -> Result<Option<Row>, NoMemory>
-        ensures { IfOk result (λ row. row ≡ row_at self.now.tables key) }
+    pub fn row(&mut self, alloc: Global, key: Key) -> Result<Option<Row>, NoMemory>
+        ensures row { IfOk result (λ row. row ≡ row_at self.old.tables key) }
+        ensures same { self.new ≡ self.old }
     {
-        match self.rows.find(&key) {
-            Some(row) => Ok(Some(row.copy(alloc)?)),
-            None => Ok(None),
-        }
+        self.rows.look(alloc, &key)
     }
 
     /// The next entry of a walk. It isn't counted as a call.

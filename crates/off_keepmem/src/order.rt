@@ -27,8 +27,8 @@ fn compared_macs(a: Mac, b: Mac) -> Ordering
     number_of(&a.0).cmp(&number_of(&b.0))
 }
 
-// The number that six bytes spell, the first the highest.
-fn number_of(bytes: &[u8; 6]) -> u64
+/// The number that six bytes spell, the first the highest.
+pub(crate) fn number_of(bytes: &[u8; 6]) -> u64
     ensures { to_be_bytes w64 result ≡ 0 ∷ 0 ∷ bytes.now }
 {
     let [a, b, c, d, e, f] = *bytes;

@@ -1,11 +1,12 @@
-ghost use Rattle.std.specs.Prelude.{◌≡◌, ◌+◌, ◌<◌, ◌≤◌, ◌∷◌, ◌++◌, [], Some, length, take, drop};
-ghost use Rattle.std.specs.Prelude.{IfOk, vec_len, slice_get};
+ghost use Rattle.std.specs.Prelude.{◌≡◌, ◌+◌, ◌<◌, ◌≤◌, ◌∷◌, ◌++◌, [], Some, true, length};
+ghost use Rattle.std.specs.Prelude.{take, drop, IfOk, vec_len, slice_get};
 ghost use Rattle.std.specs.List.{insert};
 ghost use Rattle.std.specs.Vec.{vec_capacity};
 ghost use Rattle.std.specs.Option.{option_map};
 ghost use Rattle.std.specs.Ordering.{is_lt, is_eq, is_gt};
 ghost use Rattle.off_keepmem.specs.Entries.{Rises, row_in, next_in, put_entry, but_key};
-ghost use Rattle.off_keepmem.specs.Entries.{compared, AreBelow, NoneBelow, is_in_front, lent_entry};
+ghost use Rattle.off_keepmem.specs.Entries.{compared, AreBelow, NoneBelow, IsPlace};
+ghost use Rattle.off_keepmem.specs.Entries.{is_in_front, lent_entry};
 ghost use Rattle.off_keepmem.specs.Shelves.{starts_by};
 
 use crate::entry::Entry;
@@ -87,13 +88,34 @@ impl Shelf {
         !is_below(key, &self.first)
     }
 
-    /// The row of a key.
-    #[tactic(auto, using(crate::proofs::EntryLemmas::place_rules))]
-    pub(crate) fn get(&self, key: &Key) -> Option<&KeptRow>
+    /// Whether a key's entry stands at this place, or would be put there between two others.
+    pub(crate) fn fits(&self, key: &Key, place: usize) -> bool
+        requires some { 0 < length self.now }
+        requires rises { Rises self.now }
+        ensures starts { result ≡ true → starts_by key.now self.now ≡ true }
+        ensures place { result ≡ true → IsPlace key.now place self.now }
+    {
+        self.starts_by(key) && is_place(&self.entries, key, place)
+    }
+
+    /// How many entries have keys below this one. It looks near this place first.
+    pub(crate) fn place_of(&self, key: &Key, near: usize) -> usize
         requires { Rises self.now }
+        ensures within { result ≤ length self.now }
+        ensures front { AreBelow key.now (take result self.now) }
+        ensures behind { NoneBelow key.now (drop result self.now) }
+    {
+        place_near(&self.entries, key, near)
+    }
+
+    /// The row of a key, where so many entries have keys below it.
+    #[tactic(auto, using(crate::proofs::EntryLemmas::place_rules))]
+    pub(crate) fn get(&self, key: &Key, place: usize) -> Option<&KeptRow>
+        requires rises { Rises self.now }
+        requires front { AreBelow key.now (take place self.now) }
+        requires behind { NoneBelow key.now (drop place self.now) }
         ensures { option_map (λ row. row.now) result ≡ row_in key.now self.now }
     {
-        let place = place_of(&self.entries, key);
         if is_at(&self.entries, place, key) {
             Some(self.entries[place].row())
         } else {
@@ -122,16 +144,16 @@ impl Shelf {
         entry_at(&self.entries, 0)
     }
 
-    /// Gives the key this row. Says at which place.
+    /// Gives the key this row. Says at which place, which it looks for near another one.
     #[tactic(auto, using(crate::proofs::EntryLemmas::place_rules))]
-    pub(crate) fn put(&mut self, key: Key, row: KeptRow) -> usize
+    pub(crate) fn put(&mut self, key: Key, row: KeptRow, near: usize) -> usize
         requires rises { Rises self.old }
         requires room { length self.old < 64 }
         ensures entries { self.new ≡ put_entry key row self.old }
         ensures within { result ≤ 64 }
         ensures grows { length self.new ≤ length self.old + 1 }
     {
-        let place = place_of(&self.entries, &key);
+        let place = place_near(&self.entries, &key, near);
         if is_at(&self.entries, place, &key) {
             self.entries[place].replace(row);
         } else {
@@ -141,14 +163,14 @@ impl Shelf {
         place
     }
 
-    /// Takes the key's row away, if it has one.
+    /// Takes the key's row away, if it has one. It looks near this place first.
     #[tactic(auto, using(crate::proofs::EntryLemmas::place_rules))]
-    pub(crate) fn remove(&mut self, key: &Key)
+    pub(crate) fn remove(&mut self, key: &Key, near: usize)
         requires { Rises self.old }
         ensures entries { self.new ≡ but_key key.now self.old }
         ensures shrinks { length self.new ≤ length self.old }
     {
-        let place = place_of(&self.entries, key);
+        let place = place_near(&self.entries, key, near);
         if is_at(&self.entries, place, key) {
             let _entry = self.entries.remove(place);
             if let Some(first) = self.entries.first() {
@@ -201,6 +223,35 @@ fn place_of(entries: &Vec<Entry>, key: &Key) -> usize
         }
     }
     low
+}
+
+// The same, looked for near a place first.
+fn place_near(entries: &Vec<Entry>, key: &Key, near: usize) -> usize
+    requires { Rises entries.now.items }
+    ensures within { result ≤ vec_len entries.now }
+    ensures front { AreBelow key.now (take result entries.now.items) }
+    ensures behind { NoneBelow key.now (drop result entries.now.items) }
+{
+    if is_place(entries, key, near) {
+        return near;
+    }
+    place_of(entries, key)
+}
+
+// Whether the entry at the place has this key, or would stand behind an entry of this key, which
+// were put there.
+fn is_place(entries: &Vec<Entry>, key: &Key, place: usize) -> bool
+    requires { Rises entries.now.items }
+    ensures { result ≡ true → IsPlace key.now place entries.now.items }
+{
+    if place >= entries.len() {
+        return false;
+    }
+    match compared(key, entries[place].key()) {
+        Ordering::Equal => true,
+        Ordering::Less => place == 0 || is_above(key, entries[place - 1].key()),
+        Ordering::Greater => false,
+    }
 }
 
 // Whether the entry of this key stands at the place.

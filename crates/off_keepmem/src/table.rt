@@ -1,5 +1,5 @@
 ghost use Rattle.std.specs.Prelude.{◌≡◌, ◌+◌, ◌<◌, ◌≤◌, ◌∷◌, ◌++◌, [], Some, None, length, max};
-ghost use Rattle.std.specs.Prelude.{min, take, drop, vec_len, slice_index_or, slice_get, OnOk};
+ghost use Rattle.std.specs.Prelude.{min, take, drop, vec_len, slice_index_or, slice_get, OnOk, IfOk};
 ghost use Rattle.std.specs.List.{All, insert};
 ghost use Rattle.std.specs.Vec.{vec_capacity};
 ghost use Rattle.std.specs.Option.{option_map};
@@ -9,11 +9,12 @@ ghost use Rattle.off_keepmem.specs.Entries.{entries_written, rows_after};
 ghost use Rattle.off_keepmem.specs.Shelves.{entries_on, IsStocked, ShelvesHeld, cut_at};
 ghost use Rattle.off_keepmem.specs.Puts.{puts_in};
 
+use crate::hints::{Hint, Hints};
 use crate::kept_row::KeptRow;
 use crate::planned::{Change, Planned};
 use crate::shelf::{EntryRef, ROOM, Shelf};
 use off_base::NoMemory;
-use off_defs::Key;
+use off_defs::{Key, Row};
 use std::alloc::Global;
 use std::marker::Model;
 
@@ -31,6 +32,7 @@ const STOCK_KEPT: usize = 8;
 pub(crate) struct Table {
     shelves: Vec<Shelf>,
     stock: Vec<Shelf>,
+    hints: Hints,
 }
 
 impl Model for Table {
@@ -59,6 +61,7 @@ impl Table {
         Table {
             shelves: Vec::new(alloc),
             stock: Vec::new(alloc),
+            hints: Hints::new(alloc),
         }
     }
 
@@ -76,20 +79,28 @@ impl Table {
         let Ok(()) = self.shelves.try_reserve(wanted) else {
             return Err(NoMemory);
         };
+        self.hints.grow(alloc, self.shelves.len());
         fill(alloc, &mut self.stock, wanted)
     }
 
-    /// The row of a key.
+    /// The row of a key, again. Where it stands is remembered for the next look.
     #[tactic(auto, using(crate::proofs::ShelfLemmas::look_rules))]
-    pub(crate) fn find(&self, key: &Key) -> Option<&KeptRow>
-        requires { Rises self.now.entries }
-        ensures { option_map (λ row. row.now) result ≡ row_in key.now self.now.entries }
+    pub(crate) fn look(&mut self, alloc: Global, key: &Key) -> Result<Option<Row>, NoMemory>
+        requires { Rises self.old.entries }
+        ensures row { IfOk result (λ row. row ≡ row_in key.now self.old.entries) }
+        ensures same { self.new ≡ self.old }
     {
         if self.shelves.is_empty() {
-            return None;
+            return Ok(None);
         }
-        let at = shelf_of(&self.shelves, key);
-        self.shelves[at].get(key)
+        let hint = self.hints.of(key);
+        let at = shelf_near(&self.shelves, key, hint);
+        let place = self.shelves[at].place_of(key, hint.place);
+        self.hints.put(key, at, place);
+        match self.shelves[at].get(key, place) {
+            Some(row) => Ok(Some(row.copy(alloc)?)),
+            None => Ok(None),
+        }
     }
 
     /// The first entry behind a place of a walk.
@@ -130,7 +141,13 @@ impl Table {
         if self.shelves.is_empty() {
             begin(&mut self.shelves, &mut self.stock, key, row);
         } else {
-            put_on(&mut self.shelves, &mut self.stock, key, row);
+            put_on(
+                &mut self.shelves,
+                &mut self.stock,
+                &mut self.hints,
+                key,
+                row,
+            );
         }
     }
 
@@ -142,7 +159,7 @@ impl Table {
         ensures spare { self.new.spare ≡ self.old.spare }
     {
         if !self.shelves.is_empty() {
-            remove_from(&mut self.shelves, key);
+            remove_from(&mut self.shelves, &self.hints, key);
         }
     }
 
@@ -224,6 +241,23 @@ fn shelf_of(shelves: &Vec<Shelf>, key: &Key) -> usize
     low
 }
 
+// The same, looked for at a place where the key's entry may stand first.
+fn shelf_near(shelves: &Vec<Shelf>, key: &Key, near: Hint) -> usize
+    requires some { 0 < vec_len shelves.now }
+    requires rises { Rises (entries_on shelves.now.items) }
+    requires stocked { All IsStocked shelves.now.items }
+    ensures within { result < vec_len shelves.now }
+    ensures front { AreBelow key.now (entries_on (take result shelves.now.items)) }
+    ensures behind { AreAbove key.now (entries_on (drop (result + 1) shelves.now.items)) }
+{
+    if near.shelf < shelves.len() {
+        if shelves[near.shelf].fits(key, near.place) {
+            return near.shelf;
+        }
+    }
+    shelf_of(shelves, key)
+}
+
 // The first entry of a shelf, if there is such a shelf.
 #[tactic(auto, using(crate::proofs::ShelfLemmas::front_rules))]
 fn front_of(shelves: &Vec<Shelf>, at: usize) -> Option<EntryRef<'_>>
@@ -250,13 +284,19 @@ fn begin(shelves: &mut Vec<Shelf>, stock: &mut Vec<Shelf>, key: Key, row: KeptRo
     ensures held { ShelvesHeld shelves.new.items stock.new.items (vec_capacity shelves.new) }
 {
     let mut fresh = take_empty(stock);
-    fresh.put(key, row);
+    fresh.put(key, row, 0);
     insert_shelf(shelves, 0, fresh);
 }
 
 // Gives the key this row, on one of the shelves.
 #[tactic(auto, using(crate::proofs::ShelfLemmas::put_rules))]
-fn put_on(shelves: &mut Vec<Shelf>, stock: &mut Vec<Shelf>, key: Key, row: KeptRow)
+fn put_on(
+    shelves: &mut Vec<Shelf>,
+    stock: &mut Vec<Shelf>,
+    hints: &mut Hints,
+    key: Key,
+    row: KeptRow,
+)
     requires used { 0 < vec_len shelves.old }
     requires some { 0 < vec_len stock.old }
     requires rises { Rises (entries_on shelves.old.items) }
@@ -266,8 +306,10 @@ fn put_on(shelves: &mut Vec<Shelf>, stock: &mut Vec<Shelf>, key: Key, row: KeptR
     ensures spent { vec_len stock.old ≤ vec_len stock.new + 1 }
     ensures held { ShelvesHeld shelves.new.items stock.new.items (vec_capacity shelves.new) }
 {
-    let at = shelf_of(shelves, &key);
-    let place = shelves[at].put(key, row);
+    let hint = hints.of(&key);
+    let at = shelf_near(shelves, &key, hint);
+    let place = shelves[at].put(key, row, hint.place);
+    hints.put(&key, at, place);
     if shelves[at].len() == ROOM {
         let cut = cut_for(place);
         split(shelves, stock, at, cut);
@@ -334,7 +376,7 @@ fn insert_shelf(shelves: &mut Vec<Shelf>, at: usize, shelf: Shelf)
 // Takes the key's row away from its shelf. A shelf that gets empty goes, and neighbours that fill
 // half of one at most are joined.
 #[tactic(auto, using(crate::proofs::ShelfLemmas::cut_rules))]
-fn remove_from(shelves: &mut Vec<Shelf>, key: &Key)
+fn remove_from(shelves: &mut Vec<Shelf>, hints: &Hints, key: &Key)
     requires used { 0 < vec_len shelves.old }
     requires rises { Rises (entries_on shelves.old.items) }
     requires stocked { All IsStocked shelves.old.items }
@@ -344,8 +386,9 @@ fn remove_from(shelves: &mut Vec<Shelf>, key: &Key)
     ensures len { vec_len shelves.new ≤ vec_len shelves.old }
     ensures room { vec_capacity shelves.old ≤ vec_capacity shelves.new }
 {
-    let at = shelf_of(shelves, key);
-    shelves[at].remove(key);
+    let hint = hints.of(key);
+    let at = shelf_near(shelves, key, hint);
+    shelves[at].remove(key, hint.place);
     if shelves[at].len() == 0 {
         let _emptied = shelves.remove(at);
     } else {

@@ -94,6 +94,7 @@ module _ (t : Tables) (write : Write) (other : touches_all (key_written write) �
       ∙ ap (λ (f : Mac → Option Modem). agrees (seen_by (site_of t ip) (lease_in (written t write) ip) (option_and_then f (owner_by (lease_in (written t write) ip)))) now ip name (file_owner mac subscriber))
       (let same : (λ (m : Mac). modem_in (written t write) m) ≡ (λ (m : Mac). modem_in t m) = λ i m. modem_stays m i in same)
       ∙ ap (λ (lease : Option Lease). agrees (seen_by (site_of t ip) lease (option_and_then (modem_in t) (owner_by lease))) now ip name (file_owner mac subscriber)) leased
+
 -- ---- one write
 
 abbrev is_lease : Key → Bool

@@ -8,17 +8,17 @@ use Rattle.off_keepmem.proofs.shelf.Shelf.put.Goals as goal
 
 pub index_mut-requires : goal.index_mut-requires
 index_mut-requires c =
-    omega (arith, front_within c.args.key c.self.inside.entries.items c.place_of-place.result (sym c.is_at.ensures ∙ c.if-is_at.true), c.self.inside.entries.ok.0)
+    omega (arith, front_within c.args.key c.self.inside.entries.items c.place_near-place.result (sym c.is_at.ensures ∙ c.if-is_at.true), c.self.inside.entries.ok.0)
 
 pub returns-then-is_at-clause-entries : goal.returns-then-is_at-clause-entries
 returns-then-is_at-clause-entries c =
-    ap (λ (e : Key × Row). set c.self.inside.entries.items c.place_of-place.result e) c.replace.ensures
-    ∙ own_put c.args.key c.self.inside.entries.items c.place_of-place.result c.index_mut.result.now (subst Rises (sym c.self.view_is) c.requires.rises) (sym c.is_at.ensures ∙ c.if-is_at.true) c.index_mut.ensures.value c.args.row
+    ap (λ (e : Key × Row). set c.self.inside.entries.items c.place_near-place.result e) c.replace.ensures
+    ∙ own_put c.args.key c.self.inside.entries.items c.place_near-place.result c.index_mut.result.now (subst Rises (sym c.self.view_is) c.requires.rises) (sym c.is_at.ensures ∙ c.if-is_at.true) c.index_mut.ensures.value c.args.row
     ∙ ap (λ (es : List (Key × Row)). put_entry c.args.key c.args.row es) c.self.view_is
 
 pub returns-else-is_at-clause-entries : goal.returns-else-is_at-clause-entries
 returns-else-is_at-clause-entries c =
     c.insert_at.ensures.items
-    ∙ ap (λ (e : Key × Row). insert c.self.inside.entries.items c.place_of-place.result e) c.new.ensures
-    ∙ new_put c.args.key c.self.inside.entries.items c.place_of-place.result (subst Rises (sym c.self.view_is) c.requires.rises) c.place_of-place.ensures.front c.place_of-place.ensures.behind (sym c.is_at.ensures ∙ c.if-is_at.false) c.args.row
+    ∙ ap (λ (e : Key × Row). insert c.self.inside.entries.items c.place_near-place.result e) c.new.ensures
+    ∙ new_put c.args.key c.self.inside.entries.items c.place_near-place.result (subst Rises (sym c.self.view_is) c.requires.rises) c.place_near-place.ensures.front c.place_near-place.ensures.behind (sym c.is_at.ensures ∙ c.if-is_at.false) c.args.row
     ∙ ap (λ (es : List (Key × Row)). put_entry c.args.key c.args.row es) c.self.view_is
