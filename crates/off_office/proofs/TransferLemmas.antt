@@ -1,5 +1,6 @@
 -- A datagram to the TFTP port, and a Tick, to the step of the book.
 use Rattle.std.proofs.Common.{◌≡◌, ℕ, inl, true, false, Option, option_map, List, [], codes, Result, Ok, Err, IfOk, IfErr, OnOk, OnErr, MatchResult, refl, sym, ap, ◌∙◌, subst, append-nil}
+use Rattle.std.specs.FinMap as map
 use Rattle.std.specs.List.{find}
 use Rattle.off_base.specs.declared.addresses.Ip4.{Ip4}
 use Rattle.off_base.specs.declared.addresses.Peer.{Peer}
@@ -22,11 +23,12 @@ use Rattle.off_outside.specs.KeeperSeen.{KeeperSeen, Rests}
 use Rattle.off_outside.specs.KeeperCalls.{Reads, NotDone, Looks, Spent}
 use Rattle.off_outside.proofs.KeeperLemmas.{reads_as, reads_told, reads_forgotten, not_begun, still_crash, spent_none}
 use Rattle.off_laws.proofs.Lines.{packet_tells}
-use Rattle.off_tftp.specs.Calls.{datagram_calls, UnaskedWhereAgreed}
+use Rattle.off_tftp.specs.Calls.{datagram_calls, UnaskedWhereAgreed, RememberedWhereGoneOn, RememberedWhereBegun}
 use Rattle.off_tftp.specs.Agreements.{none_remembered, with_agreed, AllAgreed}
 use Rattle.off_tftp.proofs.AgreementLemmas.{none_agreed}
+use Rattle.off_tftp.proofs.RememberLemmas.{on_unchanged, begun_unchanged, gone_on_remembered, begun_remembered}
 use Rattle.off_tftp.specs.Ticking.{Ticks}
-use Rattle.off_tftp.specs.Deciding.{Answers, after_change, kept_behind, given_by}
+use Rattle.off_tftp.specs.Deciding.{Answers, Remembers, SeesBegun, after_change, kept_behind, given_by}
 use Rattle.off_tftp.specs.Keeping.{FewWhereKept, FewWhereBegun, kept_after}
 use Rattle.off_tftp.specs.declared.requests.Datagram.{Datagram as Received}
 use Rattle.off_tftp.specs.declared.deciding.Decision.{Decision}
@@ -138,16 +140,29 @@ few_by : (q : Result (Unit {0}) KeepErr) (datagram : Received) (before after : D
     → Carries datagram.from d before after said q → FewWhereKept datagram.from.ip before.kept a b
     → FewWhereBegun datagram.from datagram.bytes.now before.held.transfers before.kept a b
     → FewWhereBegun datagram.from datagram.bytes.now (after_change d.change datagram.at.0 before.held.transfers datagram.from) before.kept a b
-    → UnaskedWhereAgreed before.held.now datagram.from datagram.bytes.now before.held.transfers before.agreements a b → FewCalls datagram.from datagram.bytes.now before after a b
-few_by (Ok done) datagram before after said d a b at carried owner same begun unasked = record {
+    → UnaskedWhereAgreed before.held.now datagram.from datagram.bytes.now before.held.transfers before.agreements a b
+    → Remembers before.held.now datagram.from (map.get before.held.transfers datagram.from) before.agreements d → SeesBegun before.held.now datagram.from d
+    → FewCalls datagram.from datagram.bytes.now before after a b
+few_by (Ok done) datagram before after said d a b at carried owner same begun unasked remembers sees =
+    let moved_to : after.held.transfers ≡ after_change d.change before.held.now before.held.transfers datagram.from = ap (λ (k : Desk). k.held.transfers) carried.moves in
+    let put : after.agreements ≡ with_agreed d.agreed before.agreements = ap (λ (k : Desk). k.agreements) carried.moves in
+    record {
+      owner = owner;
+      agreed = unasked;
+      remembered = subst (λ (m : Transfers). RememberedWhereGoneOn before.held.now datagram.from before.held.transfers m after.agreements) (sym moved_to)
+          (gone_on_remembered before.held.now datagram.from before.held.transfers before.agreements after.agreements d put carried.there remembers sees);
+      remembered_begun = subst (λ (m : Transfers). RememberedWhereBegun before.held.now datagram.from datagram.bytes.now before.held.transfers m after.agreements) (sym moved_to)
+          (begun_remembered before.held.now datagram.from before.held.transfers before.agreements after.agreements d put carried.there datagram.bytes.now sees);
+      begun = subst (λ (m : Transfers). FewWhereBegun datagram.from datagram.bytes.now m before.kept a b)
+          (ap (λ n. after_change d.change n before.held.transfers datagram.from) at ∙ sym (ap (λ (k : Desk). k.held.transfers) carried.moves)) begun;
+    }
+few_by (Err err) datagram before after said d a b at not owner same begun unasked remembers sees = record {
   owner = owner;
   agreed = unasked;
-  begun = subst (λ (m : Transfers). FewWhereBegun datagram.from datagram.bytes.now m before.kept a b)
-      (ap (λ n. after_change d.change n before.held.transfers datagram.from) at ∙ sym (ap (λ (k : Desk). k.held.transfers) carried.moves)) begun;
-}
-few_by (Err err) datagram before after said d a b at not owner same begun unasked = record {
-  owner = owner;
-  agreed = unasked;
+  remembered = subst (λ (k : Desk). RememberedWhereGoneOn before.held.now datagram.from before.held.transfers k.held.transfers k.agreements) (sym not.1)
+      (on_unchanged before.held.now datagram.from before.agreements before.held.transfers);
+  remembered_begun = subst (λ (k : Desk). RememberedWhereBegun before.held.now datagram.from datagram.bytes.now before.held.transfers k.held.transfers k.agreements) (sym not.1)
+      (begun_unchanged before.held.now datagram.from before.agreements datagram.bytes.now before.held.transfers);
   begun = subst (λ (m : Transfers). FewWhereBegun datagram.from datagram.bytes.now m before.kept a b) (sym (ap (λ (k : Desk). k.held.transfers) not.1)) same;
 }
 
@@ -155,14 +170,32 @@ pub packet_few : (q : Result (Unit {0}) KeepErr) (datagram : Received) (inside b
     → Carries datagram.from d before after said q → FewWhereKept datagram.from.ip inside.kept a b
     → FewWhereBegun datagram.from datagram.bytes.now inside.held.transfers inside.kept a b
     → FewWhereBegun datagram.from datagram.bytes.now (after_change d.change datagram.at.0 inside.held.transfers datagram.from) inside.kept a b
-    → UnaskedWhereAgreed datagram.at.0 datagram.from datagram.bytes.now inside.held.transfers inside.agreements a b → FewCalls datagram.from datagram.bytes.now before after a b
-packet_few q datagram inside before after said d a b seen at carried owner same begun unasked =
+    → UnaskedWhereAgreed datagram.at.0 datagram.from datagram.bytes.now inside.held.transfers inside.agreements a b
+    → Remembers datagram.at.0 datagram.from (map.get inside.held.transfers datagram.from) inside.agreements d → SeesBegun datagram.at.0 datagram.from d
+    → FewCalls datagram.from datagram.bytes.now before after a b
+packet_few q datagram inside before after said d a b seen at carried owner same begun unasked remembers sees =
     few_by q datagram before after said d a b (at ∙ ap (λ (k : Desk). k.held.now) seen) carried
     (subst (λ (k : Desk). FewWhereKept datagram.from.ip k.kept a b) seen owner)
     (subst (λ (k : Desk). FewWhereBegun datagram.from datagram.bytes.now k.held.transfers k.kept a b) seen same)
     (subst (λ (k : Desk). FewWhereBegun datagram.from datagram.bytes.now (after_change d.change datagram.at.0 k.held.transfers datagram.from) k.kept a b) seen begun)
     (subst (λ n. UnaskedWhereAgreed n datagram.from datagram.bytes.now before.held.transfers before.agreements a b) (at ∙ ap (λ (k : Desk). k.held.now) seen)
     (subst (λ (k : Desk). UnaskedWhereAgreed datagram.at.0 datagram.from datagram.bytes.now k.held.transfers k.agreements a b) seen unasked))
+    (subst (λ n. Remembers n datagram.from (map.get before.held.transfers datagram.from) before.agreements d) (at ∙ ap (λ (k : Desk). k.held.now) seen)
+    (subst (λ (k : Desk). Remembers datagram.at.0 datagram.from (map.get k.held.transfers datagram.from) k.agreements d) seen remembers))
+    (subst (λ n. SeesBegun n datagram.from d) (at ∙ ap (λ (k : Desk). k.held.now) seen) sees)
+
+-- what wasn't decided changes nothing
+pub unmoved_few : (from : Peer) (bytes : List ℕ) (inside before : Desk) (a b : KeeperSeen) → inside ≡ before → FewWhereKept from.ip inside.kept a b
+    → FewWhereBegun from bytes inside.held.transfers inside.kept a b → UnaskedWhereAgreed inside.held.now from bytes inside.held.transfers inside.agreements a b
+    → FewCalls from bytes before before a b
+unmoved_few from bytes inside before a b seen owner begun unasked =
+    subst (λ (k : Desk). FewCalls from bytes k k a b) seen (record {
+      owner = owner;
+      begun = begun;
+      agreed = unasked;
+      remembered = on_unchanged inside.held.now from inside.agreements inside.held.transfers;
+      remembered_begun = begun_unchanged inside.held.now from inside.agreements bytes inside.held.transfers;
+    })
 
 -- what a datagram did, as one effect
 packet_does : (from : Peer) (bytes : List ℕ) (before after : Desk) (said : Said) (t : Tables) → DidPacket from bytes before after said t

@@ -16,7 +16,7 @@ use Rattle.off_cpe_rules.specs.Behind.{modem_behind}
 use Rattle.off_cpe.specs.Calls.{is_own, device_calls}
 use Rattle.off_lease.specs.Calls.{message_calls}
 use Rattle.off_query.specs.Calls.{query_calls}
-use Rattle.off_tftp.specs.Calls.{datagram_calls, UnaskedWhereAgreed}
+use Rattle.off_tftp.specs.Calls.{datagram_calls, UnaskedWhereAgreed, RememberedWhereGoneOn, RememberedWhereBegun}
 use Rattle.off_clerk_rules.specs.declared.faults.ClerkErr.{ClerkErr}
 use Rattle.off_clerk_rules.specs.Commands.{command_read}
 use Rattle.off_book.specs.Http.{is_full, heard_of}
@@ -112,13 +112,18 @@ Asks End held old new = Spent 0 old new
 -- A read request whose modem's body is kept asks three calls at most: where the tables are told, by
 -- the lease of the address, which says whose it is; and whatever the tables, where a transfer has
 -- begun with it. An acknowledgement asks nothing where it's remembered that the tables agree with its
--- transfer.
+-- transfer. Where a transfer went on, or began, that is remembered afterwards: so the next
+-- acknowledgement asks nothing, unless a write, another address or the end of the lease came between.
 pub record FewCalls (from : Peer) (bytes : List ℕ) (before after : Desk)
     (old new : KeeperSeen) : Type 0 where
   pub owner : FewWhereKept from.ip before.kept old new
   pub begun : FewWhereBegun from bytes after.held.transfers before.kept old new
   pub agreed : UnaskedWhereAgreed before.held.now from bytes before.held.transfers
       before.agreements old new
+  pub remembered : RememberedWhereGoneOn before.held.now from before.held.transfers
+      after.held.transfers after.agreements
+  pub remembered_begun : RememberedWhereBegun before.held.now from bytes before.held.transfers
+      after.held.transfers after.agreements
 
 abbrev pub AsksFew : What → Desk → Desk → KeeperSeen → KeeperSeen → Type 0
 AsksFew (Datagram Tftp from bytes) before after old new = FewCalls from bytes before after old new

@@ -1,5 +1,5 @@
 -- What comes of a datagram to the TFTP port, and of a Tick.
-use Rattle.std.specs.Prelude.{◌≡◌, List, ℕ, codes}
+use Rattle.std.specs.Prelude.{◌≡◌, List, ℕ, codes, IfSome}
 use Rattle.off_base.specs.declared.addresses.Peer.{Peer}
 use Rattle.off_defs.specs.State.{Tables, Said}
 use Rattle.off_defs.specs.declared.results.Outcome.{Outcome}
@@ -17,7 +17,7 @@ use Rattle.off_outside.specs.declared.keeper.KeepErr.{KeepErr}
 use Rattle.off_outside.specs.declared.keeper.KeepErr.TheVariants as keep
 use Rattle.off_kept.specs.Entries.{Entries}
 use Rattle.off_kept.specs.Right.{AllRight}
-use Rattle.off_tftp.specs.Agreements.{Slots, with_agreed, AllAgreed}
+use Rattle.off_tftp.specs.Agreements.{Slots, in_slot, with_agreed, AllAgreed}
 use Rattle.off_tftp.specs.Deciding.{after_change, kept_behind, items_of}
 use Rattle.off_tftp.specs.Keeping.{kept_after}
 use Rattle.off_tftp.specs.declared.deciding.Decision.{Decision}
@@ -50,7 +50,7 @@ pub record DidPacket (from : Peer) (bytes : List ℕ) (before after : Desk) (sai
   pub right : AllRight tables after.kept
   pub agreed : AllAgreed tables after.agreements
 
--- what was decided of a datagram is said, and its change made
+-- what was decided of a datagram is said, and its change made; what was seen of agreement is there
 pub record CarriesPacket (from : Peer) (decision : Decision) (before after : Desk) (said : Said)
     : Type 0 where
   pub moves : after
@@ -58,6 +58,7 @@ pub record CarriesPacket (from : Peer) (decision : Decision) (before after : Des
       (after_change decision.change before.held.now before.held.transfers from)
       (kept_behind decision.change before.kept) (with_agreed decision.agreed before.agreements)
   pub says : said ≡ record { items = items_of decision.sent; line = tftp_line decision.word }
+  pub there : IfSome decision.agreed (λ a. in_slot a.ip after.agreements ≡ decision.agreed)
 
 -- the line of a datagram that was acted on has a word of the service, whatever the tables
 pub record SaysPacket (said : Said) : Type 0 where

@@ -1,12 +1,12 @@
 -- What is remembered of agreement: when it's right, and what it says of a transfer.
-use Rattle.std.proofs.Common.{◌≡◌, ◌⊎◌, inl, inr, ℕ, zero, suc, ◌+◌, ◌<◌, ◌==◌, ◌||◌, Bool, true, false, List, [], ◌∷◌, ◌++◌, length, take, get_or, Option, Some, None, IfSome, Decides, refl, sym, ap, ◌∙◌, subst, arith}
+use Rattle.std.proofs.Common.{◌≡◌, ◌⊎◌, inl, inr, ℕ, zero, suc, ◌+◌, ◌<◌, ◌==◌, ◌||◌, Bool, true, false, List, [], ◌∷◌, ◌++◌, length, take, get_or, Option, Some, None, is_some, IfSome, refl, sym, ap, ◌∙◌, subst, arith}
 use Rattle.std.proofs.Math.ListN.{set, replicate}
 use Rattle.std.specs.List.{slice_get, list_any}
 use Rattle.std.specs.Str.{bytes_eq}
-use Rattle.std.proofs.Math.Dec.{ltb, eqb}
+use Rattle.std.proofs.Math.Dec.{ltb}
 use Rattle.std.proofs.lemmas.Bool.{and_parts, ltb-true, eqb-true}
 use Rattle.std.proofs.lemmas.Slice.Eq.{bytes_eq-Decides}
-use Rattle.std.proofs.lemmas.List.{length-replicate, same_lists}
+use Rattle.std.proofs.lemmas.List.{length-replicate, same_lists, get_or-set_same}
 use Rattle.std.proofs.lemmas.List.Folds.{list_any_more, list_any_at}
 use Rattle.std.proofs.lemmas.Option.{slice_get_within, get_or_from_slice_get}
 use Rattle.off_base.specs.declared.addresses.Ip4.{Ip4}
@@ -19,7 +19,7 @@ use Rattle.off_defs.specs.Tables.{key_written}
 use Rattle.off_transfer_rules.specs.Requests.{file_owner}
 use Rattle.off_transfer_rules.specs.View.{View, view, agrees}
 use Rattle.off_tftp.specs.declared.agreements.Agreement.{Agreement}
-use Rattle.off_tftp.specs.Agreements.{Slots, none_remembered, slot_of, in_slot, with_agreement, with_agreed, stands_for, is_remembered, AgreesBy, IsAgreementOf, RemembersRight, StandsRight, AllAgreed, without_row, without_rows}
+use Rattle.off_tftp.specs.Agreements.{Slots, most_slots, none_remembered, slot_of, in_slot, with_agreement, with_agreed, stands_for, is_remembered, agrees_now, AgreesBy, IsAgreementOf, RemembersRight, StandsRight, AllAgreed, without_row, without_rows}
 
 -- ---- slots
 
@@ -114,6 +114,30 @@ agrees_in v now ip x (Some a) e right = let stands = stands_so now ip x a e in a
 
 pub remembered_agrees : (v : View) (now : ℕ) (ip : Ip4) (slots : Slots) (x : Transfer) → is_remembered now ip slots x ≡ true → RemembersRight v ip slots → agrees v now ip x.name (file_owner x.modem x.subscriber) ≡ true
 remembered_agrees v now ip slots x e right = agrees_in v now ip x (in_slot ip slots) e right
+
+-- what is put for an address stands in its slot
+put_stands : (a : Agreement) (slots : Slots) → length slots ≡ most_slots → in_slot a.ip (with_agreement a slots) ≡ Some a
+put_stands a slots wide =
+    let within : slot_of a.ip < 512 = omega arith in
+    get_or-set_same slots (slot_of a.ip) (Some a) None (subst (λ n. slot_of a.ip < n) (sym wide) within)
+
+-- what stands in the slot of an address and for a transfer of it is remembered
+pub standing_remembered : (now : ℕ) (ip : Ip4) (x : Transfer) (slots : Slots) (seen : Option Agreement) → IfSome seen (λ a. in_slot a.ip slots ≡ seen) → passes (stands_for now ip x) seen ≡ true → is_remembered now ip slots x ≡ true
+standing_remembered now ip x slots None there e = cc
+standing_remembered now ip x slots (Some a) there e =
+    ap (λ (i : Ip4). passes (stands_for now ip x) (in_slot i slots)) (sym (stands_so now ip x a e).here)
+    ∙ ap (passes (stands_for now ip x)) there ∙ e
+
+-- what was seen to stand for a transfer is remembered once it's put
+pub seen_remembered : (now : ℕ) (ip : Ip4) (x : Transfer) (slots : Slots) (seen : Option Agreement) → length slots ≡ most_slots → passes (stands_for now ip x) seen ≡ true → is_remembered now ip (with_agreed seen slots) x ≡ true
+seen_remembered now ip x slots None wide e = cc
+seen_remembered now ip x slots (Some a) wide e = standing_remembered now ip x (with_agreement a slots) (Some a) (put_stands a slots wide) e
+
+-- what agrees stands for the transfer, where it was made of it
+pub agreement_stands : (v : View) (now : ℕ) (ip : Ip4) (x : Transfer) (seen : Option Agreement) → is_some seen ≡ agrees_now v now ip x → IfSome seen (λ a. stands_for now ip x a ≡ true)
+    → agrees_now v now ip x ≡ true → passes (stands_for now ip x) seen ≡ true
+agreement_stands v now ip x None made stands so = let no : false ≡ true = made ∙ so in cc
+agreement_stands v now ip x (Some a) made stands so = stands
 
 -- ---- rows, one after another
 

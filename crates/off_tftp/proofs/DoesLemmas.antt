@@ -1,5 +1,5 @@
 -- What is decided of a datagram, by the stages in which it is judged; and what is said and done of it.
-use Rattle.std.proofs.Common.{◌≡◌, ℕ, ◌==◌, ◌&&◌, ◌||◌, not, Bool, true, false, cond, is_some, List, [], Option, Some, None, option_and_then, Result, Ok, Err, is_ok, IfOk, OnOk, OnErr, IfSome, MatchResult, refl, sym, ap, ◌∙◌, subst}
+use Rattle.std.proofs.Common.{◌≡◌, ℕ, ◌==◌, ◌&&◌, not, Bool, true, false, cond, is_some, List, [], length, Option, Some, None, option_and_then, Result, Ok, Err, is_ok, IfOk, OnOk, OnErr, IfSome, MatchResult, refl, sym, ap, ◌∙◌, subst}
 use Rattle.std.specs.FinMap as map
 use Rattle.off_base.specs.Tree.{Tree}
 use Rattle.off_base.specs.declared.octets.NoMemory.{NoMemory}
@@ -31,18 +31,19 @@ use Rattle.off_tftp.specs.declared.acknowledging.Stage.TheVariants as stage
 use Rattle.off_tftp.specs.declared.requests.Datagram.{Datagram}
 use Rattle.off_tftp.specs.declared.transfers.Place.{Place}
 use Rattle.off_tftp.specs.declared.deciding.Decision.{Decision}
+use Rattle.off_tftp.specs.declared.deciding.Change.{Change}
 use Rattle.off_tftp.specs.declared.deciding.Change.TheVariants as change
 use Rattle.off_tftp.specs.Built.{CanBuild}
-use Rattle.off_kept.specs.Entries.{Entries}
+use Rattle.off_kept.specs.Entries.{Entries, with_first}
 use Rattle.off_kept.specs.Right.{AllRight}
 use Rattle.off_tftp.specs.declared.agreements.Agreement.{Agreement}
-use Rattle.off_tftp.specs.Agreements.{Slots, stands_for, is_remembered, IsAgreementOf, RemembersRight, AllAgreed}
+use Rattle.off_tftp.specs.Agreements.{Slots, most_slots, stands_for, is_remembered, with_agreed, IsAgreementOf, RemembersRight, AllAgreed}
 use Rattle.off_tftp.specs.Calls.{asks_by_name, FewUnlessNamed, FewUnlessNamedAt, is_acknowledgement, UnaskedWhereAgreed}
-use Rattle.off_tftp.specs.Deciding.{Does, Serves, Decides, Judges, Answers, KeepsNothing, SeesNothing, SeesRight, Remembers, given_by, goes_on, refusal_of}
+use Rattle.off_tftp.specs.Deciding.{Does, Serves, Decides, Judges, Answers, KeepsNothing, SeesNothing, SeesRight, SeesBegun, Remembers, given_by, goes_on, new_transfer_by, kept_behind, refusal_of}
 use Rattle.off_tftp.specs.declared.gathering.Seen.{Seen}
 use Rattle.off_tftp.specs.Keeping.{entry_for, kept_by, is_kept, BeginsFor, FewWhereBegun}
 use Rattle.off_tftp.specs.Seen.{held_by, view_at, view_of, view_with, without_profile, names_file, seen_for, CanServe, Shows}
-use Rattle.off_tftp.proofs.AgreementLemmas.{agreed_seen, remembers_right, remembered_agrees}
+use Rattle.off_tftp.proofs.AgreementLemmas.{agreed_seen, remembers_right, remembered_agrees, seen_remembered}
 use Rattle.off_tftp.proofs.BodyLemmas.{repeat_keeps, acknowledgement_keeps, after_right, few_begun}
 use Rattle.off_tftp.specs.Stages.{repeats, lacks_room_by, stage_of}
 
@@ -398,22 +399,35 @@ next_looked now old from bytes v seen ip slots live (Err err) e done right = tt
 next_looked now old from bytes v seen ip slots live (Ok d) e done right = λ remembers.
     (next_does now old from bytes v seen ip live (Ok d) e done, seen_sees v seen ip (Ok d) e right)
 
--- where agreement was remembered, or was seen, it's remembered behind
-pub remembers_still : (now : ℕ) (from : Peer) (live : Option Transfer) (slots : Slots) (kept : Result Decision KeepErr) → passes (is_remembered now from.ip slots) live ≡ true
-    → IfOk kept (Remembers now from live slots)
-remembers_still now from live slots (Err err) is = tt
-remembers_still now from None slots (Ok d) is = cc
-remembers_still now from (Some x) slots (Ok d) is = λ on. or_right (passes (stands_for now from.ip x) d.agreed) (is_remembered now from.ip slots x) is
-  where
-    or_right : (a b : Bool) → b ≡ true → (a || b) ≡ true
-    or_right true b e = refl
-    or_right false b e = e
+-- where agreement was remembered and none is put, or was seen and is put, it's remembered behind
+pub remembers_still : (now : ℕ) (from : Peer) (live : Option Transfer) (slots : Slots) (step : Result Decision NoMemory) → passes (is_remembered now from.ip slots) live ≡ true
+    → IfOk step (λ d. d.agreed ≡ None) → IfOk step (Remembers now from live slots)
+remembers_still now from live slots (Err err) is none = tt
+remembers_still now from None slots (Ok d) is none = cc
+remembers_still now from (Some x) slots (Ok d) is none = λ on. subst (λ (o : Option Agreement). is_remembered now from.ip (with_agreed o slots) x ≡ true) (sym none) is
 
-pub remembers_seen : (now : ℕ) (from : Peer) (live : Option Transfer) (slots : Slots) (step : Result Decision NoMemory)
+pub remembers_seen : (now : ℕ) (from : Peer) (live : Option Transfer) (slots : Slots) (step : Result Decision NoMemory) → IfSome live (λ _. length slots ≡ most_slots)
     → IfOk step (λ d. goes_on d.change ≡ true → IfSome live (λ x. passes (stands_for now from.ip x) d.agreed ≡ true)) → IfOk step (Remembers now from live slots)
-remembers_seen now from live slots (Err err) seen = tt
-remembers_seen now from None slots (Ok d) seen = λ on. tt
-remembers_seen now from (Some x) slots (Ok d) seen = λ on. ap (λ b. b || is_remembered now from.ip slots x) (seen on)
+remembers_seen now from live slots (Err err) wide seen = tt
+remembers_seen now from None slots (Ok d) wide seen = λ on. tt
+remembers_seen now from (Some x) slots (Ok d) wide seen = λ on. seen_remembered now from.ip x slots d.agreed wide (seen on)
+
+-- what keeps no body begins no transfer
+bare_begins : (change : Change) → ((entries : Entries) → kept_behind change entries ≡ entries) → new_transfer_by change ≡ None
+bare_begins change.Stays bare = refl
+bare_begins (change.AsksAgain place) bare = refl
+bare_begins (change.GoesOn place) bare = refl
+bare_begins (change.Ends place) bare = refl
+bare_begins (change.Begins place live entry) bare = let no : with_first live.modem entry [] ≡ [] = bare [] in cc
+
+pub bare_sees : {E : Type 0} (now : ℕ) (from : Peer) (result : Result Decision E) → IfOk result KeepsNothing → IfOk result (SeesBegun now from)
+bare_sees {E} now from (Ok d) bare =
+    subst (λ (o : Option Transfer). IfSome o (λ x. passes (stands_for now from.ip x) d.agreed ≡ true)) (sym (bare_begins d.change bare)) tt
+bare_sees {E} now from (Err err) bare = tt
+
+pub refused_sees : (now : ℕ) (from : Peer) (denial : Denial) (step : Result Decision NoMemory) → IfOk step (λ d. d ≡ refusal_of from denial) → IfOk step (SeesBegun now from)
+refused_sees now from denial (Ok d) is = subst (SeesBegun now from) (sym is) tt
+refused_sees now from denial (Err err) is = tt
 
 -- an acknowledgement of no transfer, of an earlier packet or of the last block needs no agreement
 pub not_asked : (now : ℕ) (from : Peer) (bytes : List ℕ) (old : Transfers) (slots : Slots) (a b : KeeperSeen) (meant : Result Meant PacketFault) → packet_of bytes ≡ meant → is_acknowledgement meant ≡ false

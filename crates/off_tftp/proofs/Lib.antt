@@ -7,3 +7,4 @@ pub mod ReadLemmas
 pub mod BodyLemmas
 pub mod DoesLemmas
 pub mod OpenLemmas
+pub mod RememberLemmas

@@ -1,6 +1,7 @@
 -- A request that is accepted.
 use Rattle.std.proofs.Common.{◌≡◌, ℕ, ◌&&◌, not, Bool, true, false, cond, is_some, List, Option, Some, None, option_map, Result, Ok, Err, IfOk, IfSome, IsTrue, MatchOption, refl, sym, ap, ◌∙◌, subst}
 use Rattle.std.specs.FinMap as map
+use Rattle.std.proofs.lemmas.Bool.{eq-eqb}
 use Rattle.off_base.specs.Tree.{Tree, spelling}
 use Rattle.off_base.specs.declared.octets.NoMemory.{NoMemory}
 use Rattle.off_base.specs.declared.addresses.Peer.{Peer}
@@ -14,7 +15,9 @@ use Rattle.off_kept.specs.declared.bodies.KeptBody.{KeptBody}
 use Rattle.off_kept.specs.Entries.{with_first}
 use Rattle.off_transfer_rules.specs.Requests.{datagram_at, file_owner}
 use Rattle.off_transfer_rules.specs.Transfers.{Transfers, new_transfer, has_no_room}
-use Rattle.off_transfer_rules.specs.View.{View, IsBuiltBy, is_own_name}
+use Rattle.off_account_rules.specs.Good.{is_mac}
+use Rattle.off_account_rules.proofs.OwnerLemmas.{mac_own}
+use Rattle.off_transfer_rules.specs.View.{View, IsBuiltBy, is_own_name, is_of_subscriber}
 use Rattle.off_transfer_rules.specs.Steps.{Way, Denial, Accepts, Denies, way_anew, way_for_holder, way_for_owner, owner_by_row, file_not_found, too_many_transfers}
 use Rattle.off_tftp.specs.declared.deciding.Decision.{Decision}
 use Rattle.off_tftp.specs.declared.gathering.Seen.{Seen}
@@ -22,7 +25,9 @@ use Rattle.off_tftp.specs.Keeping.{entry_of, entry_for, kept_with, BeginsFor}
 use Rattle.off_tftp.specs.Kept.{HasRoomFor}
 use Rattle.off_tftp.specs.Places.{IsPlaceOf}
 use Rattle.off_tftp.specs.Granted.{begun_by, IsFor, came_in, asked_in}
-use Rattle.off_tftp.specs.Deciding.{Serves, CanBe, SeesNothing, Starts, after_change, start_of, refusal_of, denial_of}
+use Rattle.off_tftp.specs.Agreements.{stands_for, agrees_now}
+use Rattle.off_tftp.specs.Deciding.{Serves, CanBe, SeesNothing, SeesBegun, Starts, new_transfer_by, after_change, start_of, refusal_of, denial_of}
+use Rattle.off_tftp.specs.declared.deciding.Change.{Change}
 use Rattle.off_tftp.specs.declared.requests.Request.{Request}
 use Rattle.off_tftp.specs.declared.requests.Grant.{Grant}
 use Rattle.off_tftp.specs.Stages.{repeats, lacks_room_by, lacks_room}
@@ -33,7 +38,7 @@ use Rattle.off_file_rules.specs.File.{IsBuilt}
 use Rattle.off_tftp.specs.Built.{CanBuild}
 use Rattle.off_tftp.specs.Opened.{IsBegun, Finds, Refuses, Begins}
 use Rattle.off_tftp.specs.declared.opening.Found.{Found}
-use Rattle.off_tftp.specs.Seen.{view_with, held_by, IsNamed, HasName, CanServe}
+use Rattle.off_tftp.specs.Seen.{view_of, view_with, held_by, IsNamed, HasName, CanServe}
 
 -- where a name is that of a file, there is a site
 site_there : (o : Option Site) (f : Site → Bool) → passes f o ≡ true → is_some o ≡ true
@@ -229,6 +234,58 @@ started_unseen request entry (Some g) d is = subst SeesNothing (sym is) (record 
 pub found_unseen : (request : Request) (site : Option Site) (found : Found) (step : Result Decision NoMemory) → IfOk step (Begins request site found) → IfOk step SeesNothing
 found_unseen request site found (Ok d) begins = started_unseen request found.body.now begins.grant d begins.starts
 found_unseen request site found (Err err) begins = tt
+
+-- what there is for its peer agrees with a transfer that begins
+found_agrees : (request : Request) (seen : Seen) (no_room : Bool) (found : Found) (grant : Grant) → Finds request.at.0 seen no_room found → IsNamed request.at.0 request.from.ip request.name.now seen
+    → IsFor found.modem found.subscriber grant → agrees_now (view_of seen) request.at.0 request.from.ip (begun_by request grant) ≡ true
+found_agrees request seen no_room found grant finds named whose =
+    let whole : grant.subscriber ≡ finds.row.subscriber = whose.subscriber_is ∙ finds.subscriber_is in
+    ap (λ (x : Transfer). agrees_now (view_of seen) request.at.0 request.from.ip x)
+    (ap (λ (m : Mac). new_transfer (came_in request) (asked_in request) (file_owner m grant.subscriber) grant.file) whose.modem_is
+    ∙ ap (λ n. new_transfer (came_in request) (asked_in request) (file_owner found.modem n) grant.file) whole)
+    ∙ ap (λ (h : Option Mac). passes (is_mac found.modem) h && (passes (is_of_subscriber finds.row.subscriber) seen.modem && passes (is_own_name request.name.now found.modem request.from.ip) seen.site)) finds.modem_is
+    ∙ ap (λ (m : Option Modem). is_mac found.modem found.modem && (passes (is_of_subscriber finds.row.subscriber) m && passes (is_own_name request.name.now found.modem request.from.ip) seen.site)) finds.row_is
+    ∙ all_three (is_mac found.modem found.modem) (is_of_subscriber finds.row.subscriber finds.row) (passes (is_own_name request.name.now found.modem request.from.ip) seen.site)
+    (mac_own found.modem) (eq-eqb finds.row.subscriber finds.row.subscriber refl) (found_named request seen no_room found finds named)
+  where
+    all_three : (a b c : Bool) → a ≡ true → b ≡ true → c ≡ true → (a && (b && c)) ≡ true
+    all_three true true true p q r = refl
+    all_three true true false p q r = r
+    all_three true false c p q r = q
+    all_three false b c p q r = p
+
+started_agrees : (request : Request) (seen : Seen) (no_room : Bool) (found : Found) (grant : Option Grant) (d : Decision) → Finds request.at.0 seen no_room found → IsNamed request.at.0 request.from.ip request.name.now seen
+    → IfSome grant (IsFor found.modem found.subscriber) → Starts request found.body.now grant d
+    → IfSome (new_transfer_by d.change) (λ x. agrees_now (view_of seen) request.at.0 request.from.ip x ≡ true)
+started_agrees request seen no_room found None d finds named whose is =
+    subst (λ (e : Decision). IfSome (new_transfer_by e.change) (λ x. agrees_now (view_of seen) request.at.0 request.from.ip x ≡ true)) (sym is) tt
+started_agrees request seen no_room found (Some g) d finds named whose is =
+    subst (λ (e : Decision). IfSome (new_transfer_by e.change) (λ x. agrees_now (view_of seen) request.at.0 request.from.ip x ≡ true)) (sym is)
+    (found_agrees request seen no_room found g finds named whose)
+
+pub found_begun_agrees : (request : Request) (seen : Seen) (no_room : Bool) (found : Found) (step : Result Decision NoMemory) → Finds request.at.0 seen no_room found → IsNamed request.at.0 request.from.ip request.name.now seen
+    → IfOk step (Begins request seen.site found) → IfOk step (λ d. IfSome (new_transfer_by d.change) (λ x. agrees_now (view_of seen) request.at.0 request.from.ip x ≡ true))
+found_begun_agrees request seen no_room found (Ok d) finds named begins = started_agrees request seen no_room found begins.grant d finds named begins.whose begins.starts
+found_begun_agrees request seen no_room found (Err err) finds named begins = tt
+
+pub refused_agrees : (request : Request) (seen : Seen) (denial : Denial) (step : Result Decision NoMemory) → IfOk step (λ d. d ≡ refusal_of request.from denial)
+    → IfOk step (λ d. IfSome (new_transfer_by d.change) (λ x. agrees_now (view_of seen) request.at.0 request.from.ip x ≡ true))
+refused_agrees request seen denial (Ok d) is =
+    subst (λ (e : Decision). IfSome (new_transfer_by e.change) (λ x. agrees_now (view_of seen) request.at.0 request.from.ip x ≡ true)) (sym is) tt
+refused_agrees request seen denial (Err err) is = tt
+
+-- where it agrees, what was seen of it stands for it
+pub begun_sees : (v : View) (now : ℕ) (from : Peer) (d e : Decision) → e ≡ record d { agreed = e.agreed }
+    → IfSome (new_transfer_by d.change) (λ x. agrees_now v now from.ip x ≡ true) → IfSome (new_transfer_by d.change) (λ x. agrees_now v now from.ip x ≡ true → passes (stands_for now from.ip x) e.agreed ≡ true)
+    → SeesBegun now from e
+begun_sees v now from d e same agreed stands =
+    subst (λ (c : Change). IfSome (new_transfer_by c) (λ x. passes (stands_for now from.ip x) e.agreed ≡ true)) (sym (ap (λ (x : Decision). x.change) same))
+    (both (new_transfer_by d.change) agreed stands)
+  where
+    both : (o : Option Transfer) → IfSome o (λ x. agrees_now v now from.ip x ≡ true) → IfSome o (λ x. agrees_now v now from.ip x ≡ true → passes (stands_for now from.ip x) e.agreed ≡ true)
+        → IfSome o (λ x. passes (stands_for now from.ip x) e.agreed ≡ true)
+    both None agreed stands = tt
+    both (Some x) agreed stands = stands agreed
 
 -- nor does what is seen of agreement change what it serves
 pub serves_seen : (v : View) (now : ℕ) (old : Transfers) (from : Peer) (bytes : List ℕ) (w : Way) (d e : Decision) → e ≡ record d { agreed = e.agreed } → Serves v old (datagram_at now from bytes) w d → Serves v old (datagram_at now from bytes) w e

@@ -56,6 +56,10 @@ stands_for now ip x a =
 abbrev pub is_remembered : ℕ → Ip4 → Slots → Transfer → Bool
 is_remembered now ip slots x = passes (stands_for now ip x) (in_slot ip slots)
 
+-- what there is for an address agrees with a transfer of it at a moment
+abbrev pub agrees_now : View → ℕ → Ip4 → Transfer → Bool
+agrees_now v now ip x = agrees v now ip x.name (file_owner x.modem x.subscriber)
+
 -- ---- when it's right
 
 -- what there is for its address agrees at each moment before its end

@@ -2,7 +2,7 @@
 -- hub, the lease of the address, the modem, the subscriber, the class, and eight add-ons; the
 -- acknowledgement of a block that isn't the last needs the first three, and none where it's
 -- remembered that the tables agree; all others none.
-use Rattle.std.specs.Prelude.{◌≡◌, ℕ, ◌==◌, Bool, true, false, List, Option, Some, None, Result, Ok, Err, if◌then◌else◌}
+use Rattle.std.specs.Prelude.{◌≡◌, ℕ, ◌==◌, Bool, true, false, not, List, Option, Some, None, Result, Ok, Err, if◌then◌else◌}
 use Rattle.std.specs.FinMap as map
 use Rattle.off_base.specs.declared.addresses.Peer.{Peer}
 use Rattle.off_base.specs.declared.addresses.Ip4.{Ip4}
@@ -13,6 +13,7 @@ use Rattle.off_outside.specs.KeeperCalls.{Spent}
 use Rattle.off_transfer_rules.specs.View.{View, view}
 use Rattle.off_tftp.specs.Agreements.{Slots, is_remembered}
 use Rattle.off_tftp.specs.Seen.{view_at, names_file}
+use Rattle.off_tftp.specs.Stages.{repeats}
 use Rattle.off_packets.specs.Packets.{Meant, Reads, Writes, Acknowledges, GivesUp, IsOther, packet_of}
 use Rattle.off_transfer_rules.specs.Steps.{is_repeated}
 use Rattle.off_transfer_rules.specs.Transfers.{Transfers, is_at_last}
@@ -86,3 +87,22 @@ abbrev pub UnaskedWhereAgreed : ℕ → Peer → List ℕ → Transfers → Slot
 UnaskedWhereAgreed now from bytes transfers slots old new =
     is_acknowledgement (packet_of bytes) ≡ true → agrees_with now from slots transfers ≡ true →
     Spent 0 old new
+
+-- the next block of a transfer was sent: it's there still, and another packet was its last
+abbrev pub has_gone_on : Option Transfer → Option Transfer → Bool
+has_gone_on None after = false
+has_gone_on (Some x) None = false
+has_gone_on (Some x) (Some y) = not (x.sent == y.sent)
+
+-- Where a peer's transfer went on, it's remembered afterwards that the tables agree with it, so that
+-- the next acknowledgement asks nothing.
+abbrev pub RememberedWhereGoneOn : ℕ → Peer → Transfers → Transfers → Slots → Type 0
+RememberedWhereGoneOn now from before after slots =
+    has_gone_on (map.get before from) (map.get after from) ≡ true →
+    agrees_with now from slots after ≡ true
+
+-- And so it is where a transfer began: it began with this request, and there was none that had.
+abbrev pub RememberedWhereBegun : ℕ → Peer → List ℕ → Transfers → Transfers → Slots → Type 0
+RememberedWhereBegun now from bytes before after slots =
+    repeats bytes (map.get before from) ≡ false → repeats bytes (map.get after from) ≡ true →
+    agrees_with now from slots after ≡ true

@@ -1,5 +1,5 @@
 -- What is decided of a datagram, and how that is what its way gives.
-use Rattle.std.specs.Prelude.{◌≡◌, ℕ, Bool, ◌||◌, List, [], ◌∷◌, true, false, Option, Some, None, IfSome, MatchOption, ⊤}
+use Rattle.std.specs.Prelude.{◌≡◌, ℕ, Bool, List, [], ◌∷◌, true, false, Option, Some, None, IfSome, MatchOption, ⊤}
 use Rattle.std.specs.FinMap as map
 use Rattle.off_base.specs.declared.addresses.Ip4.{Ip4}
 use Rattle.off_base.specs.declared.addresses.Peer.{Peer}
@@ -49,6 +49,14 @@ goes_on (change.AsksAgain place) = false
 goes_on (change.GoesOn place) = true
 goes_on (change.Ends place) = false
 goes_on (change.Begins place live entry) = false
+
+-- the transfer that begins, if one does
+abbrev pub new_transfer_by : Change → Option Transfer
+new_transfer_by change.Stays = None
+new_transfer_by (change.AsksAgain place) = None
+new_transfer_by (change.GoesOn place) = None
+new_transfer_by (change.Ends place) = None
+new_transfer_by (change.Begins place live entry) = Some live
 
 -- what it leaves of what is kept
 abbrev pub kept_behind : Change → Entries → Entries
@@ -118,12 +126,16 @@ pub record SeesNothing (d : Decision) : Type 0 where
 abbrev pub SeesRight : View → Ip4 → Decision → Type 0
 SeesRight v ip d = IfSome d.agreed (IsAgreementOf v ip)
 
--- where the next block goes agreement was remembered, or it was seen and is to be remembered
+-- where the next block goes agreement is remembered, once what was seen of it is put
 abbrev pub Remembers : ℕ → Peer → Option Transfer → Slots → Decision → Type 0
 Remembers now from live slots d =
     goes_on d.change ≡ true
-    → IfSome live (λ x. (passes (stands_for now from.ip x) d.agreed
-    || is_remembered now from.ip slots x) ≡ true)
+    → IfSome live (λ x. is_remembered now from.ip (with_agreed d.agreed slots) x ≡ true)
+
+-- where a transfer begins agreement with it was seen, and is to be remembered
+abbrev pub SeesBegun : ℕ → Peer → Decision → Type 0
+SeesBegun now from d =
+    IfSome (new_transfer_by d.change) (λ x. passes (stands_for now from.ip x) d.agreed ≡ true)
 
 abbrev pub given_by : Decision → ℕ → Transfers → Peer → Given
 given_by d now transfers from =

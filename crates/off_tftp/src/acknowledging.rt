@@ -1,13 +1,15 @@
 //! A packet that has come, and a request that came again.
 
-ghost use Rattle.std.specs.Prelude.{◌≡◌, List, ℕ, None, true, false, is_some, IfOk, IfSome};
+ghost use Rattle.std.specs.Prelude.{◌≡◌, List, ℕ, None, true, false, length, is_some};
+ghost use Rattle.std.specs.Prelude.{IfOk, IfSome};
 ghost use Rattle.std.specs.FinMap as map;
 ghost use Rattle.off_account_rules.specs.Rows.{passes};
 ghost use Rattle.off_transfer_rules.specs.Requests.{datagram_at, file_owner};
 ghost use Rattle.off_transfer_rules.specs.View.{View, agrees};
 ghost use Rattle.off_transfer_rules.specs.Steps.{Repeats, GoesOn, way_of_last, no_longer_agreed};
 ghost use Rattle.off_transfer_rules.specs.Transfers.{is_at_last};
-ghost use Rattle.off_tftp.specs.Agreements.{stands_for, is_remembered, IsAgreementOf};
+ghost use Rattle.off_tftp.specs.Agreements.{most_slots, stands_for, is_remembered};
+ghost use Rattle.off_tftp.specs.Agreements.{IsAgreementOf};
 ghost use Rattle.off_tftp.specs.Deciding.{Does, CanBe, KeepsNothing, SeesNothing};
 ghost use Rattle.off_tftp.specs.Deciding.{refusal_of, goes_on};
 ghost use Rattle.off_tftp.specs.declared.deciding.Change.TheVariants.{Ends};
@@ -76,8 +78,9 @@ impl Transfers {
         place: Place,
     ) -> bool
         requires { IsPlaceOf self.now from place }
-        ensures { result ≡ passes (is_remembered now.0 from.ip agreements.now)
+        ensures remembered { result ≡ passes (is_remembered now.0 from.ip agreements.now)
             (map.get self.now from) }
+        ensures wide { IfSome (map.get self.now from) (λ _. length agreements.now ≡ most_slots) }
     {
         match self.get(from, place) {
             Some(live) => agreements.has(now, from.ip, live),

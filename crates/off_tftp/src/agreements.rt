@@ -1,6 +1,7 @@
 ghost use Rattle.std.specs.Prelude.{◌≡◌, ◌<◌, ℕ, Some, None, length, slice_index_or, IfOk, IfSome};
 ghost use Rattle.off_defs.specs.Tables.{key_written};
-ghost use Rattle.off_tftp.specs.Agreements.{none_remembered, slot_of, in_slot, stands_for};
+ghost use Rattle.off_tftp.specs.Agreements.{most_slots, none_remembered, slot_of, in_slot};
+ghost use Rattle.off_tftp.specs.Agreements.{stands_for};
 ghost use Rattle.off_tftp.specs.Agreements.{is_remembered, with_agreed, touches_all, touch_all};
 ghost use Rattle.off_tftp.specs.Agreements.{without_row, without_rows, without_touched};
 
@@ -72,7 +73,8 @@ impl Agreements {
 
     /// Whether it's remembered that the tables agree with a transfer of an address.
     pub(crate) fn has(&self, now: Moment, ip: Ip4, live: &Live) -> bool
-        ensures { result ≡ is_remembered now.0 ip self.now live.now }
+        ensures remembered { result ≡ is_remembered now.0 ip self.now live.now }
+        ensures wide { length self.now ≡ most_slots }
     {
         match self.slots[slot_of(ip)] {
             Some(agreement) => agreement.stands_for(now, ip, live),

@@ -20,7 +20,7 @@ ghost use Rattle.off_tftp.specs.Keeping.{FewWhereKept, FewWhereBegun};
 ghost use Rattle.off_tftp.specs.Places.{IsPlaceOf};
 ghost use Rattle.off_tftp.specs.Seen.{view_at};
 ghost use Rattle.off_tftp.specs.Deciding.{Does, Serves, Judges, Answers, CanBe, KeepsNothing};
-ghost use Rattle.off_tftp.specs.Deciding.{SeesRight, Remembers, goes_on};
+ghost use Rattle.off_tftp.specs.Deciding.{SeesRight, SeesBegun, Remembers, goes_on};
 ghost use Rattle.off_tftp.specs.Deciding.{after_change, kept_behind};
 
 use crate::acknowledging::Stage;
@@ -78,6 +78,7 @@ impl Transfers {
             (K.seen keeper.old) (K.seen keeper.new) }
         ensures remembers { IfOk result (Remembers datagram.now.at.0 datagram.now.from
             (map.get self.now datagram.now.from) agreements.now) }
+        ensures sees_begun { IfOk result (SeesBegun datagram.now.at.0 datagram.now.from) }
     {
         self.decide(alloc, keeper, kept, agreements, datagram)
     }
@@ -115,6 +116,7 @@ impl Transfers {
             (K.seen keeper.old) (K.seen keeper.new) }
         ensures remembers { IfOk result (Remembers datagram.now.at.0 datagram.now.from
             (map.get self.now datagram.now.from) agreements.now) }
+        ensures sees_begun { IfOk result (SeesBegun datagram.now.at.0 datagram.now.from) }
     {
         let Datagram {
             from,
@@ -174,6 +176,7 @@ impl Transfers {
             × SeesRight v request.now.from.ip d) }
         ensures able { IfOk result (λ d. CanBe d.change self.now request.now.from) }
         ensures ends { IfOk result (λ d. goes_on d.change ≡ false) }
+        ensures sees_begun { IfOk result (SeesBegun request.now.at.0 request.now.from) }
         ensures spent { Spent
             (reading_calls request.now.bytes.now (map.get self.now request.now.from))
             (K.seen keeper.old) (K.seen keeper.new) }

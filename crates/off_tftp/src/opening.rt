@@ -4,6 +4,7 @@ ghost use Rattle.std.specs.Prelude.{◌≡◌, ◌≤◌, List, Option, Some, le
 ghost use Rattle.std.specs.Prelude.{true, false, is_some, Ok, IfOk, IfSome, MatchResult};
 ghost use Rattle.std.specs.FinMap as map;
 ghost use Rattle.off_base.specs.Tree.{Tree, spelling};
+ghost use Rattle.off_account_rules.specs.Rows.{passes};
 ghost use Rattle.off_file_rules.specs.File.{most_file_bytes};
 ghost use Rattle.off_packets.specs.Packets.{Reads, packet_of};
 ghost use Rattle.off_transfer_rules.specs.View.{View};
@@ -13,9 +14,9 @@ ghost use Rattle.off_tftp.specs.Keeping.{entry_for, BeginsFor};
 ghost use Rattle.off_tftp.specs.Opened.{IsBegun, Finds, Refuses, Begins};
 ghost use Rattle.off_tftp.specs.Places.{IsPlaceOf};
 ghost use Rattle.off_tftp.specs.Granted.{IsFor, came_in, asked_in};
-ghost use Rattle.off_tftp.specs.Deciding.{Serves, CanBe, SeesNothing, Starts, goes_on};
-ghost use Rattle.off_tftp.specs.Deciding.{after_change};
-ghost use Rattle.off_tftp.specs.Agreements.{IsAgreementOf};
+ghost use Rattle.off_tftp.specs.Deciding.{Serves, CanBe, SeesNothing, SeesBegun, Starts};
+ghost use Rattle.off_tftp.specs.Deciding.{goes_on, new_transfer_by, after_change};
+ghost use Rattle.off_tftp.specs.Agreements.{IsAgreementOf, agrees_now, stands_for};
 ghost use Rattle.off_tftp.specs.Seen.{view_of, view_with, held_by, IsNamed, CanServe};
 ghost use Rattle.off_tftp.specs.Stages.{lacks_room, repeats};
 
@@ -62,6 +63,8 @@ impl Transfers {
             (lacks_room self.now request.now.from) (asked_in request.now))) }
         ensures able { IfOk result (λ d. CanBe d.change self.now request.now.from) }
         ensures unseen { IfOk result SeesNothing }
+        ensures agrees { IfOk result (λ d. IfSome (new_transfer_by d.change)
+            (λ x. agrees_now (view_of seen.now) request.now.at.0 request.now.from.ip x ≡ true)) }
         ensures begins { repeats request.now.bytes.now (map.get self.now request.now.from) ≡ false
             → IfOk result (λ d. BeginsFor (held_by request.now.at.0 seen.now.lease)
             request.now.bytes.now (map.get
@@ -98,6 +101,7 @@ impl Transfers {
         ensures ends { IfOk result (λ d. goes_on d.change ≡ false) }
         ensures sees { IfOk result (λ d. IfSome d.agreed
             (IsAgreementOf (view_of seen.now) request.now.from.ip)) }
+        ensures sees_begun { IfOk result (SeesBegun request.now.at.0 request.now.from) }
         ensures begins { repeats request.now.bytes.now (map.get self.now request.now.from) ≡ false
             → IfOk result (λ d. BeginsFor (held_by request.now.at.0 seen.now.lease)
             request.now.bytes.now (map.get
@@ -122,6 +126,9 @@ fn with_seen(seen: &Seen, request: &Request<'_>, decision: Decision) -> Decision
     ensures same { result ≡ record decision { agreed = result.agreed } }
     ensures right { IfSome result.agreed
         (IsAgreementOf (view_of seen.now) request.now.from.ip) }
+    ensures stands { IfSome (new_transfer_by decision.change)
+        (λ x. agrees_now (view_of seen.now) request.now.at.0 request.now.from.ip x ≡ true
+        → passes (stands_for request.now.at.0 request.now.from.ip x) result.agreed ≡ true) }
 {
     let Decision {
         word,
@@ -139,7 +146,10 @@ fn with_seen(seen: &Seen, request: &Request<'_>, decision: Decision) -> Decision
 }
 
 fn seen_of(seen: &Seen, request: &Request<'_>, change: &Change) -> Option<Agreement>
-    ensures { IfSome result (IsAgreementOf (view_of seen.now) request.now.from.ip) }
+    ensures right { IfSome result (IsAgreementOf (view_of seen.now) request.now.from.ip) }
+    ensures stands { IfSome (new_transfer_by change.now)
+        (λ x. agrees_now (view_of seen.now) request.now.at.0 request.now.from.ip x ≡ true
+        → passes (stands_for request.now.at.0 request.now.from.ip x) result ≡ true) }
 {
     match change {
         Change::Begins { live, .. } => agreement_of(seen, request.at, request.from.ip, live),

@@ -10,7 +10,7 @@ use Rattle.off_tftp.specs.Calls.{asks_by_name}
 use Rattle.off_packets.specs.Pieces.{AsksEnough}
 use Rattle.off_tftp.specs.Seen.{view_at}
 use Rattle.off_tftp.proofs.ReadLemmas.{acknowledgement_few, few_none}
-use Rattle.off_tftp.proofs.DoesLemmas.{looks_as, looks_at_once, if_ok_as, if_settled, decides_by, deny_decides, leave_decides, judged, judged_both, refused_unseen, unseen_remembers, ended_remembers, not_asked, acknowledged_looks}
+use Rattle.off_tftp.proofs.DoesLemmas.{looks_as, looks_at_once, if_ok_as, if_settled, decides_by, deny_decides, leave_decides, judged, judged_both, refused_unseen, refused_sees, bare_sees, unseen_remembers, ended_remembers, not_asked, acknowledged_looks}
 use Rattle.off_tftp.proofs.transfers.Transfers.decide.Goals as goal
 
 pub on_request-requires-clause-least : goal.on_request-requires-clause-least
@@ -123,3 +123,22 @@ pub returns-in-Err-Mode-clause-remembers : goal.returns-in-Err-Mode-clause-remem
 returns-in-Err-Mode-clause-remembers g c =
     unseen_remembers c.args.datagram.now.at.0 c.args.datagram.now.from (map.get c.args.self.now c.args.datagram.now.from) c.args.agreements.now c.settled-in-Err-Mode.result
     (if_settled c.refuse-in-Err-Mode.result c.settled-in-Err-Mode.result _ c.settled-in-Err-Mode.ensures (refused_unseen c.args.datagram.now.from octet_only c.refuse-in-Err-Mode.result c.refuse-in-Err-Mode.ensures))
+
+pub returns-in-Ok-Ack-clause-sees_begun : goal.returns-in-Ok-Ack-clause-sees_begun
+returns-in-Ok-Ack-clause-sees_begun g c = bare_sees c.args.datagram.now.at.0 c.args.datagram.now.from c.on_acknowledgement.result c.on_acknowledgement.ensures.bare
+
+pub returns-in-Ok-Write-clause-sees_begun : goal.returns-in-Ok-Write-clause-sees_begun
+returns-in-Ok-Write-clause-sees_begun g c =
+    if_settled c.refuse.result c.settled.result _ c.settled.ensures (refused_sees c.args.datagram.now.at.0 c.args.datagram.now.from access_violation c.refuse.result c.refuse.ensures)
+
+pub returns-in-Ok-Other-clause-sees_begun : goal.returns-in-Ok-Other-clause-sees_begun
+returns-in-Ok-Other-clause-sees_begun g c =
+    if_settled c.refuse-in-Ok-Other.result c.settled-in-Ok-Other.result _ c.settled-in-Ok-Other.ensures (refused_sees c.args.datagram.now.at.0 c.args.datagram.now.from illegal_operation c.refuse-in-Ok-Other.result c.refuse-in-Ok-Other.ensures)
+
+pub returns-in-Err-Form-clause-sees_begun : goal.returns-in-Err-Form-clause-sees_begun
+returns-in-Err-Form-clause-sees_begun g c =
+    if_settled c.refuse-in-Err-Form.result c.settled-in-Err-Form.result _ c.settled-in-Err-Form.ensures (refused_sees c.args.datagram.now.at.0 c.args.datagram.now.from illegal_operation c.refuse-in-Err-Form.result c.refuse-in-Err-Form.ensures)
+
+pub returns-in-Err-Mode-clause-sees_begun : goal.returns-in-Err-Mode-clause-sees_begun
+returns-in-Err-Mode-clause-sees_begun g c =
+    if_settled c.refuse-in-Err-Mode.result c.settled-in-Err-Mode.result _ c.settled-in-Err-Mode.ensures (refused_sees c.args.datagram.now.at.0 c.args.datagram.now.from octet_only c.refuse-in-Err-Mode.result c.refuse-in-Err-Mode.ensures)

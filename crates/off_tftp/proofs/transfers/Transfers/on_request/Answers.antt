@@ -2,7 +2,7 @@ use Rattle.std.proofs.Common.{◌∙◌, sym}
 use Rattle.std.specs.FinMap as map
 use Rattle.off_transfer_rules.specs.Transfers.{has_no_room}
 use Rattle.off_tftp.specs.Seen.{view_at}
-use Rattle.off_tftp.proofs.DoesLemmas.{looks_settled, looks_at_once, if_ok_as, if_ok_under, if_ok_both, if_settled, unseen_sees, shown_sees, repeat_serves, open_does, can_serve, few_settled}
+use Rattle.off_tftp.proofs.DoesLemmas.{looks_settled, looks_at_once, if_ok_as, if_ok_under, if_ok_both, if_settled, unseen_sees, bare_sees, shown_sees, repeat_serves, open_does, can_serve, few_settled}
 use Rattle.off_tftp.specs.Deciding.{after_change}
 use Rattle.off_tftp.specs.declared.deciding.Decision.{Decision}
 use Rattle.off_tftp.proofs.ReadLemmas.{few_none}
@@ -48,3 +48,9 @@ returns-then-repeats-clause-ends g c = if_settled c.repeat.result c.settled.resu
 
 pub returns-clause-ends : goal.returns-clause-ends
 returns-clause-ends g c = if_settled c.open_by.result c.settled-2.result _ c.settled-2.ensures c.open_by.ensures.ends
+
+pub returns-then-repeats-clause-sees_begun : goal.returns-then-repeats-clause-sees_begun
+returns-then-repeats-clause-sees_begun g c = if_settled c.repeat.result c.settled.result _ c.settled.ensures (bare_sees c.args.request.now.at.0 c.args.request.now.from c.repeat.result c.repeat.ensures.bare)
+
+pub returns-clause-sees_begun : goal.returns-clause-sees_begun
+returns-clause-sees_begun g c = if_settled c.open_by.result c.settled-2.result _ c.settled-2.ensures c.open_by.ensures.sees_begun

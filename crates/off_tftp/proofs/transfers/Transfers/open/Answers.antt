@@ -1,7 +1,7 @@
 use Rattle.off_tftp.specs.Seen.{held_by}
 use Rattle.off_tftp.specs.Deciding.{denial_of}
 use Rattle.off_tftp.proofs.DoesLemmas.{refused_unseen}
-use Rattle.off_tftp.proofs.OpenLemmas.{found_serves, found_fits, found_begins, found_unseen, refused_serves, refused_fits, refused_begins}
+use Rattle.off_tftp.proofs.OpenLemmas.{found_serves, found_fits, found_begins, found_unseen, found_begun_agrees, refused_serves, refused_fits, refused_begins, refused_agrees}
 use Rattle.off_tftp.proofs.transfers.Transfers.open.Goals as goal
 
 pub returns-in-Ok-clause-done : goal.returns-in-Ok-clause-done
@@ -32,3 +32,9 @@ returns-in-Ok-clause-unseen c = found_unseen c.args.request.now c.args.seen.now.
 
 pub returns-in-Err-clause-unseen : goal.returns-in-Err-clause-unseen
 returns-in-Err-clause-unseen c = refused_unseen c.args.request.now.from (denial_of c.in-Err.why) c.refuse.result c.refuse.ensures
+
+pub returns-in-Ok-clause-agrees : goal.returns-in-Ok-clause-agrees
+returns-in-Ok-clause-agrees c = found_begun_agrees c.args.request.now c.args.seen.now c.lacks_room.result c.in-Ok.found c.begin.result c.in-Ok.ensures c.requires.named c.begin.ensures
+
+pub returns-in-Err-clause-agrees : goal.returns-in-Err-clause-agrees
+returns-in-Err-clause-agrees c = refused_agrees c.args.request.now c.args.seen.now (denial_of c.in-Err.why) c.refuse.result c.refuse.ensures

@@ -4,8 +4,8 @@ use Rattle.off_tftp.specs.declared.deciding.Change.{Change}
 use Rattle.off_tftp.specs.declared.deciding.Decision.{Decision}
 use Rattle.off_tftp.specs.Deciding.{CanBe, goes_on, after_change}
 use Rattle.off_tftp.specs.Keeping.{BeginsFor}
-use Rattle.off_tftp.specs.Seen.{held_by}
-use Rattle.off_tftp.proofs.OpenLemmas.{serves_seen}
+use Rattle.off_tftp.specs.Seen.{view_of, held_by}
+use Rattle.off_tftp.proofs.OpenLemmas.{serves_seen, begun_sees}
 use Rattle.off_tftp.proofs.transfers.Transfers.open_by.Goals as goal
 
 pub returns-clause-done : goal.returns-clause-done
@@ -19,6 +19,10 @@ returns-clause-able c =
 pub returns-clause-ends : goal.returns-clause-ends
 returns-clause-ends c =
     subst (λ (change : Change). goes_on change ≡ false) (sym (ap (λ (d : Decision). d.change) c.with_seen.ensures.same)) c.in_ok-decision.ensures.unseen.ends
+
+pub returns-clause-sees_begun : goal.returns-clause-sees_begun
+returns-clause-sees_begun c =
+    begun_sees (view_of c.args.seen.now) c.args.request.now.at.0 c.args.request.now.from c.in_ok-decision.decision c.with_seen.result c.with_seen.ensures.same c.in_ok-decision.ensures.agrees c.with_seen.ensures.stands
 
 pub returns-clause-begins : goal.returns-clause-begins
 returns-clause-begins c = λ new.
