@@ -1,4 +1,4 @@
--- How a query is query_step_by (RFC 4388 section 6.4), byte for byte. The words, their order and the
+-- How a query is answered (RFC 4388 section 6.4), byte for byte. The words, their order and the
 -- layout of what isn't active are this project's profile.
 use Rattle.std.specs.Prelude.{ℕ, ◌-◌, Bool, true, ◌&&◌, min, List, [], ◌∷◌, ◌++◌, slice_index, Option, Some, None, is_some, is_none, option_map, option_and_then, if◌then◌else◌}
 use Rattle.std.specs.List.{slice_range}
