@@ -1,5 +1,6 @@
 ghost use Rattle.std.specs.Prelude.{◌≡◌, ◌+◌, ◌<◌, ◌≤◌, ◌∷◌, ◌++◌, [], Some, None, length, max};
-ghost use Rattle.std.specs.Prelude.{min, take, drop, vec_len, slice_index_or, slice_get, OnOk, IfOk};
+ghost use Rattle.std.specs.Prelude.{min, take, drop, vec_len, slice_index_or, slice_get};
+ghost use Rattle.std.specs.Prelude.{OnOk, IfOk};
 ghost use Rattle.std.specs.List.{All, insert};
 ghost use Rattle.std.specs.Vec.{vec_capacity};
 ghost use Rattle.std.specs.Option.{option_map};
