@@ -172,9 +172,16 @@ def start_kea(folder):
 
 
 def by_tenths(program, at_once, relays=RELAYS_OF_KEA):
-    """DORA a second of each tenth of the modems that boot once."""
+    """DORA a second of all modems, which boot once, of the first tenth of them and of the last."""
     tenth = MODEMS_OF_KEA // 10
-    return [told.done / told.seconds for told in (dora.exchanges(program, "boot", at * tenth, tenth, relays, at_once) for at in range(10))]
+    told = [dora.exchanges(program, "boot", at * tenth, tenth, relays, at_once) for at in range(10)]
+    whole = sum(each.done for each in told) / sum(each.seconds for each in told)
+    return [whole, *(each.done / each.seconds for each in (told[0], told[-1]))]
+
+
+def spelled(rates, form):
+    """Of all modems, and of the first and the last tenth."""
+    return "{} ({}, {})".format(*(format(rate, form) for rate in rates))
 
 
 def kea_round(program, folder, at_once):
@@ -200,8 +207,8 @@ def beside_kea(program):
                 told = dora.exchanges(program, "echoed", 0, MODEMS_OF_KEA, RELAYS_OF_KEA, at_once, 500)
                 echo.kill()
                 echo.wait()
-                words = [f"the office's first tenth {ours[0]:.0f}, last {ours[-1]:.0f}"]
-                words += [f"Kea's {others[0]:.0f}, {others[-1]:.0f}: {ours[0] / others[0]:.2f}, {ours[-1] / others[-1]:.2f} times it"] if others else []
+                words = [f"the office {spelled(ours, '.0f')}"]
+                words += [f"Kea {spelled(others, '.0f')}: {spelled([own / other for own, other in zip(ours, others)], '.2f')} times it"] if others else []
                 print(f"{at_once} at once: {'; '.join(words)}; the echo {told.done / told.seconds:.0f} DORA/s; {load()}", flush=True)
 
 

@@ -11,7 +11,7 @@ use Rattle.off_defs.specs.declared.keys.Key.{Key}
 use Rattle.off_defs.specs.declared.tables.Row.{Row}
 use Rattle.off_defs.specs.Keys.{key_cmp}
 use Rattle.off_defs.proofs.KeyLemmas.{key_total}
-use Rattle.off_keepmem.specs.Entries.{Rises, row_in, put_entry, but_key, next_in, compared, AreBelow, NoneBelow, IsPlace, is_in_front}
+use Rattle.off_keepmem.specs.Entries.{Rises, row_in, put_entry, but_key, next_in, compared, AreBelow, NoneBelow, IsPlace, Parts, is_in_front}
 use Rattle.off_keepmem.specs.Shelves.{StartsAt, starts_by}
 use Rattle.off_keepmem.proofs.PlaceLemmas.{opened, parted, parted_at, taken_at, Past, Reached, is_first, past_more, past_front, sorted_rest, below_all_of, find_here, put_here, but_here, next_here, find_apart, put_apart, but_apart, next_apart}
 
@@ -172,6 +172,32 @@ pub next_behind : (k : Key) (es : List (Key × Row)) (n : ℕ) → Rises es → 
 next_behind k es n h here =
     let own = item_at es n (front_within k es n here) in
     own_next k es n own.0 h here own.1
+
+-- where a key's own entry stands
+pub place_at : (k : Key) (es : List (Key × Row)) (n : ℕ) → Rises es → is_in_front k (drop n es) ≡ true → IsPlace k n es
+place_at k es n h here =
+    let within = front_within k es n here in
+    let own = item_at es n within in
+    place_same k es n own.0 h within own.1 (is_equal (compared k own.0.0) (sym (front_is k es n own.0 within own.1) ∙ here))
+
+starts_head : (r : Ordering) → is_eq r ≡ true → not (is_lt r) ≡ true
+starts_head Less h = cc
+starts_head Equal h = refl
+starts_head Greater h = refl
+
+pub starts_at : (k : Key) (es : List (Key × Row)) (n : ℕ) → IsPlace k n es → is_in_front k (drop n es) ≡ true → starts_by k es ≡ true
+unfolding AreBelow is_in_front
+starts_at k [] n at here = refl
+starts_at k (e ∷ es) zero at here = starts_head (key_cmp k e.0) here
+starts_at k (e ∷ es) (suc n) at here = ap (λ (r : Ordering). not (is_lt r)) at.front.0
+
+-- ---- where a key parts entries
+
+pub parts_of : (k : Key) (es : List (Key × Row)) (n : ℕ) → IsPlace k n es → Parts k n es
+parts_of k es n at = record { within = omega (arith, at.within); front = at.front; behind = at.behind }
+
+pub parts_none : (k : Key) → Parts k 0 []
+parts_none k = record { within = omega arith; front = below_begun k []; behind = none_begun k [] 0 (omega arith) }
 
 -- ---- a key that has none
 

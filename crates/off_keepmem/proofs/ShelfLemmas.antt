@@ -1,5 +1,5 @@
 -- Entries on shelves: those of one shelf are a part of all, with those in front below a key and those behind above it.
-use Rattle.std.proofs.Common.{◌≡◌, ℕ, zero, suc, ◌+◌, ◌-◌, ◌<◌, ◌≤◌, Bool, true, false, not, Option, Some, None, List, [], ◌∷◌, ◌++◌, length, take, drop, set, get_or, slice_get, refl, sym, ap, ◌∙◌, subst, arith, add-one, append_assoc, append-nil, length-set, length-append, length-take-le, length-drop, get_or-set_same, take-append-drop}
+use Rattle.std.proofs.Common.{◌≡◌, ℕ, zero, suc, ◌+◌, ◌-◌, ◌<◌, ◌≤◌, Bool, true, false, not, Option, Some, None, List, [], ◌∷◌, ◌++◌, length, take, drop, set, get_or, slice_get, is_some, IfSome, refl, sym, ap, ◌∙◌, subst, arith, add-one, append_assoc, append-nil, length-set, length-append, length-take-le, length-drop, get_or-set_same, take-append-drop}
 use lib.Dec.{T}
 use Rattle.std.specs.List.{remove, All}
 use Rattle.std.specs.Option.{option_or}
@@ -17,7 +17,7 @@ use Rattle.off_defs.specs.declared.writes.Write.TheVariants.{Put, Drop}
 use Rattle.off_defs.specs.Keys.{key_cmp}
 use Rattle.off_defs.proofs.KeyLemmas.{key_total}
 use Rattle.off_defs.proofs.EntryLemmas.{held}
-use Rattle.off_keepmem.specs.Entries.{IsPlace, NoneBelow, Rises, row_in, put_entry, but_key, next_in, AreBelow, AreAbove, entries_written}
+use Rattle.off_keepmem.specs.Entries.{IsPlace, Parts, NoneBelow, Rises, row_in, put_entry, but_key, next_in, AreBelow, AreAbove, entries_written}
 use Rattle.off_keepmem.specs.Shelves.{Shelf, entries_on, starts_by, IsStocked, cut_at}
 use Rattle.off_keepmem.proofs.PlaceLemmas.{both, parted_at, opened, past_front, below_others, below_back, sorted_rest, sorted_front, find_within, put_within, but_within, next_within}
 
@@ -334,6 +334,24 @@ stocked_cut ss ts at cut t x h within is item full low high =
 
 pub own_rises : (ss : List Shelf) (at : ℕ) (s : Shelf) → at < length ss → s ≡ get_or ss at s → Rises (entries_on ss) → Rises s
 own_rises ss at s within item h = subst Rises (sym (item ∙ get_default ss at s [] within)) (shelf_rises ss at within h)
+
+-- a place of a shelf, which is the one at a place of all
+pub own_parts : (k : Key) (ss : List Shelf) (at : ℕ) (s : Shelf) (p : ℕ) → at < length ss → s ≡ get_or ss at s → Parts k p s → Parts k p (get_or ss at [])
+own_parts k ss at s p within item parts = subst (λ (v : Shelf). Parts k p v) (item ∙ get_default ss at s [] within) parts
+
+pub shelf_parts : (k : Key) (ss : List Shelf) (at : ℕ) (s : Shelf) (p : ℕ) → at < length ss → s ≡ get_or ss at s → Parts k p (get_or ss at []) → Parts k p s
+shelf_parts k ss at s p within item parts = subst (λ (v : Shelf). Parts k p v) (sym (item ∙ get_default ss at s [] within)) parts
+
+pub more_if : {X : Type 0} (P Q : X → Type 0) (o : Option X) → (is_some o ≡ true → (x : X) → P x → Q x) → IfSome o P → IfSome o Q
+more_if P Q None f h = h
+more_if P Q (Some x) f h = f refl x h
+
+-- a row that is found on a shelf whose place it is
+pub found_on : (k : Key) (ss : List Shelf) (at : ℕ) (s : Shelf) (p : ℕ) → Rises (entries_on ss) → All IsStocked ss → at < length ss → s ≡ get_or ss at s → starts_by k s ≡ true → IsPlace k p s
+    → row_in k (entries_on ss) ≡ row_in k s
+found_on k ss at s p h stocked within item starts place =
+    row_on k ss at within (below_shelf k ss at s h within item (stocked_at ss at s stocked within item).0 starts) (above_place k ss at s p h within item place)
+    ∙ ap (λ (v : Shelf). row_in k v) (sym (item ∙ get_default ss at s [] within))
 
 pub cut_same : (ss : List Shelf) (at cut : ℕ) → at < length ss → entries_on (cut_at at cut ss) ≡ entries_on ss
 cut_same ss at cut within =

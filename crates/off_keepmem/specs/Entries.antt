@@ -1,5 +1,5 @@
 -- The entries of a keeper in memory, in the order of their keys.
-use Rattle.std.specs.Prelude.{◌≡◌, ℕ, ◌<◌, Bool, false, not, Option, List, [], ◌∷◌, length, take, drop}
+use Rattle.std.specs.Prelude.{◌≡◌, ℕ, ◌<◌, ◌≤◌, Bool, false, not, Option, List, [], ◌∷◌, length, take, drop}
 use lib.Dec.{T}
 use Rattle.std.specs.List.{filter, find}
 use Rattle.std.specs.Ordering.{eq_by_cmp, is_eq}
@@ -58,6 +58,13 @@ NoneBelow key entries = NoneBelowFirst key entries
 -- where an entry of this key stands, or would stand in front of another one
 pub record IsPlace (key : Key) (place : ℕ) (entries : List (Key × Row)) : Type 0 where
   pub within : place < length entries
+  pub front : AreBelow key (take place entries)
+  pub behind : NoneBelow key (drop place entries)
+
+-- a key parts entries at a place: those in front of it have keys below this one, and no other
+-- has
+pub record Parts (key : Key) (place : ℕ) (entries : List (Key × Row)) : Type 0 where
+  pub within : place ≤ length entries
   pub front : AreBelow key (take place entries)
   pub behind : NoneBelow key (drop place entries)
 

@@ -1,5 +1,3 @@
-ghost use Rattle.std.specs.Prelude.{◌<◌};
-
 use crate::order::number_of;
 use crate::shelf::ROOM;
 use off_defs::Key;
@@ -9,15 +7,15 @@ use std::alloc::Global;
 // over the golden ratio.
 const SPREAD: u64 = 0x9e37_79b9_7f4a_7c15;
 
-/// A place of a table: which shelf, and which place on it.
+/// A spot of a table: which shelf, and which place on it.
 #[derive(Clone, Copy)]
-pub(crate) struct Hint {
+pub(crate) struct Spot {
     pub(crate) shelf: usize,
     pub(crate) place: usize,
 }
 
 /// Where entries stood when they were last put or looked for, so that most looks needn't search.
-/// Each key has a slot, and keys of one slot share one place. A place may be out of date: whoever
+/// Each key has a slot, and keys of one slot share one spot. A spot may be out of date: whoever
 /// goes there looks whose entry it is, so contracts say nothing of it, and a wrong one costs a
 /// search. Places are counted through all shelves, 64 to a shelf.
 #[derive(Drop)]
@@ -33,30 +31,32 @@ impl Hints {
         }
     }
 
-    /// Where a key's entry may stand.
-    pub(crate) fn of(&self, key: &Key) -> Hint {
-        if self.places.is_empty() {
-            return Hint { shelf: 0, place: 0 };
-        }
-        let place = self.places[slot_of(key, self.places.len())] as usize;
-        Hint {
+    /// The slot of a key, or any number where there are no slots.
+    pub(crate) fn slot_of(&self, key: &Key) -> usize {
+        let spread = key_number(key).wrapping_mul(SPREAD) >> 32;
+        (spread.wrapping_mul(self.places.len() as u64) >> 32) as usize
+    }
+
+    /// Where an entry whose key has this slot may stand.
+    pub(crate) fn get(&self, slot: usize) -> Spot {
+        let place = match self.places.get(slot) {
+            Some(place) => *place as usize,
+            None => 0,
+        };
+        Spot {
             shelf: place / ROOM,
             place: place % ROOM,
         }
     }
 
-    /// Remembers where a key's entry stands.
-    pub(crate) fn put(&mut self, key: &Key, shelf: usize, place: usize) {
-        if self.places.is_empty() {
-            return;
-        }
-        let counted = shelf.saturating_mul(ROOM).saturating_add(place);
+    /// Remembers where an entry stands whose key has this slot.
+    pub(crate) fn put(&mut self, slot: usize, spot: Spot) {
+        let counted = spot.shelf.saturating_mul(ROOM).saturating_add(spot.place);
         let Ok(counted) = u32::try_from(counted) else {
             return;
         };
-        let slot = slot_of(key, self.places.len());
-        if self.places[slot] != counted {
-            self.places[slot] = counted;
+        if let Some(place) = self.places.get_mut(slot) {
+            *place = counted;
         }
     }
 
@@ -71,14 +71,6 @@ impl Hints {
             self.places = places;
         }
     }
-}
-
-// The slot of a key among so many.
-fn slot_of(key: &Key, slots: usize) -> usize
-    requires { 0 < slots }
-    ensures { result < slots }
-{
-    (key_number(key).wrapping_mul(SPREAD) >> 32) as usize % slots
 }
 
 // A number for a key. Keys may share one.

@@ -1,11 +1,11 @@
-ghost use Rattle.std.specs.Prelude.{◌≡◌, ◌+◌, ◌<◌, ◌≤◌, ◌∷◌, ◌++◌, [], Some, true, length};
-ghost use Rattle.std.specs.Prelude.{take, drop, IfOk, vec_len, slice_get};
+ghost use Rattle.std.specs.Prelude.{◌≡◌, ◌+◌, ◌<◌, ◌≤◌, ◌∷◌, ◌++◌, [], Some, None, is_some, true};
+ghost use Rattle.std.specs.Prelude.{length, take, drop, IfOk, IfSome, vec_len, slice_get};
 ghost use Rattle.std.specs.List.{insert};
 ghost use Rattle.std.specs.Vec.{vec_capacity};
 ghost use Rattle.std.specs.Option.{option_map};
 ghost use Rattle.std.specs.Ordering.{is_lt, is_eq, is_gt};
 ghost use Rattle.off_keepmem.specs.Entries.{Rises, row_in, next_in, put_entry, but_key};
-ghost use Rattle.off_keepmem.specs.Entries.{compared, AreBelow, NoneBelow, IsPlace};
+ghost use Rattle.off_keepmem.specs.Entries.{compared, IsPlace, Parts};
 ghost use Rattle.off_keepmem.specs.Entries.{is_in_front, lent_entry};
 ghost use Rattle.off_keepmem.specs.Shelves.{starts_by};
 
@@ -98,23 +98,24 @@ impl Shelf {
         self.starts_by(key) && is_place(&self.entries, key, place)
     }
 
-    /// How many entries have keys below this one. It looks near this place first.
-    pub(crate) fn place_of(&self, key: &Key, near: usize) -> usize
+    /// How many entries have keys below this one.
+    pub(crate) fn place_of(&self, key: &Key) -> usize
         requires { Rises self.now }
-        ensures within { result ≤ length self.now }
-        ensures front { AreBelow key.now (take result self.now) }
-        ensures behind { NoneBelow key.now (drop result self.now) }
+        ensures { Parts key.now result self.now }
     {
-        place_near(&self.entries, key, near)
+        place_of(&self.entries, key)
     }
 
-    /// The row of a key, where so many entries have keys below it.
+    /// The row of a key, if its entry stands at this place. A key that has no entry there, though it
+    /// parts the entries there, has none.
     #[tactic(auto, using(crate::proofs::EntryLemmas::place_rules))]
     pub(crate) fn get(&self, key: &Key, place: usize) -> Option<&KeptRow>
-        requires rises { Rises self.now }
-        requires front { AreBelow key.now (take place self.now) }
-        requires behind { NoneBelow key.now (drop place self.now) }
-        ensures { option_map (λ row. row.now) result ≡ row_in key.now self.now }
+        requires { Rises self.now }
+        ensures row { IfSome result (λ row. row_in key.now self.now ≡ Some row.now) }
+        ensures starts { is_some result ≡ true → starts_by key.now self.now ≡ true }
+        ensures place { is_some result ≡ true → IsPlace key.now place self.now }
+        ensures none { result ≡ None → Parts key.now place self.now
+            → row_in key.now self.now ≡ None }
     {
         if is_at(&self.entries, place, key) {
             Some(self.entries[place].row())
@@ -144,33 +145,31 @@ impl Shelf {
         entry_at(&self.entries, 0)
     }
 
-    /// Gives the key this row. Says at which place, which it looks for near another one.
+    /// Gives the key this row, where so many entries have keys below it.
     #[tactic(auto, using(crate::proofs::EntryLemmas::place_rules))]
-    pub(crate) fn put(&mut self, key: Key, row: KeptRow, near: usize) -> usize
+    pub(crate) fn put(&mut self, key: Key, row: KeptRow, place: usize)
         requires rises { Rises self.old }
         requires room { length self.old < 64 }
+        requires parts { Parts key place self.old }
         ensures entries { self.new ≡ put_entry key row self.old }
-        ensures within { result ≤ 64 }
         ensures grows { length self.new ≤ length self.old + 1 }
     {
-        let place = place_near(&self.entries, &key, near);
         if is_at(&self.entries, place, &key) {
             self.entries[place].replace(row);
         } else {
             insert_at(&mut self.entries, place, Entry::new(key, row));
             self.first = *self.entries[0].key();
         }
-        place
     }
 
-    /// Takes the key's row away, if it has one. It looks near this place first.
+    /// Takes the key's row away, if it has one, where so many entries have keys below it.
     #[tactic(auto, using(crate::proofs::EntryLemmas::place_rules))]
-    pub(crate) fn remove(&mut self, key: &Key, near: usize)
-        requires { Rises self.old }
+    pub(crate) fn remove(&mut self, key: &Key, place: usize)
+        requires rises { Rises self.old }
+        requires parts { Parts key.now place self.old }
         ensures entries { self.new ≡ but_key key.now self.old }
         ensures shrinks { length self.new ≤ length self.old }
     {
-        let place = place_near(&self.entries, key, near);
         if is_at(&self.entries, place, key) {
             let _entry = self.entries.remove(place);
             if let Some(first) = self.entries.first() {
@@ -208,9 +207,7 @@ impl Shelf {
 #[tactic(auto, using(crate::proofs::EntryLemmas::search_rules))]
 fn place_of(entries: &Vec<Entry>, key: &Key) -> usize
     requires { Rises entries.now.items }
-    ensures within { result ≤ vec_len entries.now }
-    ensures front { AreBelow key.now (take result entries.now.items) }
-    ensures behind { NoneBelow key.now (drop result entries.now.items) }
+    ensures { Parts key.now result entries.now.items }
 {
     let mut low = 0;
     let mut high = entries.len();
@@ -223,19 +220,6 @@ fn place_of(entries: &Vec<Entry>, key: &Key) -> usize
         }
     }
     low
-}
-
-// The same, looked for near a place first.
-fn place_near(entries: &Vec<Entry>, key: &Key, near: usize) -> usize
-    requires { Rises entries.now.items }
-    ensures within { result ≤ vec_len entries.now }
-    ensures front { AreBelow key.now (take result entries.now.items) }
-    ensures behind { NoneBelow key.now (drop result entries.now.items) }
-{
-    if is_place(entries, key, near) {
-        return near;
-    }
-    place_of(entries, key)
 }
 
 // Whether the entry at the place has this key, or would stand behind an entry of this key, which

@@ -1,16 +1,16 @@
 ghost use Rattle.std.specs.Prelude.{◌≡◌, ◌+◌, ◌<◌, ◌≤◌, ◌∷◌, ◌++◌, [], Some, None, length, max};
 ghost use Rattle.std.specs.Prelude.{min, take, drop, vec_len, slice_index_or, slice_get};
-ghost use Rattle.std.specs.Prelude.{OnOk, IfOk};
+ghost use Rattle.std.specs.Prelude.{OnOk, IfOk, IfSome};
 ghost use Rattle.std.specs.List.{All, insert};
 ghost use Rattle.std.specs.Vec.{vec_capacity};
 ghost use Rattle.std.specs.Option.{option_map};
 ghost use Rattle.off_keepmem.specs.Entries.{Rises, row_in, next_in, put_entry, but_key};
-ghost use Rattle.off_keepmem.specs.Entries.{AreBelow, AreAbove, lent_entry};
+ghost use Rattle.off_keepmem.specs.Entries.{AreBelow, AreAbove, Parts, lent_entry};
 ghost use Rattle.off_keepmem.specs.Entries.{entries_written, rows_after};
 ghost use Rattle.off_keepmem.specs.Shelves.{entries_on, IsStocked, ShelvesHeld, cut_at};
 ghost use Rattle.off_keepmem.specs.Puts.{puts_in};
 
-use crate::hints::{Hint, Hints};
+use crate::hints::{Hints, Spot};
 use crate::kept_row::KeptRow;
 use crate::planned::{Change, Planned};
 use crate::shelf::{EntryRef, ROOM, Shelf};
@@ -91,14 +91,17 @@ impl Table {
         ensures row { IfOk result (λ row. row ≡ row_in key.now self.old.entries) }
         ensures same { self.new ≡ self.old }
     {
+        let slot = self.hints.slot_of(key);
+        let near = self.hints.get(slot);
+        if let Some(row) = row_at(&self.shelves, key, near) {
+            return Ok(Some(row.copy(alloc)?));
+        }
         if self.shelves.is_empty() {
             return Ok(None);
         }
-        let hint = self.hints.of(key);
-        let at = shelf_near(&self.shelves, key, hint);
-        let place = self.shelves[at].place_of(key, hint.place);
-        self.hints.put(key, at, place);
-        match self.shelves[at].get(key, place) {
+        let spot = spot_of(&self.shelves, key, near);
+        self.hints.put(slot, spot);
+        match self.shelves[spot.shelf].get(key, spot.place) {
             Some(row) => Ok(Some(row.copy(alloc)?)),
             None => Ok(None),
         }
@@ -242,21 +245,39 @@ fn shelf_of(shelves: &Vec<Shelf>, key: &Key) -> usize
     low
 }
 
-// The same, looked for at a place where the key's entry may stand first.
-fn shelf_near(shelves: &Vec<Shelf>, key: &Key, near: Hint) -> usize
+// Where a key's entry stands, or is to be put. It looks at a spot where it may be first.
+fn spot_of(shelves: &Vec<Shelf>, key: &Key, near: Spot) -> Spot
     requires some { 0 < vec_len shelves.now }
     requires rises { Rises (entries_on shelves.now.items) }
     requires stocked { All IsStocked shelves.now.items }
-    ensures within { result < vec_len shelves.now }
-    ensures front { AreBelow key.now (entries_on (take result shelves.now.items)) }
-    ensures behind { AreAbove key.now (entries_on (drop (result + 1) shelves.now.items)) }
+    ensures within { result.shelf < vec_len shelves.now }
+    ensures front { AreBelow key.now (entries_on (take result.shelf shelves.now.items)) }
+    ensures behind { AreAbove key.now (entries_on (drop (result.shelf + 1) shelves.now.items)) }
+    ensures parts { Parts key.now result.place
+        (slice_index_or shelves.now.items result.shelf []) }
 {
     if near.shelf < shelves.len() {
         if shelves[near.shelf].fits(key, near.place) {
-            return near.shelf;
+            return near;
         }
     }
-    shelf_of(shelves, key)
+    let shelf = shelf_of(shelves, key);
+    let place = shelves[shelf].place_of(key);
+    Spot { shelf, place }
+}
+
+// The row of a key, if its entry stands at this spot.
+fn row_at<'a>(shelves: &'a Vec<Shelf>, key: &Key, spot: Spot) -> Option<&'a KeptRow>
+    requires rises { Rises (entries_on shelves.now.items) }
+    requires stocked { All IsStocked shelves.now.items }
+    ensures { IfSome result
+        (λ row. row_in key.now (entries_on shelves.now.items) ≡ Some row.now) }
+{
+    if spot.shelf < shelves.len() {
+        shelves[spot.shelf].get(key, spot.place)
+    } else {
+        None
+    }
 }
 
 // The first entry of a shelf, if there is such a shelf.
@@ -307,13 +328,12 @@ fn put_on(
     ensures spent { vec_len stock.old ≤ vec_len stock.new + 1 }
     ensures held { ShelvesHeld shelves.new.items stock.new.items (vec_capacity shelves.new) }
 {
-    let hint = hints.of(&key);
-    let at = shelf_near(shelves, &key, hint);
-    let place = shelves[at].put(key, row, hint.place);
-    hints.put(&key, at, place);
-    if shelves[at].len() == ROOM {
-        let cut = cut_for(place);
-        split(shelves, stock, at, cut);
+    let slot = hints.slot_of(&key);
+    let spot = spot_of(shelves, &key, hints.get(slot));
+    hints.put(slot, spot);
+    shelves[spot.shelf].put(key, row, spot.place);
+    if shelves[spot.shelf].len() == ROOM {
+        split(shelves, stock, spot.shelf, cut_for(spot.place));
     }
 }
 
@@ -387,15 +407,14 @@ fn remove_from(shelves: &mut Vec<Shelf>, hints: &Hints, key: &Key)
     ensures len { vec_len shelves.new ≤ vec_len shelves.old }
     ensures room { vec_capacity shelves.old ≤ vec_capacity shelves.new }
 {
-    let hint = hints.of(key);
-    let at = shelf_near(shelves, key, hint);
-    shelves[at].remove(key, hint.place);
-    if shelves[at].len() == 0 {
-        let _emptied = shelves.remove(at);
+    let spot = spot_of(shelves, key, hints.get(hints.slot_of(key)));
+    shelves[spot.shelf].remove(key, spot.place);
+    if shelves[spot.shelf].len() == 0 {
+        let _emptied = shelves.remove(spot.shelf);
     } else {
-        join(shelves, at);
-        if at > 0 {
-            join(shelves, at - 1);
+        join(shelves, spot.shelf);
+        if spot.shelf > 0 {
+            join(shelves, spot.shelf - 1);
         }
     }
 }

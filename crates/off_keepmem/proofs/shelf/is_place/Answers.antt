@@ -1,4 +1,4 @@
-use Rattle.std.proofs.Common.{◌-◌, ◌<◌, ◌≡◌, ℕ, length, ◌∙◌, sym, ap, arith}
+use Rattle.std.proofs.Common.{◌-◌, ◌∙◌, sym, ap, arith}
 use Rattle.std.specs.Ordering.{is_gt}
 use Rattle.off_defs.specs.declared.keys.Key.{Key}
 use Rattle.off_keepmem.specs.Entries.{compared}
