@@ -12,19 +12,19 @@ use Rattle.off_defs.specs.Counts.{commits_after}
 use Rattle.off_defs.specs.State.{Tables, State, Held, Said, state_of, held_at, held_at_start, start}
 use Rattle.off_defs.specs.Tables.{write_all}
 use Rattle.off_defs.proofs.TableLemmas.{doubt_more}
-use Rattle.off_defs.proofs.ToldLemmas.{told_then, told_self}
+use Rattle.off_defs.proofs.ToldLemmas.{told_then}
 use Rattle.off_orders.specs.Clerk.{Stepped, clerk_step, step_done}
-use Rattle.off_book.specs.Step.{Step, completed}
-use Rattle.off_book.specs.Run.{Turn, effect_of, commits_by}
+use Rattle.off_book.specs.Step.{completed}
+use Rattle.off_book.specs.Run.{Turn, commits_by}
 use Rattle.off_book.specs.Crashes.{Doubt, Lasts}
 use Rattle.off_book.proofs.CrashLemmas.{OneTurn, in_more, doubts_by, lasts_later, lasts_doubt, lasts_push, lasts_front}
 use Rattle.off_outside.specs.declared.keeper.KeepErr.{KeepErr}
 use Rattle.off_outside.specs.declared.keeper.KeepErr.TheVariants as keep
 use Rattle.off_outside.specs.KeeperSeen.{KeeperSeen, Rests}
-use Rattle.off_outside.specs.KeeperCalls.{Reads, NotCommitted, Crash, IsWritten, begun_by}
+use Rattle.off_outside.specs.KeeperCalls.{Reads, NotCommitted, IsWritten, begun_by}
 use Rattle.off_office.specs.Acting.{Acts}
 use Rattle.off_office.specs.Answering.{Commanded, CommandBegins}
-use Rattle.off_office.specs.Conditions.{Mirrors, Fits, WhereFit, StaysAs}
+use Rattle.off_office.specs.Conditions.{Mirrors, Fits, StaysAs}
 use Rattle.off_office.specs.Desk.{Desk}
 use Rattle.off_office.specs.Opening.{OpensTo, doubt_opened}
 use Rattle.off_office.proofs.MirrorLemmas.{fits_as}
@@ -37,7 +37,7 @@ use Rattle.off_account_rules.specs.Good.{Good}
 use Rattle.off_account_rules.specs.Migration.{migrated}
 use Rattle.std.specs.Prelude.{IsTrue}
 use Rattle.off_drill_rules.specs.Rows.{begins_at}
-use Rattle.off_import_job.specs.Opening.{Would}
+use Rattle.off_table_jobs.specs.Opening.{Would}
 use Rattle.off_drill_job.specs.Stepping.{Given, commits_given, commands_of, book_writes, written_in, DoubtGiven, behind, LastsDrill, KeeperDid, KeeperDrilled}
 
 abbrev Opens : Type 1

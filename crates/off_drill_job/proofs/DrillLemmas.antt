@@ -29,9 +29,9 @@ use Rattle.off_jobs.proofs.EndingLemmas.{stands, kept, told_whole, sink_kept, en
 use Rattle.off_office.specs.Opening.{OpensTo}
 use Rattle.off_office.specs.Conditions.{Fits, Opened}
 use Rattle.off_office.proofs.OpeningLemmas.{leaves_opening, doubts_opened, empty_before, empty_stays}
-use Rattle.off_import_job.specs.Opening.{SameOrGood}
-use Rattle.off_import_job.proofs.ClosedLemmas.{closed_status, closed_kept, closed_same}
-use Rattle.off_import_job.proofs.BehindLemmas.{opens_then}
+use Rattle.off_table_jobs.specs.Opening.{SameOrGood}
+use Rattle.off_table_jobs.proofs.ClosedLemmas.{closed_status, closed_kept, closed_same}
+use Rattle.off_table_jobs.proofs.OpeningLemmas.{opens_then}
 use Rattle.off_office.specs.Desk.{Desk}
 use Rattle.off_office.specs.declared.office.StartErr.TheVariants as start_err
 use Rattle.off_office.proofs.UpLemmas.{up_chain}
@@ -43,12 +43,12 @@ use Rattle.off_drill_laws.specs.Stages.{Waits, Along}
 use Rattle.off_drill_laws.proofs.StageLemmas.{same_tally}
 use Rattle.off_drill_laws.proofs.LawLemmas.{drill_law, drill_is_there}
 use Rattle.off_drill_laws.proofs.AlongLemmas.{whole_of, front_of}
-use Rattle.off_drill_job.specs.Stepping.{Given, commands_of, KeeperDid, KeeperDrilled}
-use Rattle.off_drill_job.specs.Founding.{founding, AllGiven, Builds, GaveFront, Halts}
+use Rattle.off_drill_job.specs.Stepping.{Given, commands_of, KeeperDid}
+use Rattle.off_drill_job.specs.Founding.{founding, Builds, GaveFront, Halts}
 use Rattle.off_drill_job.specs.Exercising.{Exercised, Stopped}
 use Rattle.off_drill_job.specs.Tallying.{raised_by}
 use Rattle.off_drill_job.specs.Telling.{drill_end}
-use Rattle.off_drill_job.specs.Drilling.{FindsRows, LeavesDrill, GaveAll, CameSoFar, Ends, DoneBy, BrokenBy, GoesOn, Drills}
+use Rattle.off_drill_job.specs.Drilling.{FindsRows, LeavesDrill, GaveAll, Ends, DoneBy, BrokenBy, GoesOn, Drills}
 use Rattle.off_drill_job.specs.declared.drilling.Ended.{Ended}
 use Rattle.off_drill_job.specs.declared.drilling.Ended.TheVariants.{Closed, NotEmpty, Broken, Done}
 use Rattle.off_drill_job.proofs.CommandLemmas.{no_entries}

@@ -16,7 +16,7 @@ use Rattle.off_outside.specs.Streams.{SinkSeen}
 use Rattle.off_jobs.specs.Health.{of_keeper, of_sink, NoFault}
 use Rattle.off_jobs.specs.Ending.{JobEnds}
 use Rattle.off_office.specs.Acting.{NotStarted}
-use Rattle.off_import_job.specs.Opening.{SameOrGood}
+use Rattle.off_table_jobs.specs.Opening.{SameOrGood}
 use Rattle.off_office.specs.Opening.{OpensTo}
 use Rattle.off_office.specs.Conditions.{Fits}
 use Rattle.off_office.specs.Desk.{Desk}

@@ -7,9 +7,9 @@ use crate::drilling::Ended;
 use arrayvec::ArrayVec;
 use itoa::Buffer;
 use off_drill_rules::Tally;
-use off_import_job::stay_closed;
 use off_jobs::{tell, tell_undone};
 use off_outside::Sink;
+use off_table_jobs::stay_closed;
 
 // Room for the six numbers and the words between them.
 type Line = ArrayVec<u8, 192>;

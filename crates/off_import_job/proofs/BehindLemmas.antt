@@ -1,4 +1,4 @@
--- What comes behind an opening: a reading, a commit, or a commit that isn't done.
+-- What comes behind an opening: a commit, or a commit that isn't done.
 use Rattle.std.proofs.Common.{◌⊎◌, List, ap, subst, ◌∙◌}
 use mathlib.Core.Logic.{⊎_map}
 use Rattle.off_defs.specs.Told.{Told}
@@ -10,39 +10,16 @@ use Rattle.off_defs.specs.Tables.{write_all}
 use Rattle.off_defs.proofs.TableLemmas.{doubt_more}
 use Rattle.off_account_rules.specs.Migration.{migrated}
 use Rattle.off_outside.specs.declared.keeper.KeepErr.{KeepErr}
-use Rattle.off_outside.specs.KeeperSeen.{KeeperSeen, Rests}
-use Rattle.off_outside.specs.KeeperCalls.{Reads, NotCommitted, Settled, begun_by, keeper_faults_in}
-use Rattle.off_outside.proofs.KeeperLemmas.{crash_weaker, begun_weaker, Between, crash_both, settled_read}
+use Rattle.off_outside.specs.KeeperSeen.{KeeperSeen}
+use Rattle.off_outside.specs.KeeperCalls.{NotCommitted, Settled, begun_by, keeper_faults_in}
+use Rattle.off_outside.proofs.KeeperLemmas.{crash_weaker, begun_weaker, Between, crash_both}
 use Rattle.off_office.specs.Desk.{Desk}
 use Rattle.off_office.specs.Answering.{CommandBegins}
 use Rattle.off_office.specs.Conditions.{Opened}
-use Rattle.off_office.specs.Opening.{IsMigrated, OpensTo}
+use Rattle.off_office.specs.Opening.{IsMigrated}
 use Rattle.off_office.proofs.OpeningLemmas.{migrated_by}
-use Rattle.off_import_job.specs.Opening.{Would}
+use Rattle.off_table_jobs.specs.Opening.{Would}
 use Rattle.off_import_job.specs.Importing.{LostBehind, SettledBoth}
-
-pub opens_as : {P Q : Tables → Type 0} {a b : KeeperSeen} → OpensTo P a b → ((u : Tables) → P u → Q u) → OpensTo Q a b
-opens_as opened weaker = record {
-  opens = opened.opens;
-  writes = opened.writes;
-  are = opened.are;
-  settled = opened.settled;
-  tables = record { each = λ t told. let o = opened.tables.each t told in record { value = o.value; told = o.told; fits = (o.fits.0, weaker o.value o.fits.1) } };
-}
-
-pub opens_then : {P Q R : Tables → Type 0} {a b c : KeeperSeen} → Rests a → OpensTo P a b → Reads Q b c → ((u : Tables) → P u → Q u → R u) → OpensTo R a c
-opens_then rests opened reads join = record {
-  opens = opened.opens;
-  writes = opened.writes;
-  are = opened.are;
-  settled = settled_read rests opened.settled reads;
-  tables = record {
-    each = λ t told.
-        let o = opened.tables.each t told in
-        let read = reads.tables o.value o.told in
-        record { value = o.value; told = read.0; fits = (o.fits.0, join o.value o.fits.1 read.1) };
-  };
-}
 
 -- another commit
 pub settled_both : {first writes : List Write} {a b c : KeeperSeen} → Settled first a b → Settled writes b c → SettledBoth first writes a c

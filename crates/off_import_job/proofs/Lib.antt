@@ -1,3 +1,2 @@
 pub mod BehindLemmas
-pub mod ClosedLemmas
 pub mod ImportLemmas

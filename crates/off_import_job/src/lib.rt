@@ -6,8 +6,6 @@
 #![tactic(auto)]
 
 mod importing;
-mod opening;
 mod telling;
 
 pub use importing::{Ended, import_input};
-pub use opening::stay_closed;

@@ -5,7 +5,6 @@ ghost use Rattle.off_import_job.specs.Telling.{import_end, fault_end, refusal_en
 ghost use Rattle.off_import_job.specs.Telling.{broken_words, row_words, rows_line};
 
 use crate::importing::Ended;
-use crate::opening::stay_closed;
 use arrayvec::ArrayVec;
 use itoa::Buffer;
 use off_accounts::AccountErr;
@@ -15,6 +14,7 @@ use off_import::{ImportErr, fault_words};
 use off_jobs::{Line, numbered_line, refused_line, tell, tell_memory, tell_undone, tell_unread};
 use off_orders::Rule;
 use off_outside::{KeepErr, Sink};
+use off_table_jobs::stay_closed;
 
 /// Tells what became of an import, and answers the status, or 4 where the sink fails.
 pub(crate) fn tell_end<W: Sink>(ended: Ended, out: &mut W) -> u8

@@ -40,8 +40,8 @@ use Rattle.off_serve.specs.Serving.{World, world_of}
 use Rattle.off_jobs.specs.Ending.{Ending, Tells, link_refused, memory_refused}
 use Rattle.off_jobs.specs.Health.{NoFault, AllUp}
 use Rattle.off_jobs.proofs.EndingLemmas.{stands, kept, ends_by, sink_kept as told_kept}
-use Rattle.off_import_job.specs.Opening.{closed_end}
-use Rattle.off_import_job.proofs.ClosedLemmas.{closed_status, closed_kept}
+use Rattle.off_table_jobs.specs.Opening.{closed_end}
+use Rattle.off_table_jobs.proofs.ClosedLemmas.{closed_status, closed_kept}
 use Rattle.off_serve.specs.Headline.{WroteText, CutText, LastsIn, RanTurns, KeeperRan, RanFrom, RanOffice, Stops, Served, OwnLine, Ended, Ends, all_of, Completed, ServesAsOffice, own_writes}
 use Rattle.off_serve.proofs.ServeLemmas.{wrote_more, wrote_same, cut_more, cut_same}
 use Rattle.off_office.proofs.UpLemmas.{up_chain}

@@ -29,7 +29,7 @@ use Rattle.off_office.specs.Conditions.{WhereFit, StaysFit}
 use Rattle.off_office.specs.Acting.{NotStarted}
 use Rattle.off_outside.specs.Streams.{SourceSeen, SourceUnasked, SinkSeen, SinkUnasked, SinkStaysUp, HasFront}
 use Rattle.off_book.specs.Words.{Job, to_serve, to_import, to_drill, to_seal, to_check}
-use Rattle.off_import_job.specs.Opening.{closed_end}
+use Rattle.off_table_jobs.specs.Opening.{closed_end}
 use Rattle.off_import_job.specs.Importing.{Imports}
 use Rattle.off_drill_job.specs.Drilling.{Drills}
 use Rattle.off_jobs.specs.Health.{Health, of_link, of_keeper, of_sink, NoFault, AllUp}

@@ -8,10 +8,11 @@ ghost use Rattle.off_serve.specs.Serving.{world_of};
 use crate::jobs::{Asked, read_words};
 use crate::turning::{Turned, take_turn};
 use off_drill_job::drill;
-use off_import_job::{import_input, stay_closed};
+use off_import_job::import_input;
 use off_jobs::{check_input, seal_input, tell, tell_memory};
 use off_office::Office;
 use off_outside::{Keeper, Link, Sink, Source};
+use off_table_jobs::stay_closed;
 use std::alloc::Global;
 
 /// Why `serve` stopped.

@@ -8,7 +8,7 @@ use Rattle.off_jobs.proofs.EndingLemmas.{stands, kept}
 use Rattle.off_office.specs.Acting.{NotStarted}
 use Rattle.off_office.specs.declared.office.StartErr.{StartErr}
 use Rattle.off_office.specs.declared.office.StartErr.TheVariants.{Bad, Failed, Memory}
-use Rattle.off_import_job.specs.Opening.{closed_end, SameOrGood}
+use Rattle.off_table_jobs.specs.Opening.{closed_end, SameOrGood}
 
 pub closed_status : (err : StartErr) (few : List ℕ) (k k' : KeeperSeen) → NotStarted err k k' → Stood k.faults k'.faults → Contains few 2 → Contains few 6
     → Contains few (closed_end err).status

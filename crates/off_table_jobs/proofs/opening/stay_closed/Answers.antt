@@ -1,6 +1,6 @@
-use Rattle.off_import_job.specs.Opening.{closed_end}
+use Rattle.off_table_jobs.specs.Opening.{closed_end}
 use Rattle.off_jobs.proofs.EndingLemmas.{tells_by}
-use Rattle.off_import_job.proofs.opening.stay_closed.Goals as goal
+use Rattle.off_table_jobs.proofs.opening.stay_closed.Goals as goal
 
 pub returns-in-Failed : goal.returns-in-Failed
 returns-in-Failed g c = tells_by closed_end _ _ _ _ _ c.in-Failed.is c.tell_undone.ensures

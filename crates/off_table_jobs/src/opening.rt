@@ -1,7 +1,7 @@
 ghost use Rattle.std.specs.Prelude.{◌≡◌};
 ghost use Rattle.off_rows.specs.KeyText.{key_text_of};
 ghost use Rattle.off_jobs.specs.Ending.{Tells, tables_refused};
-ghost use Rattle.off_import_job.specs.Opening.{closed_end};
+ghost use Rattle.off_table_jobs.specs.Opening.{closed_end};
 
 use arrayvec::ArrayVec;
 use off_defs::Key;
