@@ -16,10 +16,20 @@ use Rattle.off_outside.proofs.KeeperLemmas.{crash_weaker, begun_weaker, Between,
 use Rattle.off_office.specs.Desk.{Desk}
 use Rattle.off_office.specs.Answering.{CommandBegins}
 use Rattle.off_office.specs.Conditions.{Opened}
-use Rattle.off_office.specs.Opening.{IsMigrated}
+use Rattle.off_office.specs.Opening.{IsMigrated, OpensTo}
 use Rattle.off_office.proofs.OpeningLemmas.{migrated_by}
 use Rattle.off_table_jobs.specs.Opening.{Would}
 use Rattle.off_import_job.specs.Importing.{LostBehind, SettledBoth}
+
+-- what holds of the opened tables is weakened
+pub opens_as : {P Q : Tables → Type 0} {a b : KeeperSeen} → OpensTo P a b → ((u : Tables) → P u → Q u) → OpensTo Q a b
+opens_as opened weaker = record {
+  opens = opened.opens;
+  writes = opened.writes;
+  are = opened.are;
+  settled = opened.settled;
+  tables = record { each = λ t told. let o = opened.tables.each t told in record { value = o.value; told = o.told; fits = (o.fits.0, weaker o.value o.fits.1) } };
+}
 
 -- another commit
 pub settled_both : {first writes : List Write} {a b c : KeeperSeen} → Settled first a b → Settled writes b c → SettledBoth first writes a c

@@ -46,8 +46,8 @@ use Rattle.off_import_job.specs.Telling.{import_end}
 use Rattle.off_import_job.specs.Importing.{ReadAs, NotTaken, DidCommand, CarriesOut, LeftUndone, Ends, Doable, Imports}
 use Rattle.off_import_job.specs.declared.importing.Ended.{Ended}
 use Rattle.off_table_jobs.proofs.ClosedLemmas.{closed_status, closed_kept, closed_same}
-use Rattle.off_table_jobs.proofs.OpeningLemmas.{opens_as, opens_then}
-use Rattle.off_import_job.proofs.BehindLemmas.{settled_both, lost_behind}
+use Rattle.off_table_jobs.proofs.OpeningLemmas.{opens_then}
+use Rattle.off_import_job.proofs.BehindLemmas.{opens_as, settled_both, lost_behind}
 use Rattle.off_import_job.specs.declared.importing.Ended.TheVariants.{Closed, Unread, NoImport, NotDone, Done}
 
 -- an office that has just begun comes to moment 0

@@ -1,4 +1,4 @@
-ghost use Rattle.std.specs.Prelude.{◌≡◌, ◌≤◌, length, codes};
+ghost use Rattle.std.specs.Prelude.{◌≡◌, ◌≤◌, length};
 ghost use Rattle.off_jobs.specs.Text.{refused};
 ghost use Rattle.off_jobs.specs.Ending.{Tells};
 ghost use Rattle.off_import_job.specs.Telling.{import_end, fault_end, refusal_end};

@@ -81,25 +81,22 @@ front_at k es n e h within item not_less =
 pub place_same : (k : Key) (es : List (Key × Row)) (n : ℕ) (e : Key × Row) → Rises es → n < length es → e ≡ get_or es n e → compared k e.0 ≡ Equal → IsPlace k n es
 unfolding compared
 place_same k es n e h within item is = record {
-  within = within;
-  front = front_at k es n e h within item (λ less. let no : Equal ≡ Less = sym is ∙ less in cc);
-  behind = none_here k es n e within item (ap is_gt is);
+  inside = within;
+  parts = record { within = omega (arith, within); front = front_at k es n e h within item (λ less. let no : Equal ≡ Less = sym is ∙ less in cc); behind = none_here k es n e within item (ap is_gt is) };
 }
 
 pub place_first : (k : Key) (es : List (Key × Row)) (n : ℕ) (e : Key × Row) → n < length es → e ≡ get_or es n e → compared k e.0 ≡ Less → n ≡ 0 → IsPlace k n es
 unfolding compared
 place_first k es n e within item is first = record {
-  within = within;
-  front = subst (λ m. AreBelow k (take m es)) (sym first) (below_begun k es);
-  behind = none_here k es n e within item (ap is_gt is);
+  inside = within;
+  parts = record { within = omega (arith, within); front = subst (λ m. AreBelow k (take m es)) (sym first) (below_begun k es); behind = none_here k es n e within item (ap is_gt is) };
 }
 
 pub place_between : (k : Key) (es : List (Key × Row)) (n m : ℕ) (e d : Key × Row) → Rises es → n < length es → e ≡ get_or es n e → compared k e.0 ≡ Less → m + 1 ≡ n → d ≡ get_or es m d → is_gt (compared k d.0) ≡ true → IsPlace k n es
 unfolding compared
 place_between k es n m e d h within item is next former more = record {
-  within = within;
-  front = subst (λ i. AreBelow k (take i es)) next (below_more k es m d h (omega (arith, within, next)) former more);
-  behind = none_here k es n e within item (ap is_gt is);
+  inside = within;
+  parts = record { within = omega (arith, within); front = subst (λ i. AreBelow k (take i es)) next (below_more k es m d h (omega (arith, within, next)) former more); behind = none_here k es n e within item (ap is_gt is) };
 }
 
 -- ---- whether the key's own stands at a place
@@ -189,12 +186,9 @@ pub starts_at : (k : Key) (es : List (Key × Row)) (n : ℕ) → IsPlace k n es 
 unfolding AreBelow is_in_front
 starts_at k [] n at here = refl
 starts_at k (e ∷ es) zero at here = starts_head (key_cmp k e.0) here
-starts_at k (e ∷ es) (suc n) at here = ap (λ (r : Ordering). not (is_lt r)) at.front.0
+starts_at k (e ∷ es) (suc n) at here = ap (λ (r : Ordering). not (is_lt r)) at.parts.front.0
 
 -- ---- where a key parts entries
-
-pub parts_of : (k : Key) (es : List (Key × Row)) (n : ℕ) → IsPlace k n es → Parts k n es
-parts_of k es n at = record { within = omega (arith, at.within); front = at.front; behind = at.behind }
 
 pub parts_none : (k : Key) → Parts k 0 []
 parts_none k = record { within = omega arith; front = below_begun k []; behind = none_begun k [] 0 (omega arith) }

@@ -1,5 +1,5 @@
 -- Entries on shelves: those of one shelf are a part of all, with those in front below a key and those behind above it.
-use Rattle.std.proofs.Common.{◌≡◌, ℕ, zero, suc, ◌+◌, ◌-◌, ◌<◌, ◌≤◌, Bool, true, false, not, Option, Some, None, List, [], ◌∷◌, ◌++◌, length, take, drop, set, get_or, slice_get, is_some, IfSome, refl, sym, ap, ◌∙◌, subst, arith, add-one, append_assoc, append-nil, length-set, length-append, length-take-le, length-drop, get_or-set_same, take-append-drop}
+use Rattle.std.proofs.Common.{◌≡◌, ℕ, zero, suc, ◌+◌, ◌-◌, ◌<◌, ◌≤◌, true, false, not, Option, Some, None, List, [], ◌∷◌, ◌++◌, length, take, drop, set, get_or, slice_get, is_some, IfSome, refl, sym, ap, ◌∙◌, subst, arith, add-one, append_assoc, length-set, length-append, length-take-le, length-drop, get_or-set_same, take-append-drop}
 use lib.Dec.{T}
 use Rattle.std.specs.List.{remove, All}
 use Rattle.std.specs.Option.{option_or}
@@ -153,7 +153,7 @@ above_part k l e r m h not_above =
 
 not_above_at : (k : Key) (s : Shelf) (p : ℕ) (d : Key × Row) → IsPlace k p s → ¬ (key_cmp k (get_or s p d).0 ≡ Greater)
 unfolding NoneBelow
-not_above_at k s p d is = subst (λ (v : List (Key × Row)). NoneBelow k v) (opened s p d is.within) is.behind
+not_above_at k s p d is = subst (λ (v : List (Key × Row)). NoneBelow k v) (opened s p d is.inside) is.parts.behind
 
 item_of : (s : Shelf) (p : ℕ) → p < length s → Key × Row
 item_of [] p within = absurd (omega (arith, within))
@@ -166,8 +166,8 @@ above_place k ss at s p h within item is =
     let whole = subst (λ (v : List (Key × Row)). T (list.is_sorted key_cmp v)) (on_parted ss at within) h in
     let rest = sorted_rest key_cmp (entries_on (take at ss)) (get_or ss at [] ++ entries_on (drop (suc at) ss)) whole in
     let own : T (list.is_sorted key_cmp (s ++ entries_on (drop (suc at) ss))) = subst (λ (v : Shelf). T (list.is_sorted key_cmp (v ++ entries_on (drop (suc at) ss)))) (sym here) rest in
-    let d = item_of s p is.within in
-    let parts = subst (λ (v : Shelf). T (list.is_sorted key_cmp (v ++ entries_on (drop (suc at) ss)))) (parted_at s p d is.within) own in
+    let d = item_of s p is.inside in
+    let parts = subst (λ (v : Shelf). T (list.is_sorted key_cmp (v ++ entries_on (drop (suc at) ss)))) (parted_at s p d is.inside) own in
     subst (λ n. T (list.below_all key_cmp k (entries_on (drop n ss)))) (sym (add-one at))
     (above_part k (take p s) (get_or s p d) (drop (suc p) s) (entries_on (drop (suc at) ss)) parts (not_above_at k s p d is))
 
@@ -290,12 +290,6 @@ emptied_is k ss ts at s t within item front behind is none removed =
     ∙ ap (λ (v : Shelf). entries_on (set ss at v)) (is ∙ ap (λ (v : Shelf). but_key k v) here)
     ∙ but_on_set k ss at within front behind
 
-pub changed_is : (k : Key) (ss : List Shelf) (at : ℕ) (s t : Shelf) → at < length ss → s ≡ get_or ss at s → AreBelow k (entries_on (take at ss)) → AreAbove k (entries_on (drop (at + 1) ss))
-    → t ≡ but_key k s → entries_on (set ss at t) ≡ but_key k (entries_on ss)
-changed_is k ss at s t within item front behind is =
-    let here : s ≡ get_or ss at [] = item ∙ get_default ss at s [] within in
-    ap (λ (v : Shelf). entries_on (set ss at v)) (is ∙ ap (λ (v : Shelf). but_key k v) here) ∙ but_on_set k ss at within front behind
-
 pub put_is : (k : Key) (w : Row) (ss : List Shelf) (at : ℕ) (s t : Shelf) → at < length ss → s ≡ get_or ss at s → AreBelow k (entries_on (take at ss)) → AreAbove k (entries_on (drop (at + 1) ss))
     → t ≡ put_entry k w s → entries_on (set ss at t) ≡ put_entry k w (entries_on ss)
 put_is k w ss at s t within item front behind is =
@@ -335,7 +329,7 @@ stocked_cut ss ts at cut t x h within is item full low high =
 pub own_rises : (ss : List Shelf) (at : ℕ) (s : Shelf) → at < length ss → s ≡ get_or ss at s → Rises (entries_on ss) → Rises s
 own_rises ss at s within item h = subst Rises (sym (item ∙ get_default ss at s [] within)) (shelf_rises ss at within h)
 
--- a place of a shelf, which is the one at a place of all
+-- a key parts a shelf that was taken out of the list where it parts it in the list, and the other way round
 pub own_parts : (k : Key) (ss : List Shelf) (at : ℕ) (s : Shelf) (p : ℕ) → at < length ss → s ≡ get_or ss at s → Parts k p s → Parts k p (get_or ss at [])
 own_parts k ss at s p within item parts = subst (λ (v : Shelf). Parts k p v) (item ∙ get_default ss at s [] within) parts
 
@@ -346,7 +340,7 @@ pub more_if : {X : Type 0} (P Q : X → Type 0) (o : Option X) → (is_some o �
 more_if P Q None f h = h
 more_if P Q (Some x) f h = f refl x h
 
--- a row that is found on a shelf whose place it is
+-- a key whose place lies on a shelf has in all the row that it has on that shelf
 pub found_on : (k : Key) (ss : List Shelf) (at : ℕ) (s : Shelf) (p : ℕ) → Rises (entries_on ss) → All IsStocked ss → at < length ss → s ≡ get_or ss at s → starts_by k s ≡ true → IsPlace k p s
     → row_in k (entries_on ss) ≡ row_in k s
 found_on k ss at s p h stocked within item starts place =

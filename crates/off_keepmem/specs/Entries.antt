@@ -55,18 +55,17 @@ NoneBelowFirst key (e ∷ es) = ¬ (key_cmp key e.0 ≡ Greater)
 unfoldable pub NoneBelow : Key → List (Key × Row) → Type 0
 NoneBelow key entries = NoneBelowFirst key entries
 
--- where an entry of this key stands, or would stand in front of another one
-pub record IsPlace (key : Key) (place : ℕ) (entries : List (Key × Row)) : Type 0 where
-  pub within : place < length entries
-  pub front : AreBelow key (take place entries)
-  pub behind : NoneBelow key (drop place entries)
-
 -- a key parts entries at a place: those in front of it have keys below this one, and no other
 -- has
 pub record Parts (key : Key) (place : ℕ) (entries : List (Key × Row)) : Type 0 where
   pub within : place ≤ length entries
   pub front : AreBelow key (take place entries)
   pub behind : NoneBelow key (drop place entries)
+
+-- where an entry of this key stands, or would stand in front of another one
+pub record IsPlace (key : Key) (place : ℕ) (entries : List (Key × Row)) : Type 0 where
+  pub inside : place < length entries
+  pub parts : Parts key place entries
 
 abbrev is_first : Key → List (Key × Row) → Bool
 is_first key [] = false

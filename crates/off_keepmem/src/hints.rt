@@ -17,35 +17,36 @@ pub(crate) struct Spot {
 /// Where entries stood when they were last put or looked for, so that most looks needn't search.
 /// Each key has a slot, and keys of one slot share one spot. A spot may be out of date: whoever
 /// goes there looks whose entry it is, so contracts say nothing of it, and a wrong one costs a
-/// search. Places are counted through all shelves, 64 to a shelf.
+/// search. A slot holds its spot as one number: 64 times the shelf, and the place.
 #[derive(Drop)]
 pub(crate) struct Hints {
-    places: Vec<u32>,
+    spots: Vec<u32>,
 }
 
 impl Hints {
     /// None, and no slots. It takes no memory.
     pub(crate) fn new(alloc: Global) -> Hints {
         Hints {
-            places: Vec::new(alloc),
+            spots: Vec::new(alloc),
         }
     }
 
-    /// The slot of a key, or any number where there are no slots.
+    /// The slot of a key, or 0 where there are none. The upper half of its number times `SPREAD` is
+    /// a part of 2^32; the slot is as far among the slots. Those beyond 2^32 stay unused.
     pub(crate) fn slot_of(&self, key: &Key) -> usize {
         let spread = key_number(key).wrapping_mul(SPREAD) >> 32;
-        (spread.wrapping_mul(self.places.len() as u64) >> 32) as usize
+        (spread.wrapping_mul(self.spots.len() as u64) >> 32) as usize
     }
 
     /// Where an entry whose key has this slot may stand.
     pub(crate) fn get(&self, slot: usize) -> Spot {
-        let place = match self.places.get(slot) {
-            Some(place) => *place as usize,
+        let counted = match self.spots.get(slot) {
+            Some(counted) => *counted as usize,
             None => 0,
         };
         Spot {
-            shelf: place / ROOM,
-            place: place % ROOM,
+            shelf: counted / ROOM,
+            place: counted % ROOM,
         }
     }
 
@@ -55,20 +56,20 @@ impl Hints {
         let Ok(counted) = u32::try_from(counted) else {
             return;
         };
-        if let Some(place) = self.places.get_mut(slot) {
-            *place = counted;
+        if let Some(held) = self.spots.get_mut(slot) {
+            *held = counted;
         }
     }
 
     /// Takes two slots at least for each entry that so many shelves have room for. Where there is
-    /// no memory for them, the slots stay as they are; else no place is remembered any more.
+    /// no memory for them, the slots stay as they are; else no spot is remembered any more.
     pub(crate) fn grow(&mut self, alloc: Global, shelves: usize) {
         let wanted = shelves.saturating_mul(2 * ROOM);
-        if self.places.len() >= wanted {
+        if self.spots.len() >= wanted {
             return;
         }
-        if let Ok(places) = vec![in alloc; 0; wanted.saturating_mul(2)] {
-            self.places = places;
+        if let Ok(spots) = vec![in alloc; 0; wanted.saturating_mul(2)] {
+            self.spots = spots;
         }
     }
 }

@@ -1,4 +1,4 @@
-ghost use Rattle.std.specs.Prelude.{◌≡◌, ◌+◌, ◌<◌, ◌≤◌, ◌∷◌, ◌++◌, [], Some, None, is_some, true};
+ghost use Rattle.std.specs.Prelude.{◌≡◌, ◌+◌, ◌<◌, ◌≤◌, ◌++◌, [], Some, None, is_some, true};
 ghost use Rattle.std.specs.Prelude.{length, take, drop, IfOk, IfSome, vec_len, slice_get};
 ghost use Rattle.std.specs.List.{insert};
 ghost use Rattle.std.specs.Vec.{vec_capacity};
@@ -106,8 +106,8 @@ impl Shelf {
         place_of(&self.entries, key)
     }
 
-    /// The row of a key, if its entry stands at this place. A key that has no entry there, though it
-    /// parts the entries there, has none.
+    /// The row of a key, if its entry stands at this place. At a place where the key parts the
+    /// entries, `None` means that it has no row.
     #[tactic(auto, using(crate::proofs::EntryLemmas::place_rules))]
     pub(crate) fn get(&self, key: &Key, place: usize) -> Option<&KeptRow>
         requires { Rises self.now }
@@ -145,7 +145,7 @@ impl Shelf {
         entry_at(&self.entries, 0)
     }
 
-    /// Gives the key this row, where so many entries have keys below it.
+    /// Gives the key this row. `place` is how many entries have keys below it.
     #[tactic(auto, using(crate::proofs::EntryLemmas::place_rules))]
     pub(crate) fn put(&mut self, key: Key, row: KeptRow, place: usize)
         requires rises { Rises self.old }
@@ -162,7 +162,7 @@ impl Shelf {
         }
     }
 
-    /// Takes the key's row away, if it has one, where so many entries have keys below it.
+    /// Takes the key's row away, if it has one. `place` is how many entries have keys below it.
     #[tactic(auto, using(crate::proofs::EntryLemmas::place_rules))]
     pub(crate) fn remove(&mut self, key: &Key, place: usize)
         requires rises { Rises self.old }

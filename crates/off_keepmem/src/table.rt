@@ -1,4 +1,4 @@
-ghost use Rattle.std.specs.Prelude.{◌≡◌, ◌+◌, ◌<◌, ◌≤◌, ◌∷◌, ◌++◌, [], Some, None, length, max};
+ghost use Rattle.std.specs.Prelude.{◌≡◌, ◌+◌, ◌<◌, ◌≤◌, ◌∷◌, [], Some, None, length, max};
 ghost use Rattle.std.specs.Prelude.{min, take, drop, vec_len, slice_index_or, slice_get};
 ghost use Rattle.std.specs.Prelude.{OnOk, IfOk, IfSome};
 ghost use Rattle.std.specs.List.{All, insert};
@@ -245,7 +245,7 @@ fn shelf_of(shelves: &Vec<Shelf>, key: &Key) -> usize
     low
 }
 
-// Where a key's entry stands, or is to be put. It looks at a spot where it may be first.
+// Where a key's entry stands, or is to be put. It looks at `near` first, and searches else.
 fn spot_of(shelves: &Vec<Shelf>, key: &Key, near: Spot) -> Spot
     requires some { 0 < vec_len shelves.now }
     requires rises { Rises (entries_on shelves.now.items) }
@@ -266,7 +266,7 @@ fn spot_of(shelves: &Vec<Shelf>, key: &Key, near: Spot) -> Spot
     Spot { shelf, place }
 }
 
-// The row of a key, if its entry stands at this spot.
+// The row of a key, if its entry stands at this spot. `None` says nothing of the key.
 fn row_at<'a>(shelves: &'a Vec<Shelf>, key: &Key, spot: Spot) -> Option<&'a KeptRow>
     requires rises { Rises (entries_on shelves.now.items) }
     requires stocked { All IsStocked shelves.now.items }

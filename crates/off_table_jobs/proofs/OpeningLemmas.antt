@@ -1,19 +1,9 @@
--- Tables that opened: what holds of them is weakened, and they are read.
-use Rattle.off_defs.specs.Told.{Told}
+-- Tables that opened are read.
 use Rattle.off_defs.specs.State.{Tables}
 use Rattle.off_outside.specs.KeeperSeen.{KeeperSeen, Rests}
 use Rattle.off_outside.specs.KeeperCalls.{Reads}
 use Rattle.off_outside.proofs.KeeperLemmas.{settled_read}
 use Rattle.off_office.specs.Opening.{OpensTo}
-
-pub opens_as : {P Q : Tables → Type 0} {a b : KeeperSeen} → OpensTo P a b → ((u : Tables) → P u → Q u) → OpensTo Q a b
-opens_as opened weaker = record {
-  opens = opened.opens;
-  writes = opened.writes;
-  are = opened.are;
-  settled = opened.settled;
-  tables = record { each = λ t told. let o = opened.tables.each t told in record { value = o.value; told = o.told; fits = (o.fits.0, weaker o.value o.fits.1) } };
-}
 
 pub opens_then : {P Q R : Tables → Type 0} {a b c : KeeperSeen} → Rests a → OpensTo P a b → Reads Q b c → ((u : Tables) → P u → Q u → R u) → OpensTo R a c
 opens_then rests opened reads join = record {

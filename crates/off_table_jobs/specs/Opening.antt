@@ -1,4 +1,4 @@
--- What the jobs over tables have in common.
+-- What the jobs over tables have in common: an ending, and two words for what tables may be.
 use Rattle.std.specs.Prelude.{◌≡◌, ℕ, ◌⊎◌}
 use Rattle.off_defs.specs.State.{Tables}
 use Rattle.off_orders.specs.declared.orders.Command.{Command}

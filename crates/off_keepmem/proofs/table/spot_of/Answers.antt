@@ -1,5 +1,4 @@
 use Rattle.std.proofs.Common.{◌<◌, length, arith}
-use Rattle.off_keepmem.proofs.EntryLemmas.{parts_of}
 use Rattle.off_keepmem.proofs.ShelfLemmas.{own_rises, own_parts, below_shelf, above_place, stocked_at}
 use Rattle.off_keepmem.proofs.table.spot_of.Goals as goal
 
@@ -22,7 +21,7 @@ pub returns-then-fits-clause-parts : goal.returns-then-fits-clause-parts
 returns-then-fits-clause-parts c =
     own_parts c.args.key.now c.args.shelves.now.items c.args.near.shelf c.index.result.now c.args.near.place
     (omega (arith, c.len.ensures, c.args.shelves.now.ok.0, c.if-near-len.true)) c.index.ensures
-    (parts_of c.args.key.now c.index.result.now c.args.near.place (c.fits.ensures.place c.if-fits.true))
+    (c.fits.ensures.place c.if-fits.true).parts
 
 pub place_of-place-requires : goal.place_of-place-requires
 place_of-place-requires c =
