@@ -8,7 +8,7 @@ whatever the number in the tables, again and again, so that only the tables diff
 time take under 20,000 DISCOVERs a second of modems for which no address is free.
 all: each of so many modems boots once, 16 at once.
 kea: three times 3,800 modems in three pools of 4,096 addresses, a tenth at a time, beside Debian's kea-dhcp4 with one thread and its leases in memory and
-a plain file (`memfile`), and a bare echo of the same datagrams, by turns.
+a plain file (`memfile`), and a bare echo of the same datagrams, by turns. DORA a second of all, and in brackets of the first tenth and the last.
 removals: how long DELETEs of subscribers take whom no modem names, and those that are refused, one behind another.
 
 With a folder in OFFICE_STORES the tables are in a file there, a new one for each number of modems, and in a journal where `journal:` stands before the
@@ -171,16 +171,16 @@ def start_kea(folder):
     return kea
 
 
-def by_tenths(program, at_once, relays=RELAYS_OF_KEA):
+def by_tenths(program, at_once):
     """DORA a second of all modems, which boot once, of the first tenth of them and of the last."""
     tenth = MODEMS_OF_KEA // 10
-    told = [dora.exchanges(program, "boot", at * tenth, tenth, relays, at_once) for at in range(10)]
+    told = [dora.exchanges(program, "boot", at * tenth, tenth, RELAYS_OF_KEA, at_once) for at in range(10)]
     whole = sum(each.done for each in told) / sum(each.seconds for each in told)
     return [whole, *(each.done / each.seconds for each in (told[0], told[-1]))]
 
 
 def spelled(rates, form):
-    """Of all modems, and of the first and the last tenth."""
+    """Rates as text: that of all modems, and in brackets those of the first tenth and of the last."""
     return "{} ({}, {})".format(*(format(rate, form) for rate in rates))
 
 

@@ -13,7 +13,7 @@ TYPES, TRAITS, INNER = "types", "traits", "inner contracts"
 PARTS = (
     (COMMANDS, r"off_book/Words"),
     (LAWS, r"off_(\w+_)?(laws|runs)|off_isolation"),
-    (JOBS, r"off_jobs|off_\w+_job|off_drill_\w+"),
+    (JOBS, r"off_\w*jobs?|off_drill_\w+"),
     (FORMS, r"off_(base|tlv|mic|tree|docsis|http|dhcp|packets|rows|clerk|clerk_\w+|import|import_rules)"),
 )
 # of two crates that may stand next, that of the earlier part does
