@@ -15,6 +15,7 @@ pages = docs/OPERATING.md docs/MESSAGES.md docs/CLERK_API.md docs/openapi.json d
 	packaging/nginx.conf packaging/prometheus-rules.yml
 example = examples/first-office
 helpers = office-all office-clerk office-copy office-counts office-desk office-sql office-watch
+units = officed.service officed-counts.service officed-copy.service officed-copy.timer
 
 build:
 	@bin/office-build proved
@@ -25,17 +26,20 @@ install:
 	install -m 755 $(OFFICED) $(bin)/officed
 	install -m 755 $(helpers:%=bin/%) $(bin)
 	install -m 755 bin/modem $(bin)/office-modem
-	sed 's|/usr/local|$(PREFIX)|g' packaging/officed.service >$(unit)/officed.service
+	for each in $(units); do \
+	    sed 's|/usr/local|$(PREFIX)|g' packaging/$$each >$(unit)/$$each; \
+	    chmod 644 $(unit)/$$each; done
 	sed 's|/usr/local|$(PREFIX)|g' packaging/officed.8 >$(man)/officed.8
-	chmod 644 $(unit)/officed.service $(man)/officed.8
+	chmod 644 $(man)/officed.8
 	install -m 644 $(pages) $(doc)
+	sed -i 's#(\.\./packaging/\(nginx.conf\|prometheus-rules.yml\))#(\1)#g' $(doc)/*.md
 	install -d $(doc)/first-office
 	install -m 644 $(example)/*.json $(doc)/first-office
 	install -m 755 $(example)/set-up $(doc)/first-office
 
 uninstall:
 	rm -f $(bin)/officed $(helpers:%=$(bin)/%)
-	rm -f $(bin)/office-modem $(unit)/officed.service $(man)/officed.8
+	rm -f $(bin)/office-modem $(units:%=$(unit)/%) $(man)/officed.8
 	rm -rf $(doc)
 
 .PHONY: build install uninstall

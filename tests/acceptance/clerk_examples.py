@@ -126,6 +126,13 @@ def explains(port):
     check(clerk(port, "move", "site")[0] == 2, "another word")
     status, _, said = clerk(free_ports()[3], "get", "site")
     check(status == 3 and "no answer" in said, "no office")
+    status, _, said = clerk(port, "get", "subscribers/7 8")
+    check(status == 2 and said.count("\n") == 1, f"no path has a space: {status} {said}")
+    unanswered = loaded("office-clerk").unanswered
+    for status, begins in ((404, "nothing was done, 404"), (500, "nothing was done, 500"),
+                           (503, "nothing was done, 503"), (502, "whether it was done isn't known"),
+                           (504, "whether it was done isn't known")):
+        check(unanswered(status).startswith(begins), f"an answer of a proxy's: {status}")
 
 
 def people(*changed):

@@ -12,15 +12,17 @@ import shutil
 import subprocess
 import sys
 import tempfile
+import time
 
 from harness import PROGRAM, ROOT, check, free_ports, listed, script, text_of
 
 DOC = "share/doc/officed"
 HELPERS = ["office-all", "office-clerk", "office-copy", "office-counts", "office-desk",
            "office-modem", "office-sql", "office-watch"]
+UNITS = ("officed.service", "officed-counts.service", "officed-copy.service", "officed-copy.timer")
 INSTALLED = {
     **{f"bin/{name}": 0o755 for name in ("officed", *HELPERS)},
-    "lib/systemd/system/officed.service": 0o644, "share/man/man8/officed.8": 0o644,
+    **{f"lib/systemd/system/{name}": 0o644 for name in UNITS}, "share/man/man8/officed.8": 0o644,
     **{f"{DOC}/{name}": 0o644 for name in (
         "OPERATING.md", "MESSAGES.md", "CLERK_API.md", "openapi.json", "SIZING.md", "ALARMS.md",
         "UPGRADING.md", "PAST_ONE_MACHINE.md", "COMPARISON.md", "nginx.conf",
@@ -53,10 +55,12 @@ def installs(folder):
     status, said = make("install", *words)
     root = os.path.join(folder, "opt", "office")
     check((status, files_under(root)) == (0, INSTALLED), f"what is installed: {status} {said}")
-    with open(os.path.join(root, "lib/systemd/system/officed.service"), encoding="utf-8") as held:
-        unit = held.read()
-    check("ExecStart=/opt/office/bin/officed serve " in unit and "/usr/local" not in unit,
-          "the unit has the prefix")
+    for name, words in zip(UNITS, ("ExecStart=/opt/office/bin/officed serve ",
+                                   "/opt/office/bin/office-counts --prometheus ",
+                                   "/opt/office/bin/office-copy --unit officed ", "OnCalendar=")):
+        with open(os.path.join(root, "lib/systemd/system", name), encoding="utf-8") as held:
+            unit = held.read()
+        check(words in unit and "/usr/local" not in unit, f"{name} has the prefix")
     helped = subprocess.run([os.path.join(root, "bin", "office-modem"), "--help"], timeout=30,
                             stdout=subprocess.DEVNULL)
     check(helped.returncode == 0, "a helper runs from there")
@@ -81,19 +85,43 @@ def unit_words():
 
 def systemd(folder):
     if not shutil.which("systemd-analyze"):
-        print("the unit: skipped, since this machine has no systemd-analyze")
+        print("the units: skipped, since this machine has no systemd-analyze")
         return
+    for name in UNITS:
+        with open(os.path.join(folder, name), "w", encoding="utf-8") as held:
+            held.write(text_of("packaging", name).replace(
+                "ExecStart=/usr/local/bin/officed", f"ExecStart={shutil.which('true')}"))
+    for name in UNITS:
+        done = subprocess.run(
+            ["systemd-analyze", "verify", "--man=no", os.path.join(folder, name)], timeout=60,
+            stdout=subprocess.PIPE, stderr=subprocess.STDOUT)
+        check((done.returncode, done.stdout) == (0, b""),
+              f"systemd takes {name}: {done.stdout.decode()}")
     path = os.path.join(folder, "officed.service")
-    with open(path, "w", encoding="utf-8") as held:
-        held.write(text_of("packaging", "officed.service").replace(
-            "/usr/local/bin/officed", shutil.which("true")))
-    done = subprocess.run(["systemd-analyze", "verify", "--man=no", path], timeout=60,
-                          stdout=subprocess.PIPE, stderr=subprocess.STDOUT)
-    check((done.returncode, done.stdout) == (0, b""), f"systemd takes it: {done.stdout.decode()}")
     done = subprocess.run(["systemd-analyze", "security", "--offline=yes", "--threshold=20", path],
                           timeout=60, stdout=subprocess.PIPE, stderr=subprocess.DEVNULL)
     print(done.stdout.decode().strip().splitlines()[-1])
     check(done.returncode == 0, "its exposure is at most 2.0")
+
+
+def copies(folder):
+    """The command that the timer has run makes a copy for this day of the week."""
+    store, copies_ = os.path.join(folder, "office.db"), os.path.join(folder, "copies")
+    os.mkdir(copies_)
+    made = [PROGRAM, "serve", "--store", store, "--ports", listed(free_ports()), "--turns", "0"]
+    check(subprocess.run(made, timeout=60).returncode == 0, "a store without rows")
+    unit = text_of("packaging", "officed-copy.service")
+    words = re.search(r"(?m)^ExecStart=/bin/sh -c '(.*)'$", unit)[1]
+    for old, new in (("$$", "$"), ("%%", "%"), ("/usr/local/bin/office-copy",
+                     os.path.join(ROOT, "bin", "office-copy")), ("/usr/local/bin/officed", PROGRAM),
+                     ("--unit officed ", ""), ("/var/lib/officed/office.db", store),
+                     ("/var/backups/officed", copies_)):
+        check(old in words, f"the copy's unit has {old}")
+        words = words.replace(old, new)
+    done = subprocess.run(["sh", "-c", words], timeout=60, stdout=subprocess.PIPE,
+                          stderr=subprocess.STDOUT)
+    check((done.returncode, os.listdir(copies_)) == (0, [time.strftime("office-%u.db")]),
+          f"a copy: {done.stdout.decode()} {os.listdir(copies_)}")
 
 
 def manual():
@@ -118,6 +146,7 @@ def main():
     with tempfile.TemporaryDirectory() as folder:
         installs(folder)
         systemd(folder)
+        copies(folder)
     unit_words()
     manual()
 

@@ -9,6 +9,7 @@ of link, lines of devices behind modems, a modem's address in a store, and what 
 ends what it started, and takes some seconds.
 """
 import argparse
+import io
 import os
 import re
 import shutil
@@ -186,6 +187,39 @@ def frames():
     check(form.groups("") == ("", "link refused", "", "link refused"), "the last line")
 
 
+def cut_short():
+    """A packet that ends before its datagram, or whose head is said to be longer than it."""
+    watch = loaded("office-watch")
+    whole = packet("10.64.0.1", "10.0.0.2", b"x")
+    check(watch.udp_of(0, whole).data == b"x", "a whole packet")
+    check(watch.udp_of(0, b"\x4f" + whole[1:]) is None, "a head of sixty bytes")
+    check(all(watch.udp_of(0, whole[:size]) is None for size in range(28)), "a packet cut short")
+    for size in range(24):
+        try:
+            list(watch.packets_of(io.BytesIO(HEAD[:size])))
+            check(False, f"a capture of {size} bytes")
+        except watch.Unreadable:
+            pass
+
+
+def with_something_to_do():
+    """What --wrong leaves out: that for which the page has nothing to do, whatever comes of it."""
+    watch = loaded("office-watch")
+    page = watch.read_page(None)
+    quiet = (("dhcp", "offer"), ("dhcp", "no-record"), ("dhcp", "cpe-not-yours"), ("time", "sent"),
+             ("tftp", "block 7"), ("tftp", "again"), ("tftp", "unknown"), ("http", "200"),
+             ("tick", "again 3 closed 1"))
+    shown = (("dhcp", "not-a-modem"), ("dhcp", "other-server"), ("dhcp", "pool-full"),
+             ("dhcp", "cpe-limit"), ("dhcp", "cpe-suspended"), ("dhcp", "cpe-offline"),
+             ("tftp", "no-lease"), ("tftp", "agreement"), ("tftp", "name"), ("tftp", "full"),
+             ("http", "409 pool-overlap"), ("dhcp", "keeper"), ("", "keeper refused"),
+             ("", "officed.service: Main process exited, code=exited, status=11/n/a"))
+    for lines, is_quiet in ((quiet, True), (shown, False)):
+        for service, words in lines:
+            row = watch.row_of(page, service, words)
+            check(watch.is_quiet(service, row) == is_quiet, f"{service} {words}: quiet {is_quiet}")
+
+
 OFFICE, RELAY, NOBODY = "10.0.0.2", "10.128.0.1", "0.0.0.0"
 DISCOVER, OFFER, REQUEST, DECLINE, ACK, NAK, RELEASE = range(1, 8)
 
@@ -301,6 +335,8 @@ def refused():
 
 def main():
     frames()
+    cut_short()
+    with_something_to_do()
     behind({})
     behind({"0200000000a3": "02aabbccdd77"})
     finds()
