@@ -128,7 +128,11 @@ def while_it_goes_on(folder):
     program.stdin.flush()
     waits_for(out, 1)
     found, _, _ = read_prometheus(out)
-    check(found == {("dhcp", "offer"): 1, ("dhcp", "ack"): 1}, f"while it goes on: {found}")
+    told = {key: count for key, count in found.items() if count}
+    check(told == {("dhcp", "offer"): 1, ("dhcp", "ack"): 1}, f"while it goes on: {told}")
+    # What an alarm waits for stands there from the start.
+    check(("dhcp", "pool-full") in found and ("office", "keeper refused") in found,
+          "words that no line had")
     program.stdin.write(b"cp ack\n")
     program.stdin.flush()
     waits_for(out, 2)

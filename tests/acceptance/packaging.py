@@ -55,16 +55,17 @@ def installs(folder):
     status, said = make("install", *words)
     root = os.path.join(folder, "opt", "office")
     check((status, files_under(root)) == (0, INSTALLED), f"what is installed: {status} {said}")
-    for name, words in zip(UNITS, ("ExecStart=/opt/office/bin/officed serve ",
-                                   "/opt/office/bin/office-counts --prometheus ",
-                                   "/opt/office/bin/office-copy --unit officed ", "OnCalendar=")):
+    for name, part in zip(UNITS, ("ExecStart=/opt/office/bin/officed serve ",
+                                  "/opt/office/bin/office-counts --prometheus ",
+                                  "/opt/office/bin/office-copy --unit officed ", "OnCalendar=")):
         with open(os.path.join(root, "lib/systemd/system", name), encoding="utf-8") as held:
             unit = held.read()
-        check(words in unit and "/usr/local" not in unit, f"{name} has the prefix")
+        check(part in unit and "/usr/local" not in unit, f"{name} has the prefix")
     helped = subprocess.run([os.path.join(root, "bin", "office-modem"), "--help"], timeout=30,
                             stdout=subprocess.DEVNULL)
     check(helped.returncode == 0, "a helper runs from there")
-    check(make("uninstall", *words)[0] == 0 and not files_under(folder), "all is removed")
+    status, said = make("uninstall", *words)
+    check((status, files_under(folder)) == (0, {}), f"all is removed: {status} {said}")
     status, said = make("install", f"DESTDIR={folder}", "OFFICED=/nowhere")
     check(status != 0 and "make it first" in said, "without a program nothing is installed")
     check(not files_under(folder), "and nothing is there")
