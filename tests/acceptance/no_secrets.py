@@ -28,7 +28,7 @@ GIVES = re.compile(r'PUT http\S+/(site|hubs/\d+) |--secret |^ *HEX=|`HEX=|"secre
 # Where the examples' own programs print a hub's row, which clerks put, and that of the site of earlier days: after a run, as a command that was read or its
 # answer, and as the bytes of the row.
 ROW = r"row (hub \d+|site) "
-PRINTED = {"office_script": ROW, "store_script": ROW, "clerk_script": r"(put|shown) hub \d+ ", "format_script": r"(hub \d+|site) "}
+PRINTED = {"office_script": ROW, "clerk_script": r"(put|shown) hub \d+ ", "format_script": r"(hub \d+|site) "}
 
 
 # ---- the search itself

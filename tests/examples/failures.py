@@ -11,6 +11,8 @@ import leases
 import transfers
 from transfers import WHOLE, Packet
 
+# The section in which each call of the outside fails.
+OF_ALL = "a modem boots and a clerk puts a row while each call of the outside fails in turn"
 MODEL = "By the models in tests/examples/leases.py and tftp.py, from RFC 2131, RFC 1350 and the office's rules."
 
 
@@ -99,7 +101,7 @@ def sections(script, rows):
     whole = played(rows)
     if [line.split(" ", 2)[2] for line in whole.wrote] != [word for _, word, _ in EVENTS]:
         raise leases.Disagreement(whole.wrote)
-    script.section("a modem boots and a clerk puts a row while each call of the outside fails in turn", MODEL,
+    script.section(OF_ALL, MODEL,
                    "Of the keeper: at the opening status 3; else one line says `keeper`, and its event is as if it hadn't come.",
                    "Of the link: a failed `next` is tried again; where an item isn't sent its line says `link`, and what was done stays done.")
     run("", [], whole.outcome())

@@ -4,8 +4,8 @@
 The office of the worked examples is hub 0, class 1, subscriber 7, a modem and a pool. What is expected is said here by hand, from the rules
 in docs/, or computed by Python's hashlib, hmac and json and the readers of examples.py, which are written from the standards. The sections on
 DHCP are those of leases.py, those on devices behind modems of devices.py and devices_by_chance.py, those on TFTP of transfers.py, those on whole boots
-of boots.py, those on imports of import_job.py, those on drills of drills.py, those on calls that fail of failures.py, and those on input from strangers
-of hostile.py. With the word `check` it compares the two files with what it would write.
+of boots.py, those on imports of import_job.py, those on drills of drills.py, those on calls that fail of failures.py, those on input from strangers of
+hostile.py, and those on cells of stores.py, which names what keeps the tables of each. With the word `check` it compares the two files with what it would write.
 """
 import sys
 
@@ -17,6 +17,7 @@ import failures
 import hostile
 import import_job
 import leases
+import stores
 import transfers
 from examples import T, Fault, Script, answer, answered, compact, datagram, fixed, ip, outcome, request, sealed, time_reply, verdict
 
@@ -940,6 +941,8 @@ def main():
     drills.sections(script, OFFICE)
     failures.sections(script, OFFICE)
     hostile.sections(script, OFFICE)
+    stores.sections(script)
+    script.script = stores.name_keepers(script.script)
     return script.write("office_script")
 
 

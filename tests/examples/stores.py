@@ -1,16 +1,14 @@
-#!/usr/bin/env python3
-"""Writes crates/store_script/stdin and stdout: whole runs over tables in cells, in memory and in a table of a database, and in a journal.
+"""Sections on what keeps the tables: which keepers the sections of a script are played over, and cells that are no rows.
 
-Their sections are those of office_script, which are to give the same text; all but the few with rows that no cell can hold (`stray`), or with so
-many rows that a list of cells is too slow (`repeat`). Where calls of the keeper fail, they are played over cells in memory alone. Then come cells
-that are no rows, which are listed here by hand from the bytes of keys and rows in crates/off_rows/specs: the office doesn't open over them.
-With the word `check` it compares the two files with what it would write.
+Each section is played over tables in memory, in cells, in a table of a database and in a journal, and the same has to come of it; all but the few
+with rows that no cell can hold (`stray`), or with so many rows that a list of cells is too slow (`repeat`), which are played in memory alone. Where
+calls of the keeper fail, it's memory and cells in memory, of which calls can be made to fail; the section in which each call of the outside fails is
+played over a journal too in which the same calls of the disk fail: each image that a crash may leave is opened behind each commit.
+
+Cells that are no rows are listed here by hand from the bytes of keys and rows in crates/off_rows/specs: the office doesn't open over them.
 """
-import pathlib
-import sys
-
-CRATES = pathlib.Path(__file__).resolve().parent.parent.parent / "crates"
-IN_CELLS, ALONE = "in cells\n", "cells alone\n"
+import failures
+from examples import outcome
 
 # What each kind of cell lacks. A key's bytes are its kind and its numbers; a row's are its fields.
 SITE = "0a000002" "06736563726574" "00000e10" "00015180" "00000000"
@@ -56,66 +54,60 @@ BAD = [
 ]
 
 
-def sections(name, file):
-    """The sections of a file of office_script, in order, and what stands before them."""
-    parts = ("\n" + (CRATES / "office_script" / file).read_text()).split("\nsection ")
-    return parts[0], [part.rstrip("\n") for part in parts[1:]]
+
+ROWS = ['subscriber 7 active 2 "Ann"', 'subscriber 9 active 2 "Ann"', 'modem 02aabbccddee 7 1 "SN01"',
+        'class 1 "gold" 24{ 1=0001 6=07 8=00989680 } 25{ 1=0002 6=07 8=05f5e100 }', "pool 1 10.64.0.10 10.64.0.99 24 10.64.0.1 10.64.0.1",
+        "hub 0 10.0.0.2 736563726574 3600 86400 0.0.0.0"]
+
+# Which keepers a section is played over; what comes of it over the first is printed.
+EACH, FAILING, CRASHING, ALONE, CELLS = "memory cells database journal", "memory cells", "memory cells crashes", "memory", "cells database"
 
 
-def is_of(words, script):
-    return any(line.startswith(words) for line in script.splitlines())
+def is_of(words, lines):
+    return any(line.startswith(words) for line in lines)
 
 
-def main():
-    head, scripts = sections("office_script", "stdin")
-    _, texts = sections("office_script", "stdout")
-    common = "\n".join(line for line in head.splitlines() if line.startswith("common ")) + "\n"
-    both, cells, alone = common, "\n" + common, "\n" + common
-    told_of_both, told_of_cells, told_of_alone = "", "", ""
-    for script, text in zip(scripts, texts, strict=True):
-        assert script.splitlines()[0] == text.splitlines()[0], (script.splitlines()[0], text.splitlines()[0])
-        if is_of("repeat ", script) or is_of("stray ", script):
-            continue
-        if is_of("fails keeper", script) or is_of("fails each keeper", script):
-            alone += f"\nsection {script}\n"
-            told_of_alone += f"\nsection {text}\n"
-        else:
-            both += f"\nsection {script}\n"
-            told_of_both += f"\nsection {text}\n"
-    cells += "\nsection a cell that is no row is refused at the opening, and the tables stay\n# By hand, from crates/off_rows/specs.\n"
-    told_of_cells += "\nsection a cell that is no row is refused at the opening, and the tables stay\n"
+def keepers_of(lines):
+    """The keepers of a section, by what its lines ask for."""
+    if is_of("cell ", lines):
+        return CELLS
+    if is_of(("repeat ", "stray "), lines):
+        return ALONE
+    if lines[0] == f"section {failures.OF_ALL}":
+        return CRASHING
+    return FAILING if is_of(("fails keeper", "fails each keeper"), lines) else EACH
+
+
+def name_keepers(script):
+    """Puts a line that names the keepers before each section for which they aren't those of the section before."""
+    begins = [place for place, line in enumerate(script) if line.startswith("section ")]
+    lines, last = script[:begins[0] - 1], None
+    for begin, end in zip(begins, [*begins[1:], len(script) + 1], strict=True):
+        section = script[begin:end - 1]
+        keepers = keepers_of(section)
+        if keepers != last:
+            lines += ["", f"over {keepers}"]
+        lines += ["", *section]
+        last = keepers
+    return lines
+
+
+def sections(script):
+    """Writes the section on cells."""
+    script.section("a cell that is no row is refused at the opening, and the tables stay", "By hand, from crates/off_rows/specs.")
     for title, ident, val in BAD:
-        cells += f"cell {ident} {val}\n0 datagram time from 10.64.0.10:5000\nrun {title}\n"
-        told_of_cells += f"run {title}\nstatus 3\n| keeper refused\n"
-    cells += "office\ncell 0200000009 010203416e6e\nshow tables\nrun a cell that is a row is one\n"
-    told_of_cells += "run a cell that is a row is one\nstatus 0\n" + ROWS
+        script.run(title, [f"cell {ident} {val}", "0 datagram time from 10.64.0.10:5000"], outcome(3, ["keeper refused"]))
+    ninth = "cell 0200000009 010203416e6e"
+
+    def shows(title, *lines, more=()):
+        script.run(title, ["office", *lines, ninth, "show tables"], outcome(tables=[*ROWS, *more]))
+
+    shows("a cell that is a row is one")
     # The site of earlier days becomes the hub 0; no other cell changes.
-    cells += f"office\ndrop hub 0\ncell 01 {SITE}\ncell 0200000009 010203416e6e\nshow tables\nrun a cell of the site of earlier days is moved\n"
-    told_of_cells += "run a cell of the site of earlier days is moved\nstatus 0\n" + ROWS
-    cells += f"office\ncell 01 {SITE}\nrun a cell of it beside a hub is refused\n"
-    told_of_cells += "run a cell of it beside a hub is refused\nstatus 2\n| tables refused site\n"
-    cells += f"office\ncell 0a00000001 {SITE}\ncell 0b00000001 00000001\ncell 0200000009 010203416e6e\nshow tables\nrun cells of a hub and of a pool's hub\n"
-    told_of_cells += f"run cells of a hub and of a pool's hub\nstatus 0\n{ROWS}row hub 1 10.0.0.2 736563726574 3600 86400 0.0.0.0\nrow pool-hub 1 1\n"
-    cells += "office\ncell 0c00000001 0a80000a0a800014180a8000010a800001\ncell 0d0a80000a 0202aabbccddee0200000000a1000000006553f100\n"
-    cells += "cell 0200000009 010203416e6e\nshow tables\nrun cells of a pool for devices and of a device's lease\n"
-    told_of_cells += f"run cells of a pool for devices and of a device's lease\nstatus 0\n{ROWS}row device-pool 1 10.128.0.10 10.128.0.20 24 10.128.0.1 10.128.0.1\n"
-    told_of_cells += "row device 10.128.0.10 bound 02aabbccddee 0200000000a1 1700000000\n"
-    files = {"stdin": both + "\n" + IN_CELLS + cells + "\n" + ALONE + alone, "stdout": told_of_both + told_of_cells + told_of_alone}
-    where = CRATES / "store_script"
-    if sys.argv[1:] == ["check"]:
-        return int(any((where / name).read_text() != text for name, text in files.items()))
-    for name, text in files.items():
-        (where / name).write_text(text)
-    return 0
-
-
-ROWS = """row subscriber 7 active 2 "Ann"
-row subscriber 9 active 2 "Ann"
-row modem 02aabbccddee 7 1 "SN01"
-row class 1 "gold" 24{ 1=0001 6=07 8=00989680 } 25{ 1=0002 6=07 8=05f5e100 }
-row pool 1 10.64.0.10 10.64.0.99 24 10.64.0.1 10.64.0.1
-row hub 0 10.0.0.2 736563726574 3600 86400 0.0.0.0
-"""
-
-if __name__ == "__main__":
-    sys.exit(main())
+    shows("a cell of the site of earlier days is moved", "drop hub 0", f"cell 01 {SITE}")
+    script.run("a cell of it beside a hub is refused", ["office", f"cell 01 {SITE}"], outcome(2, ["tables refused site"]))
+    shows("cells of a hub and of a pool's hub", f"cell 0a00000001 {SITE}", "cell 0b00000001 00000001",
+          more=["hub 1 10.0.0.2 736563726574 3600 86400 0.0.0.0", "pool-hub 1 1"])
+    shows("cells of a pool for devices and of a device's lease", "cell 0c00000001 0a80000a0a800014180a8000010a800001",
+          "cell 0d0a80000a 0202aabbccddee0200000000a1000000006553f100",
+          more=["device-pool 1 10.128.0.10 10.128.0.20 24 10.128.0.1 10.128.0.1", "device 10.128.0.10 bound 02aabbccddee 0200000000a1 1700000000"])
