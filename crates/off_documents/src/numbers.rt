@@ -1,5 +1,5 @@
 ghost use Rattle.std.specs.Prelude.{◌≡◌, ◌==◌, ◌<◌, length, slice_index, option_map};
-ghost use Rattle.std.specs.Prelude.{◌+◌, ◌∷◌, [], IsTrue, IfSome, true, false};
+ghost use Rattle.std.specs.Prelude.{◌∷◌, [], IsTrue, IfSome, decimal, true, false};
 ghost use Rattle.serde_json.specs.Find.{as_u64, as_i64};
 ghost use Rattle.serde_json.specs.Read.{number_of, number_from, float_of};
 
@@ -22,8 +22,8 @@ impl Number {
         ensures { option_map num_of result ≡ number_of text.now }
     {
         let bytes = text.as_bytes();
-        if let Some(digit) = digit_of(bytes) {
-            return Some(Number::Unsigned(u64::from(digit)));
+        if let Some(number) = small_number(bytes) {
+            return Some(Number::Unsigned(u64::from(number)));
         }
         if has_minus(bytes) {
             Number::negative(&Numeral::scan(&bytes[1..]))
@@ -84,13 +84,38 @@ impl Number {
     }
 }
 
-// The digit that a text of one byte is. Bodies with the most numbers have only such.
-fn digit_of(bytes: &[u8]) -> Option<u8>
-    ensures is { IfSome result (λ digit. bytes.now ≡ (48 + digit) ∷ []) }
+// The number that a text of one digit or two is. Bodies with the most numbers have only such.
+fn small_number(bytes: &[u8]) -> Option<u8>
+    ensures is { IfSome result (λ number. bytes.now ≡ decimal number) }
+    ensures below { IfSome result (λ number. number < 100) }
+{
+    match bytes.len() {
+        1 => digit_of(bytes[0]),
+        2 => two_digits(bytes[0], bytes[1]),
+        _ => None,
+    }
+}
+
+// The number of two digits, of which the first isn't 0.
+fn two_digits(first: u8, second: u8) -> Option<u8>
+    ensures is { IfSome result (λ number. first ∷ second ∷ [] ≡ decimal number) }
+    ensures below { IfSome result (λ number. number < 100) }
+{
+    let tens = digit_of(first)?;
+    let ones = digit_of(second)?;
+    if tens == 0 {
+        return None;
+    }
+    Some(10 * tens + ones)
+}
+
+// The number of one digit.
+fn digit_of(byte: u8) -> Option<u8>
+    ensures is { IfSome result (λ digit. byte ∷ [] ≡ decimal digit) }
     ensures below { IfSome result (λ digit. digit < 10) }
 {
-    if bytes.len() == 1 && b'0' <= bytes[0] && bytes[0] <= b'9' {
-        Some(bytes[0] - b'0')
+    if byte.is_ascii_digit() {
+        Some(byte - b'0')
     } else {
         None
     }

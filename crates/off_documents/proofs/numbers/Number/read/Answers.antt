@@ -1,5 +1,4 @@
 use Rattle.std.proofs.Common.{◌≡◌, ◌<◌, ◌^◌, ℕ, drop, get_or, true, false, ◌==◌, Some, decimal, sym, ap, ◌∙◌, arith, take_all, length-drop}
-use Rattle.std.proofs.lemmas.Fmt.{decimal_digit}
 use Rattle.fast_float.specs.Text.{scan}
 use Rattle.serde_json.specs.Read.{number_of, number_from}
 use Rattle.serde_json.specs.Data.{unsigned}
@@ -25,7 +24,7 @@ returns-else-has_minus c =
 
 pub returns-in-Some : goal.returns-in-Some
 returns-in-Some c =
-    let n = c.in-Some.digit in
+    let n = c.in-Some.number in
     let small : n < 2 ^ 64 = omega (arith, c.in-Some.ensures.below) in
-    let text : c.args.text.now ≡ decimal n = sym c.as_bytes-bytes.ensures.value ∙ c.in-Some.ensures.is ∙ sym (decimal_digit n c.in-Some.ensures.below) in
+    let text : c.args.text.now ≡ decimal n = sym c.as_bytes-bytes.ensures.value ∙ c.in-Some.ensures.is in
     ap (λ (m : ℕ). Some (unsigned m)) c.from.ensures ∙ sym (ap number_of text ∙ number_of-decimal n small)
