@@ -6,14 +6,13 @@ use Rattle.off_defs.specs.State.{Tables, State, Held, held_at_start, start, stat
 use Rattle.off_book.specs.Crashes.{Lasts}
 use Rattle.off_book.proofs.CrashLemmas.{lasts_run, lasts_doubt}
 use Rattle.off_book.specs.Words.{Job}
-use Rattle.off_book.specs.Run.{Turn, SaysMemory, commits_by, lost_by, lines_from}
+use Rattle.off_book.specs.Run.{Turn, SaysMemory, failures_by, commits_by, lost_by, lines_from}
 use Rattle.off_book.proofs.StepLemmas.{turns_did}
-use Rattle.off_defs.proofs.CountLemmas.{later_grew}
 use Rattle.off_account_rules.specs.Good.{Good}
 use Rattle.off_account_rules.specs.Migration.{migrated}
 use Rattle.off_outside.specs.LinkSeen.{LinkSeen}
 use Rattle.off_outside.specs.KeeperSeen.{KeeperSeen, Rests}
-use Rattle.off_defs.specs.Counts.{Grew, one_more}
+use Rattle.off_defs.specs.Counts.{Grew, Tallied, one_more}
 use Rattle.off_outside.specs.KeeperCalls.{Settled}
 use Rattle.off_laws.proofs.Stretches.{leases_hold_through}
 use Rattle.off_cpe_runs.proofs.Runs.{devices_hold_over_runs}
@@ -88,7 +87,7 @@ complete_of : (reason : Stop) (budget : ℕ) (turns : List Turn) (held : Held) (
     → RanOffice turns held old.keeper new.keeper → Ends reason budget turns old new status
     → Calm old new → All (λ (turn : Turn). ¬ (SaysMemory turn)) turns → status ≢ 6 → Completed turns status
 complete_of reason budget turns held old new status ran office ends none silent other =
-    let did = turns_did turns office.tell (omega (arith, none.1.0.same, none.1.0.room, office.keeper.faults.grew)) silent in
+    let did = turns_did turns office.tell (omega (arith, none.1.0.same, none.1.0.room, office.keeper.faults.grew.grew)) silent in
     let lost : lost_by turns ≡ 0 = omega (arith, none.0.1.same, none.0.1.room, ran.unsent.grew.grew) in
     record {
       did = did;
@@ -111,10 +110,9 @@ each_device_served turns old new status t good complete none silent other = all_
 -- what the turns did to the keeper, behind the opening
 keeper_opened : (turns : List Turn) (first : List Write) (a b c : KeeperSeen) → Settled first a b → KeeperRan [] turns b c → KeeperRan first turns a c
 keeper_opened turns first a b c settled ran = record {
-  faults = later_grew (omega (arith, settled.faults)) ran.faults;
-  stands = λ none. ran.stands none ∙ settled.faults;
+  faults = subst (λ v. Tallied (failures_by turns) v c.faults) settled.faults ran.faults;
   commits = ran.commits ∙ ap (commits_by turns) settled.commits;
-  up = up_chain (omega (arith, settled.faults)) ran.faults.later (λ up. inl (settled.up up)) ran.up;
+  up = up_chain (omega (arith, settled.faults)) ran.faults.grew.later (λ up. inl (settled.up up)) ran.up;
 }
 
 -- what a crash leaves from the opening on

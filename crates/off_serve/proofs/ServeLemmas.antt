@@ -9,12 +9,12 @@ use Rattle.off_defs.specs.declared.results.Outcome.TheVariants.{Did, Memory, Kee
 use Rattle.off_defs.specs.Counts.{Grew, Tallied, commits_after, calls_after}
 use Rattle.off_defs.specs.State.{Tables, state_of}
 use Rattle.off_defs.specs.Events.{end_event}
-use Rattle.off_book.specs.Run.{Turn, TellsItsOutcome, keeper_failures, failures_by, trouble, troubles_by, writes_by, sent_in, sent_by, line_of, lines_from, events_of, first_events, is_end, IsNoEnd, EndsLast, effect_of}
+use Rattle.off_book.specs.Run.{Turn, TellsItsOutcome, keeper_failures, writes_by, sent_in, sent_by, line_of, lines_from, events_of, first_events, is_end, IsNoEnd, EndsLast, effect_of}
 use Rattle.off_defs.proofs.ToldLemmas.{told_then, told_self, then_stays}
-use Rattle.off_defs.proofs.CountLemmas.{grew_self, grew_then, later_grew, tallied_none, tallied_then, tallied_stays}
+use Rattle.off_defs.proofs.CountLemmas.{grew_then, later_grew, tallied_none, tallied_then, tallied_stays}
 use Rattle.off_book.specs.Crashes.{Begins}
 use Rattle.off_book.proofs.CrashLemmas.{OneTurn, OnlyReads, lasts_push, lasts_stay, doubts_by}
-use Rattle.off_book.proofs.RunLemmas.{failures_by_push, troubles_by_push, commits_by_push, writes_by_push, sent_by_push, lost_by_push, lines_from_push}
+use Rattle.off_book.proofs.RunLemmas.{failures_by_push, commits_by_push, writes_by_push, sent_by_push, lost_by_push, lines_from_push}
 use Rattle.off_outside.specs.LinkSeen.{LinkSeen}
 use Rattle.off_outside.specs.KeeperSeen.{KeeperSeen, Rests}
 use Rattle.off_laws.proofs.StepLaws.{step_good}
@@ -99,37 +99,28 @@ ran_push {turns} {turn} {before} {after} {a} {b} {c} ran missed no_end made = re
   up = both_chain missed.faults.grew.later made.faults.grew.later ran.unsent.grew.later made.unsent.grew.later ran.up made.up;
 }
 
--- the counts of a turn by its outcome
-turn_grew : (outcome : Outcome) (a b : ℕ) → CountsFaults outcome a b → Grew (keeper_failures outcome) a b
-turn_grew Did a b same = record { later = omega (arith, same); grew = omega (arith, same) }
-turn_grew Memory a b tallied = tallied.grew
-turn_grew Keeper a b tallied = tallied.grew
-
-turn_stands : (outcome : Outcome) (a b : ℕ) → CountsFaults outcome a b → trouble outcome ≡ 0 → b ≡ a
-turn_stands Did a b same none = same
-turn_stands Memory a b tallied none = absurd (omega (arith, none))
-turn_stands Keeper a b tallied none = absurd (omega (arith, none))
+-- the count of a turn by its outcome
+turn_tallied : (outcome : Outcome) (a b : ℕ) → CountsFaults outcome a b → Tallied (keeper_failures outcome) a b
+turn_tallied Did a b same = record { grew = record { later = omega (arith, same); grew = omega (arith, same) }; stands = λ none. same }
+turn_tallied Memory a b tallied = tallied
+turn_tallied Keeper a b tallied = tallied
 
 keeper_push : (turns : List Turn) (turn : Turn) (before after : Desk) (a b c : KeeperSeen) → KeeperRan [] turns a b → OfficeTurn turn before after b c
     → KeeperRan [] (turns ++ turn ∷ []) a c
 keeper_push turns turn before after a b c ran made =
-    let grew = turn_grew turn.outcome b.faults c.faults made.faults in
+    let tallied = turn_tallied turn.outcome b.faults c.faults made.faults in
     record {
-      faults = subst (λ n. Grew n a.faults c.faults) (sym (failures_by_push turns turn)) (grew_then ran.faults grew);
-      stands = λ none.
-          let all : troubles_by turns + trouble turn.outcome ≡ 0 = sym (troubles_by_push turns turn) ∙ none in
-          turn_stands turn.outcome b.faults c.faults made.faults (omega (arith, all)) ∙ ran.stands (omega (arith, all));
+      faults = subst (λ n. Tallied n a.faults c.faults) (sym (failures_by_push turns turn)) (tallied_then ran.faults tallied);
       commits = made.commits ∙ (ap (commits_after turn.commit) ran.commits ∙ sym (commits_by_push turns turn a.commits));
-      up = up_chain ran.faults.later grew.later ran.up made.up;
+      up = up_chain ran.faults.grew.later tallied.grew.later ran.up made.up;
     }
 
 -- calls that ask nothing of the keeper
 keeper_same : (turns : List Turn) (a b c : KeeperSeen) → KeeperRan [] turns a b → Unasked b c → KeeperRan [] turns a c
 keeper_same turns a b c ran same = record {
-  faults = subst (λ v. Grew (failures_by turns) a.faults v) (sym same.quiet.faults) ran.faults;
-  stands = λ none. same.quiet.faults ∙ ran.stands none;
+  faults = tallied_stays ran.faults same.quiet.faults;
   commits = same.quiet.commits ∙ ran.commits;
-  up = up_chain ran.faults.later (omega (arith, same.quiet.faults)) ran.up (λ up. inl (same.quiet.up up));
+  up = up_chain ran.faults.grew.later (omega (arith, same.quiet.faults)) ran.up (λ up. inl (same.quiet.up up));
 }
 
 -- calls that only read
@@ -255,7 +246,7 @@ going_none first w rests none = record {
       past = λ m u early opened. opened;
       later = omega arith;
       fits = told_self (λ x fits. fits);
-      keeper = record { faults = grew_self w.keeper.faults; stands = λ none. refl; commits = refl; up = λ up. inl up };
+      keeper = record { faults = tallied_none w.keeper.faults; commits = refl; up = λ up. inl up };
       tell = All-nil _;
     };
     no_end = All-nil _;

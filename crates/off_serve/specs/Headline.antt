@@ -7,7 +7,7 @@ use Rattle.off_defs.specs.Counts.{Grew, Tallied, one_more, commits_after}
 use Rattle.off_defs.specs.declared.writes.Write.{Write}
 use Rattle.off_defs.specs.State.{Tables, State, Held, state_of, start}
 use Rattle.off_defs.specs.declared.results.Outcome.TheVariants as outcome
-use Rattle.off_book.specs.Run.{Turn, Run, SaysMemory, TellsItsOutcome, failures_by, troubles_by, commits_by, writes_by, sent_by, lost_by, lines_from, line_of, events_of, first_events, is_end, IsNoEnd, EndsLast}
+use Rattle.off_book.specs.Run.{Turn, Run, SaysMemory, TellsItsOutcome, failures_by, commits_by, writes_by, sent_by, lost_by, lines_from, line_of, events_of, first_events, is_end, IsNoEnd, EndsLast}
 use Rattle.off_book.specs.Crashes.{Lasts}
 use Rattle.off_laws.specs.Leases.{LeasesHoldThrough}
 use Rattle.off_cpe_runs.specs.Holding.{DevicesHoldThrough}
@@ -84,11 +84,10 @@ LastsOpened old new t turns last =
     last)
 
 -- What the turns did to the keeper, behind these first writes: each in which it failed is counted,
--- and where each event was acted on the count stands; each that wrote anything made one commit, and
--- so did the first writes, if any; and it stays up, or has counted a fault.
+-- and where it failed in none the count stands; each that wrote anything made one commit, and so did
+-- the first writes, if any; and it stays up, or has counted a fault.
 pub record KeeperRan (first : List Write) (turns : List Turn) (old new : KeeperSeen) : Type 0 where
-  pub faults : Grew (failures_by turns) old.faults new.faults
-  pub stands : troubles_by turns ≡ 0 → new.faults ≡ old.faults
+  pub faults : Tallied (failures_by turns) old.faults new.faults
   pub commits : new.commits ≡ commits_by turns (commits_after first old.commits)
   pub up : StaysUp old new
 
