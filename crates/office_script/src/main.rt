@@ -1,7 +1,7 @@
 //! Runs examples that are data: each section of the script on standard input is served by
 //! `off_serve::run` over objects in memory, and what comes of it is printed.
 //!
-//! A line `over KEEPER ..` begins a part of the script, and names what keeps the tables of its runs:
+//! A line `over KEEPER ..` begins a part of the script and names what keeps the tables of its runs:
 //! `memory`; `cells` in memory, where calls can be made to fail; a table of a `database` in memory;
 //! a `journal` on a disk in memory. What comes of a part over the first keeper is printed, and what
 //! comes of it over another where that is something else. Over `crashes`, a journal on a disk whose
