@@ -304,6 +304,22 @@ def hungry():
     check((6, "memory refused\n") in found.values(), f"memory is refused where there is little: {found}")
 
 
+def spoilt():
+    """What the file gives back while the office runs is never read: the rows are in memory, and are served as they were."""
+    for kind in ("", "journal:"):
+        with folder() as (name, store):
+            with Serving(kind + store) as office:
+                for path, body in CHANGES:
+                    office.puts(path, body)
+            with Serving(kind + store) as office:
+                for each in os.listdir(name):
+                    with open(os.path.join(name, each), "r+b") as file:
+                        file.write(bytes(os.fstat(file.fileno()).st_size))
+                for path, body in CHANGES:
+                    office.shows(path, body, f"{kind or 'a database'}, all of whose bytes became 0")
+                office.kill()
+
+
 def guide():
     """The queries of docs/OPERATING.md, in their order, over rows that a clerk put."""
     texts, text = [], None
@@ -415,7 +431,7 @@ def main():
     if sqlite3 is None or sqlite3.sqlite_version_info < (3, 37):
         print("skipped, since this Python's sqlite3 is missing or too old")
         return 0
-    for each in (new_file, private, kills, refusals, journal, imports, hungry, guide):
+    for each in (new_file, private, kills, refusals, journal, imports, hungry, spoilt, guide):
         each()
     in_its_own(booting, "-rn")
     in_its_own(full_disk, "-rm")

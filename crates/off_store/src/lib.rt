@@ -5,4 +5,4 @@ mod journal;
 mod store;
 
 pub use journal::{FileJournal, open_journal};
-pub use store::{FileKeeper, StoreErr, open_store};
+pub use store::{FileKeeper, StoreErr, StoredKeeper, open_store};

@@ -1,10 +1,13 @@
-//! The tables in a file, which is a database of SQLite's format.
+//! The tables in a file, which is a database of SQLite's format. Its rows are read when it's opened,
+//! and are in memory from then on.
 
 ghost use Rattle.std.specs.Prelude.{◌≡◌, ◌↔◌, IfOk};
 ghost use Rattle.sqlite.specs.Files.{file_state, IsOpened};
 ghost use Rattle.sqlite.specs.State.{HasCleanDisk};
 ghost use Rattle.off_keepsql.specs.Begin.{BeginsOverFiles};
+ghost use Rattle.off_store.specs.Begin.{BeginsInFront};
 
+use off_cached::Cached;
 use off_keepsql::{Cells, SqlCells, SqlKeeper};
 use off_outside::{KeepErr, Keeper};
 use sqlite::{Connection, Error, ErrorCode, File, FileStore, Options, Unknown};
@@ -32,14 +35,29 @@ pub enum StoreErr {
     Refused,
 }
 
-/// A keeper of the tables in a file.
-pub type FileKeeper = SqlKeeper<SqlCells<FileStore<File>>>;
+/// A keeper of the tables in a file, from which each row is read.
+pub type StoredKeeper = SqlKeeper<SqlCells<FileStore<File>>>;
 
-/// Opens the file at a path, or makes it, with its table.
+/// A keeper of the tables in a file, with all of their rows in memory.
+pub type FileKeeper = Cached<StoredKeeper>;
+
+/// Opens the file at a path, or makes it, with its table, and reads all of its rows. What the keeper
+/// tells is what was read, whatever is told of the file. Where a row can't be read, each call is the
+/// file's, so that the first that comes to this row fails.
 pub fn open_store(rt: &HostRuntime, path: &str) -> Result<FileKeeper, StoreErr>
+    ensures { IfOk result (λ keeper. BeginsInFront ⟦<File as Disk>⟧
+        (λ (stored : _). ⟦<SqlCells<FileStore<File>> as Cells>⟧.seen stored.cells)
+        ⟦<StoredKeeper as Keeper>⟧.seen keeper) }
+{
+    let stored = open_table(rt, path)?;
+    Ok(Cached::over(rt.alloc(), stored))
+}
+
+// The same, with no row read.
+fn open_table(rt: &HostRuntime, path: &str) -> Result<StoredKeeper, StoreErr>
     ensures { IfOk result (λ keeper. BeginsOverFiles ⟦<File as Disk>⟧
         (⟦<SqlCells<FileStore<File>> as Cells>⟧.seen keeper.cells)
-        (⟦<FileKeeper as Keeper>⟧.seen keeper)) }
+        (⟦<StoredKeeper as Keeper>⟧.seen keeper)) }
 {
     let conn = connect(rt, path)?;
     match SqlKeeper::begin(rt.alloc(), conn) {
