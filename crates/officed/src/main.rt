@@ -7,8 +7,6 @@ ghost use Rattle.officed.specs.Ending.{IfRan, RanOver, room_for};
 ghost use Rattle.officed.specs.declared.ended.Ended.TheVariants.{NoMemory};
 
 mod ended;
-#[cfg(test)]
-mod hearing;
 
 use ended::Ended;
 use off_host::{
