@@ -9,10 +9,16 @@ use Rattle.off_defs.specs.Tables.{doubt_behind}
 use Rattle.off_defs.proofs.TableLemmas.{doubt_more}
 use Rattle.off_book.specs.Step.{Step}
 use Rattle.off_book.specs.Run.{Turn, Run, effect_of}
-use Rattle.off_book.specs.Crashes.{Begins, Doubt, doubt_in, Lasts}
+use Rattle.off_book.specs.Crashes.{Begins, unless_memory, Doubt, doubt_in, Lasts}
 
 abbrev Opens : Type 1
 Opens = ℕ → Tables → Type 0
+
+-- what an event may have begun, where more may
+pub unless_more : (outcome : Outcome) {begun more : Type 0} → (begun → more) → unless_memory outcome begun → unless_memory outcome more
+unless_more Did wider begun = wider begun
+unless_more Memory wider begun = begun
+unless_more Keeper wider begun = wider begun
 
 -- what may be in doubt, and may have been begun, where more may
 pub in_more : (outcome : Outcome) {old new begun more : Type 0} → (new → old) → (begun → more) → doubt_in outcome new begun → doubt_in outcome old more
@@ -46,14 +52,14 @@ doubts_by doubt s turn u more is = doubt_more turn.commit (in_more turn.outcome 
 pub record OneTurn (old new : ℕ → Tables → Type 0) (before behind : Tables → Type 0) (to after : ℕ) (mid last : State) (turn : Turn) : Type 0 where
   pub later : to ≤ after
   pub past : (m : ℕ) (u : Tables) → m ≤ to → new m u → old m u
-  pub within : (m : ℕ) (u : Tables) → to < m → m ≤ after → new m u → (u ≡ mid.tables) ⊎ (before u ⊎ Begins mid turn.event u)
+  pub within : (m : ℕ) (u : Tables) → to < m → m ≤ after → new m u → (u ≡ mid.tables) ⊎ (before u ⊎ unless_memory turn.outcome (Begins mid turn.event u))
   pub doubts : (u : Tables) → behind u → Doubt before mid turn u
   pub rests : (u : Tables) → new after u → (u ≡ last.tables) ⊎ behind u
 
 at_end : (old new : Opens) (before behind doubt : Tables → Type 0) (from to after : ℕ) (s last : State) (turn : Turn)
     → OneTurn old new before behind to after s last turn → ((u : Tables) → before u → doubt u)
     → ((m : ℕ) (u : Tables) → from ≤ m → m ≤ to → old m u → (u ≡ s.tables) ⊎ doubt u)
-    → (m : ℕ) (u : Tables) → from ≤ m → m ≤ after → new m u → (to < m) ⊎ (m ≤ to) → (u ≡ s.tables) ⊎ (doubt u ⊎ Begins s turn.event u)
+    → (m : ℕ) (u : Tables) → from ≤ m → m ≤ after → new m u → (to < m) ⊎ (m ≤ to) → (u ≡ s.tables) ⊎ (doubt u ⊎ unless_memory turn.outcome (Begins s turn.event u))
 at_end old new before behind doubt from to after s last turn one ends opens m u behind_from upto opened (inl second) =
     ⊎_map (λ same. same) (⊎_map (ends u) (λ begun. begun)) (one.within m u second upto opened)
 at_end old new before behind doubt from to after s last turn one ends opens m u behind_from upto opened (inr first) =

@@ -14,6 +14,12 @@ use Rattle.off_book.specs.Run.{Turn, effect_of}
 abbrev pub Begins : State → Event → Tables → Type 0
 Begins s event u = (effect : Effect) × (Step s event Did effect × (u ≡ effect.after.tables))
 
+-- an event for which memory was wanted begins nothing
+abbrev pub unless_memory : Outcome → Type 0 → Type 0
+unless_memory Did begun = begun
+unless_memory Memory begun = ⊥
+unless_memory Keeper begun = begun
+
 -- A turn in which the keeper failed may have begun a commit, and so leaves it in doubt; one that
 -- has committed leaves none in doubt.
 abbrev pub doubt_in : Outcome → Type 0 → Type 0 → Type 0
@@ -27,8 +33,9 @@ Doubt doubt s turn u =
 
 -- A run of these turns from a state, `doubt` being in doubt there at the moment `from`, to a state
 -- at the moment `to`, with `ends` in doubt. A crash within a turn opens as the tables before it, as
--- the one commit in doubt, or as the turn itself would leave them: so at every moment the commits
--- of so many of the first turns are there, never fewer than a moment before, and at most one more.
+-- the one commit in doubt, or as the turn itself would leave them, unless memory was wanted for it:
+-- so at every moment the commits of so many of the first turns are there, never fewer than a moment
+-- before, and at most one more.
 abbrev pub Lasts : (ℕ → Tables → Type 0) → (Tables → Type 0) → (Tables → Type 0) → ℕ → State
     → List Turn → ℕ → State → Type 0
 Lasts opened ends doubt from s [] to last =
@@ -38,5 +45,5 @@ Lasts opened ends doubt from s (turn ∷ turns) to last =
     (at : ℕ) × ((after : State) × ((from ≤ at)
     × (Step s turn.event turn.outcome (effect_of turn after)
     × (((m : ℕ) (u : Tables) → from ≤ m → m ≤ at → opened m u
-    → (u ≡ s.tables) ⊎ (doubt u ⊎ Begins s turn.event u))
+    → (u ≡ s.tables) ⊎ (doubt u ⊎ unless_memory turn.outcome (Begins s turn.event u)))
     × Lasts opened ends (Doubt doubt s turn) at after turns to last))))

@@ -17,7 +17,7 @@ use Rattle.off_orders.specs.Clerk.{Stepped, clerk_step, step_done}
 use Rattle.off_book.specs.Step.{completed}
 use Rattle.off_book.specs.Run.{Turn, commits_by}
 use Rattle.off_book.specs.Crashes.{Doubt, Lasts}
-use Rattle.off_book.proofs.CrashLemmas.{OneTurn, in_more, doubts_by, lasts_later, lasts_doubt, lasts_push, lasts_front}
+use Rattle.off_book.proofs.CrashLemmas.{OneTurn, unless_more, in_more, doubts_by, lasts_later, lasts_doubt, lasts_push, lasts_front}
 use Rattle.off_outside.specs.declared.keeper.KeepErr.{KeepErr}
 use Rattle.off_outside.specs.declared.keeper.KeepErr.TheVariants as keep
 use Rattle.off_outside.specs.KeeperSeen.{KeeperSeen, Rests}
@@ -280,7 +280,7 @@ keeper_turn event outcome said went d e a b first rests acts =
                     let one : OneTurn a.opened b.opened a.doubt b.doubt a.moment b.moment s (state_of g.value e.held) turn = record {
                       later = acts.crash.later;
                       past = acts.crash.past;
-                      within = λ m u second upto shown. ⊎_map (λ same. same) (⊎_map (λ doubt. doubt) (λ begun. begun agree)) (acts.crash.within t told m u second upto shown);
+                      within = λ m u second upto shown. ⊎_map (λ same. same) (⊎_map (λ doubt. doubt) (unless_more outcome (λ begun. begun agree))) (acts.crash.within t told m u second upto shown);
                       doubts = λ u ends. doubts_by a.doubt s turn u (λ begun. begun agree) (acts.doubts t told u ends);
                       rests = λ u shown. rests g.value g.told u shown;
                     } in (

@@ -30,7 +30,7 @@ use Rattle.off_laws.proofs.Lines.{does_line}
 use Rattle.off_office.specs.Desk.{Desk}
 use Rattle.off_office.specs.Conditions.{Mirrors, Under, StaysFit, StaysAs}
 use Rattle.off_office.proofs.MirrorLemmas.{stays_self, stays_by, stays_then, mirrors_as, fits_as, stays_at}
-use Rattle.off_office.specs.Acting.{Acts, Handled, forgets, desk_undone, IsUndone, StepOn, DoesOn, CountsFaults, LeavesNothing, EventBegins, DoingBegins, begun_in, is_quiet, desk_at, effect_of, kept_behind, KeepsBodies}
+use Rattle.off_office.specs.Acting.{Acts, Handled, forgets, desk_undone, IsUndone, StepOn, DoesOn, CountsFaults, LeavesNothing, EventBegins, EventBegan, DoingBegins, begun_in, is_quiet, desk_at, effect_of, kept_behind, KeepsBodies}
 use Rattle.off_office.specs.Asking.{Asks, AsksFew}
 use Rattle.off_office.specs.Saying.{SaysTime}
 use Rattle.off_sessions.specs.Answers.{failed_said, Fails}
@@ -268,7 +268,7 @@ event_begins event what before is t u begun mirrors =
 
 crash_by : (event : Event) (what : What) (outcome : Outcome) (said : Said) (commit : List Write) (before after : Desk) (a b : KeeperSeen)
     → event.what ≡ what → Told a.tables b.tables (Under before after (StepOn event outcome said commit before after))
-    → Crash (begun_in outcome (IsWritten commit) (DoingBegins what (desk_at before event.at.0))) a b → Crash (EventBegins event before) a b
+    → Crash (begun_in outcome (IsWritten commit) (DoingBegins what (desk_at before event.at.0))) a b → Crash (EventBegan event outcome before) a b
 crash_by event what Did said commit before after a b is told crash = crash_weaker crash (did_begins event said commit before after a b told)
 crash_by event what Memory said commit before after a b is told crash = crash_weaker crash (λ t seen u begun. absurd begun)
 crash_by event what Keeper said commit before after a b is told crash = crash_weaker crash (λ t seen u begun. event_begins event what before is t u begun)

@@ -16,7 +16,7 @@ use Rattle.off_account_rules.specs.Good.{IsLeastBad}
 use Rattle.off_defs.specs.Tables.{doubt_behind}
 use Rattle.off_book.specs.Step.{Step, Does, TellsOutcome, completed}
 use Rattle.off_book.specs.Http.{without_connection}
-use Rattle.off_book.specs.Crashes.{Begins, doubt_in}
+use Rattle.off_book.specs.Crashes.{Begins, doubt_in, unless_memory}
 use Rattle.off_outside.specs.KeeperSeen.{KeeperSeen}
 use Rattle.off_outside.specs.KeeperCalls.{Reads, NotCommitted, StaysUp, Unasked, Crash, IsWritten}
 use Rattle.off_outside.specs.declared.keeper.KeepErr.{KeepErr}
@@ -109,6 +109,10 @@ LeavesDoubt outcome commit begun old new =
 abbrev pub EventBegins : Event → Desk → Tables → Tables → Type 0
 EventBegins event before t u = Mirrors before t → Begins (state_of t before.held) event u
 
+-- and those that it may have begun: none where memory was wanted
+abbrev pub EventBegan : Event → Outcome → Desk → Tables → Tables → Type 0
+EventBegan event outcome before t u = unless_memory outcome (EventBegins event before t u)
+
 -- Events that touch no tables, whatever these are: datagrams to the time port, ends of connections,
 -- ticks, the end
 abbrev pub is_quiet : What → Bool
@@ -195,7 +199,8 @@ pub record ActsQuietly (event : Event) (outcome : Outcome) (said : Said) (before
 -- One event. `commit` is what it wrote to the tables, in one commit, which the keeper has counted.
 -- Where the office mirrored the tables, it's the step of the book, and it keeps of the bodies what
 -- `kept_behind` says; where they were good, they stay so, and the office mirrors them again. A
--- crash meanwhile leaves the tables before it, the commit in doubt, or what the event would leave.
+-- crash meanwhile leaves the tables before it, the commit in doubt, or what the event would leave,
+-- unless memory was wanted.
 -- What of it is said of tables that are told has no say in `undone` and `tells`, which hold over
 -- any keeper.
 pub record Acts (event : Event) (outcome : Outcome) (said : Said) (before after : Desk)
@@ -212,7 +217,7 @@ pub record Acts (event : Event) (outcome : Outcome) (said : Said) (before after 
   pub commits : new.commits ≡ commits_after commit old.commits
   pub asks : Asks event.what before.held old new
   pub few : AsksFew event.what (desk_at before event.at.0) after old new
-  pub crash : Crash (EventBegins event before) old new
+  pub crash : Crash (EventBegan event outcome before) old new
   pub doubts : LeavesDoubt outcome commit (EventBegins event before) old new
   pub tells : TellsOutcome event.what outcome said.line
   pub undone : IsUndone outcome event.what commit (desk_at before event.at.0) after

@@ -12,8 +12,8 @@ use Rattle.off_defs.specs.Events.{end_event}
 use Rattle.off_book.specs.Run.{Turn, TellsItsOutcome, keeper_failures, writes_by, sent_in, sent_by, line_of, lines_from, events_of, first_events, is_end, IsNoEnd, EndsLast, effect_of}
 use Rattle.off_defs.proofs.ToldLemmas.{told_then, told_self, then_stays}
 use Rattle.off_defs.proofs.CountLemmas.{grew_then, later_grew, tallied_none, tallied_then, tallied_stays}
-use Rattle.off_book.specs.Crashes.{Begins}
-use Rattle.off_book.proofs.CrashLemmas.{OneTurn, OnlyReads, lasts_push, lasts_stay, doubts_by}
+use Rattle.off_book.specs.Crashes.{Begins, unless_memory}
+use Rattle.off_book.proofs.CrashLemmas.{OneTurn, OnlyReads, lasts_push, lasts_stay, doubts_by, unless_more}
 use Rattle.off_book.proofs.RunLemmas.{failures_by_push, commits_by_push, writes_by_push, sent_by_push, lost_by_push, lines_from_push}
 use Rattle.off_outside.specs.LinkSeen.{LinkSeen}
 use Rattle.off_outside.specs.KeeperSeen.{KeeperSeen, Rests}
@@ -24,7 +24,7 @@ use Rattle.off_outside.specs.Streams.{SinkSeen, SinkUnasked, Wrote, NotWritten}
 use Rattle.off_outside.specs.KeeperCalls.{Unasked, Still}
 use Rattle.off_outside.proofs.KeeperLemmas.{unasked_stays}
 use Rattle.off_office.specs.Conditions.{Mirrors}
-use Rattle.off_office.specs.Acting.{CountsFaults, EventBegins}
+use Rattle.off_office.specs.Acting.{CountsFaults, EventBegan}
 use Rattle.off_serve.specs.declared.serving.Stop.TheVariants as stop
 use Rattle.off_serve.specs.Serving.{World, OfficeTurn, TurnMade, LineWritten, TurnWritten, TurnCut, NoTurn, LacksMemory, Missed, most_missed}
 use Rattle.off_serve.specs.Headline.{WroteText, CutText, LastsIn, RanTurns, CountsMissed, KeeperRan, RanFrom, SoFar, Served}
@@ -128,11 +128,11 @@ only_reads : (b c : KeeperSeen) → Still b c → OnlyReads b.opened c.opened b.
 only_reads b c still = record { later = still.later; past = still.past; within = still.within; doubts = still.doubts }
 
 -- what a turn may have begun
-begun_so : (event : Event) (before : Desk) (y : Tables) (doubt : Type 0) (u : Tables) → Mirrors before y → (u ≡ y) ⊎ (doubt ⊎ EventBegins event before y u)
-    → (u ≡ y) ⊎ (doubt ⊎ Begins (state_of y before.held) event u)
-begun_so event before y doubt u agree (inl same) = inl same
-begun_so event before y doubt u agree (inr (inl is)) = inr (inl is)
-begun_so event before y doubt u agree (inr (inr begun)) = inr (inr (begun agree))
+begun_so : (event : Event) (outcome : Outcome) (before : Desk) (y : Tables) (doubt : Type 0) (u : Tables) → Mirrors before y
+    → (u ≡ y) ⊎ (doubt ⊎ EventBegan event outcome before y u) → (u ≡ y) ⊎ (doubt ⊎ unless_memory outcome (Begins (state_of y before.held) event u))
+begun_so event outcome before y doubt u agree (inl same) = inl same
+begun_so event outcome before y doubt u agree (inr (inl is)) = inr (inl is)
+begun_so event outcome before y doubt u agree (inr (inr began)) = inr (inr (unless_more outcome (λ begun. begun agree) began))
 
 -- what is told of a crash within a turn
 one_turn : (turn : Turn) (before after : Desk) (b c : KeeperSeen) → Rests c → OfficeTurn turn before after b c → (y z : Tables) → b.tables y → c.tables z → Mirrors before y
@@ -140,7 +140,7 @@ one_turn : (turn : Turn) (before after : Desk) (b c : KeeperSeen) → Rests c �
 one_turn turn before after b c rests made y z told now agree = record {
   later = made.crash.later;
   past = made.crash.past;
-  within = λ m u behind upto opened. begun_so turn.event before y (b.doubt u) u agree (made.crash.within y told m u behind upto opened);
+  within = λ m u behind upto opened. begun_so turn.event turn.outcome before y (b.doubt u) u agree (made.crash.within y told m u behind upto opened);
   doubts = λ u ends. doubts_by b.doubt (state_of y before.held) turn u (λ begun. begun agree) (made.doubts y told u ends);
   rests = λ u opened. rests z now u opened;
 }

@@ -12,7 +12,7 @@ use Rattle.off_outside.specs.KeeperCalls.{StaysUp, Unasked, Crash}
 use Rattle.off_office.specs.Desk.{Desk}
 use Rattle.off_office.specs.Conditions.{Under, StaysFit}
 use Rattle.off_office.specs.Asking.{Asks}
-use Rattle.off_office.specs.Acting.{CountsFaults, EventBegins, LeavesDoubt}
+use Rattle.off_office.specs.Acting.{CountsFaults, EventBegins, EventBegan, LeavesDoubt}
 use Rattle.off_outside.specs.LinkCalls.{LinkStaysUp, first_event}
 use Rattle.off_outside.specs.Streams.{SinkSeen, SinkUnasked, NotWritten}
 use Rattle.off_serve.specs.declared.taking.Taken.{Taken}
@@ -89,7 +89,7 @@ pub record OfficeTurn (turn : Turn) (before after : Desk) (old new : KeeperSeen)
   pub faults : CountsFaults turn.outcome old.faults new.faults
   pub commits : new.commits ≡ commits_after turn.commit old.commits
   pub asks : Asks turn.event.what before.held old new
-  pub crash : Crash (EventBegins turn.event before) old new
+  pub crash : Crash (EventBegan turn.event turn.outcome before) old new
   pub doubts : LeavesDoubt turn.outcome turn.commit (EventBegins turn.event before) old new
   pub tells : TellsItsOutcome turn
 
