@@ -1,6 +1,5 @@
-ghost use Rattle.std.specs.Prelude.{◌≡◌, codes, option_map, option_and_then, IfOk};
+ghost use Rattle.std.specs.Prelude.{◌≡◌, option_map, option_and_then, IfOk};
 ghost use Rattle.off_documents.specs.Documents.{data_of};
-ghost use Rattle.serde_json.specs.Find.{get};
 ghost use Rattle.off_base.specs.Tree.{leaf};
 ghost use Rattle.off_base.specs.Setting.{tree_of};
 ghost use Rattle.off_clerk_rules.specs.Fields.{number_in, hex_in, list_in, tree_in, field_in};
@@ -67,11 +66,11 @@ fn setting_within(
     if depth == 0 {
         return Ok(None);
     }
-    let Some(code) = code_of(value) else {
+    let (code, hex, parts) = value.get_three("code", "hex", "parts");
+    let Some(code) = code_of(&code) else {
         return Ok(None);
     };
-    let parts = value.get("parts");
-    match value.get("hex") {
+    match hex {
         Some(hex) => match parts {
             Some(_) => Ok(None),
             None => leaf(alloc, code, &hex),
@@ -86,13 +85,13 @@ fn setting_within(
     }
 }
 
-fn code_of(value: &Part<'_, '_>) -> Option<u8>
-    ensures { result ≡ option_and_then (number_in 0 255) (get (codes "code") (data_of value.now)) }
+fn code_of(code: &Option<Part<'_, '_>>) -> Option<u8>
+    ensures { result ≡ option_and_then (number_in 0 255) (option_map data_of code.now) }
 {
-    let Some(code) = value.get("code") else {
+    let Some(code) = code else {
         return None;
     };
-    match number_of(&code, 0, 255) {
+    match number_of(code, 0, 255) {
         Some(code) => Some(code as u8),
         None => None,
     }

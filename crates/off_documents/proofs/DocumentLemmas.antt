@@ -1,5 +1,5 @@
 -- What the tokens of a JSON text mean, and what is found within.
-use Rattle.std.proofs.Common.{◌≡◌, ℕ, ◌+◌, ◌-◌, ◌≤◌, Bool, true, false, cond, bytes_eq, List, ◌++◌, length, Option, Some, None, option_map, option_and_then, unwrap_or, is_some, MatchOption, IfNone, IsTrue, true≢false, refl, sym, ap, subst, ◌∙◌, arith, append_assoc, length-append}
+use Rattle.std.proofs.Common.{◌≡◌, ℕ, ◌+◌, ◌-◌, ◌≤◌, Bool, true, false, cond, bytes_eq, List, ◌++◌, length, Option, Some, None, option_map, option_and_then, unwrap_or, is_some, MatchOption, IfSome, IfNone, IsTrue, true≢false, refl, sym, ap, subst, ◌∙◌, arith, append_assoc, length-append}
 use Rattle.std.proofs.lemmas.Slice.Eq.{bytes_eq-Decides}
 use Rattle.json.specs.Token.{Token}
 use Rattle.json.specs.Json as json
@@ -301,3 +301,12 @@ next_found old (Some part) new h next =
 pub next_kept : (old : List Token) (r : Option (List Token)) (new : List Token) → IsTrue (is_some (items_at old)) → find.NextItem old r new → IfNone r (new ≡ old) → IsTrue (is_some (items_at new))
 next_kept old None new h next stays = subst (λ (ts : List Token). IsTrue (is_some (items_at ts))) (sym stays) h
 next_kept old (Some part) new h next stays = (next_found old (Some part) new h next).1
+
+module _ (ts : List Token) (name : List ℕ) (h : IsTrue (is_some (value_at ts))) where
+  pub found_there : (r : Option (List Token)) → ((j : json.Json) → find.BeginsWith ts j → find.Finds r (find.get name j)) → IfSome r (λ (inner : List Token). IsTrue (is_some (value_at inner)))
+  found_there None ask = tt
+  found_there (Some inner) ask = (part_found ts name (Some inner) h ask).0
+
+  pub found_means : (r : Option (List Token)) → ((j : json.Json) → find.BeginsWith ts j → find.Finds r (find.get name j)) → option_map data_of r ≡ get name (data_of ts)
+  found_means None ask = sym (part_found ts name None h ask)
+  found_means (Some inner) ask = sym (part_found ts name (Some inner) h ask).1

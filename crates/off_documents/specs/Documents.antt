@@ -1,6 +1,6 @@
 -- What the tokens of a JSON text (RFC 8259) mean. The grammar is `json`'s, and the values are
 -- `serde_json`'s, which has a value for a number only where a float is large enough.
-use Rattle.std.specs.Prelude.{ℕ, ◌+◌, ◌-◌, List, [], ◌∷◌, length, nat_lt, is_some, Option, Some, None, option_and_then, unwrap_or, if◌then◌else◌}
+use Rattle.std.specs.Prelude.{◌≡◌, ℕ, false, bytes_eq, ◌+◌, ◌-◌, List, [], ◌∷◌, length, nat_lt, is_some, Option, Some, None, option_and_then, unwrap_or, if◌then◌else◌}
 use Rattle.json.specs.Token.{Token}
 use Rattle.json.specs.Json as json
 use Rattle.serde_json.specs.Data.{Data, null, Items, no_items}
@@ -43,3 +43,8 @@ level_after level Token.bad = Some level
 abbrev pub level_behind : ℕ → List Token → Option ℕ
 level_behind level [] = Some level
 level_behind level (t ∷ ts) = option_and_then (λ after. level_behind after ts) (level_after level t)
+
+-- no two of three names are the same
+abbrev pub AreThree : List ℕ → List ℕ → List ℕ → Type 0
+AreThree one two three =
+    (bytes_eq one two ≡ false) × (bytes_eq one three ≡ false) × (bytes_eq two three ≡ false)

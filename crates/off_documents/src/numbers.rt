@@ -22,9 +22,19 @@ impl Number {
         ensures { option_map num_of result ≡ number_of text.now }
     {
         let bytes = text.as_bytes();
-        if let Some(number) = small_number(bytes) {
-            return Some(Number::Unsigned(u64::from(number)));
+        match small_number(bytes) {
+            Some(number) => Some(Number::Unsigned(u64::from(number))),
+            None => Number::scanned(text),
         }
+    }
+
+    // The same of any text. It's kept out of the walks that read numbers, which mostly have small
+    // ones: what it has of locals would be set up at each.
+    #[inline(never)]
+    fn scanned(text: &str) -> Option<Number>
+        ensures { option_map num_of result ≡ number_of text.now }
+    {
+        let bytes = text.as_bytes();
         if has_minus(bytes) {
             Number::negative(&Numeral::scan(&bytes[1..]))
         } else {

@@ -1,9 +1,12 @@
 ghost use Rattle.std.specs.Prelude.{◌≡◌, ◌<◌, length, is_some, IsTrue, option_map};
-ghost use Rattle.std.specs.Prelude.{option_and_then, MatchOption, OnSome};
+ghost use Rattle.std.specs.Prelude.{option_and_then, MatchOption, OnSome, IfSome};
+ghost use Rattle.json.specs.Json.{Json};
+ghost use Rattle.json.specs.Find as json;
+ghost use Rattle.json.specs.Find.{BeginsWith, Finds};
 ghost use Rattle.serde_json.specs.Data.{no_items, item};
 ghost use Rattle.serde_json.specs.Find.{get, as_str, as_bool, as_number, as_u64, as_i64};
 ghost use Rattle.serde_json.specs.Find.{as_array, as_object};
-ghost use Rattle.off_documents.specs.Documents.{value_at, data_of, elements_of};
+ghost use Rattle.off_documents.specs.Documents.{value_at, data_of, elements_of, AreThree};
 ghost use Rattle.off_documents.specs.Numbers.{num_of};
 
 use crate::numbers::Number;
@@ -46,6 +49,27 @@ impl<'t, 'a> Part<'t, 'a> {
             Some(element) => Some(Part { element }),
             None => None,
         }
+    }
+
+    /// The last members of three names, no two of which are the same: what `get` gives for each, by
+    /// one walk over the members.
+    pub fn get_three(
+        &self,
+        one: &str,
+        two: &str,
+        three: &str,
+    ) -> (
+        Option<Part<'t, 'a>>,
+        Option<Part<'t, 'a>>,
+        Option<Part<'t, 'a>>,
+    )
+        requires { AreThree one.now two.now three.now }
+        ensures one { option_map data_of result.0 ≡ get one.now (data_of self.now) }
+        ensures two { option_map data_of result.1 ≡ get two.now (data_of self.now) }
+        ensures three { option_map data_of result.2 ≡ get three.now (data_of self.now) }
+    {
+        let (first, second, third) = last_three(&self.element, one, two, three);
+        (part_of(first), part_of(second), part_of(third))
     }
 
     pub fn as_str(&self) -> Option<&'a str>
@@ -103,6 +127,47 @@ impl<'t, 'a> Part<'t, 'a> {
             Some(items) => Some(Parts { items }),
             None => None,
         }
+    }
+}
+
+// What stands at three names, no two of which are the same, of several members the last.
+fn last_three<'t, 'a>(
+    element: &Element<'t, 'a>,
+    one: &str,
+    two: &str,
+    three: &str,
+) -> (
+    Option<Element<'t, 'a>>,
+    Option<Element<'t, 'a>>,
+    Option<Element<'t, 'a>>,
+)
+    requires { AreThree one.now two.now three.now }
+    ensures { (j : Json) → BeginsWith element.now j → Finds result.0 (json.get one.now j)
+        × Finds result.1 (json.get two.now j) × Finds result.2 (json.get three.now j) }
+{
+    let Some(mut members) = element.members() else {
+        return (None, None, None);
+    };
+    let (mut first, mut second, mut third) = (None, None, None);
+    while let Some((name, member)) = members.next() {
+        if name == one {
+            first = Some(member);
+        } else if name == two {
+            second = Some(member);
+        } else if name == three {
+            third = Some(member);
+        }
+    }
+    (first, second, third)
+}
+
+fn part_of<'t, 'a>(element: Option<Element<'t, 'a>>) -> Option<Part<'t, 'a>>
+    requires { IfSome element (λ ts. IsTrue (is_some (value_at ts))) }
+    ensures { result ≡ element.entry }
+{
+    match element {
+        Some(element) => Some(Part { element }),
+        None => None,
     }
 }
 
