@@ -105,7 +105,7 @@ fn leaf(alloc: Global, code: u8, hex: &Part<'_, '_>) -> Result<Option<Setting>, 
     let Some(count) = hex_into(hex, &mut room) else {
         return Ok(None);
     };
-    let mut value = Bytes::new(alloc);
+    let mut value = Bytes::with_capacity(alloc, count)?;
     value.push_all(&room[..count])?;
     Ok(Some(Setting::Leaf { code, value }))
 }
