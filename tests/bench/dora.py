@@ -35,7 +35,8 @@ AT_ONCE = (1, 16, 64)
 FLOOD, FLOOD_SECONDS = 20_000, 3
 GOAL, MANY_GOAL, TIME_GOAL, PUT_GOAL = 20_000, 1.5, 50, 1
 STORES, JOURNAL = os.environ.get("OFFICE_STORES", ""), "journal:"
-Told = collections.namedtuple("Told", "done seconds again wrong length")
+# The last is there where the clients are told of the server.
+Told = collections.namedtuple("Told", "done seconds again wrong length used", defaults=(0.0,))
 
 
 def clients(program, *words):
@@ -121,9 +122,9 @@ def put_row(path, body):
 
 
 @contextlib.contextmanager
-def office_over(path, log):
-    """An office over these tables, once clerks are heard."""
-    officed = start(office.PORTS, 10**12, log, {"OFFICED_UDP": office.SERVER}, store=path)
+def office_over(path, log, variables=None):
+    """An office over these tables, once clerks are heard; with these variables of its environment besides."""
+    officed = start(office.PORTS, 10**12, log, {"OFFICED_UDP": office.SERVER, **(variables or {})}, store=path)
     try:
         if not office.is_ready():
             raise SystemExit("officed doesn't answer")

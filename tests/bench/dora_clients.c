@@ -13,6 +13,8 @@
  *     dora_clients device-discover FIRST COUNT RELAYS OUTSTANDING MS     their DISCOVERs alone
  *     dora_clients device-request FIRST COUNT RELAYS OUTSTANDING MS      their REQUESTs alone, each for the device's own address
  *         prints: exchanges, seconds, datagrams sent again, wrong answers, bytes of an answer
+ *     .. MS BEFORE PID                                           any of those for so many milliseconds, without counting what is exchanged in as many BEFORE these
+ *         prints besides: the seconds of the processor that the process PID, a server with one thread, had while it was counted
  *     dora_clients flood FIRST COUNT RELAYS RATE MS              DISCOVERs and REQUESTs of modems with leases, so many a second
  *     dora_clients padded FIRST COUNT RELAYS RATE MS             the same with 1,100 pads before the options
  *     dora_clients full FIRST COUNT RELAYS RATE MS               DISCOVERs of modems for which there may be no address
@@ -22,7 +24,10 @@
  *     dora_clients echo LENGTH                                   a server that sends each datagram back, in so many bytes
  *
  * Modem N stands behind relay N mod RELAYS. Device N asks by relay N mod RELAYS, is behind modem N / 2, and its own address is that of place N / RELAYS among the
- * 4,096 that the relay's pool for devices has. Modems and devices are shared out among three processes at most, or four, so that the server is the slowest part. */
+ * 4,096 that the relay's pool for devices has. Modems and devices are shared out among three processes at most, or four, so that the server is the slowest part.
+ *
+ * A mixed order: of its share each process takes each 7,919th, or the next number without a divisor in common with how many they are, from a place that the clock
+ * gives. So it's neither by chance nor as they got their leases; neighbours come far apart, and none comes again before all of the share came. */
 #define _GNU_SOURCE
 #include <arpa/inet.h>
 #include <stdio.h>
@@ -41,14 +46,14 @@ static const double PATIENCE = 1;
 
 struct plan {
     const char *mode;
-    int first, count, relays, outstanding, port;
-    double seconds;
+    int first, count, relays, outstanding, port, server;
+    double seconds, before;
 };
 
 /* What a process did. */
 struct told {
     long done, again, wrong, length;
-    double end;
+    double start, end;
 };
 
 /* A modem that waits for an answer. */
@@ -63,6 +68,7 @@ struct share {
     const struct plan *plan;
     int part, parts, modems, set, sockets[MOST_RELAYS], begun, step, start;
     unsigned number;
+    double counted;
     struct slot slots[MOST_SLOTS];
     struct told told;
 };
@@ -269,17 +275,27 @@ static int rest(const struct share *s, int slots) {
     return 1;
 }
 
+/* Begins to count where it's time to. */
+static double time_of(struct share *s) {
+    double now = seconds();
+    if (s->told.start == 0 && now >= s->counted) {
+        s->told.start = now;
+        s->told.done = 0;
+    }
+    return now;
+}
+
 /* One modem at a time: no need to ask which socket has something. */
 static void converse_alone(struct share *s, double until) {
     unsigned char answer[2048];
     struct timeval patience = {PATIENCE, 0};
     for (int relay = 0; relay < s->plan->relays; relay++) setsockopt(s->sockets[relay], SOL_SOCKET, SO_RCVTIMEO, &patience, sizeof patience);
     begin(s, 0);
-    while (s->slots[0].kind != 0 && (until == 0 || s->told.done % 16 != 0 || seconds() < until)) {
+    while (s->slots[0].kind != 0 && (until == 0 || s->told.done % 16 != 0 || time_of(s) < until)) {
         long length = recv(s->sockets[s->slots[0].modem % s->plan->relays], answer, sizeof answer, 0);
         if (length < 0) {
             ask_again(s, 1);
-            if (until != 0 && seconds() > until) return;
+            if (until != 0 && time_of(s) > until) return;
         } else {
             hear(s, answer, length);
         }
@@ -300,7 +316,7 @@ static void converse(struct share *s, int slots, double until) {
                 hear(s, answer, length);
                 if (s->plan->relays / s->parts > 1) break;
             }
-        double now = seconds();
+        double now = time_of(s);
         if (until == 0 ? rest(s, slots) : now > until) return;
         if (now > looked + PATIENCE / 4) {
             looked = now;
@@ -328,7 +344,9 @@ static void run_part(const struct plan *plan, int part, int parts, int started, 
     s = (struct share){.plan = plan, .part = part, .parts = parts};
     prepare(&s);
     if (write(told, &s.told, sizeof s.told) < 0 || read(started, &byte, 1) < 0) exit(2);
-    double until = plan->seconds == 0 ? 0 : seconds() + plan->seconds;
+    s.counted = seconds() + plan->before;
+    if (plan->before == 0) s.told.start = s.counted;
+    double until = plan->seconds == 0 ? 0 : s.counted + plan->seconds;
     if (slots == 1 && parts == 1) converse_alone(&s, until);
     else converse(&s, slots < s.modems ? slots : s.modems, until);
     s.told.end = seconds();
@@ -336,8 +354,38 @@ static void run_part(const struct plan *plan, int part, int parts, int started, 
     exit(0);
 }
 
-/* Has the parts begin together, and adds up what they did. */
+/* Seconds of the processor that a process with one thread had so far. The system adds them up when it rests or the clock ticks, some milliseconds too late then. */
+static double processor_of(int process) {
+    char path[64];
+    double nanoseconds = 0;
+    snprintf(path, sizeof path, "/proc/%d/schedstat", process);
+    FILE *file = fopen(path, "r");
+    if (file == NULL || fscanf(file, "%lf", &nanoseconds) != 1) {
+        perror(path);
+        exit(2);
+    }
+    fclose(file);
+    return nanoseconds / 1e9;
+}
+
+static void sleep_until(double when) {
+    double left = when - seconds();
+    struct timespec span = {(time_t)left, (long)((left - (time_t)left) * 1e9)};
+    if (left > 0) nanosleep(&span, NULL);
+}
+
+/* The part of a processor that the server has while it's counted. */
+static double share_of(const struct plan *plan, double start) {
+    sleep_until(start + plan->before);
+    double from = seconds(), before = processor_of(plan->server);
+    sleep_until(start + plan->before + plan->seconds - 0.002);
+    double to = seconds();
+    return (processor_of(plan->server) - before) / (to - from);
+}
+
+/* Has the parts begin together, and adds up what they did. Where some of it isn't counted each part has a rate of its own. */
 static int exchange(const struct plan *plan) {
+    double rate = 0, used = 0, time;
     int started[2], told[2], most = plan->relays % 3 == 0 ? 3 : 4, parts = plan->outstanding < most || plan->count < most ? 1 : most;
     struct told sum = {0}, each;
     if (pipe(started) != 0 || pipe(told) != 0) return 2;
@@ -348,14 +396,18 @@ static int exchange(const struct plan *plan) {
         if (read(told[0], &each, sizeof each) != sizeof each) return 2;
     double start = seconds();
     if (write(started[1], "....", parts) != parts) return 2;
+    if (plan->server != 0) used = share_of(plan, start);
     while (read(told[0], &each, sizeof each) == sizeof each) {
         sum.done += each.done, sum.again += each.again, sum.wrong += each.wrong;
+        if (each.start != 0 && each.end > each.start) rate += each.done / (each.end - each.start);
         if (each.end > sum.end) sum.end = each.end;
         if (each.length > sum.length) sum.length = each.length;
     }
     while (wait(NULL) > 0) {
     }
-    printf("%ld %.6f %ld %ld %ld\n", sum.done, sum.end - start, sum.again, sum.wrong, sum.length);
+    time = plan->server != 0 && rate > 0 ? sum.done / rate : sum.end - start;
+    printf("%ld %.6f %ld %ld %ld", sum.done, time, sum.again, sum.wrong, sum.length);
+    printf(plan->server != 0 ? " %.6f\n" : "\n", used * time);
     return 0;
 }
 
@@ -442,8 +494,9 @@ static int echo(int length) {
 int main(int argc, char **argv) {
     if (argc == 3 && strcmp(argv[1], "echo") == 0) return echo(atoi(argv[2]));
     if (argc == 3 && strcmp(argv[1], "times") == 0) return ask_times(atoi(argv[2]) / 1e3);
-    if (argc != 6 && argc != 7) return 2;
-    struct plan plan = {argv[1], atoi(argv[2]), atoi(argv[3]), atoi(argv[4]), atoi(argv[5]), DHCP_PORT, argc == 7 ? atoi(argv[6]) / 1e3 : 0};
+    if (argc != 6 && argc != 7 && argc != 9) return 2;
+    struct plan plan = {argv[1], atoi(argv[2]), atoi(argv[3]), atoi(argv[4]), atoi(argv[5]), DHCP_PORT, 0, argc > 6 ? atoi(argv[6]) / 1e3 : 0, 0};
+    if (argc == 9) plan.before = atoi(argv[7]) / 1e3, plan.server = atoi(argv[8]);
     if (plan.relays < 1 || plan.relays > MOST_RELAYS || (plan.relays % 3 != 0 && plan.relays % 4 != 0) || plan.count < 1) return 2;
     if (is(&plan, "flood") || is(&plan, "padded") || is(&plan, "full")) return flood(&plan);
     if (is(&plan, "echoed") || is(&plan, "query-echoed")) plan.port = ECHO_PORT;

@@ -29,6 +29,13 @@ def load():
     return "load " + " ".join(f"{each:.1f}" for each in os.getloadavg())
 
 
+def taken_away():
+    """Of all processors: the ticks so far that the host took away, and all ticks, whoever had them."""
+    with open("/proc/stat", encoding="ascii") as held:
+        ticks = [int(each) for each in held.readline().split()[1:9]]
+    return ticks[7], sum(ticks)
+
+
 def syncs(folder):
     """How many writes of 16 kB, each with its sync, a file takes in a second."""
     count, began = 0, time.perf_counter()
