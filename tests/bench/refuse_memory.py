@@ -1,14 +1,15 @@
 #!/usr/bin/env python3
 """Each growth of memory refused once, over the whole of officed: the opening, the time, DHCP, TFTP, clerks, imports, the drill, `seal` and `check`.
 
-    python3 tests/bench/refuse_memory.py
+    python3 tests/bench/refuse_memory.py [STEP]
 
 A library that is loaded before the C library's own refuses the growth of a number that is said (that of tests/acceptance/files_without_memory.py). Each event comes
 over and over, each time with its next growth refused, until none of its growths is left. A refused one says `memory` or nothing, is answered by nothing, by 503 or
 by the end of its connection, and leaves all as it was: at last the event is answered as the models of tests/examples say, which heard of it once, and a row that a
 clerk put is the last one that was acknowledged. A start, an import, a drill, `seal` and `check` end as ever, or with status 6, 10 or 11 and no row more.
 
-The numbers of a whole run's growths are shared out among as many workers as there are processors, each with a network and a store of its own.
+The numbers of a whole run's growths are shared out among as many workers as there are processors, each with a network and a store of its own. With STEP it's each
+STEPth of them that is refused, for where there isn't time for all; of an event's growths each one is refused all the same.
 
 Printed are how many growths each had, and which said `memory`. It judges: its status is 1 where something was not as it was. It wants the proved program, `cc`,
 sqlite3 of Python and `unshare -rn`; over an unproved program, whose sanitizer has memory of its own, no growth is refused.
@@ -202,7 +203,7 @@ def ran(refuser, counted, kind, run, store, numbers):
     check(False, f"{kind}: no end of growths")
 
 
-def refusing(place, workers, told):
+def refusing(place, workers, told, step):
     """What one of the workers tries; the first one tries the events besides. `told` is the file that has its counts afterwards."""
     office.addresses_of_lo()
     counted = Counted()
@@ -210,7 +211,7 @@ def refusing(place, workers, told):
         refuser = without.Refuser(folder)
         if place == "0":
             events(refuser, counted, folder)
-        runs(refuser, counted, folder, range(int(place) + 1, MOST_OF_RUNS, int(workers)))
+        runs(refuser, counted, folder, range(int(step) * int(place) + 1, MOST_OF_RUNS, int(step) * int(workers)))
     with open(told, "w", encoding="utf-8") as file:
         json.dump(counted.ends, file)
 
@@ -218,11 +219,11 @@ def refusing(place, workers, told):
 def main():
     if is_skipped():
         return 0
-    workers, counted = os.cpu_count(), Counted()
+    workers, counted, step = os.cpu_count(), Counted(), (*sys.argv[1:], "1")[0]
     with tempfile.TemporaryDirectory() as folder:
         tellings = [os.path.join(folder, str(place)) for place in range(workers)]
         with concurrent.futures.ThreadPoolExecutor(workers) as pool:
-            statuses = list(pool.map(lambda place: run_alone("refusing", str(place), str(workers), tellings[place]), range(workers)))
+            statuses = list(pool.map(lambda place: run_alone("refusing", str(place), str(workers), tellings[place], step), range(workers)))
         for place, told in enumerate(tellings):
             check(statuses[place] == 0, f"worker {place} ended with status {statuses[place]}")
             if os.path.exists(told):

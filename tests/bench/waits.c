@@ -51,6 +51,8 @@ static long now(clockid_t clock) {
 
 TIMED(SYNC, int, fdatasync, (int file), file)
 TIMED(SYNC, int, fsync, (int file), file)
+TIMED(PUT, ssize_t, pwrite, (int file, const void *text, size_t length, off_t at), file, text, length, at)
+TIMED(TAKE, ssize_t, pread, (int file, void *text, size_t length, off_t at), file, text, length, at)
 TIMED(PUT, ssize_t, pwrite64, (int file, const void *text, size_t length, off64_t at), file, text, length, at)
 TIMED(TAKE, ssize_t, pread64, (int file, void *text, size_t length, off64_t at), file, text, length, at)
 TIMED(WRITE, ssize_t, write, (int file, const void *text, size_t length), file, text, length)
