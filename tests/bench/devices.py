@@ -261,10 +261,11 @@ def compared(tables, cell, pairs, ticks):
         rates = [pair[place][0] / pair[place][1] for pair in pairs]
         used = sum(pair[place][2] for pair in pairs) / max(sum(pair[place][0] for pair in pairs), 1)
         print(f"  {each.devices} leases of devices: {KINDS[mode]}, {at_once} at once: {statistics.median(rates):.0f} a second, {used * 1e6:.1f} us of processor each")
-    # A machine that is too busy may exchange none in a turn.
+    # A machine that is too busy, or a disk, may exchange none in a turn.
     whole = [pair for pair in pairs if all(done and used for done, _, used in pair)]
     if len(whole) < 2:
-        raise SystemExit(f"{KINDS[mode]}, {at_once} at once: nothing was exchanged")
+        print(f"  {KINDS[mode]}, {at_once} at once: too few turns in which anything was exchanged")
+        return [float("nan")] * 2
     found = [middle([(many[place] / many[0]) / (few[place] / few[0]) for few, many in whole]) for place in (1, 2)]
     print(f"  {KINDS[mode]}, {at_once} at once, pair by pair: {found[0][1]} times by the clock, {found[1][1]} by the processor; {len(whole)} pairs, "
           f"of whose time the host took {ticks[0] / max(ticks[1], 1):.1%}", flush=True)

@@ -291,7 +291,7 @@ static void converse_alone(struct share *s, double until) {
     struct timeval patience = {PATIENCE, 0};
     for (int relay = 0; relay < s->plan->relays; relay++) setsockopt(s->sockets[relay], SOL_SOCKET, SO_RCVTIMEO, &patience, sizeof patience);
     begin(s, 0);
-    while (s->slots[0].kind != 0 && (until == 0 || s->told.done % 16 != 0 || time_of(s) < until)) {
+    while (s->slots[0].kind != 0 && (until == 0 || time_of(s) < until)) {
         long length = recv(s->sockets[s->slots[0].modem % s->plan->relays], answer, sizeof answer, 0);
         if (length < 0) {
             ask_again(s, 1);
