@@ -26,7 +26,7 @@ const CUT: &[u8] = &[43, 8, 4, 4, 83, 78, 48, 49, 2, 3];
 const ENDED: &[u8] = &[43, 8, 0, 255, 4, 4, 83, 78, 48, 50];
 
 // What the relay says of the modem in option 82 (RFC 3046).
-#[derive(Clone, Copy, Debug, PartialEq, Eq)]
+#[derive(Clone, Copy)]
 pub(crate) enum Remote {
     Absent,
     /// Six bytes: the modem's own address, or another one.
@@ -39,7 +39,7 @@ pub(crate) enum Remote {
 }
 
 /// A message.
-#[derive(Clone, Copy, Debug, PartialEq, Eq)]
+#[derive(Clone, Copy)]
 pub(crate) struct Draft {
     pub(crate) kind: u8,
     pub(crate) mac: Mac,
@@ -53,7 +53,7 @@ pub(crate) struct Draft {
 }
 
 /// What a modem sends.
-#[derive(Clone, Copy, Debug, PartialEq, Eq)]
+#[derive(Clone, Copy)]
 pub(crate) enum Wish {
     Discover,
     Select,

@@ -323,32 +323,11 @@ fn offered(
 
 // The address that a reply gives (RFC 2131: yiaddr).
 fn given(reply: &[u8]) -> Option<Ip4> {
-    match reply {
-        [
-            _,
-            _,
-            _,
-            _,
-            _,
-            _,
-            _,
-            _,
-            _,
-            _,
-            _,
-            _,
-            _,
-            _,
-            _,
-            _,
-            a,
-            b,
-            c,
-            d,
-            ..
-        ] => { Some(Ip4(u32::from_be_bytes([*a, *b, *c, *d]))) }
-        _ => None,
+    let mut bytes = [0; 4];
+    for place in 0..4 {
+        bytes[place] = *reply.get(16 + place)?;
     }
+    Some(Ip4(u32::from_be_bytes(bytes)))
 }
 
 // Whether pools, their hubs and addresses are told as plain reading finds them.

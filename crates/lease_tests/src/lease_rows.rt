@@ -55,31 +55,17 @@ pub(crate) fn office_rows(alloc: Global) -> Result<Writes, NoMemory> {
     Ok(writes)
 }
 
-/// A DISCOVER of the modem behind the relay.
-pub(crate) fn discover(alloc: Global) -> Result<Bytes, NoMemory> {
-    let mut bytes = fixed_part(alloc, RELAY)?;
-    push_options(&mut bytes)?;
-    Ok(bytes)
-}
-
-/// One behind another relay, which asks for an address (option 50).
+/// A DISCOVER of the modem behind a relay, which asks for an address (option 50).
 pub(crate) fn discover_by(alloc: Global, relay: Ip4, asked: Ip4) -> Result<Bytes, NoMemory> {
-    let mut bytes = fixed_part(alloc, relay)?;
-    bytes.push_all(&[50, 4])?;
-    bytes.push_all(&asked.0.to_be_bytes())?;
-    push_options(&mut bytes)?;
-    Ok(bytes)
-}
-
-// Up to its options.
-fn fixed_part(alloc: Global, relay: Ip4) -> Result<Bytes, NoMemory> {
     let mut bytes = Bytes::new(alloc);
     bytes.push_all(&[1, 1, 6, 0, 0x11, 0x22, 0x33, 0x44])?;
     bytes.push_all(&[0; 16])?;
     bytes.push_all(&relay.0.to_be_bytes())?;
     bytes.push_all(&MODEM.0)?;
     bytes.push_all(&[0; 202])?;
-    bytes.push_all(&[99, 130, 83, 99])?;
+    bytes.push_all(&[99, 130, 83, 99, 50, 4])?;
+    bytes.push_all(&asked.0.to_be_bytes())?;
+    push_options(&mut bytes)?;
     Ok(bytes)
 }
 

@@ -1,6 +1,6 @@
-//! What no script can say of leases: the service by itself, over a keeper whose calls fail;
-//! queries over a keeper alone; free addresses behind random writes; and what a client's message
-//! does, beside a plain program of it (`plain_leases`), over random rows.
+//! What no script can say of leases: queries over a keeper alone; free addresses behind random
+//! writes; and what a client's message does, beside a plain program of it (`plain_leases`), over
+//! random rows.
 //!
 //! There is nothing here but tests. They show that calls succeed with ample memory, which no
 //! contract can say. All other examples are data: `office_script`, `format_script`, `clerk_script`.
@@ -12,8 +12,6 @@ mod drafts;
 mod free;
 #[cfg(test)]
 mod lease_rows;
-#[cfg(test)]
-mod offering;
 #[cfg(test)]
 mod querying;
 #[cfg(test)]

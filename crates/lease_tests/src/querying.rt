@@ -27,16 +27,10 @@ fn leased_rows(alloc: Global) -> Result<Writes, NoMemory> {
     Ok(writes)
 }
 
-// A keeper of these rows, of which one call fails: the first one puts the rows.
-fn keeper_of(alloc: Global, failing: u64) -> Result<MemKeeper, KeepErr> {
-    let mut calls = Calls::new(alloc);
-    let Ok(()) = calls.push(failing) else {
-        return Err(KeepErr::Memory);
-    };
-    let Ok(rows) = leased_rows(alloc) else {
-        return Err(KeepErr::Memory);
-    };
-    let mut keeper = MemKeeper::new(alloc, calls);
+// A keeper of these rows.
+fn leased_keeper(alloc: Global) -> Result<MemKeeper, KeepErr> {
+    let rows = leased_rows(alloc)?;
+    let mut keeper = MemKeeper::new(alloc, Calls::new(alloc));
     keeper.commit(alloc, &rows)?;
     Ok(keeper)
 }
@@ -56,28 +50,22 @@ fn query(alloc: Global, kind: [u8; 2], address: Ip4, hardware: &[u8]) -> Result<
 }
 
 // Which of the two answers is asked for.
-#[derive(Clone, Copy, Debug, PartialEq, Eq)]
+#[derive(Clone, Copy)]
 enum By {
     Keeper,
     Runs,
 }
 
-fn step_by(
-    alloc: Global,
-    by: By,
-    failing: u64,
-    datagram: Result<Bytes, NoMemory>,
-) -> Result<QueryStep, KeepErr> {
-    let datagram = datagram?;
+fn step_by(alloc: Global, by: By, datagram: &Bytes) -> Result<QueryStep, KeepErr> {
     let Ok(q) = query_or_message(datagram.as_slice()) else {
         return Err(KeepErr::Failed);
     };
     let now = Moment(AT.0 + 400);
-    let mut keeper = keeper_of(alloc, failing)?;
+    let mut keeper = leased_keeper(alloc)?;
     match by {
         By::Keeper => reply(alloc, &mut keeper, now, &q),
         By::Runs => {
-            let runs = FreeRuns::of(alloc, &mut keeper_of(alloc, 0)?)?;
+            let runs = FreeRuns::of(alloc, &mut keeper)?;
             reply_by(alloc, &mut keeper, &runs, now, &q)
         }
     }
@@ -119,14 +107,14 @@ fn summary_of(step: &QueryStep) -> Summary {
     summary
 }
 
-fn by_address(alloc: Global, by: By, address: Ip4, failing: u64) -> Result<Summary, KeepErr> {
-    let datagram = query(alloc, [0, 0], address, &[0; 6]);
-    Ok(summary_of(&step_by(alloc, by, failing, datagram)?))
+fn by_address(alloc: Global, by: By, address: Ip4) -> Result<Summary, KeepErr> {
+    let datagram = query(alloc, [0, 0], address, &[0; 6])?;
+    Ok(summary_of(&step_by(alloc, by, &datagram)?))
 }
 
-fn by_modem(alloc: Global, by: By, failing: u64) -> Result<Summary, KeepErr> {
-    let datagram = query(alloc, [1, 6], Ip4(0), &MODEM.0);
-    Ok(summary_of(&step_by(alloc, by, failing, datagram)?))
+fn by_modem(alloc: Global, by: By) -> Result<Summary, KeepErr> {
+    let datagram = query(alloc, [1, 6], Ip4(0), &MODEM.0)?;
+    Ok(summary_of(&step_by(alloc, by, &datagram)?))
 }
 
 const TO_RELAY: Option<Peer> = Some(Peer {
@@ -152,30 +140,9 @@ const UNASSIGNED: Summary = Summary {
 #[test]
 fn both_answers_are_one(rt: HostRuntime) -> Result<(), Fail> {
     for by in [By::Keeper, By::Runs] {
-        assert_eq!(rt; by_address(rt.alloc(), by, HELD, 0), Ok(ACTIVE));
-        assert_eq!(rt; by_modem(rt.alloc(), by, 0), Ok(ACTIVE));
-        assert_eq!(rt; by_address(rt.alloc(), by, FREE, 0), Ok(UNASSIGNED));
+        assert_eq!(rt; by_address(rt.alloc(), by, HELD), Ok(ACTIVE));
+        assert_eq!(rt; by_modem(rt.alloc(), by), Ok(ACTIVE));
+        assert_eq!(rt; by_address(rt.alloc(), by, FREE), Ok(UNASSIGNED));
     }
-    Ok(())
-}
-
-// Without a walk a query by address takes two calls, the hub and the lease, and one by hardware
-// address three, since what the modem holds comes first.
-#[test]
-fn each_call_that_fails_fails_a_query(rt: HostRuntime) -> Result<(), Fail> {
-    for failing in 2..4 {
-        assert_eq!(rt;
-            by_address(rt.alloc(), By::Runs, HELD, failing),
-            Err(KeepErr::Failed)
-        );
-    }
-    assert_eq!(rt; by_address(rt.alloc(), By::Runs, HELD, 4), Ok(ACTIVE));
-    for failing in 2..5 {
-        assert_eq!(rt;
-            by_modem(rt.alloc(), By::Runs, failing),
-            Err(KeepErr::Failed)
-        );
-    }
-    assert_eq!(rt; by_modem(rt.alloc(), By::Runs, 5), Ok(ACTIVE));
     Ok(())
 }
