@@ -126,7 +126,9 @@ def office_over(path, log, variables=None):
     """An office over these tables, once clerks are heard; with these variables of its environment besides."""
     officed = start(office.PORTS, 10**12, log, {"OFFICED_UDP": office.SERVER, **(variables or {})}, store=path)
     try:
-        if not office.is_ready():
+        # A start over a million rows takes a quarter of a minute.
+        ready = any(office.is_ready() for _ in range(6) if officed.poll() is None)
+        if not ready:
             raise SystemExit("officed doesn't answer")
         yield officed
     finally:
