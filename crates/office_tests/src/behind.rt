@@ -38,17 +38,15 @@ fn push_rows(alloc: Global, writes: &mut Writes, rows: &str) -> Result<(), KeepE
     Ok(())
 }
 
-// A keeper of the office, of which one call fails: the first one puts the rows.
-fn keeper_of(alloc: Global, more: &[&str], failing: u64) -> Result<MemKeeper, KeepErr> {
-    let mut calls = Calls::new(alloc);
-    calls.push(failing)?;
+// A keeper of the office.
+fn keeper_of(alloc: Global, more: &[&str]) -> Result<MemKeeper, KeepErr> {
     let mut writes = Writes::new(alloc);
     push_rows(alloc, &mut writes, OFFICE)?;
     push_rows(alloc, &mut writes, ONLINE)?;
     for rows in more {
         push_rows(alloc, &mut writes, rows)?;
     }
-    let mut keeper = MemKeeper::new(alloc, calls);
+    let mut keeper = MemKeeper::new(alloc, Calls::new(alloc));
     keeper.commit(alloc, &writes)?;
     Ok(keeper)
 }
@@ -111,7 +109,7 @@ fn summary_of(step: &DeviceStep) -> Summary {
 }
 
 // Which of the two answers is asked for.
-#[derive(Clone, Copy, Debug, PartialEq, Eq)]
+#[derive(Clone, Copy)]
 enum By {
     Keeper,
     Index,
@@ -121,35 +119,39 @@ fn answered(
     alloc: Global,
     by: By,
     more: &[&str],
-    failing: u64,
-    datagram: Result<Bytes, NoMemory>,
+    datagram: &Bytes,
 ) -> Result<Option<Summary>, KeepErr> {
-    let datagram = datagram?;
     let Ok(m) = Message::read(datagram.as_slice()) else {
         return Err(KeepErr::Failed);
     };
-    let mut keeper = keeper_of(alloc, more, failing)?;
+    let mut keeper = keeper_of(alloc, more)?;
     let step = match by {
         By::Keeper => answer(alloc, &mut keeper, AT, &m)?,
-        By::Index => {
-            let kept = &mut keeper_of(alloc, more, 0)?;
-            let index = Devices::of(alloc, kept)?;
-            let mut pools = DeviceRuns::of(alloc, kept)?;
-            let mut modems = FreeRuns::of(alloc, kept)?;
-            pools.pass(AT);
-            modems.pass(AT);
-            let known = Known {
-                devices: &index,
-                pools: &pools,
-                modems: &modems,
-            };
-            step_of(answer_by(alloc, &mut keeper, &known, AT, &Asked::of(&m))?)
-        }
+        By::Index => answer_by_index(alloc, &mut keeper, &m)?,
     };
     Ok(match &step {
         Some(step) => Some(summary_of(step)),
         None => None,
     })
+}
+
+// The answer by what is kept of the keeper's tables.
+fn answer_by_index(
+    alloc: Global,
+    keeper: &mut MemKeeper,
+    m: &Message<'_>,
+) -> Result<Option<DeviceStep>, KeepErr> {
+    let index = Devices::of(alloc, keeper)?;
+    let mut pools = DeviceRuns::of(alloc, keeper)?;
+    let mut modems = FreeRuns::of(alloc, keeper)?;
+    pools.pass(AT);
+    modems.pass(AT);
+    let known = Known {
+        devices: &index,
+        pools: &pools,
+        modems: &modems,
+    };
+    Ok(step_of(answer_by(alloc, keeper, &known, AT, &Asked::of(m))?))
 }
 
 fn step_of(answer: Option<DeviceAnswer>) -> Option<DeviceStep> {
@@ -161,7 +163,14 @@ fn step_of(answer: Option<DeviceAnswer>) -> Option<DeviceStep> {
 
 // What a DISCOVER of a device behind the modem is answered.
 fn discovers(alloc: Global, by: By, more: &[&str], last: u8) -> Result<Option<Summary>, KeepErr> {
-    answered(alloc, by, more, 0, discover(alloc, device(last), MODEM))
+    let datagram = discover(alloc, device(last), MODEM)?;
+    answered(alloc, by, more, &datagram)
+}
+
+// What the modem's own is answered.
+fn own_discover(alloc: Global, by: By) -> Result<Option<Summary>, KeepErr> {
+    let datagram = discover(alloc, MODEM, MODEM)?;
+    answered(alloc, by, &[FIRST], &datagram)
 }
 
 fn offer_of(last: u8) -> Option<Summary> {
@@ -197,42 +206,7 @@ fn both_answers_are_one(rt: HostRuntime) -> Result<(), Fail> {
             discovers(rt.alloc(), by, &[FIRST, SECOND], 0xa3),
             Ok(LIMIT)
         );
-        let own = discover(rt.alloc(), MODEM, MODEM);
-        assert_eq!(rt; answered(rt.alloc(), by, &[FIRST], 0, own), Ok(None));
+        assert_eq!(rt; own_discover(rt.alloc(), by), Ok(None));
     }
-    Ok(())
-}
-
-// Each call of the keeper that fails fails the answer, and one that isn't made does nothing. By the
-// index there are five: the rows of the modem and its subscriber, what the modem holds, the lease
-// of that, and the hub.
-#[test]
-fn each_call_that_fails_fails_a_devices_answer(rt: HostRuntime) -> Result<(), Fail> {
-    for by in [By::Keeper, By::Index] {
-        let mut failed: u64 = 0;
-        for failing in 2..40 {
-            let datagram = discover(rt.alloc(), device(0xa2), MODEM);
-            let told = answered(rt.alloc(), by, &[FIRST], failing, datagram);
-            if told != Ok(offer_of(11)) {
-                assert_eq!(rt; told, Err(KeepErr::Failed));
-                assert_eq!(rt; failing, failed.wrapping_add(2));
-                failed = failed.wrapping_add(1);
-            }
-        }
-        match by {
-            By::Keeper => assert!(rt; 5 < failed),
-            By::Index => assert_eq!(rt; failed, 5),
-        }
-    }
-    Ok(())
-}
-
-// An index of no leases has nobody's.
-#[test]
-fn no_device_has_a_lease_in_an_empty_index(rt: HostRuntime) -> Result<(), Fail> {
-    let index = Devices::new(rt.alloc())?;
-    let seen = index.neighbours(AT, off_base::Mac(MODEM), off_base::Mac(device(0xa1)));
-    assert_eq!(rt; seen.own, None);
-    assert_eq!(rt; seen.others, 0);
     Ok(())
 }

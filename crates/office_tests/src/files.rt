@@ -1,11 +1,9 @@
-use md5::{Digest, Md5};
-use off_base::{Bytes, Ip4, Mac, Moment, NoMemory, Secret, Settings, Short};
-use off_defs::{Key, Subscriber, Write, Writes};
-use off_files::{AddOns, Body, FileTail, block, file_name, profile_of, tail};
-use off_kept::{Kept, KeptBody};
-use off_mic::verify;
+//! A modem's file, block by block, with its bytes as another program gives them.
+
+use off_base::{Bytes, Ip4, Moment, NoMemory, Secret, Settings, Short};
+use off_defs::Subscriber;
+use off_files::{AddOns, Body, FileTail, block, profile_of, tail};
 use off_tlv::{read_settings, spelled_len};
-use off_tree::{check_addon, check_class};
 use std::alloc::Global;
 use std::test::Fail;
 
@@ -77,11 +75,6 @@ fn bytes_of(alloc: Global, hex: &str) -> Result<Bytes, NoMemory> {
     Ok(bytes)
 }
 
-// The MD5 digest of the largest file.
-const LARGEST: [u8; 16] = [
-    0x1e, 0xb3, 0x54, 0x91, 0xbe, 0x68, 0x7c, 0x11, 0x4d, 0xc1, 0x87, 0xd8, 0x1a, 0xb5, 0xc6, 0xdd,
-];
-
 // The settings of a file that has no check.
 fn settings_of(alloc: Global, file: &[u8]) -> Result<Settings, NoMemory> {
     match read_settings(alloc, file) {
@@ -151,13 +144,6 @@ fn file_of(alloc: Global, made: &Made, now: u64, size: u16) -> Result<Bytes, NoM
     blocks_joined(alloc, &body, &tail, size)
 }
 
-fn is_right(file: &Bytes) -> bool {
-    match verify(file.as_slice(), SECRET) {
-        Ok(verdict) => verdict.cm && verdict.cmts,
-        Err(_) => false,
-    }
-}
-
 fn settings_in(alloc: Global, hex: &str) -> Result<Settings, NoMemory> {
     let bytes = bytes_of(alloc, hex)?;
     settings_of(alloc, bytes.as_slice())
@@ -175,11 +161,11 @@ fn gold(alloc: Global, active: bool, has_add_on: bool) -> Result<Made, NoMemory>
     Ok(made)
 }
 
-// Whether a file has these bytes, and is right by its two checks.
+// Whether a file has these bytes.
 fn is_made(alloc: Global, made: &Made, now: u64, hex: &str) -> Result<bool, NoMemory> {
     let file = file_of(alloc, made, now, 44)?;
     let wanted = bytes_of(alloc, hex)?;
-    Ok(file.as_slice() == wanted.as_slice() && is_right(&file))
+    Ok(file.as_slice() == wanted.as_slice())
 }
 
 #[test]
@@ -188,127 +174,5 @@ fn files_have_these_bytes(rt: HostRuntime) -> Result<(), Fail> {
         let made = gold(rt.alloc(), active, has_add_on)?;
         assert!(rt; is_made(rt.alloc(), &made, now, expected)?, "at {now}");
     }
-    Ok(())
-}
-
-// Settings of a length: these, and extension fields.
-fn settings_long(alloc: Global, head: &str, length: usize) -> Result<Settings, NoMemory> {
-    let mut bytes = bytes_of(alloc, head)?;
-    let mut left = length.saturating_sub(18);
-    for _ in 0..9 {
-        let taken = left.min(256);
-        push_extension(&mut bytes, taken)?;
-        left = left.saturating_sub(256);
-    }
-    bytes.push_all(&[255])?;
-    settings_of(alloc, bytes.as_slice())
-}
-
-// An extension field of so many bytes, or none.
-fn push_extension(bytes: &mut Bytes, length: usize) -> Result<(), NoMemory> {
-    if length == 0 {
-        return Ok(());
-    }
-    let value = u8::try_from(length.saturating_sub(2)).unwrap_or(0);
-    bytes.push_all(&[43, value, 8, 3, 0, 0, 0, 1, value.saturating_sub(7)])?;
-    bytes.push_all(&[7; 256][..length.saturating_sub(9).min(256)])
-}
-
-// A class and eight add-ons, each as long as it may be.
-fn largest(alloc: Global) -> Result<Made, NoMemory> {
-    let mut made = Made {
-        who: subscriber(true)?,
-        class: settings_long(alloc, "180701020001060107190701020002060107", 2048)?,
-        add_ons: AddOns::new(alloc),
-    };
-    for number in 0..8u8 {
-        let settings = settings_long(alloc, "180701020005060107160701010303020005", 512)?;
-        made.add_ons.push(number, settings)?;
-    }
-    Ok(made)
-}
-
-// Whether the class and the add-ons are good.
-fn is_good(made: &Made) -> bool {
-    for place in 0..made.add_ons.len() {
-        if check_addon(made.add_ons.get(place).1).is_err() {
-            return false;
-        }
-    }
-    check_class(&made.class).is_ok()
-}
-
-#[test]
-fn the_largest_file_has_6200_bytes(rt: HostRuntime) -> Result<(), Fail> {
-    let made = largest(rt.alloc())?;
-    assert!(rt; is_good(&made));
-    let file = file_of(rt.alloc(), &made, 1_700_000_000, 1428)?;
-    assert_eq!(rt; file.len(), 6200);
-    assert!(rt; is_right(&file));
-    assert_eq!(rt; Md5::digest(file.as_slice()), LARGEST);
-    Ok(())
-}
-
-#[test]
-fn a_name_is_of_its_modem_and_address(rt: HostRuntime) {
-    let name = file_name(SECRET, Mac([0x02, 0xaa, 0xbb, 0xcc, 0xdd, 0xee]), ADDRESS);
-    assert_eq!(rt; name, *b"02aabbccddee-82d91cd0f5ff2dc7.cm");
-}
-
-const FIRST: Mac = Mac([0x02, 0, 0, 0, 0, 1]);
-
-const SECOND: Mac = Mac([0x02, 0, 0, 0, 0, 2]);
-
-fn keep(kept: &mut Kept, modem: Mac, subscriber: u32, body: &Body) -> Result<(), NoMemory> {
-    let body = body.share()?;
-    kept.put_first(
-        modem,
-        KeptBody {
-            subscriber,
-            class: 1,
-            body,
-        },
-    )
-}
-
-fn made_body(alloc: Global) -> Result<Body, NoMemory> {
-    let made = gold(alloc, true, false)?;
-    body_of(alloc, &made)
-}
-
-// One body, kept for two modems of two subscribers.
-fn two_kept(alloc: Global) -> Result<Kept, NoMemory> {
-    let body = made_body(alloc)?;
-    let mut kept = Kept::new(alloc)?;
-    keep(&mut kept, FIRST, 7, &body)?;
-    keep(&mut kept, SECOND, 8, &body)?;
-    Ok(kept)
-}
-
-fn drop_row(alloc: Global, kept: &mut Kept, key: Key) -> Result<(), NoMemory> {
-    let mut writes = Writes::new(alloc);
-    writes.push(Write::Drop(key))?;
-    kept.forget(&writes);
-    Ok(())
-}
-
-// The length of the body that is kept of a modem.
-fn found_len(kept: &Kept, modem: Mac) -> Result<Option<usize>, NoMemory> {
-    match kept.find(modem)? {
-        Some(found) => Ok(Some(found.body.len())),
-        None => Ok(None),
-    }
-}
-
-#[test]
-fn a_body_is_kept_until_its_rows_are_written(rt: HostRuntime) -> Result<(), Fail> {
-    let mut kept = two_kept(rt.alloc())?;
-    drop_row(rt.alloc(), &mut kept, Key::Lease(ADDRESS))?;
-    assert_eq!(rt; found_len(&kept, FIRST)?, Some(36));
-    drop_row(rt.alloc(), &mut kept, Key::AddOn(7, 0))?;
-    assert_eq!(rt; found_len(&kept, FIRST)?, None);
-    assert_eq!(rt; found_len(&kept, SECOND)?, Some(36));
-    drop_row(rt.alloc(), &mut kept, Key::Class(1))?;
-    assert_eq!(rt; found_len(&kept, SECOND)?, None);
     Ok(())
 }

@@ -1,8 +1,8 @@
 //! What no script can say: a keeper that tells nothing and whose entries don't rise, impossible
 //! rows behind the opening test, drills over a keeper that forgets, `Office::command` by itself, a
-//! commit for which memory is refused; the service of devices by itself; the free addresses of a
-//! pool of the greatest size, and who uses what, behind random writes; and a modem's name and file,
-//! with their bytes as another program gives them. `lease_tests` has what is of leases alone.
+//! commit for which memory is refused; the service of devices over a keeper alone; who uses
+//! what, behind random writes; and a modem's file, whose blocks are read by a call that no program
+//! makes. `lease_tests` has what is of leases alone.
 //!
 //! There is nothing here but tests. They show that calls succeed with ample memory, which no
 //! contract can say. All other examples are data: `office_script`, `format_script`, `clerk_script`.
@@ -22,8 +22,6 @@ mod forgetting;
 mod kept;
 #[cfg(test)]
 mod lying;
-#[cfg(test)]
-mod runs;
 #[cfg(test)]
 mod silence;
 #[cfg(test)]
