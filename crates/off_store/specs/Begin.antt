@@ -15,7 +15,8 @@ pub record BeginsOverDisk {D : Type 0} (disk_seen : D → DiskSeen) (seen : Keep
   pub faults : (disk_seen disk).faults ≡ 0
   pub begun : HasBegun (disk_seen disk) seen
 
--- It has begun in front of a store, a keeper that has begun over a database whose files were opened.
+-- It has begun in front of a store, a keeper that has begun over a database whose files were
+-- opened.
 pub record BeginsInFront {D K : Type 0} (g : disk.Ghosts D) (cells : K → CellsSeen)
     (seen : K → KeeperSeen) (keeper : Cached K) : Type 0 where
   pub store : K

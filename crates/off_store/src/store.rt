@@ -1,5 +1,5 @@
-//! The tables in a file, which is a database of SQLite's format. Its rows are read when it's opened,
-//! and are in memory from then on.
+//! The tables in a file, which is a database of SQLite's format. Its rows are read when it's
+//! opened, and are in memory from then on.
 
 ghost use Rattle.std.specs.Prelude.{◌≡◌, ◌↔◌, IfOk};
 ghost use Rattle.sqlite.specs.Files.{file_state, IsOpened};
@@ -41,9 +41,9 @@ pub type StoredKeeper = SqlKeeper<SqlCells<FileStore<File>>>;
 /// A keeper of the tables in a file, with all of their rows in memory.
 pub type FileKeeper = Cached<StoredKeeper>;
 
-/// Opens the file at a path, or makes it, with its table, and reads all of its rows. What the keeper
-/// tells is what was read, whatever is told of the file. Where a row can't be read, each call is the
-/// file's, so that the first that comes to this row fails.
+/// Opens the file at a path, or makes it, with its table, and reads all of its rows. What the
+/// keeper tells is what was read, whatever is told of the file. Where a row can't be read, each
+/// call is the file's, so that the first that comes to this row fails.
 pub fn open_store(rt: &HostRuntime, path: &str) -> Result<FileKeeper, StoreErr>
     ensures { IfOk result (λ keeper. BeginsInFront ⟦<File as Disk>⟧
         (λ (stored : _). ⟦<SqlCells<FileStore<File>> as Cells>⟧.seen stored.cells)
