@@ -11,6 +11,7 @@ use off_defs::{Hold, Key, Lease, Pool, Row, Sent, Write, Writes};
 use off_dhcp::Message;
 use off_keepmem::MemKeeper;
 use off_lease::answer;
+use off_mic::HmacKey;
 use off_outside::{Calls, KeepErr, Keeper};
 use off_runs::FreeRuns;
 use plain_leases::{choice_in, has, has_ended, held_in, hub_in, least_in};
@@ -25,6 +26,8 @@ const BASE: u32 = 0x0a40_0100;
 pub(crate) struct World {
     pub(crate) keeper: MemKeeper,
     pub(crate) runs: FreeRuns,
+    // By which files are named.
+    pub(crate) key: HmacKey,
     pub(crate) now: Moment,
     homes: [u32; 3],
     seed: u64,
@@ -155,6 +158,7 @@ impl World {
         Ok(World {
             keeper,
             runs,
+            key: HmacKey::new(),
             now: AT,
             homes: [0, 1, 2],
             seed: 1,
@@ -314,7 +318,14 @@ fn offered(
         return Err(KeepErr::Failed);
     };
     let asked = Asked::of(&message);
-    let step = answer(alloc, &mut world.keeper, &world.runs, world.now, &asked)?;
+    let step = answer(
+        alloc,
+        &mut world.keeper,
+        &world.runs,
+        &mut world.key,
+        world.now,
+        &asked,
+    )?;
     Ok(match &step.reply {
         Some(Sent::Datagram { bytes, .. }) => given(bytes.as_slice()),
         _ => None,

@@ -221,7 +221,14 @@ fn answered(
         return Err(KeepErr::Failed);
     };
     let asked = Asked::of(&m);
-    let step = answer(alloc, &mut world.keeper, &world.runs, world.now, &asked)?;
+    let step = answer(
+        alloc,
+        &mut world.keeper,
+        &world.runs,
+        &mut world.key,
+        world.now,
+        &asked,
+    )?;
     let plain = plain_answer(alloc, &mut world.keeper, world.now, &m)?;
     tally.take(step.word, is_same(&step, &plain));
     Ok(step)

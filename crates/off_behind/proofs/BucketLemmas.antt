@@ -67,5 +67,5 @@ neighbours_in_bucket now modem device leases seen are = record {
   others = are.others ∙ others_in_bucket now modem device leases;
 }
 
-pub bucket_low : (modem : Mac) → bucket_of modem < 4096
+pub bucket_low : (modem : Mac) → bucket_of modem < 16384
 bucket_low modem = omega arith

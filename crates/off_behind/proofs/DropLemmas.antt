@@ -92,7 +92,7 @@ undropped t ws old none are stands p within =
     ∙ sym (ap (filter (is_in p)) (lost t ws none ∙ filter_all (left_by ws) (devices t) (λ e i. ap not (false_from_ne_true (list_any (changes e.0) ws) (λ any. true≢false (sym (are e.0 any)))))))
 
 -- some are
-pub dropped : (t : Tables) (ws : List Write) (ends : Ends) (old new : List Bucket) → list_any puts ws ≡ false → AreEnds ws (Some ends) → ((p : ℕ) → p < 4096 → bucket_at new p ≡ without_dropped ws ends (bucket_at old p))
+pub dropped : (t : Tables) (ws : List Write) (ends : Ends) (old new : List Bucket) → list_any puts ws ≡ false → AreEnds ws (Some ends) → ((p : ℕ) → p < 16384 → bucket_at new p ≡ without_dropped ws ends (bucket_at old p))
     → Indexes old (devices t) → Indexes new (devices (write_all t ws))
 dropped t ws ends old new none are left stands p within =
     left p within

@@ -18,7 +18,7 @@ use Rattle.off_behind.proofs.StepLemmas.{changed, written_devices, taken_is, kep
 -- ---- one write
 
 pub followed : (t : Tables) (w : Write) (a : Ip4) (new : Option DeviceLease) (old mid after : List Bucket) → Some (a, new) ≡ change_of w
-    → ((p : ℕ) → p < 4096 → bucket_at mid p ≡ without_address a (bucket_at old p))
+    → ((p : ℕ) → p < 16384 → bucket_at mid p ≡ without_address a (bucket_at old p))
     → ((p : ℕ) → bucket_at after p ≡ taken p a new (bucket_at mid p)) → Indexes old (devices t) → Indexes after (devices (written t w))
 followed t w a new old mid after is left put stands p within =
     put p

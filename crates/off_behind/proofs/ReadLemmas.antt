@@ -24,7 +24,7 @@ only_devices = record { others = λ entry other. no_device entry.0 entry.1 other
 -- what is taken and what is left are all leases of each bucket
 abbrev pub TakenUpTo : List Bucket → Key → Tables → Type 0
 TakenUpTo buckets place t =
-    (p : ℕ) → p < 4096 → bucket_at buckets p ++ filter (is_in p) (left_of device_of (Some place) t) ≡ filter (is_in p) (devices t)
+    (p : ℕ) → p < 16384 → bucket_at buckets p ++ filter (is_in p) (left_of device_of (Some place) t) ≡ filter (is_in p) (devices t)
 
 pub none_yet : (buckets : List Bucket) (place : Key) (t : Tables) → kind_of place < 13 → ((p : ℕ) → bucket_at buckets p ≡ []) → TakenUpTo buckets place t
 none_yet buckets place t lower none p within =
@@ -43,7 +43,7 @@ filter_first q (Some x) xs =
     ]
 
 pub taken_more : (old new : List Bucket) (place : Key) (e : Key × Row) (t : Tables) → TakenUpTo old place t → Some e ≡ next_entry (Some place) t
-    → ((p : ℕ) → p < 4096 → bucket_at new p ≡ bucket_at old p ++ filter (is_in p) (cons_option (device_of e) [])) → TakenUpTo new e.0 t
+    → ((p : ℕ) → p < 16384 → bucket_at new p ≡ bucket_at old p ++ filter (is_in p) (cons_option (device_of e) [])) → TakenUpTo new e.0 t
 taken_more old new place e t so_far next taken p within =
     let rest = left_of device_of (Some e.0) t in
     ap (λ (xs : Leases). xs ++ filter (is_in p) rest) (taken p within)

@@ -18,7 +18,7 @@ abbrev pub no_bucket : Bucket
 no_bucket = ([], 0)
 
 abbrev pub bucket_of : Mac → ℕ
-bucket_of modem = (slice_index modem.0 4 * 256 + slice_index modem.0 5) % 4096
+bucket_of modem = (slice_index modem.0 4 * 256 + slice_index modem.0 5) % 16384
 
 abbrev pub is_in : ℕ → Ip4 × DeviceLease → Bool
 is_in place entry = passes (λ owner. bucket_of owner.0 == place) (device_owner entry.1.hold)
@@ -32,7 +32,7 @@ room_at buckets place = (get_or buckets place no_bucket).1
 -- each bucket has the leases of its modems, in the order in which all of them stand
 abbrev pub Indexes : List Bucket → Leases → Type 0
 Indexes buckets leases =
-    (place : ℕ) → place < 4096 → bucket_at buckets place ≡ filter (is_in place) leases
+    (place : ℕ) → place < 16384 → bucket_at buckets place ≡ filter (is_in place) leases
 
 -- one bucket has other leases, the others stay, and none has less room
 pub record Becomes (place : ℕ) (leases : Leases) (old new : List Bucket) : Type 0 where
@@ -46,4 +46,4 @@ leases_in buckets = map (λ bucket. bucket.0) buckets
 
 abbrev pub Keeps : List Leases → Leases → Type 0
 Keeps held leases =
-    (place : ℕ) → place < 4096 → get_or held place [] ≡ filter (is_in place) leases
+    (place : ℕ) → place < 16384 → get_or held place [] ≡ filter (is_in place) leases

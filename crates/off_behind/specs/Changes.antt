@@ -38,7 +38,7 @@ puts_in place write = passes (λ change. holds place change.0 change.1) (change_
 -- are writes
 abbrev pub HasRoomFor : ℕ → List Write → List Bucket → Type 0
 HasRoomFor more writes buckets =
-    (place : ℕ) → place < 4096 → list_any (puts_in place) writes ≡ true
+    (place : ℕ) → place < 16384 → list_any (puts_in place) writes ≡ true
     → length (bucket_at buckets place) + more ≤ room_at buckets place
 
 abbrev pub HasRoom : List Write → List Bucket → Type 0

@@ -35,7 +35,7 @@ impl Model for Devices {
 
     ghost view = { λ b. b.buckets.items };
 
-    ghost invariant = { λ b. vec_len b.buckets ≡ 4096 };
+    ghost invariant = { λ b. vec_len b.buckets ≡ 16384 };
 }
 
 impl Devices {

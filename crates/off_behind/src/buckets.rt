@@ -12,12 +12,14 @@ use off_base::{Ip4, Mac, NoMemory};
 use off_defs::{DeviceLease, Writes};
 use std::alloc::Global;
 
-// How many buckets there are; modems spread over them by the last bytes of their addresses.
-const BUCKETS: usize = 4096;
+// How many buckets there are; modems spread over them by the last bytes of their addresses. Among
+// the most leases that tables may have, 262,144, a bucket has 16 in the mean: a message goes over
+// one bucket, some four times where it changes a lease.
+const BUCKETS: usize = 16384;
 
 /// Buckets without leases. They take no memory of their own.
 pub(crate) fn empty(alloc: Global) -> Result<Vec<Bucket>, NoMemory>
-    ensures len { IfOk result (λ buckets. vec_len buckets ≡ 4096) }
+    ensures len { IfOk result (λ buckets. vec_len buckets ≡ 16384) }
     ensures none { IfOk result (λ buckets. (place : ℕ) → bucket_at buckets.items place ≡ []) }
 {
     let mut buckets = Vec::new(alloc);
@@ -31,7 +33,7 @@ pub(crate) fn empty(alloc: Global) -> Result<Vec<Bucket>, NoMemory>
 
 /// Where the bucket of a modem stands.
 pub(crate) fn bucket_of(modem: Mac) -> usize
-    ensures within { result < 4096 }
+    ensures within { result < 16384 }
     ensures place { result ≡ bucket_of modem }
 {
     let high = usize::from(modem.0[4]);

@@ -21,12 +21,12 @@ pub(crate) fn take_all<K: Keeper>(
     keeper: &mut K,
     buckets: &mut Vec<Bucket>,
 ) -> Result<(), KeepErr>
-    requires len { vec_len buckets.old ≡ 4096 }
+    requires len { vec_len buckets.old ≡ 16384 }
     requires none { (place : ℕ) → bucket_at buckets.old.items place ≡ [] }
     ensures told { Looks result (K.seen keeper.old) (K.seen keeper.new)
         (λ _ t. Indexes buckets.new.items (devices t)) }
     ensures walks { WalksOnce (K.seen keeper.old) (K.seen keeper.new) }
-    ensures len { vec_len buckets.new ≡ 4096 }
+    ensures len { vec_len buckets.new ≡ 16384 }
 {
     let mut place = Key::DevicePool(u32::MAX);
     'walk: loop {
@@ -40,9 +40,9 @@ pub(crate) fn take_all<K: Keeper>(
 
 // Takes the lease of a row, if it's a device's that has a modem.
 fn take_row(buckets: &mut Vec<Bucket>, key: Key, row: Row) -> Result<(), NoMemory>
-    requires { vec_len buckets.old ≡ 4096 }
+    requires { vec_len buckets.old ≡ 16384 }
     ensures len { vec_len buckets.new ≡ vec_len buckets.old }
-    ensures taken { OnOk result ((place : ℕ) → place < 4096
+    ensures taken { OnOk result ((place : ℕ) → place < 16384
         → bucket_at buckets.new.items place
         ≡ bucket_at buckets.old.items place
         ++ filter (is_in place) (cons_option (device_of (key, row)) [])) }
@@ -58,9 +58,9 @@ fn take_row(buckets: &mut Vec<Bucket>, key: Key, row: Row) -> Result<(), NoMemor
 
 // Appends a lease to the bucket of its modem, if it has one.
 fn take_lease(buckets: &mut Vec<Bucket>, address: Ip4, lease: DeviceLease) -> Result<(), NoMemory>
-    requires { vec_len buckets.old ≡ 4096 }
+    requires { vec_len buckets.old ≡ 16384 }
     ensures len { vec_len buckets.new ≡ vec_len buckets.old }
-    ensures taken { OnOk result ((place : ℕ) → place < 4096
+    ensures taken { OnOk result ((place : ℕ) → place < 16384
         → bucket_at buckets.new.items place
         ≡ bucket_at buckets.old.items place
         ++ filter (is_in place) ((address, lease) ∷ [])) }

@@ -20,8 +20,8 @@ use off_defs::{DeviceLease, Write, Writes};
 
 /// Takes room for the leases that writes put.
 pub(crate) fn reserve_all(buckets: &mut Vec<Bucket>, writes: &Writes) -> Result<(), NoMemory>
-    requires { vec_len buckets.old ≡ 4096 }
-    ensures len { vec_len buckets.new ≡ 4096 }
+    requires { vec_len buckets.old ≡ 16384 }
+    ensures len { vec_len buckets.new ≡ 16384 }
     ensures same { (place : ℕ)
         → bucket_at buckets.new.items place ≡ bucket_at buckets.old.items place }
     ensures room { OnOk result (HasRoom writes.now buckets.new.items) }
@@ -35,8 +35,8 @@ pub(crate) fn reserve_all(buckets: &mut Vec<Bucket>, writes: &Writes) -> Result<
 
 // Takes room for so many more in the bucket of the lease that a write puts, if it puts one.
 fn reserve_for(buckets: &mut Vec<Bucket>, write: &Write, more: usize) -> Result<(), NoMemory>
-    requires { vec_len buckets.old ≡ 4096 }
-    ensures len { vec_len buckets.new ≡ 4096 }
+    requires { vec_len buckets.old ≡ 16384 }
+    ensures len { vec_len buckets.new ≡ 16384 }
     ensures same { (place : ℕ)
         → bucket_at buckets.new.items place ≡ bucket_at buckets.old.items place }
     ensures rooms { (place : ℕ)
@@ -57,10 +57,10 @@ pub(crate) fn take_writes(
     writes: &Writes,
     olds: &Vec<Option<DeviceLease>>,
 )
-    requires len { vec_len buckets.old ≡ 4096 }
+    requires len { vec_len buckets.old ≡ 16384 }
     requires room { HasRoom writes.now buckets.old.items }
     requires all { vec_len olds.now ≡ length writes.now }
-    ensures len { vec_len buckets.new ≡ 4096 }
+    ensures len { vec_len buckets.new ≡ 16384 }
     ensures stands { (t : Tables) → olds.now.items ≡ olds_of t writes.now
         → Indexes buckets.old.items (devices t)
         → Indexes buckets.new.items (devices (write_all t writes.now)) }
@@ -72,10 +72,10 @@ pub(crate) fn take_writes(
 
 // Takes a write, with the lease that its address had.
 fn take_write(buckets: &mut Vec<Bucket>, write: &Write, former: Option<DeviceLease>)
-    requires len { vec_len buckets.old ≡ 4096 }
-    requires room { (place : ℕ) → place < 4096 → puts_in place write.now ≡ true
+    requires len { vec_len buckets.old ≡ 16384 }
+    requires room { (place : ℕ) → place < 16384 → puts_in place write.now ≡ true
         → length (bucket_at buckets.old.items place) < room_at buckets.old.items place }
-    ensures len { vec_len buckets.new ≡ 4096 }
+    ensures len { vec_len buckets.new ≡ 16384 }
     ensures stands { (t : Tables) → former ≡ old_at t write.now
         → Indexes buckets.old.items (devices t)
         → Indexes buckets.new.items (devices (written t write.now)) }
@@ -94,9 +94,9 @@ fn take_write(buckets: &mut Vec<Bucket>, write: &Write, former: Option<DeviceLea
 /// Takes writes that were done, whatever leases their addresses had. There is room for those that
 /// they put. Where they put none, all that they drop go in one pass over the buckets.
 pub(crate) fn follow_writes(buckets: &mut Vec<Bucket>, writes: &Writes)
-    requires len { vec_len buckets.old ≡ 4096 }
+    requires len { vec_len buckets.old ≡ 16384 }
     requires room { HasRoom writes.now buckets.old.items }
-    ensures len { vec_len buckets.new ≡ 4096 }
+    ensures len { vec_len buckets.new ≡ 16384 }
     ensures stands { (t : Tables) → Indexes buckets.old.items (devices t)
         → Indexes buckets.new.items (devices (write_all t writes.now)) }
 {
@@ -111,9 +111,9 @@ pub(crate) fn follow_writes(buckets: &mut Vec<Bucket>, writes: &Writes)
 
 // Drops the leases of those addresses between two whose leases writes drop.
 fn forget_dropped(buckets: &mut Vec<Bucket>, writes: &Writes, ends: (Ip4, Ip4))
-    requires { vec_len buckets.old ≡ 4096 }
-    ensures len { vec_len buckets.new ≡ 4096 }
-    ensures left { (place : ℕ) → place < 4096 → bucket_at buckets.new.items place
+    requires { vec_len buckets.old ≡ 16384 }
+    ensures len { vec_len buckets.new ≡ 16384 }
+    ensures left { (place : ℕ) → place < 16384 → bucket_at buckets.new.items place
         ≡ without_dropped writes.now ends (bucket_at buckets.old.items place) }
 {
     for place in 0..buckets.len() {
@@ -124,9 +124,9 @@ fn forget_dropped(buckets: &mut Vec<Bucket>, writes: &Writes, ends: (Ip4, Ip4))
 // Takes writes that were done one after the other, whatever leases their addresses had. There is
 // room for those that they put.
 fn follow_each(buckets: &mut Vec<Bucket>, writes: &Writes)
-    requires len { vec_len buckets.old ≡ 4096 }
+    requires len { vec_len buckets.old ≡ 16384 }
     requires room { HasRoom writes.now buckets.old.items }
-    ensures len { vec_len buckets.new ≡ 4096 }
+    ensures len { vec_len buckets.new ≡ 16384 }
     ensures stands { (t : Tables) → Indexes buckets.old.items (devices t)
         → Indexes buckets.new.items (devices (write_all t writes.now)) }
 {
@@ -137,10 +137,10 @@ fn follow_each(buckets: &mut Vec<Bucket>, writes: &Writes)
 
 // Takes a write, whatever lease its address had.
 fn follow_write(buckets: &mut Vec<Bucket>, write: &Write)
-    requires len { vec_len buckets.old ≡ 4096 }
-    requires room { (place : ℕ) → place < 4096 → puts_in place write.now ≡ true
+    requires len { vec_len buckets.old ≡ 16384 }
+    requires room { (place : ℕ) → place < 16384 → puts_in place write.now ≡ true
         → length (bucket_at buckets.old.items place) < room_at buckets.old.items place }
-    ensures len { vec_len buckets.new ≡ 4096 }
+    ensures len { vec_len buckets.new ≡ 16384 }
     ensures stands { (t : Tables) → Indexes buckets.old.items (devices t)
         → Indexes buckets.new.items (devices (written t write.now)) }
     ensures grown { (place : ℕ) → length (bucket_at buckets.new.items place)
@@ -157,9 +157,9 @@ fn follow_write(buckets: &mut Vec<Bucket>, write: &Write)
 
 // Drops the lease of an address, in whichever bucket it is.
 fn forget_everywhere(buckets: &mut Vec<Bucket>, address: Ip4)
-    requires { vec_len buckets.old ≡ 4096 }
-    ensures len { vec_len buckets.new ≡ 4096 }
-    ensures left { (place : ℕ) → place < 4096 → bucket_at buckets.new.items place
+    requires { vec_len buckets.old ≡ 16384 }
+    ensures len { vec_len buckets.new ≡ 16384 }
+    ensures left { (place : ℕ) → place < 16384 → bucket_at buckets.new.items place
         ≡ without_address address (bucket_at buckets.old.items place) }
     ensures few { (place : ℕ) → length (bucket_at buckets.new.items place)
         ≤ length (bucket_at buckets.old.items place) }
@@ -173,8 +173,8 @@ fn forget_everywhere(buckets: &mut Vec<Bucket>, address: Ip4)
 
 // Drops the lease that an address had.
 fn forget(buckets: &mut Vec<Bucket>, address: Ip4, former: Option<DeviceLease>)
-    requires { vec_len buckets.old ≡ 4096 }
-    ensures len { vec_len buckets.new ≡ 4096 }
+    requires { vec_len buckets.old ≡ 16384 }
+    ensures len { vec_len buckets.new ≡ 16384 }
     ensures left { (place : ℕ) → bucket_at buckets.new.items place
         ≡ (if holds place address former
         then without_address address (bucket_at buckets.old.items place)
@@ -190,10 +190,10 @@ fn forget(buckets: &mut Vec<Bucket>, address: Ip4, former: Option<DeviceLease>)
 
 // Takes the new lease of an address, if it has one.
 fn take_in(buckets: &mut Vec<Bucket>, address: Ip4, lease: Option<DeviceLease>)
-    requires len { vec_len buckets.old ≡ 4096 }
-    requires room { (place : ℕ) → place < 4096 → holds place address lease ≡ true
+    requires len { vec_len buckets.old ≡ 16384 }
+    requires room { (place : ℕ) → place < 16384 → holds place address lease ≡ true
         → length (bucket_at buckets.old.items place) < room_at buckets.old.items place }
-    ensures len { vec_len buckets.new ≡ 4096 }
+    ensures len { vec_len buckets.new ≡ 16384 }
     ensures put { (place : ℕ) → bucket_at buckets.new.items place
         ≡ taken place address lease (bucket_at buckets.old.items place) }
     ensures rooms { (place : ℕ)
@@ -211,7 +211,7 @@ fn take_in(buckets: &mut Vec<Bucket>, address: Ip4, lease: Option<DeviceLease>)
 // The bucket of the lease that a write puts, if it puts one that has a modem.
 fn put_place(write: &Write) -> Option<usize>
     ensures place { (place : ℕ) → puts_in place write.now ≡ passes (λ n. n == place) result }
-    ensures within { IfSome result (λ n. n < 4096) }
+    ensures within { IfSome result (λ n. n < 16384) }
 {
     let change = change_of(write)?;
     place_of(change.1)
@@ -221,7 +221,7 @@ fn put_place(write: &Write) -> Option<usize>
 fn place_of(lease: Option<DeviceLease>) -> Option<usize>
     ensures place { (place : ℕ) (address : Ip4)
         → holds place address lease ≡ passes (λ n. n == place) result }
-    ensures within { IfSome result (λ n. n < 4096) }
+    ensures within { IfSome result (λ n. n < 16384) }
 {
     let lease = lease?;
     let owner = owner_of(lease.hold)?;

@@ -6,14 +6,14 @@ ghost use Rattle.off_clerk_rules.specs.Commands.{as_import};
 ghost use Rattle.off_clerk_rules.specs.Paths.{IsNamed};
 ghost use Rattle.off_defs.specs.declared.keys.Key.TheVariants as key;
 
-use crate::bodies::{
-    add_on_of, class_of, hub_of_pool, modem_of, object_of, pool_of, site_of, subscriber_of,
-};
 use crate::paths::{path_of, place_at};
 use json::Scratch;
 use off_base::Mac;
 use off_clerk_rules::{ClerkErr, CommandErr, Place};
 use off_defs::{ImportKind, Key};
+use off_fields::{
+    add_on_of, class_of, hub_of_pool, modem_of, object_of, pool_of, site_of, subscriber_of,
+};
 use off_import::read_import;
 use off_import_rules::ImportErr;
 use off_orders::Command;

@@ -7,16 +7,12 @@
 #![tactic(auto)]
 
 mod arrays;
-mod bodies;
 mod commands;
 mod details;
-mod fields;
 mod laws;
 mod paths;
 mod replies;
 mod texts;
-mod trees;
-mod values;
 mod words;
 
 pub use commands::command_of;

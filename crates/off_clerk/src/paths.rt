@@ -14,9 +14,7 @@ ghost use Rattle.off_clerk_rules.specs.Paths.{only_shown, kept, removable, IsNam
 use off_base::{read_ip, read_mac, read_number};
 use off_clerk_rules::Place;
 use off_defs::{ImportKind, Key, LAST_ADD_ON};
-
-// The greatest number of 32 bits.
-pub(crate) const LAST_NUMBER: u64 = 4_294_967_295;
+use off_fields::LAST_NUMBER;
 
 // The path of a request's target: what stands before its first `?`.
 pub(crate) fn path_of(target: &[u8]) -> &[u8]

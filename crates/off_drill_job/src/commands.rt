@@ -5,8 +5,8 @@ ghost use Rattle.off_drill_rules.specs.Rows.{site, flow, class, pool, subscriber
 ghost use Rattle.off_drill_job.specs.Founding.{put_hub, put_class, put_pool};
 ghost use Rattle.off_drill_job.specs.Founding.{put_subscriber, put_modem};
 
-use crate::rows::{RELAY, SECRET, SERVER, mac_of};
-use off_base::{Bytes, Ip4, NoMemory, Secret, Setting, Settings, Short};
+use crate::rows::{RELAY, SERVER, mac_of, secret};
+use off_base::{Bytes, Ip4, NoMemory, Setting, Settings, Short};
 use off_defs::{Class, Modem, Pool, Site, Subscriber};
 use off_orders::Command;
 use std::alloc::Global;
@@ -19,7 +19,7 @@ pub(crate) fn put_hub() -> Command
         0,
         Site {
             server: SERVER,
-            secret: secret(SECRET),
+            secret: secret(),
             offset: 0,
             lease: 86_400,
             log: Ip4(0),
@@ -109,12 +109,4 @@ fn short(text: &str) -> Short
     ensures { result ≡ text.now }
 {
     Short::read(text.as_bytes()).unwrap()
-}
-
-// A secret of the drill's own, which is short.
-fn secret(text: &[u8]) -> Secret
-    requires { length text.now ≤ 64 }
-    ensures { result ≡ text.now }
-{
-    Secret::read(text).unwrap()
 }

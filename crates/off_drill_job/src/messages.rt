@@ -8,9 +8,10 @@ ghost use Rattle.off_defs.specs.declared.events.What.TheVariants.{Datagram};
 ghost use Rattle.off_defs.specs.declared.events.Service.TheVariants.{Dhcp, Tftp};
 ghost use Rattle.off_drill_job.specs.Asking.{event_for, hoped_line};
 
-use crate::rows::{RELAY, SECRET, address_of, mac_of, moment_of};
+use crate::rows::{RELAY, address_of, mac_of, moment_of, secret};
 use off_base::{Bytes, NoMemory, Peer};
 use off_files::file_name;
+use off_mic::HmacKey;
 use off_outside::{Event, Service, What};
 use std::alloc::Global;
 
@@ -158,7 +159,8 @@ fn read_request(alloc: Global, i: u32) -> Result<Bytes, NoMemory>
 {
     let mut bytes = Bytes::new(alloc);
     bytes.push_all(&[0, 1])?;
-    bytes.push_all(&file_name(SECRET, mac_of(i), address_of(i)))?;
+    let key = HmacKey::of(&secret());
+    bytes.push_all(&file_name(&key, mac_of(i), address_of(i)))?;
     bytes.push_all(b"\0octet\0blksize\x0044\0")?;
     Ok(bytes)
 }

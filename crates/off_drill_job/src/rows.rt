@@ -1,7 +1,7 @@
-ghost use Rattle.std.specs.Prelude.{◌≡◌, ◌≤◌};
+ghost use Rattle.std.specs.Prelude.{◌≡◌, ◌≤◌, codes};
 ghost use Rattle.off_drill_rules.specs.Rows.{mac, address, moment};
 
-use off_base::{Ip4, Mac, Moment};
+use off_base::{Ip4, Mac, Moment, Secret};
 
 /// The moment before the first modem's.
 pub(crate) const BEGINS_AT: u64 = 1_700_000_000;
@@ -13,7 +13,11 @@ pub(crate) const SERVER: Ip4 = Ip4(0x0a00_0002);
 pub(crate) const RELAY: Ip4 = Ip4(0x0a40_0001);
 
 /// What the CMTS shares with the office.
-pub(crate) const SECRET: &[u8] = b"drill";
+pub(crate) fn secret() -> Secret
+    ensures { result ≡ codes "drill" }
+{
+    Secret::read(b"drill").unwrap()
+}
 
 /// When modem `i` does all that it does.
 pub(crate) fn moment_of(i: u32) -> Moment

@@ -45,11 +45,11 @@ fn closed(alloc: Global, payload: &Bytes) -> Result<Bytes, NoMemory>
 }
 
 // Zeros behind a record, over which the next ones are written.
-pub(crate) fn push_zeros(alloc: Global, record: &mut Bytes, count: usize) -> Result<(), NoMemory>
-    ensures { OnOk result (record.new ≡ record.old ++ replicate count 0) }
+pub(crate) fn push_zeros(alloc: Global, out: &mut Bytes, count: usize) -> Result<(), NoMemory>
+    ensures { OnOk result (out.new ≡ out.old ++ replicate count 0) }
 {
     let zeros = vec![in alloc; 0; count]?;
-    record.push_all(&zeros)
+    out.push_all(&zeros)
 }
 
 // The writes' bytes, one behind another.

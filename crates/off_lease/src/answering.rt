@@ -19,6 +19,7 @@ use off_asking::Asked;
 use off_base::{Moment, NoMemory};
 use off_defs::Writes;
 use off_lease_rules::{Case, LeaseStep};
+use off_mic::HmacKey;
 use off_outside::{KeepErr, Keeper};
 use off_runs::FreeRuns;
 use std::alloc::Global;
@@ -28,7 +29,8 @@ use std::alloc::Global;
 ///
 /// Pools, their hubs and free addresses are those that are kept for the tables at the moment. The
 /// tables needn't be good: an impossible row is taken as one that isn't there. `Failed` comes only
-/// where the keeper counted a fault.
+/// where the keeper counted a fault. The key of files' names becomes the secret of the hub, where a
+/// file is named.
 ///
 /// A message that is refused by what it says itself makes no call of the keeper, one that gives an
 /// address back two at most, a REQUEST three, and a DISCOVER four, whatever the tables.
@@ -37,6 +39,7 @@ pub fn answer<K: Keeper>(
     alloc: Global,
     keeper: &mut K,
     runs: &FreeRuns,
+    key: &mut HmacKey,
     now: Moment,
     m: &Asked<'_>,
 ) -> Result<LeaseStep, KeepErr>
@@ -46,7 +49,7 @@ pub fn answer<K: Keeper>(
 {
     match own_refusal(m) {
         Some(word) => Ok(silent(Writes::new(alloc), word)),
-        None => answer_by_rows(alloc, keeper, runs, now, m),
+        None => answer_by_rows(alloc, keeper, runs, key, now, m),
     }
 }
 
@@ -56,6 +59,7 @@ fn answer_by_rows<K: Keeper>(
     alloc: Global,
     keeper: &mut K,
     runs: &FreeRuns,
+    key: &mut HmacKey,
     now: Moment,
     m: &Asked<'_>,
 ) -> Result<LeaseStep, KeepErr>
@@ -67,7 +71,7 @@ fn answer_by_rows<K: Keeper>(
     let case = gather(alloc, keeper, runs, m)?;
     match row_refusal(m, &case) {
         Some(word) => kept(refuse(alloc, m, &case.site, word)),
-        None => answer_case(alloc, keeper, runs, now, m, &case),
+        None => answer_case(alloc, keeper, runs, key, now, m, &case),
     }
 }
 
@@ -77,6 +81,7 @@ fn answer_case<K: Keeper>(
     alloc: Global,
     keeper: &mut K,
     runs: &FreeRuns,
+    key: &mut HmacKey,
     now: Moment,
     m: &Asked<'_>,
     case: &Case,
@@ -92,7 +97,7 @@ fn answer_case<K: Keeper>(
 {
     let chosen = choose(runs, m, case);
     let lease = lease_of(alloc, keeper, m, chosen)?;
-    kept(settle(alloc, now, m, case, chosen, lease))
+    kept(settle(alloc, key, now, m, case, chosen, lease))
 }
 
 fn kept(step: Result<LeaseStep, NoMemory>) -> Result<LeaseStep, KeepErr>

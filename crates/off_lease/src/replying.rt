@@ -10,11 +10,13 @@ use off_base::NoMemory;
 use off_defs::Sent;
 use off_dhcp::Offer;
 use off_files::file_name;
+use off_mic::HmacKey;
 use std::alloc::Global;
 
 /// An OFFER (2) or an ACK (5).
 pub(crate) fn offer_to(
     alloc: Global,
+    key: &mut HmacKey,
     kind: u8,
     m: &Asked<'_>,
     granted: &Granted<'_>,
@@ -24,16 +26,17 @@ pub(crate) fn offer_to(
     ensures { IfOk result (λ sent. sent
         ≡ offer_to kind m.now granted.now.site.now granted.now.pool granted.now.address) }
 {
-    let offer = offer_of(kind, m, granted);
+    let offer = offer_of(key, kind, m, granted);
     reply_to(alloc, m, &offer)
 }
 
-fn offer_of(kind: u8, m: &Asked<'_>, granted: &Granted<'_>) -> Offer
+fn offer_of(key: &mut HmacKey, kind: u8, m: &Asked<'_>, granted: &Granted<'_>) -> Offer
     ensures { result
         ≡ offer_of kind m.now granted.now.site.now granted.now.pool granted.now.address }
 {
     let site = granted.site;
     let address = granted.address;
-    let name = file_name(site.secret.as_slice(), client(m), address);
+    key.turn_to(&site.secret);
+    let name = file_name(key, client(m), address);
     offer_named(kind, site, granted.pool, name, address)
 }

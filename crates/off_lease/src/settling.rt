@@ -19,6 +19,7 @@ use off_asking::{Asked, Kind, client, nak_to};
 use off_base::{Ip4, Moment, NoMemory};
 use off_defs::{Lease, Sent, Site, Writes};
 use off_lease_rules::{Case, DhcpWord, LeaseStep};
+use off_mic::HmacKey;
 use std::alloc::Global;
 
 const OFFER: u8 = 2;
@@ -29,6 +30,7 @@ const ACK: u8 = 5;
 #[tactic(auto, using(crate::proofs::CaseLemmas::late_ways))]
 pub(crate) fn settle(
     alloc: Global,
+    key: &mut HmacKey,
     now: Moment,
     m: &Asked<'_>,
     case: &Case,
@@ -42,7 +44,7 @@ pub(crate) fn settle(
 {
     match late_refusal(m, case, chosen) {
         Some(word) => refuse(alloc, m, &case.site, word),
-        None => accept(alloc, now, m, case, chosen, lease),
+        None => accept(alloc, key, now, m, case, chosen, lease),
     }
 }
 
@@ -83,6 +85,7 @@ fn reply_to_refused(
 // What becomes of a message that no rule refuses: what the rules looked for is all there.
 fn accept(
     alloc: Global,
+    key: &mut HmacKey,
     now: Moment,
     m: &Asked<'_>,
     case: &Case,
@@ -96,8 +99,8 @@ fn accept(
     ensures { IfOk result (λ step. step ≡ accepts now.0 m.now case.now chosen lease) }
 {
     match m.kind() {
-        Kind::Discover => offer(alloc, now, m, &grant(case, chosen), case.held, lease),
-        Kind::Request => acknowledge(alloc, now, m, &grant(case, chosen)),
+        Kind::Discover => offer(alloc, key, now, m, &grant(case, chosen), case.held, lease),
+        Kind::Request => acknowledge(alloc, key, now, m, &grant(case, chosen)),
         Kind::Decline => decline(alloc, now, m, given_back(chosen)),
         Kind::Release => release(alloc, m, given_back(chosen)),
         Kind::Other(_) => unreachable!(),
@@ -106,6 +109,7 @@ fn accept(
 
 fn offer(
     alloc: Global,
+    key: &mut HmacKey,
     now: Moment,
     m: &Asked<'_>,
     granted: &Granted<'_>,
@@ -118,7 +122,7 @@ fn offer(
         (Some (offer_to 2 m.now granted.now.site.now granted.now.pool granted.now.address))) }
 {
     let writes = offered(alloc, now, client(m), held, granted.address, lease)?;
-    let reply = offer_to(alloc, OFFER, m, granted)?;
+    let reply = offer_to(alloc, key, OFFER, m, granted)?;
     Ok(LeaseStep {
         writes,
         reply: Some(reply),
@@ -128,6 +132,7 @@ fn offer(
 
 fn acknowledge(
     alloc: Global,
+    key: &mut HmacKey,
     now: Moment,
     m: &Asked<'_>,
     granted: &Granted<'_>,
@@ -138,7 +143,7 @@ fn acknowledge(
         (Some (offer_to 5 m.now granted.now.site.now granted.now.pool granted.now.address))) }
 {
     let writes = bound(alloc, now, client(m), granted.address, granted.site)?;
-    let reply = offer_to(alloc, ACK, m, granted)?;
+    let reply = offer_to(alloc, key, ACK, m, granted)?;
     Ok(LeaseStep {
         writes,
         reply: Some(reply),

@@ -12,7 +12,8 @@ use Rattle.std.specs.Prelude.{IsTrue, ◌↔◌}
 use Rattle.off_mic.specs.Mic.{of_code, value_of, setting_values, cm_mic_of, cmts_mic_of}
 use Rattle.std.specs.Option.{option_or}
 use Rattle.off_mic.specs.Check.{values_fault, mic_fault, IsVerdict, Verified}
-use Rattle.off_mic.specs.Feed.{Passed, NextValue}
+use Rattle.off_mic.specs.Feed.{NextValue}
+use Rattle.off_mic.proofs.Walked.{Passed}
 use Rattle.off_mic.specs.declared.checking.Verdict.{Verdict}
 use Rattle.off_mic.specs.declared.checking.MicFault.{MicFault}
 

@@ -15,7 +15,8 @@ use Rattle.std.proofs.lemmas.Grind.{get_or-set_at}
 use Rattle.std.proofs.lemmas.Bool.{eqb-true, eq-eqb}
 use Rattle.off_mic.specs.declared.feeding.Wanted.TheVariants.{OfCode, ButMics}
 use Rattle.off_mic.specs.Mic.{of_code, text_of_codes}
-use Rattle.off_mic.specs.Feed.{Came, Fed, Copied, MarksCodes, is_fed, wanted_text}
+use Rattle.off_mic.specs.Feed.{MarksCodes, is_fed, wanted_text}
+use Rattle.off_mic.proofs.Walked.{Came, Fed, Copied}
 use Rattle.off_mic.specs.declared.feeding.Wanted.{Wanted}
 
 pub wanted_text-append : (wanted : Wanted) (ts us : List Tree) → wanted_text wanted (ts ++ us) ≡ wanted_text wanted ts ++ wanted_text wanted us

@@ -3,3 +3,4 @@ mod Examples
 pub mod FeedLemmas
 pub mod SealLemmas
 mod StartedLemmas
+pub mod Walked

@@ -10,9 +10,9 @@ use md5::{Digest, Md5};
 const BLOCK: usize = 64;
 
 /// The constants that the key is taken with (RFC 2104, section 2).
-const INNER: u8 = 0x36;
+pub(crate) const INNER: u8 = 0x36;
 
-const OUTER: u8 = 0x5c;
+pub(crate) const OUTER: u8 = 0x5c;
 
 /// HMAC-MD5 of a message that comes in pieces, for a secret of any length (RFC 2104). It takes no
 /// memory.
@@ -75,7 +75,7 @@ impl Hmac {
 }
 
 // The secret as a block: digested where it is longer than one, and filled with zeros.
-fn key_block(secret: &[u8]) -> [u8; BLOCK]
+pub(crate) fn key_block(secret: &[u8]) -> [u8; BLOCK]
     ensures { result ≡ padded_key secret.now }
 {
     if secret.len() > BLOCK {
@@ -97,7 +97,7 @@ fn filled(key: &[u8]) -> [u8; BLOCK]
     block
 }
 
-fn with_mask(mut block: [u8; BLOCK], mask: u8) -> [u8; BLOCK]
+pub(crate) fn with_mask(mut block: [u8; BLOCK], mask: u8) -> [u8; BLOCK]
     ensures { result ≡ masked mask block }
 {
     for byte in block.iter_mut() {

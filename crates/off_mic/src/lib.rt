@@ -3,14 +3,16 @@
 //!
 //! `cm_mic` and `cmts_mic` compute the values over settings that are spelled in two pieces,
 //! `verify` checks a file, and `seal` signs one. `Started` holds what both values take of settings
-//! in front, which so serve any number of files. Which settings the termination system's value
-//! covers, and in which order, is this project's profile.
+//! in front, which so serve any number of files, and `HmacKey` a secret that serves any number of
+//! messages. Which settings the termination system's value covers, and in which order, is this
+//! project's profile.
 #![tactic(auto)]
 
 mod checking;
 mod digests;
 mod feeding;
 mod keyed;
+mod keys;
 mod laws;
 mod sealing;
 mod started;
@@ -18,6 +20,7 @@ mod started;
 pub use checking::{MicFault, Verdict, verify};
 pub use digests::{cm_mic, cmts_mic};
 pub use keyed::Hmac;
+pub use keys::HmacKey;
 pub use laws::{
     a_sealed_file_stays, a_sealed_file_verifies, a_verdict_tells, settings_have_one_sealed_file,
 };

@@ -2,12 +2,13 @@ ghost use Rattle.std.specs.Prelude.{◌≡◌, ◌≤◌, ◌+◌, ◌++◌, cod
 ghost use Rattle.std.specs.Prelude.{MatchResult};
 ghost use Rattle.off_defs.specs.State.{Tables, says_nothing};
 ghost use Rattle.off_dhcp.specs.Datagram.{message_of};
+ghost use Rattle.off_lease_rules.specs.Steps.{lease_step};
 ghost use Rattle.off_lease_rules.specs.Words.{unread};
 ghost use Rattle.off_query_rules.specs.Asked.{query_of};
 ghost use Rattle.off_book.specs.Dhcp.{dhcp_line, device_line, replies_of};
-ghost use Rattle.off_outside.specs.KeeperCalls.{IsWritten, NotCommitted, Settled, Spent};
+ghost use Rattle.off_outside.specs.KeeperCalls.{IsWritten, Looks, NotCommitted, Settled, Spent};
 ghost use Rattle.off_behind.specs.Neighbours.{StandsIn, elsewhere};
-ghost use Rattle.off_office.specs.Conditions.{Follows, KnowsDevices};
+ghost use Rattle.off_office.specs.Conditions.{Follows, KnowsDevices, Mirrors};
 ghost use Rattle.off_lease.specs.Calls.{message_calls};
 ghost use Rattle.off_office.specs.Acting.{Handled};
 ghost use Rattle.off_office.specs.Asking.{DhcpAsks, ReadAsks, MessageAsks, commit_calls};
@@ -126,10 +127,31 @@ impl Office {
         ensures same { OnErr result (self.new ≡ self.old) }
         ensures spent { Spent (message_calls m.now + 1) (K.seen keeper.old) (K.seen keeper.new) }
     {
-        match answer(self.alloc, keeper, &self.runs, self.now, m) {
+        match self.decide_modem(keeper, m) {
             Ok(step) => self.carry_step(keeper, step, out),
             Err(err) => Err(err),
         }
+    }
+
+    // What a modem's message does, and nothing of it is done. The key of files' names isn't seen.
+    fn decide_modem<K: Keeper>(
+        &mut self,
+        keeper: &mut K,
+        m: &Asked<'_>,
+    ) -> Result<LeaseStep, KeepErr>
+        ensures told { Looks result (K.seen keeper.old) (K.seen keeper.new)
+            (λ step t. Mirrors self.old t → step ≡ lease_step t self.old.held.now m.now) }
+        ensures same { self.new ≡ self.old }
+        ensures spent { Spent (message_calls m.now) (K.seen keeper.old) (K.seen keeper.new) }
+    {
+        answer(
+            self.alloc,
+            keeper,
+            &self.runs,
+            &mut self.name_key,
+            self.now,
+            m,
+        )
     }
 
     // Puts in hand what a step of a device says, and then commits what it writes.

@@ -20,6 +20,7 @@ use off_behind::Devices;
 use off_defs::{Key, Writes, time_of_day};
 use off_device_runs::DeviceRuns;
 use off_kept::Kept;
+use off_mic::HmacKey;
 use off_opening::{Opening, open_tables, read_migration};
 use off_outside::{Event, KeepErr, Keeper, Outcome, Replies, Sent, Service, What};
 use off_runs::FreeRuns;
@@ -57,7 +58,8 @@ impl From<KeepErr> for StartErr {
 /// The office between two events: the moment of its latest event, how many rows the tables have,
 /// the bodies of files that were built of them, which addresses were seen to agree with transfers,
 /// the free addresses of their pools, who uses which subscriber and class, the leases of devices by
-/// their modems, the files on their way to modems, and the clerks' connections.
+/// their modems, the files on their way to modems, the clerks' connections, and the secret by which
+/// it named a file last.
 #[derive(Drop)]
 pub struct Office {
     pub(crate) alloc: Global,
@@ -71,6 +73,7 @@ pub struct Office {
     pub(crate) devices: Devices,
     pub(crate) transfers: Transfers,
     pub(crate) connections: Connections,
+    pub(crate) name_key: HmacKey,
 }
 
 impl Model for Office {
@@ -204,6 +207,7 @@ impl Office {
                 devices,
                 transfers,
                 connections: Connections::new(alloc),
+                name_key: HmacKey::new(),
             }),
             Err(NoMemory) => Err(StartErr::Memory),
         }

@@ -15,6 +15,7 @@ use crate::live::Live;
 use off_base::{Ip4, Mac, Moment};
 use off_defs::{Hold, Lease, Modem, Site};
 use off_files::file_name;
+use off_mic::HmacKey;
 use std::cmp::Ordering;
 
 /// What of the tables agrees with a transfer, by what was seen, or nothing where they don't. The
@@ -33,7 +34,7 @@ pub(crate) fn agreement_of(seen: &Seen, now: Moment, ip: Ip4, live: &Live) -> Op
     }
     let Some(lease) = seen.lease else { return None };
     let Some(site) = &seen.site else { return None };
-    let name = file_name(site.secret.as_slice(), live.modem(), ip);
+    let name = file_name(&HmacKey::of(&site.secret), live.modem(), ip);
     if live.name() != name.as_slice() {
         return None;
     }
@@ -118,5 +119,5 @@ fn is_name_at(site: &Option<Site>, name: &[u8], mac: Mac, ip: Ip4) -> bool
 pub(crate) fn is_own_name(site: &Site, name: &[u8], mac: Mac, ip: Ip4) -> bool
     ensures { result ≡ is_own_name name.now mac ip site.now }
 {
-    name == file_name(site.secret.as_slice(), mac, ip).as_slice()
+    name == file_name(&HmacKey::of(&site.secret), mac, ip).as_slice()
 }

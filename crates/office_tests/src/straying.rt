@@ -5,6 +5,7 @@ use off_defs::{Key, Pool, Row, Site, Writes};
 use off_dhcp::Message;
 use off_lease::answer;
 use off_lease_rules::DhcpWord;
+use off_mic::HmacKey;
 use off_outside::KeepErr;
 use off_runs::FreeRuns;
 use std::alloc::Global;
@@ -83,7 +84,8 @@ fn word_over(alloc: Global, keeper: &mut Silent<Stray>) -> Result<(DhcpWord, u64
     };
     let mut runs = FreeRuns::of(alloc, keeper)?;
     runs.pass(AT);
-    let word = answer(alloc, keeper, &runs, AT, &Asked::of(&m))?.word;
+    let mut key = HmacKey::new();
+    let word = answer(alloc, keeper, &runs, &mut key, AT, &Asked::of(&m))?.word;
     Ok((word, keeper.calls))
 }
 

@@ -12,6 +12,7 @@ use off_dhcp::{Message, Offer, write_nak, write_reply};
 use off_files::file_name;
 use off_keepmem::MemKeeper;
 use off_lease_rules::{Case, DhcpWord, LeaseStep};
+use off_mic::HmacKey;
 use off_outside::KeepErr;
 use std::alloc::Global;
 
@@ -426,7 +427,7 @@ fn reply(
         yiaddr: address,
         site: site.copy(),
         pool,
-        name: file_name(site.secret.as_slice(), m.mac(), address),
+        name: file_name(&HmacKey::of(&site.secret), m.mac(), address),
     };
     let bytes = write_reply(alloc, m, &offer)?;
     Ok(Some(sent(m, m.ciaddr(), bytes)))

@@ -7,11 +7,16 @@ import subprocess
 import time
 
 
-def processor_seconds(pid):
-    """Seconds of the processor that a program had so far."""
+def processor_times(pid):
+    """Seconds of the processor that a program had so far: its own, and the system's for it."""
     with open(f"/proc/{pid}/stat") as held:
         fields = held.read().rsplit(")", 1)[1].split()
-    return (int(fields[11]) + int(fields[12])) / os.sysconf("SC_CLK_TCK")
+    return tuple(int(field) / os.sysconf("SC_CLK_TCK") for field in fields[11:13])
+
+
+def processor_seconds(pid):
+    """Seconds of the processor that a program had so far."""
+    return sum(processor_times(pid))
 
 
 def memory_of(pid, kind):

@@ -10,7 +10,7 @@ abbrev pub invariant-walk : goal.invariant-walk
 invariant-walk g l = record {
   read : Reads (TakenUpTo l.buckets.items l.place) (g.K.Keeper.seen l.initial.keeper) (g.K.Keeper.seen l.keeper);
   asked : Walked l.place (g.K.Keeper.seen l.initial.keeper) (g.K.Keeper.seen l.keeper);
-  len : vec_len l.buckets ≡ 4096;
+  len : vec_len l.buckets ≡ 16384;
 }
 
 abbrev pub decreases-walk : goal.decreases-walk

@@ -9,7 +9,7 @@ use Rattle.off_behind.proofs.writing.follow_each.Given as goal
 
 abbrev pub invariant-loop-place : goal.invariant-loop-place
 invariant-loop-place l = record {
-  len : vec_len l.buckets ≡ 4096;
+  len : vec_len l.buckets ≡ 16384;
   stands : (t : Tables) → Indexes l.fn.buckets.items (devices t) → Indexes l.buckets.items (devices (write_all t (take l.place l.writes)));
   room : HasRoomFor (length l.writes - l.place) l.writes l.buckets.items;
 }

@@ -6,7 +6,7 @@ use Rattle.off_behind.proofs.writing.reserve_all.Given as goal
 
 abbrev pub invariant-loop-place : goal.invariant-loop-place
 invariant-loop-place l = record {
-  len : vec_len l.buckets ≡ 4096;
+  len : vec_len l.buckets ≡ 16384;
   same : (place : ℕ) → bucket_at l.buckets.items place ≡ bucket_at l.fn.buckets.items place;
   room : HasRoomFor l.more (take l.place l.writes) l.buckets.items;
 }

@@ -1,6 +1,6 @@
 use Rattle.std.proofs.Common.{◌≡◌, List, length}
 use Rattle.off_base.specs.Tree.{Tree, spelling}
-use Rattle.off_mic.specs.Feed.{Passed}
+use Rattle.off_mic.proofs.Walked.{Passed}
 use Rattle.off_mic.proofs.checking.next_value.Given as goal
 
 abbrev pub invariant-settings : goal.invariant-settings

@@ -1,4 +1,4 @@
-use Rattle.off_mic.proofs.FeedLemmas.{marked_none, marked_all, marked_more, came_short}
+use Rattle.off_mic.proofs.FeedLemmas.{marked_all, marked_more, came_short}
 use Rattle.off_mic.specs.declared.feeding.Wanted.TheVariants.{ButMics}
 use Rattle.off_mic.proofs.digests.codes_in.Goals as goal
 

@@ -1,7 +1,7 @@
 use Rattle.std.proofs.Common.{◌≡◌, ℕ, List, length}
 use Rattle.md5.specs.Md5.{Holds}
 use Rattle.off_base.specs.Tree.{Tree, spelling}
-use Rattle.off_mic.specs.Feed.{Fed}
+use Rattle.off_mic.proofs.Walked.{Fed}
 use Rattle.off_mic.proofs.feeding.feed.Given as goal
 
 abbrev pub invariant-settings : goal.invariant-settings

@@ -1,7 +1,7 @@
 use Rattle.std.proofs.Common.{◌≡◌, List, length}
 use Rattle.off_base.specs.Tree.{Tree, spelling}
 use Rattle.off_mic.specs.declared.feeding.Wanted.TheVariants.{ButMics}
-use Rattle.off_mic.specs.Feed.{Copied}
+use Rattle.off_mic.proofs.Walked.{Copied}
 use Rattle.off_mic.proofs.sealing.push_without_mics.Given as goal
 
 abbrev pub invariant-settings : goal.invariant-settings

@@ -1,4 +1,3 @@
-use Rattle.std.proofs.Common.{List}
 use Rattle.std.proofs.lemmas.Result.{err_from_is_err_and}
 use Rattle.off_defs.specs.State.{Tables}
 use Rattle.off_outside.proofs.KeeperLemmas.{reads_then}
@@ -8,7 +7,6 @@ use Rattle.off_runs.specs.Leases.{ground}
 use Rattle.off_device_runs.specs.Ground.{device_ground}
 use Rattle.off_behind.specs.Buckets.{leases_in}
 use Rattle.off_behind.proofs.FollowLemmas.{stands_keeps}
-use Rattle.off_office.specs.Conditions.{KnowsDevices}
 use Rattle.off_office.proofs.OpeningLemmas.{not_done, walks_five, walks_more, three_are_few, five_are_few, not_started_then}
 use Rattle.off_office.proofs.TransferLemmas.{started}
 use Rattle.off_office.proofs.office.Office.begin.Goals as goal

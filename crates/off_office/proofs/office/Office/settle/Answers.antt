@@ -11,7 +11,7 @@ use Rattle.off_office.proofs.office.Office.settle.Goals as goal
 
 pub returns-clause-ok : goal.returns-clause-ok
 returns-clause-ok g c =
-    subst (λ (before : Desk). Follows any_tables before (the_view (record { alloc = c.self.inside.alloc; now = c.self.inside.now; counts = c.args.counts.now; kept = c.forget.new.self; agreements = c.forget-2.new.self; runs = c.apply.new.self; device_runs = c.apply-2.new.self; users = c.apply-3.new.self; devices = c.follow.new.self; transfers = c.self.inside.transfers; connections = c.self.inside.connections })) c.args.counts.now c.args.writes.now) c.self.view_is
+    subst (λ (before : Desk). Follows any_tables before (the_view (record { alloc = c.self.inside.alloc; now = c.self.inside.now; counts = c.args.counts.now; kept = c.forget.new.self; agreements = c.forget-2.new.self; runs = c.apply.new.self; device_runs = c.apply-2.new.self; users = c.apply-3.new.self; devices = c.follow.new.self; transfers = c.self.inside.transfers; connections = c.self.inside.connections; name_key = c.self.inside.name_key })) c.args.counts.now c.args.writes.now) c.self.view_is
     (record {
       held = refl;
       counts_are = refl;

@@ -24,7 +24,7 @@ returns-clause-told g c = settled_then (g.met.K.Keeper.rests c.args.keeper.now) 
 pub returns-clause-ok : goal.returns-clause-ok
 returns-clause-ok g c =
     let stands = subst (λ (before : Desk). (t : Tables) → KnowsDevices before.devices t → StandsIn c.args.known t) (sym c.self.view_is) c.requires in
-    subst (λ (before : Desk). Follows (g.K.Keeper.seen c.args.keeper.now).tables before (the_view (record { alloc = c.self.inside.alloc; now = c.self.inside.now; counts = c.self.inside.counts; kept = c.forget.new.self; agreements = c.forget-2.new.self; runs = c.apply.new.self; device_runs = c.apply-2.new.self; users = c.apply-3.new.self; devices = c.apply-4.new.self; transfers = c.self.inside.transfers; connections = c.self.inside.connections })) before.counts c.args.writes.now) c.self.view_is
+    subst (λ (before : Desk). Follows (g.K.Keeper.seen c.args.keeper.now).tables before (the_view (record { alloc = c.self.inside.alloc; now = c.self.inside.now; counts = c.self.inside.counts; kept = c.forget.new.self; agreements = c.forget-2.new.self; runs = c.apply.new.self; device_runs = c.apply-2.new.self; users = c.apply-3.new.self; devices = c.apply-4.new.self; transfers = c.self.inside.transfers; connections = c.self.inside.connections; name_key = c.self.inside.name_key })) before.counts c.args.writes.now) c.self.view_is
     (record {
       held = refl;
       counts_are = refl;

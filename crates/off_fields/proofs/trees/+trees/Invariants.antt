@@ -2,7 +2,7 @@ use Rattle.std.proofs.Common.{◌≡◌, ◌+◌, ◌*◌, ◌++◌, List, lengt
 use Rattle.off_base.specs.Tree.{Tree}
 use Rattle.off_documents.specs.Documents.{elements_of}
 use Rattle.off_clerk_rules.specs.Fields.{items_in, tree_in}
-use Rattle.off_clerk.proofs.trees.+trees.Given as goal
+use Rattle.off_fields.proofs.trees.+trees.Given as goal
 
 abbrev pub decreases-setting_within : goal.decreases-setting_within
 decreases-setting_within l = 2 * l.depth

@@ -7,11 +7,13 @@ ghost use Rattle.off_clerk_rules.specs.Paths.{last_number};
 ghost use Rattle.off_clerk_rules.specs.Fields.{field_in, field_or, number_in, offset_in, text_in};
 ghost use Rattle.off_clerk_rules.specs.Fields.{address_in, relay_in, hex_in};
 
-use crate::paths::LAST_NUMBER;
 use crate::values::{address_of, number_of, offset_of, relay_of, secret_of, text_of};
 use off_base::{Ip4, Secret, Short};
 use off_clerk_rules::{ClerkErr, Name};
 use off_documents::Part;
+
+/// The greatest number of 32 bits.
+pub const LAST_NUMBER: u64 = 4_294_967_295;
 
 // Each of these reads the field of a body.
 

@@ -2,7 +2,7 @@ use Rattle.std.proofs.Common.{sym, ap, ◌∙◌, is_some, Err}
 use Rattle.serde_json.specs.Find.{as_object}
 use Rattle.off_documents.specs.Documents.{data_of}
 use Rattle.off_clerk_rules.proofs.BodyLemmas.{an_object, no_json}
-use Rattle.off_clerk.proofs.bodies.object_of.Goals as goal
+use Rattle.off_fields.proofs.bodies.object_of.Goals as goal
 
 pub returns-then-is_object : goal.returns-then-is_object
 returns-then-is_object c =

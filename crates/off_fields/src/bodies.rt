@@ -16,8 +16,8 @@ use off_defs::{Class, LEAST_PREFIX, MOST_DEVICES, MOST_PREFIX, Modem, Pool, Site
 use off_documents::{Document, DocumentErr, Part};
 use std::alloc::Global;
 
-// The JSON object that a body is.
-pub(crate) fn object_of<'a>(
+/// The JSON object that a body is.
+pub fn object_of<'a>(
     alloc: Global,
     body: &'a [u8],
     scratch: &'a mut Scratch,
@@ -40,7 +40,8 @@ pub(crate) fn object_of<'a>(
 
 // Each of these reads the fields of a body, in the order in which their faults count.
 
-pub(crate) fn site_of(body: &Part<'_, '_>) -> Result<Site, ClerkErr>
+/// How an office serves the modems of a hub.
+pub fn site_of(body: &Part<'_, '_>) -> Result<Site, ClerkErr>
     ensures { result ≡ site_in (data_of body.now) }
 {
     let server = address(body, Name::Server)?;
@@ -57,7 +58,8 @@ pub(crate) fn site_of(body: &Part<'_, '_>) -> Result<Site, ClerkErr>
     })
 }
 
-pub(crate) fn subscriber_of(body: &Part<'_, '_>) -> Result<Subscriber, ClerkErr>
+/// A subscriber.
+pub fn subscriber_of(body: &Part<'_, '_>) -> Result<Subscriber, ClerkErr>
     ensures exact { result ≡ subscriber_in (data_of body.now) }
     ensures sound { IfOk result (λ subscriber. IsTrue (subscriber_fits subscriber)) }
 {
@@ -67,13 +69,15 @@ pub(crate) fn subscriber_of(body: &Part<'_, '_>) -> Result<Subscriber, ClerkErr>
     Ok(Subscriber { active, cpes, name })
 }
 
-pub(crate) fn add_on_of(alloc: Global, body: &Part<'_, '_>) -> Result<Settings, CommandErr>
+/// The settings of an add-on.
+pub fn add_on_of(alloc: Global, body: &Part<'_, '_>) -> Result<Settings, CommandErr>
     ensures { GivesWanted (add_on_in (data_of body.now)) result }
 {
     settings(alloc, body, Name::Settings)
 }
 
-pub(crate) fn modem_of(body: &Part<'_, '_>) -> Result<Modem, ClerkErr>
+/// A modem.
+pub fn modem_of(body: &Part<'_, '_>) -> Result<Modem, ClerkErr>
     ensures { result ≡ modem_in (data_of body.now) }
 {
     let subscriber = number(body, Name::Subscriber)?;
@@ -86,7 +90,8 @@ pub(crate) fn modem_of(body: &Part<'_, '_>) -> Result<Modem, ClerkErr>
     })
 }
 
-pub(crate) fn class_of(alloc: Global, body: &Part<'_, '_>) -> Result<Class, CommandErr>
+/// A class of service.
+pub fn class_of(alloc: Global, body: &Part<'_, '_>) -> Result<Class, CommandErr>
     ensures { GivesWanted (class_in (data_of body.now)) result }
 {
     let name = text(body, Name::Name)?;
@@ -94,7 +99,8 @@ pub(crate) fn class_of(alloc: Global, body: &Part<'_, '_>) -> Result<Class, Comm
     Ok(Class { name, settings })
 }
 
-pub(crate) fn pool_of(body: &Part<'_, '_>) -> Result<Pool, ClerkErr>
+/// A pool of addresses, of modems or of devices.
+pub fn pool_of(body: &Part<'_, '_>) -> Result<Pool, ClerkErr>
     ensures exact { result ≡ pool_in (data_of body.now) }
     ensures sound { IfOk result (λ pool. IsTrue (is_sound_pool pool)) }
 {
@@ -112,8 +118,8 @@ pub(crate) fn pool_of(body: &Part<'_, '_>) -> Result<Pool, ClerkErr>
     })
 }
 
-// The pool's hub, which is the hub 0 where the body names none.
-pub(crate) fn hub_of_pool(body: &Part<'_, '_>) -> Result<u32, ClerkErr>
+/// The pool's hub, which is the hub 0 where the body names none.
+pub fn hub_of_pool(body: &Part<'_, '_>) -> Result<u32, ClerkErr>
     ensures { result ≡ hub_of_pool_in (data_of body.now) }
 {
     number_or(0, body, Name::Hub)

@@ -1,7 +1,7 @@
 use Rattle.std.proofs.Common.{rules, sym}
 use Rattle.off_documents.specs.Documents.{data_of}
-use Rattle.off_clerk.proofs.TreeLemmas.{no_deeper, deeper}
-use Rattle.off_clerk.proofs.trees.+trees.Goals as goal
+use Rattle.off_fields.proofs.TreeLemmas.{no_deeper, deeper}
+use Rattle.off_fields.proofs.trees.+trees.Goals as goal
 
 pub setting_within-returns-then-depth-eq0 : goal.setting_within-returns-then-depth-eq0
 setting_within-returns-then-depth-eq0 t c = sym (no_deeper c.args.depth (data_of c.args.value.now) c.if-depth-eq0.true)
