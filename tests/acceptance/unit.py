@@ -9,6 +9,7 @@ and takes some seconds.
 """
 # needs: systemd-analyze unshare make curl
 import os
+import platform
 import re
 import subprocess
 import sys
@@ -56,6 +57,7 @@ ip link set lo up
 answers
 pid=$(systemctl show -p MainPID --value officed)
 grep -E '^(Uid|CapEff|CapBnd|NoNewPrivs|Seccomp):' /proc/$pid/status
+echo "large pages: $(grep -c '^VmFlags:.* hg' /proc/$pid/smaps)"
 ss -lunH | awk '{ print "port", $4 }'
 curl -s -m 5 -X PUT http://127.0.0.1:8080/subscribers/7 \
     -d '{"active":true,"cpes":2,"name":"Ann"}'
@@ -138,6 +140,9 @@ def judge(text, has_store):
     check(int(status.get("CapBnd", "0"), 16) == 1 << 10, "and can get no other")
     check(status.get("Uid", "0") != "0", "it isn't root")
     check((status.get("NoNewPrivs"), status.get("Seccomp")) == ("1", "2"), "it is confined")
+    # Areas of memory for which the C library asked for them: glibc has it since 2.35.
+    areas = int(re.search(r"large pages: (\d+)", text)[1])
+    check(areas > 0 or platform.libc_ver()[1] < "2.35", "its tables are to be in large pages")
     ports = re.findall(r"port .*:(\d+)", text)
     check({"67", "37", "69"} <= set(ports), f"it listens at the standard ports: {ports}")
     check('{"ok":true}' in text and "NRestarts=1" in text, "it's started again")
