@@ -3,7 +3,7 @@
 //! random rows.
 //!
 //! There is nothing here but tests. They show that calls succeed with ample memory, which no
-//! contract can say. All other examples are data: `office_script`, `format_script`, `clerk_script`.
+//! contract can say. All other examples are data: `office_script`.
 #![tactic(auto)]
 
 #[cfg(test)]

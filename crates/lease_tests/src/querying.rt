@@ -73,7 +73,7 @@ fn step_by(alloc: Global, by: By, datagram: &Bytes) -> Result<QueryStep, KeepErr
 
 // What is tested of an answer: its word, to whom it goes, how long it is, and the 16 bytes of its
 // first options.
-#[derive(Clone, Copy, Debug, PartialEq, Eq)]
+#[derive(Clone, Copy, PartialEq, Eq)]
 struct Summary {
     word: QueryWord,
     to: Option<Peer>,
@@ -140,9 +140,9 @@ const UNASSIGNED: Summary = Summary {
 #[test]
 fn both_answers_are_one(rt: HostRuntime) -> Result<(), Fail> {
     for by in [By::Keeper, By::Runs] {
-        assert_eq!(rt; by_address(rt.alloc(), by, HELD), Ok(ACTIVE));
-        assert_eq!(rt; by_modem(rt.alloc(), by), Ok(ACTIVE));
-        assert_eq!(rt; by_address(rt.alloc(), by, FREE), Ok(UNASSIGNED));
+        assert!(rt; by_address(rt.alloc(), by, HELD) == Ok(ACTIVE));
+        assert!(rt; by_modem(rt.alloc(), by) == Ok(ACTIVE));
+        assert!(rt; by_address(rt.alloc(), by, FREE) == Ok(UNASSIGNED));
     }
     Ok(())
 }

@@ -311,7 +311,7 @@ fn booted(alloc: Global) -> Result<(u32, u32), KeepErr> {
 
 #[test]
 fn a_plain_program_answers_the_same(rt: HostRuntime) -> Result<(), Fail> {
-    assert_eq!(rt; booted(rt.alloc()), Ok((0, 0)));
+    assert!(rt; booted(rt.alloc()) == Ok((0, 0)));
     let tally = tally_of(rt.alloc(), 400)?;
     assert_eq!(rt; tally.differing, 0);
     for place in 0..17 {

@@ -1,5 +1,5 @@
 /// How many rows there are of each kind of which there may be only so many.
-#[derive(Clone, Copy, Debug, PartialEq, Eq)]
+#[derive(Clone, Copy, PartialEq, Eq)]
 pub struct Counts {
     pub subscribers: u64,
     pub addons: u64,

@@ -13,7 +13,7 @@ use off_defs::{Key, Pool};
 use off_readers::has_address;
 
 /// A pool in whose place there comes another one, or none.
-#[derive(Clone, Copy, Debug, PartialEq, Eq)]
+#[derive(Clone, Copy, PartialEq, Eq)]
 pub struct Lost {
     pub whose: Whose,
     pub old: Pool,

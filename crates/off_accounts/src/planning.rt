@@ -20,8 +20,7 @@ ghost use Rattle.off_defs.specs.State.{Tables};
 use crate::dropping::with_drops;
 use crate::subject::Subject;
 use crate::whose::Whose;
-use off_base::Settings;
-use off_defs::{ADD_ONS, Class, Key, Pool, Row, Write, Writes};
+use off_defs::{ADD_ONS, Class, Key, Pool, Row, SharedSettings, Write, Writes};
 use off_orders::Command;
 use off_outside::{KeepErr, Keeper};
 use std::alloc::Global;
@@ -195,10 +194,10 @@ fn subscriber_drops(alloc: Global, n: u32) -> Result<Writes, KeepErr>
     Ok(writes)
 }
 
-fn add_on_row(settings: &Settings) -> Result<Row, KeepErr>
+fn add_on_row(settings: &SharedSettings) -> Result<Row, KeepErr>
     ensures { MatchResult result (λ made. made ≡ row.AddOn settings.now) (λ err. err ≡ Memory) }
 {
-    Ok(Row::AddOn(settings.copy()?))
+    Ok(Row::AddOn(settings.share()?))
 }
 
 fn class_row(class: &Class) -> Result<Row, KeepErr>

@@ -16,14 +16,14 @@ pub struct Planned {
 }
 
 /// What is known where a command comes: how many rows there are, and the moment.
-#[derive(Clone, Copy, Debug, PartialEq, Eq)]
+#[derive(Clone, Copy, PartialEq, Eq)]
 pub(crate) struct Asked {
     pub counts: Counts,
     pub at: Moment,
 }
 
 /// Why a command isn't to be done.
-#[derive(Clone, Copy, Debug, PartialEq, Eq)]
+#[derive(Clone, Copy, PartialEq, Eq)]
 pub enum AccountErr {
     /// A rule is broken. In an import the rows count from 1, and row 0 means none of them.
     Refused { row: u32, rule: Rule },

@@ -31,7 +31,7 @@ pub(crate) fn tests_of(asked: &Asked, subject: &Subject, c: &Command) -> [Test; 
         Command::PutSubscriber(_, _) => one_test(limit_test(asked, Kind::Subscribers, subject)),
         Command::PutAddOn(n, _, settings) => three_tests(
             Test::HasSubscriber(*n),
-            Test::Tested(add_on_fault(settings)),
+            Test::Tested(add_on_fault(settings.as_settings())),
             limit_test(asked, Kind::AddOns, subject),
         ),
         Command::PutModem(_, modem) => three_tests(
@@ -40,7 +40,7 @@ pub(crate) fn tests_of(asked: &Asked, subject: &Subject, c: &Command) -> [Test; 
             limit_test(asked, Kind::Modems, subject),
         ),
         Command::PutClass(_, class) => two_tests(
-            Test::Tested(class_fault(&class.settings)),
+            Test::Tested(class_fault(class.settings.as_settings())),
             limit_test(asked, Kind::Classes, subject),
         ),
         Command::PutPool(n, pool, hub) => pool_tests(asked, subject, *n, pool, *hub),

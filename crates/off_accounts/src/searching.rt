@@ -17,7 +17,7 @@ use off_readers::next_behind;
 use std::alloc::Global;
 
 /// What is looked for: the least key of such a row.
-#[derive(Clone, Copy, Debug, PartialEq, Eq)]
+#[derive(Clone, Copy, PartialEq, Eq)]
 pub enum Sought {
     /// A pool which has an address of this one, another than that of the number, if there is one.
     Overlapping(Whose, Option<u32>, Pool),

@@ -14,7 +14,7 @@ use off_users::Users;
 use std::alloc::Global;
 
 /// What the tables have at the key of a command, before it.
-#[derive(Clone, Copy, Debug, PartialEq, Eq)]
+#[derive(Clone, Copy, PartialEq, Eq)]
 pub(crate) struct Subject {
     /// Whether the key has a row.
     pub is_there: bool,

@@ -17,7 +17,7 @@ use off_readers::has_row;
 use std::alloc::Global;
 
 /// A rule, as it's tested.
-#[derive(Clone, Copy, Debug, PartialEq, Eq)]
+#[derive(Clone, Copy, PartialEq, Eq)]
 pub enum Test {
     /// It's tested already: the rule where it's broken, or `None`.
     Tested(Option<Rule>),

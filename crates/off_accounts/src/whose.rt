@@ -11,7 +11,7 @@ use off_defs::Key;
 use off_readers::{is_past_device_pools, is_past_pools as is_past_modem_pools};
 
 /// Whose pools and leases.
-#[derive(Clone, Copy, Debug, PartialEq, Eq)]
+#[derive(Clone, Copy, PartialEq, Eq)]
 pub enum Whose {
     Modems,
     Devices,

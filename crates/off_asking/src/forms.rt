@@ -1,7 +1,7 @@
 use off_base::Ip4;
 
 /// The address that an option names, which has four bytes.
-#[derive(Clone, Copy, Debug, PartialEq, Eq)]
+#[derive(Clone, Copy, PartialEq, Eq)]
 pub enum Named {
     /// There is no such option.
     Absent,
@@ -12,7 +12,7 @@ pub enum Named {
 }
 
 /// For which address a REQUEST asks, and how (RFC 2131, section 4.3.2).
-#[derive(Clone, Copy, Debug, PartialEq, Eq)]
+#[derive(Clone, Copy, PartialEq, Eq)]
 pub enum Form {
     /// The client has chosen an offer.
     Selecting(Ip4),

@@ -1,5 +1,5 @@
 /// The kind of a client's message (RFC 2132, section 9.6).
-#[derive(Clone, Copy, Debug, PartialEq, Eq)]
+#[derive(Clone, Copy, PartialEq, Eq)]
 pub enum Kind {
     /// A client looks for an address.
     Discover,

@@ -8,14 +8,14 @@ use crate::readable::Readable;
 use std::marker::Model;
 
 /// A place among options: that of an option's code, and how many joined bytes lie before its value.
-#[derive(Clone, Copy, Debug)]
+#[derive(Clone, Copy)]
 pub struct Cursor {
     at: usize,
     before: usize,
 }
 
 // An option at a cursor, and how many of the joined bytes stand in it.
-#[derive(Clone, Copy, Debug)]
+#[derive(Clone, Copy)]
 pub(crate) struct Piece {
     cursor: Cursor,
     len: usize,
@@ -25,7 +25,7 @@ pub(crate) struct Piece {
 /// options.
 ///
 /// Contracts see its bytes. It lies where the options lie, and takes no memory.
-#[derive(Debug, Drop)]
+#[derive(Drop)]
 pub struct JoinedBytes<'a> {
     options: &'a [u8],
     code: u8,

@@ -9,14 +9,14 @@ use arrayvec::ArrayVec;
 use itoa::Buffer;
 
 /// An IPv4 address in dotted decimal: `len` bytes of text, and zeros behind it.
-#[derive(Clone, Copy, Debug, PartialEq, Eq)]
+#[derive(Clone, Copy, PartialEq, Eq)]
 pub struct IpText {
     pub bytes: [u8; 15],
     pub len: u8,
 }
 
 /// A text that is none of an IPv4 address.
-#[derive(Clone, Copy, Debug, PartialEq, Eq)]
+#[derive(Clone, Copy, PartialEq, Eq)]
 pub struct NotIp;
 
 impl IpText {

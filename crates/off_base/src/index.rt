@@ -9,7 +9,7 @@ use std::marker::Model;
 
 /// Where the options of one code stand: whether there is one, the place of the first one's code,
 /// and how many bytes all of them have together.
-#[derive(Clone, Copy, Debug)]
+#[derive(Clone, Copy)]
 pub struct Extent {
     pub(crate) is_there: bool,
     pub(crate) first: usize,
@@ -29,7 +29,7 @@ const ASKED: usize = 8;
 /// office asks for: one walk over a message finds them all.
 ///
 /// Contracts see the bytes of the options, in which it lies.
-#[derive(Debug, Drop)]
+#[derive(Drop)]
 pub struct OptionIndex<'a> {
     options: &'a [u8],
     extents: [Extent; 9],

@@ -13,7 +13,7 @@ use std::marker::Model;
 ///
 /// Contracts see those bytes, and `None` where no option has the code. It lies where the options
 /// lie, and takes no memory. How many bytes there are is found by one walk, as it is made.
-#[derive(Debug, Drop)]
+#[derive(Drop)]
 pub struct Joined<'a> {
     options: &'a [u8],
     code: u8,

@@ -9,11 +9,11 @@ ghost use Rattle.off_base.specs.AddressText.{fours};
 use arrayvec::ArrayVec;
 
 /// A hardware address of six bytes (IEEE 802, EUI-48), as RFC 2131's `chaddr` has for Ethernet.
-#[derive(Clone, Copy, Debug, PartialEq, Eq, PartialOrd, Ord, Hash)]
+#[derive(Clone, Copy, PartialEq, Eq, PartialOrd, Ord, Hash)]
 pub struct Mac(pub [u8; 6]);
 
 /// A text that is none of a hardware address.
-#[derive(Clone, Copy, Debug, PartialEq, Eq)]
+#[derive(Clone, Copy, PartialEq, Eq)]
 pub struct NotMac;
 
 /// The address in twelve hexadecimal digits, in lower case and without separators.

@@ -14,7 +14,7 @@ impl From<AllocError> for NoMemory {
 }
 
 /// A list of bytes that owns its memory. Contracts see it as that list.
-#[derive(Debug, Drop)]
+#[derive(Drop)]
 pub struct Bytes {
     items: Vec<u8>,
 }

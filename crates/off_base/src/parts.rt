@@ -11,7 +11,7 @@ const PAD_OPTION: u8 = 0;
 pub const END_OPTION: u8 = 255;
 
 /// What a walk over options or parts of an option finds next.
-#[derive(Clone, Copy, Debug)]
+#[derive(Clone, Copy)]
 pub enum Step {
     /// A part: its code, the place of that code, and the length of its value.
     Found(u8, usize, usize),

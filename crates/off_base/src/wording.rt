@@ -4,13 +4,13 @@ use arrayvec::ArrayString;
 use std::marker::Model;
 
 /// UTF-8 text (RFC 3629) of at most 64 bytes, held in place. Contracts see its bytes.
-#[derive(Debug, Drop)]
+#[derive(Drop)]
 pub struct Short {
     held: ArrayString<64>,
 }
 
 /// A text that is too long for a `Short`, or isn't UTF-8.
-#[derive(Clone, Copy, Debug, PartialEq, Eq)]
+#[derive(Clone, Copy, PartialEq, Eq)]
 pub struct NotShort;
 
 impl Model for Short {

@@ -10,7 +10,7 @@ use off_base::{Ip4, Mac, Moment};
 use off_defs::{DeviceHold, DeviceLease};
 
 /// What the leases behind a modem are to one of its devices.
-#[derive(Clone, Copy, Debug, PartialEq, Eq)]
+#[derive(Clone, Copy, PartialEq, Eq)]
 pub struct Neighbours {
     /// The device's own lease, with its address.
     pub own: Option<(Ip4, DeviceLease)>,

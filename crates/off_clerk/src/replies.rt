@@ -50,7 +50,7 @@ fn row_json(alloc: Global, row: &ShownRow) -> Result<Bytes, NoMemory>
     match row {
         ShownRow::Site(site) => site_json(alloc, site),
         ShownRow::Subscriber(subscriber) => subscriber_json(alloc, subscriber),
-        ShownRow::AddOn(settings) => add_on_json(alloc, settings),
+        ShownRow::AddOn(settings) => add_on_json(alloc, settings.as_settings()),
         ShownRow::Modem(modem) => modem_json(alloc, modem),
         ShownRow::Class(class) => class_json(alloc, class),
         ShownRow::Pool(pool) => lone_pool_json(alloc, pool),
@@ -119,7 +119,7 @@ fn class_json(alloc: Global, class: &Class) -> Result<Bytes, NoMemory>
     text.push_all(b"{\"name\":")?;
     push_text(alloc, &mut text, &class.name)?;
     text.push_all(b",\"settings\":")?;
-    push_settings(alloc, &mut text, &class.settings)?;
+    push_settings(alloc, &mut text, class.settings.as_settings())?;
     text.push_all(b"}")?;
     Ok(text)
 }

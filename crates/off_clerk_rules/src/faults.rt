@@ -7,7 +7,7 @@ use off_import_rules::ImportFault;
 use off_orders::Rule;
 
 /// Why a request is no command.
-#[derive(Clone, Copy, Debug, PartialEq, Eq)]
+#[derive(Clone, Copy, PartialEq, Eq)]
 pub enum ClerkErr {
     /// No row that a clerk may see stands at the path.
     NoPath,
@@ -24,7 +24,7 @@ pub enum ClerkErr {
 }
 
 /// Why a request gives no command.
-#[derive(Clone, Copy, Debug, PartialEq, Eq)]
+#[derive(Clone, Copy, PartialEq, Eq)]
 pub enum CommandErr {
     /// It is none, and the clerk is told so.
     Fault(ClerkErr),
@@ -41,7 +41,7 @@ impl From<ClerkErr> for CommandErr {
 }
 
 /// Why a clerk's request isn't done.
-#[derive(Clone, Copy, Debug, PartialEq, Eq)]
+#[derive(Clone, Copy, PartialEq, Eq)]
 pub enum Fault {
     /// The request is no command.
     Clerk(ClerkErr),

@@ -1,7 +1,7 @@
 use off_defs::{ImportKind, Key};
 
 /// What a path names.
-#[derive(Clone, Copy, Debug)]
+#[derive(Clone, Copy)]
 pub enum Place {
     /// A row, which is shown there: the path has GET. Two paths may name one row, and have
     /// different methods.

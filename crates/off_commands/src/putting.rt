@@ -16,7 +16,7 @@ use off_outside::{KeepErr, Keeper};
 use std::alloc::Global;
 
 /// A row that breaks a rule. Rows count from 1, and row 0 means none of them.
-#[derive(Clone, Copy, Debug, PartialEq, Eq)]
+#[derive(Clone, Copy, PartialEq, Eq)]
 pub(crate) struct Refused {
     pub row: u32,
     pub rule: Rule,

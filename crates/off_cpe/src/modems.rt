@@ -18,7 +18,7 @@ use off_readers::{read_device, read_modem};
 use std::alloc::Global;
 
 /// The modem that a device is behind.
-#[derive(Clone, Copy, Debug, PartialEq, Eq)]
+#[derive(Clone, Copy, PartialEq, Eq)]
 pub(crate) struct FoundModem {
     pub(crate) mac: Mac,
     /// The number of its subscriber, where its row was read.

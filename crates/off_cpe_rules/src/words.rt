@@ -2,7 +2,7 @@ ghost use Rattle.std.specs.Prelude.{◌≡◌, ◌≤◌, length};
 ghost use Rattle.off_cpe_rules.specs.Words.{device_text};
 
 /// What became of a device's message: four kinds that were served, or why it was refused.
-#[derive(Clone, Copy, Debug, PartialEq, Eq)]
+#[derive(Clone, Copy, PartialEq, Eq)]
 pub enum DeviceWord {
     /// A DISCOVER was answered by an OFFER.
     Offer,

@@ -11,7 +11,7 @@ pub fn copy_row(_alloc: Global, r: &Row) -> Result<Row, NoMemory>
     match r {
         Row::Site(site) => Ok(Row::Site(site.copy())),
         Row::Subscriber(subscriber) => Ok(Row::Subscriber(subscriber.copy())),
-        Row::AddOn(settings) => Ok(Row::AddOn(settings.copy()?)),
+        Row::AddOn(settings) => Ok(Row::AddOn(settings.share()?)),
         Row::Modem(modem) => Ok(Row::Modem(modem.copy())),
         Row::Class(class) => Ok(Row::Class(class.copy()?)),
         Row::Pool(pool) => Ok(Row::Pool(*pool)),
@@ -71,7 +71,7 @@ impl Class {
     {
         Ok(Class {
             name: self.name.copy(),
-            settings: self.settings.copy()?,
+            settings: self.settings.share()?,
         })
     }
 }

@@ -1,7 +1,7 @@
 use off_base::{Bytes, Moment, Peer};
 
 /// A service of the office that answers datagrams, each on a UDP port of its own.
-#[derive(Clone, Copy, Debug, PartialEq, Eq)]
+#[derive(Clone, Copy, PartialEq, Eq)]
 pub enum Service {
     /// Addresses, by DHCP (RFC 2131).
     Dhcp,
@@ -12,7 +12,7 @@ pub enum Service {
 }
 
 /// What happened.
-#[derive(Debug, Drop)]
+#[derive(Drop)]
 pub enum What {
     /// A datagram came to a service.
     Datagram {
@@ -36,7 +36,7 @@ pub enum What {
 }
 
 /// One event: what happened, and when.
-#[derive(Debug, Drop)]
+#[derive(Drop)]
 pub struct Event {
     pub at: Moment,
     pub what: What,

@@ -2,7 +2,7 @@ use off_base::{Ip4, Mac};
 
 /// The key of a row in the office's tables. Keys are ordered by kind, in this order, and then by
 /// their numbers.
-#[derive(Clone, Copy, Debug, PartialEq, Eq, PartialOrd, Ord)]
+#[derive(Clone, Copy, PartialEq, Eq, PartialOrd, Ord)]
 pub enum Key {
     /// The one site of an office of earlier days. When an office opens, it becomes the hub 0.
     Site,

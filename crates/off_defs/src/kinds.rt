@@ -1,5 +1,5 @@
 /// A kind of rows of which there may be only so many.
-#[derive(Clone, Copy, Debug, PartialEq, Eq)]
+#[derive(Clone, Copy, PartialEq, Eq)]
 pub enum Kind {
     Subscribers,
     AddOns,

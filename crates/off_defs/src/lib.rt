@@ -13,6 +13,7 @@ mod keys;
 mod kinds;
 mod labels;
 mod results;
+mod settings;
 mod tables;
 mod writes;
 
@@ -24,6 +25,7 @@ pub use keys::Key;
 pub use kinds::Kind;
 pub use labels::{KeyText, key_text};
 pub use results::{Outcome, Sent};
+pub use settings::SharedSettings;
 pub use tables::{
     Batch, Class, DeviceHold, DeviceLease, Hold, ImportKind, Lease, Modem, Pool, Row, Site,
     Subscriber,

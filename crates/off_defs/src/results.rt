@@ -2,7 +2,7 @@ use crate::events::Service;
 use off_base::{Bytes, Peer};
 
 /// One thing that the office sends.
-#[derive(Debug, Drop)]
+#[derive(Drop)]
 pub enum Sent {
     /// A datagram from a service's port.
     Datagram {
@@ -22,7 +22,7 @@ pub enum Sent {
 }
 
 /// How an event ended.
-#[derive(Clone, Copy, Debug, PartialEq, Eq)]
+#[derive(Clone, Copy, PartialEq, Eq)]
 pub enum Outcome {
     /// The office did what its services say.
     Did,

@@ -1,4 +1,5 @@
-use off_base::{Ip4, Mac, Moment, Secret, Settings, Short};
+use crate::settings::SharedSettings;
+use off_base::{Ip4, Mac, Moment, Secret, Short};
 
 /// What the modems of one hub share: the office's address there, the secret of their CMTS, and what
 /// their leases and files say of the place.
@@ -42,12 +43,12 @@ pub struct Modem {
 pub struct Class {
     pub name: Short,
     /// What a configuration file of the class has.
-    pub settings: Settings,
+    pub settings: SharedSettings,
 }
 
 /// A pool of addresses, from which modems behind one relay (RFC 3046) are served, or devices behind
 /// modems.
-#[derive(Clone, Copy, Debug, PartialEq, Eq)]
+#[derive(Clone, Copy, PartialEq, Eq)]
 pub struct Pool {
     pub first: Ip4,
     pub last: Ip4,
@@ -58,7 +59,7 @@ pub struct Pool {
 }
 
 /// Who holds an address.
-#[derive(Clone, Copy, Debug, PartialEq, Eq)]
+#[derive(Clone, Copy, PartialEq, Eq)]
 pub enum Hold {
     /// It was offered to a modem.
     Offered(Mac),
@@ -69,14 +70,14 @@ pub enum Hold {
 }
 
 /// The lease of an address (RFC 2131).
-#[derive(Clone, Copy, Debug, PartialEq, Eq)]
+#[derive(Clone, Copy, PartialEq, Eq)]
 pub struct Lease {
     pub hold: Hold,
     pub expiry: Moment,
 }
 
 /// Which device behind which modem holds an address.
-#[derive(Clone, Copy, Debug, PartialEq, Eq)]
+#[derive(Clone, Copy, PartialEq, Eq)]
 pub enum DeviceHold {
     /// It was offered to a modem's device: the modem, and the device.
     Offered(Mac, Mac),
@@ -87,21 +88,21 @@ pub enum DeviceHold {
 }
 
 /// The lease of a device's address (RFC 2131).
-#[derive(Clone, Copy, Debug, PartialEq, Eq)]
+#[derive(Clone, Copy, PartialEq, Eq)]
 pub struct DeviceLease {
     pub hold: DeviceHold,
     pub expiry: Moment,
 }
 
 /// Which rows an import has.
-#[derive(Clone, Copy, Debug, PartialEq, Eq)]
+#[derive(Clone, Copy, PartialEq, Eq)]
 pub enum ImportKind {
     Subscribers,
     Modems,
 }
 
 /// An import that was done.
-#[derive(Clone, Copy, Debug, PartialEq, Eq)]
+#[derive(Clone, Copy, PartialEq, Eq)]
 pub struct Batch {
     pub kind: ImportKind,
     /// The MD5 digest (RFC 1321) of its body.
@@ -116,7 +117,7 @@ pub struct Batch {
 pub enum Row {
     Site(Site),
     Subscriber(Subscriber),
-    AddOn(Settings),
+    AddOn(SharedSettings),
     Modem(Modem),
     Class(Class),
     Pool(Pool),

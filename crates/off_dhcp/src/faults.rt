@@ -11,7 +11,7 @@ use off_base::OptionIndex;
 
 /// Why a datagram is no message that the office reads. The first fault in the order of `read` is
 /// told.
-#[derive(Clone, Copy, Debug, PartialEq, Eq)]
+#[derive(Clone, Copy, PartialEq, Eq)]
 pub enum DhcpFault {
     /// Fewer than 240 bytes: the fixed part and the cookie.
     Short,

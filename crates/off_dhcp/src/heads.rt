@@ -12,7 +12,7 @@ use std::marker::Model;
 ///
 /// Contracts see the datagram's bytes, in which it lies. Where the options stand is found by one
 /// walk, as it is read.
-#[derive(Debug, Drop)]
+#[derive(Drop)]
 pub struct Head<'a> {
     pub(crate) bytes: &'a [u8],
     pub(crate) options: OptionIndex<'a>,

@@ -12,7 +12,7 @@ use std::marker::Model;
 
 /// A client's message (RFC 2131, section 2): a head whose client is an Ethernet one, and which says
 /// its kind. It lies in the datagram's bytes.
-#[derive(Debug, Drop)]
+#[derive(Drop)]
 pub struct Message<'a> {
     head: Head<'a>,
 }

@@ -9,7 +9,7 @@ use crate::disk::Disk;
 use off_outside::Failed;
 
 /// How an appending ended.
-#[derive(Clone, Copy, Debug, PartialEq, Eq)]
+#[derive(Clone, Copy, PartialEq, Eq)]
 pub enum Appended {
     /// The record stands behind an open gate.
     Opened,

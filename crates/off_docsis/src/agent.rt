@@ -12,7 +12,7 @@ const CIRCUIT_ID: u8 = 1;
 const REMOTE_ID: u8 = 2;
 
 /// Where a relay names the way to a client in its relay agent information (option 82).
-#[derive(Clone, Copy, Debug, PartialEq, Eq)]
+#[derive(Clone, Copy, PartialEq, Eq)]
 pub struct RelayParts {
     pub circuit: Span,
     pub remote: Span,

@@ -5,7 +5,7 @@ ghost use Rattle.off_docsis.specs.Spans.{spans_in, span_with, spans_with};
 use off_base::{JoinedBytes, Step};
 
 /// Where the value of a part stands in an option's joined value.
-#[derive(Clone, Copy, Debug, PartialEq, Eq)]
+#[derive(Clone, Copy, PartialEq, Eq)]
 pub struct Span {
     /// Whether there is such a part. If not, the other two are 0.
     pub there: bool,
@@ -14,7 +14,7 @@ pub struct Span {
 }
 
 /// A part passes the end of its option. The place is that of its code.
-#[derive(Clone, Copy, Debug, PartialEq, Eq)]
+#[derive(Clone, Copy, PartialEq, Eq)]
 pub struct PartCut {
     pub place: usize,
 }

@@ -14,7 +14,7 @@ const SERIAL_NUMBER: u8 = 4;
 const SOFTWARE_VERSION: u8 = 6;
 
 /// Where a modem names itself in its vendor-specific information (option 43).
-#[derive(Clone, Copy, Debug, PartialEq, Eq)]
+#[derive(Clone, Copy, PartialEq, Eq)]
 pub struct DeviceParts {
     pub kind: Span,
     pub serial: Span,

@@ -10,7 +10,7 @@ use std::marker::Model;
 
 /// Why bytes weren't read: they are no JSON text in UTF-8, or memory was wanted. A text of nearly
 /// 4 GiB or more counts as want of memory.
-#[derive(Clone, Copy, Debug, Drop, PartialEq, Eq)]
+#[derive(Clone, Copy, Drop, PartialEq, Eq)]
 pub enum DocumentErr {
     NotJson,
     Memory,

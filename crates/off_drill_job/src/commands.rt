@@ -7,7 +7,7 @@ ghost use Rattle.off_drill_job.specs.Founding.{put_subscriber, put_modem};
 
 use crate::rows::{RELAY, SERVER, mac_of, secret};
 use off_base::{Bytes, Ip4, NoMemory, Setting, Settings, Short};
-use off_defs::{Class, Modem, Pool, Site, Subscriber};
+use off_defs::{Class, Modem, Pool, SharedSettings, Site, Subscriber};
 use off_orders::Command;
 use std::alloc::Global;
 
@@ -35,6 +35,7 @@ pub(crate) fn put_class(alloc: Global) -> Result<Command, NoMemory>
     settings.push(flow(alloc, 24, 1, [0x00, 0x98, 0x96, 0x80])?)?;
     settings.push(flow(alloc, 25, 2, [0x05, 0xf5, 0xe1, 0x00])?)?;
     let name = short("gold");
+    let settings = SharedSettings::new(alloc, settings)?;
     Ok(Command::PutClass(1, Class { name, settings }))
 }
 

@@ -13,7 +13,7 @@ use off_outside::{KeepErr, Keeper, Link, Sink};
 use std::alloc::Global;
 
 /// What became of a drill.
-#[derive(Clone, Copy, Debug, PartialEq, Eq)]
+#[derive(Clone, Copy, PartialEq, Eq)]
 pub enum Ended {
     /// The tables didn't open.
     Closed(StartErr),

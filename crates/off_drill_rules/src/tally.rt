@@ -1,5 +1,5 @@
 /// What came of a drill.
-#[derive(Clone, Copy, Debug, PartialEq, Eq)]
+#[derive(Clone, Copy, PartialEq, Eq)]
 pub struct Tally {
     /// How many addresses were offered.
     pub offers: u64,

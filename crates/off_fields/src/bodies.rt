@@ -10,9 +10,10 @@ ghost use Rattle.off_clerk_rules.specs.Commands.{hub_of_pool_in};
 use crate::fields::{address, flag, number, number_or, offset, relay, secret, small, text};
 use crate::trees::settings;
 use json::Scratch;
-use off_base::Settings;
 use off_clerk_rules::{ClerkErr, CommandErr, Name};
-use off_defs::{Class, LEAST_PREFIX, MOST_DEVICES, MOST_PREFIX, Modem, Pool, Site, Subscriber};
+use off_defs::{
+    Class, LEAST_PREFIX, MOST_DEVICES, MOST_PREFIX, Modem, Pool, SharedSettings, Site, Subscriber,
+};
 use off_documents::{Document, DocumentErr, Part};
 use std::alloc::Global;
 
@@ -70,7 +71,7 @@ pub fn subscriber_of(body: &Part<'_, '_>) -> Result<Subscriber, ClerkErr>
 }
 
 /// The settings of an add-on.
-pub fn add_on_of(alloc: Global, body: &Part<'_, '_>) -> Result<Settings, CommandErr>
+pub fn add_on_of(alloc: Global, body: &Part<'_, '_>) -> Result<SharedSettings, CommandErr>
     ensures { GivesWanted (add_on_in (data_of body.now)) result }
 {
     settings(alloc, body, Name::Settings)

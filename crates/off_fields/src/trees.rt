@@ -1,15 +1,17 @@
-ghost use Rattle.std.specs.Prelude.{◌≡◌, option_map, option_and_then, IfOk};
+ghost use Rattle.std.specs.Prelude.{◌≡◌, option_map, option_and_then, IfOk, MatchResult};
 ghost use Rattle.off_documents.specs.Documents.{data_of};
 ghost use Rattle.off_base.specs.Tree.{leaf};
 ghost use Rattle.off_base.specs.Setting.{tree_of};
 ghost use Rattle.off_clerk_rules.specs.Fields.{number_in, hex_in, list_in, tree_in, field_in};
 ghost use Rattle.off_clerk_rules.specs.Fields.{settings_in};
 ghost use Rattle.off_clerk_rules.specs.Commands.{GivesWanted};
+ghost use Rattle.off_clerk_rules.specs.declared.faults.CommandErr.TheVariants.{Memory};
 
 use crate::fields::member;
 use crate::values::{hex_into, number_of};
 use off_base::{Bytes, NoMemory, Setting, Settings};
 use off_clerk_rules::{ClerkErr, CommandErr, Name};
+use off_defs::SharedSettings;
 use off_documents::Part;
 use std::alloc::Global;
 
@@ -21,13 +23,22 @@ pub(crate) fn settings(
     alloc: Global,
     body: &Part<'_, '_>,
     name: Name,
-) -> Result<Settings, CommandErr>
+) -> Result<SharedSettings, CommandErr>
     ensures { GivesWanted (field_in name settings_in (data_of body.now)) result }
 {
     let value = member(body, name)?;
     match settings_within(alloc, DEPTH, &value) {
-        Ok(Some(settings)) => Ok(settings),
+        Ok(Some(settings)) => shared(alloc, settings),
         Ok(None) => Err(CommandErr::Fault(ClerkErr::Value(name))),
+        Err(NoMemory) => Err(CommandErr::Memory),
+    }
+}
+
+fn shared(alloc: Global, settings: Settings) -> Result<SharedSettings, CommandErr>
+    ensures { MatchResult result (λ shared. shared ≡ settings) (λ err. err ≡ Memory) }
+{
+    match SharedSettings::new(alloc, settings) {
+        Ok(shared) => Ok(shared),
         Err(NoMemory) => Err(CommandErr::Memory),
     }
 }

@@ -13,7 +13,7 @@ use std::path::PathBuf;
 const MODE: u32 = 0o600;
 
 /// Why a file is no disk.
-#[derive(Clone, Copy, Debug, PartialEq, Eq)]
+#[derive(Clone, Copy, PartialEq, Eq)]
 pub enum DiskErr {
     /// Memory was wanted, and refused.
     Memory,

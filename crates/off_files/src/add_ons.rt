@@ -2,6 +2,7 @@ ghost use Rattle.std.specs.Prelude.{◌≡◌, ◌==◌, ◌<◌, ◌++◌, [], 
 ghost use Rattle.std.specs.Prelude.{OnErr};
 
 use off_base::{NoMemory, Settings};
+use off_defs::SharedSettings;
 use std::alloc::Global;
 use std::marker::Model;
 
@@ -9,7 +10,7 @@ use std::marker::Model;
 /// pairs.
 #[derive(Drop)]
 pub struct AddOns {
-    items: Vec<(u8, Settings)>,
+    items: Vec<(u8, SharedSettings)>,
 }
 
 impl Model for AddOns {
@@ -36,7 +37,7 @@ impl AddOns {
     }
 
     /// Appends an add-on. After `NoMemory` the list is as before.
-    pub fn push(&mut self, number: u8, settings: Settings) -> Result<(), NoMemory>
+    pub fn push(&mut self, number: u8, settings: SharedSettings) -> Result<(), NoMemory>
         ensures ok { OnOk result (self.new ≡ self.old ++ (number, settings) ∷ []) }
         ensures err { OnErr result (self.new ≡ self.old) }
     {
@@ -66,6 +67,6 @@ impl AddOns {
         ensures { slice_get self.now place ≡ Some (result.0, result.1.now) }
     {
         let add_on = &self.items[place];
-        (add_on.0, &add_on.1)
+        (add_on.0, add_on.1.as_settings())
     }
 }

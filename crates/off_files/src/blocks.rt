@@ -6,7 +6,7 @@ use crate::bodies::Body;
 use crate::tails::FileTail;
 
 /// A block of a file: what the body has of it, and what the tail has of it behind that.
-#[derive(Clone, Copy, Debug)]
+#[derive(Clone, Copy)]
 pub struct BlockPieces<'a> {
     pub first: &'a [u8],
     pub rest: &'a [u8],

@@ -20,7 +20,7 @@ const ANY: Ip4 = Ip4(0);
 const LOOPBACK: Ip4 = Ip4(0x7f00_0001);
 
 /// On which addresses of the machine the office listens.
-#[derive(Clone, Copy, Debug)]
+#[derive(Clone, Copy)]
 pub struct Addresses {
     pub udp: Ip4,
     pub http: Ip4,

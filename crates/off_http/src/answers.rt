@@ -1,5 +1,5 @@
 /// Why the bytes of a connection are no request.
-#[derive(Clone, Copy, Debug, PartialEq, Eq)]
+#[derive(Clone, Copy, PartialEq, Eq)]
 pub enum HttpFault {
     /// What comes up to the first blank line isn't exactly one head of at most 64 fields (RFC
     /// 9112, section 3).
@@ -13,7 +13,7 @@ pub enum HttpFault {
 }
 
 /// What a session answers to a piece.
-#[derive(Clone, Copy, Debug, PartialEq, Eq)]
+#[derive(Clone, Copy, PartialEq, Eq)]
 pub enum Fed {
     /// More bytes are awaited.
     Wait,

@@ -20,7 +20,7 @@ const FIELD_LIMIT: usize = 64;
 const BODY_LIMIT: u64 = 1_048_576;
 
 // Where the parts of a request stand among the bytes of its connection.
-#[derive(Clone, Copy, Debug)]
+#[derive(Clone, Copy)]
 pub(crate) struct Parts {
     pub(crate) method: Span,
     pub(crate) target: Span,

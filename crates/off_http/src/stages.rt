@@ -5,7 +5,7 @@ use crate::answers::{Fed, HttpFault};
 use crate::heads::{HEAD_LIMIT, Parts, blank_line_at, head_room, read_head};
 
 // How far a session has come.
-#[derive(Clone, Copy, Debug)]
+#[derive(Clone, Copy)]
 pub(crate) enum Stage {
     // No blank line has come.
     ReadingHead,

@@ -19,7 +19,7 @@ use std::alloc::Global;
 const MOST_BYTES: usize = 1_048_576;
 
 /// What became of an import.
-#[derive(Clone, Copy, Debug, PartialEq, Eq)]
+#[derive(Clone, Copy, PartialEq, Eq)]
 pub enum Ended {
     /// The tables didn't open.
     Closed(StartErr),

@@ -3,7 +3,7 @@ ghost use Rattle.off_import_rules.specs.Faults.{fault_word, fault_status};
 ghost use Rattle.off_import_rules.specs.declared.faults.ImportErr.TheVariants.{Fault};
 
 /// The first fault of an import, in the order of reading.
-#[derive(Clone, Copy, Debug, PartialEq, Eq)]
+#[derive(Clone, Copy, PartialEq, Eq)]
 pub enum ImportFault {
     /// There is no first record, or it isn't the names of the columns.
     Header,
@@ -17,7 +17,7 @@ pub enum ImportFault {
 }
 
 /// Why bytes are no import.
-#[derive(Clone, Copy, Debug, PartialEq, Eq)]
+#[derive(Clone, Copy, PartialEq, Eq)]
 pub enum ImportErr {
     Fault(ImportFault),
     /// Memory was wanted, and refused.

@@ -9,7 +9,7 @@ use std::alloc::Global;
 const ROOM: usize = 4096;
 
 /// Why a job has no input.
-#[derive(Clone, Copy, Debug, PartialEq, Eq)]
+#[derive(Clone, Copy, PartialEq, Eq)]
 pub enum InputErr {
     /// The source holds more bytes than a job takes.
     TooLong,

@@ -19,7 +19,7 @@ use std::alloc::Global;
 const STRETCH: usize = 1 << 16;
 
 /// Why a journal couldn't be opened.
-#[derive(Clone, Copy, Debug, PartialEq, Eq)]
+#[derive(Clone, Copy, PartialEq, Eq)]
 pub enum OpenErr {
     /// Memory was wanted, and refused.
     Memory,

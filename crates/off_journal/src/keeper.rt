@@ -27,7 +27,7 @@ pub enum Last {
 }
 
 /// The counters of a keeper: the faults of its own, its calls, and the commits that were done.
-#[derive(Clone, Copy, Debug, PartialEq, Eq)]
+#[derive(Clone, Copy, PartialEq, Eq)]
 pub struct Counts {
     pub(crate) own: u64,
     pub(crate) calls: u64,

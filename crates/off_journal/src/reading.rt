@@ -16,7 +16,7 @@ use off_rows::{RowErr, decode, decode_key};
 use std::alloc::Global;
 
 /// Why a payload wasn't read.
-#[derive(Clone, Copy, Debug, PartialEq, Eq)]
+#[derive(Clone, Copy, PartialEq, Eq)]
 pub(crate) enum PayloadErr {
     // No writes have these bytes.
     Bad,

@@ -275,5 +275,9 @@ fn push(planned: &mut Vec<Planned>, write: Planned) -> Result<(), NoMemory>
 fn count_puts(writes: &[Planned]) -> usize
     ensures { result ≡ puts_in writes.now }
 {
-    writes.iter().filter(|write| write.puts_a_row()).count()
+    let mut puts = 0;
+    for write in writes {
+        puts += usize::from(write.puts_a_row());
+    }
+    puts
 }

@@ -6,7 +6,7 @@ use off_outside::one_more;
 
 /// The counters of a keeper over cells: the faults of its own, its calls, and the commits that were
 /// done.
-#[derive(Clone, Copy, Debug, PartialEq, Eq)]
+#[derive(Clone, Copy, PartialEq, Eq)]
 pub struct Counts {
     pub(crate) own: u64,
     pub(crate) calls: u64,

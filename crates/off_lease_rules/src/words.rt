@@ -2,7 +2,7 @@ ghost use Rattle.std.specs.Prelude.{◌≡◌, ◌≤◌, length};
 ghost use Rattle.off_lease_rules.specs.Words.{word_text};
 
 /// What became of a DHCP datagram: four kinds of messages that were served, or why it was refused.
-#[derive(Clone, Copy, Debug, PartialEq, Eq)]
+#[derive(Clone, Copy, PartialEq, Eq)]
 pub enum DhcpWord {
     /// A DISCOVER was answered by an OFFER.
     Offer,

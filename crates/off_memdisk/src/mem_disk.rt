@@ -18,7 +18,7 @@ use std::marker::Model;
 const MOST_BYTES: u64 = 1 << 62;
 
 /// A call that was done.
-#[derive(Clone, Copy, Debug, PartialEq, Eq)]
+#[derive(Clone, Copy, PartialEq, Eq)]
 pub(crate) enum Mark {
     // A write at this place, of so many bytes.
     Wrote(u64, usize),

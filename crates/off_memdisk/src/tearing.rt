@@ -10,7 +10,7 @@ use off_base::NoMemory;
 use std::alloc::Global;
 
 /// How a write is torn.
-#[derive(Clone, Copy, Debug, PartialEq, Eq)]
+#[derive(Clone, Copy, PartialEq, Eq)]
 pub(crate) enum Tear {
     // All of it came to the disk.
     Whole,

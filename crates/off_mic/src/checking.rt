@@ -12,7 +12,7 @@ use crate::feeding::{CM_MIC, CMTS_MIC};
 use off_tlv::{ReadFault, Tlvs, extent};
 
 /// Which of the two values in a file is the one that is computed of it.
-#[derive(Clone, Copy, Debug, PartialEq, Eq)]
+#[derive(Clone, Copy, PartialEq, Eq)]
 pub struct Verdict {
     /// The modem's, in setting 6.
     pub cm: bool,
@@ -21,7 +21,7 @@ pub struct Verdict {
 }
 
 /// Why a file's values can't be checked. The number is the code of the setting, 6 or 7.
-#[derive(Clone, Copy, Debug, PartialEq, Eq)]
+#[derive(Clone, Copy, PartialEq, Eq)]
 pub enum MicFault {
     /// The file has this fault.
     Read(ReadFault),

@@ -31,7 +31,7 @@ use std::alloc::Global;
 use std::marker::Model;
 
 /// Why an office doesn't start.
-#[derive(Clone, Copy, Debug, PartialEq, Eq)]
+#[derive(Clone, Copy, PartialEq, Eq)]
 pub enum StartErr {
     /// The tables don't open, and this is the least key whose row is bad.
     Bad(Key),

@@ -19,7 +19,7 @@ use std::alloc::Global;
 use std::marker::Model;
 
 /// What of a row is compared with other rows.
-#[derive(Clone, Copy, Debug)]
+#[derive(Clone, Copy)]
 pub(crate) enum Tie {
     /// Nothing.
     Free,
@@ -38,7 +38,7 @@ pub(crate) enum Tie {
 }
 
 /// A row, as the test of the tables keeps it.
-#[derive(Clone, Copy, Debug)]
+#[derive(Clone, Copy)]
 pub(crate) struct Mark {
     pub key: Key,
     /// Whether the row may stand at its key, whatever the other rows are.
@@ -47,7 +47,7 @@ pub(crate) struct Mark {
 }
 
 /// A pool with the number that it stands under. Contracts see the two as a pair.
-#[derive(Clone, Copy, Debug)]
+#[derive(Clone, Copy)]
 pub(crate) struct NumberedPool {
     pub number: u32,
     pub pool: Pool,

@@ -1,6 +1,6 @@
 use crate::shown::ShownRow;
-use off_base::{Items, Mac, Settings};
-use off_defs::{Class, ImportKind, Key, Modem, Pool, Site, Subscriber};
+use off_base::{Items, Mac};
+use off_defs::{Class, ImportKind, Key, Modem, Pool, SharedSettings, Site, Subscriber};
 
 /// One row of an import.
 #[derive(Drop)]
@@ -22,7 +22,7 @@ pub enum Command {
     /// Puts the subscriber of this number.
     PutSubscriber(u32, Subscriber),
     /// Puts an add-on: the subscriber's number, the add-on's own, and its settings.
-    PutAddOn(u32, u8, Settings),
+    PutAddOn(u32, u8, SharedSettings),
     /// Puts the modem of this hardware address.
     PutModem(Mac, Modem),
     /// Puts the class of this number.

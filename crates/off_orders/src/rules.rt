@@ -3,7 +3,7 @@ use off_defs::Kind;
 use off_tree::TreeFault;
 
 /// Why a clerk's command is refused: the first of the command's rules that is broken.
-#[derive(Clone, Copy, Debug, PartialEq, Eq)]
+#[derive(Clone, Copy, PartialEq, Eq)]
 pub enum Rule {
     /// There is no such subscriber.
     NoSubscriber,

@@ -1,8 +1,7 @@
 ghost use Rattle.std.specs.Prelude.{◌≡◌};
 ghost use Rattle.off_orders.specs.Shown.{shown_row};
 
-use off_base::Settings;
-use off_defs::{Class, Lease, Modem, Pool, Row, Site, Subscriber};
+use off_defs::{Class, Lease, Modem, Pool, Row, SharedSettings, Site, Subscriber};
 
 /// A row as a clerk is shown it. What a modem holds, the batches, the hubs of pools and the leases
 /// of devices are the office's own.
@@ -11,7 +10,7 @@ pub enum ShownRow {
     Site(Site),
     Subscriber(Subscriber),
     /// The settings of an add-on.
-    AddOn(Settings),
+    AddOn(SharedSettings),
     Modem(Modem),
     Class(Class),
     Pool(Pool),

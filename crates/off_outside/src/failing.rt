@@ -8,7 +8,7 @@ use std::marker::Model;
 
 /// The numbers of the calls that are to fail. All calls of one object are numbered together, from
 /// 1.
-#[derive(Debug, Drop)]
+#[derive(Drop)]
 pub struct Calls {
     numbers: Vec<u64>,
 }
@@ -51,7 +51,7 @@ impl Calls {
 }
 
 /// Which calls of an object are to fail, and how many there have been.
-#[derive(Debug, Drop)]
+#[derive(Drop)]
 pub struct Failing {
     listed: Calls,
     made: u64,

@@ -8,7 +8,7 @@ use off_defs::{Event, Service};
 use std::alloc::Global;
 
 /// Why a link gave no event.
-#[derive(Clone, Copy, Debug, PartialEq, Eq)]
+#[derive(Clone, Copy, PartialEq, Eq)]
 pub enum LinkErr {
     /// Memory was wanted, and refused.
     Memory,
@@ -17,7 +17,7 @@ pub enum LinkErr {
 }
 
 /// A call failed, and counted a fault.
-#[derive(Clone, Copy, Debug, PartialEq, Eq)]
+#[derive(Clone, Copy, PartialEq, Eq)]
 pub struct Failed;
 
 /// Where events come from, and by what the office sends.

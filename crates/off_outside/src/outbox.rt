@@ -27,7 +27,7 @@ use std::alloc::Global;
 use std::marker::Model;
 
 /// One sent item, lent by the link that sent it.
-#[derive(Clone, Copy, Debug)]
+#[derive(Clone, Copy)]
 pub enum SentRef<'a> {
     Datagram {
         service: Service,
@@ -44,7 +44,7 @@ pub enum SentRef<'a> {
 }
 
 // An item whose bytes are `len` bytes of the buffer, from `at` on.
-#[derive(Clone, Copy, Debug)]
+#[derive(Clone, Copy)]
 enum Item {
     Datagram {
         service: Service,

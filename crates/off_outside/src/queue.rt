@@ -20,7 +20,7 @@ use std::collections::VecDeque;
 use std::marker::Model;
 
 /// A list of events.
-#[derive(Debug, Drop)]
+#[derive(Drop)]
 pub struct Events {
     queue: VecDeque<Event>,
 }

@@ -1,5 +1,5 @@
 /// Why a datagram is no TFTP packet that the office reads.
-#[derive(Clone, Copy, Debug, PartialEq, Eq)]
+#[derive(Clone, Copy, PartialEq, Eq)]
 pub enum PacketFault {
     /// It hasn't the form of its kind, or no kind, or is too long.
     Form,

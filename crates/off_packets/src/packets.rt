@@ -2,7 +2,7 @@ ghost use Rattle.std.specs.Prelude.{◌≡◌};
 ghost use Rattle.off_packets.specs.Packets.{has_option};
 
 /// A TFTP packet as a client sends it (RFC 1350, section 5).
-#[derive(Clone, Copy, Debug)]
+#[derive(Clone, Copy)]
 pub enum Packet<'a> {
     /// A read request: a file's name, and what its options ask for.
     Read { name: &'a [u8], options: Options },
@@ -18,7 +18,7 @@ pub enum Packet<'a> {
 
 /// The options of a read request that are read (RFC 2347), each where it's there and has a value of
 /// its kind.
-#[derive(Clone, Copy, Debug, PartialEq, Eq)]
+#[derive(Clone, Copy, PartialEq, Eq)]
 pub struct Options {
     /// The size of blocks that is asked for (RFC 2348).
     pub blksize: Option<u16>,

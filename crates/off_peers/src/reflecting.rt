@@ -8,7 +8,7 @@ use off_base::{Moment, Peer};
 use off_outside::Service;
 
 /// The UDP ports of the office itself.
-#[derive(Clone, Copy, Debug)]
+#[derive(Clone, Copy)]
 pub struct OwnPorts {
     pub dhcp: u16,
     pub time: u16,

@@ -17,7 +17,7 @@ use std::marker::Model;
 pub const ANSWER_ROOM: usize = 25_600;
 
 /// What became of the bytes that were to be sent.
-#[derive(Clone, Copy, Debug, PartialEq, Eq)]
+#[derive(Clone, Copy, PartialEq, Eq)]
 pub enum Sending {
     /// The system has taken all of them.
     Whole,

@@ -17,7 +17,7 @@ const LEASE_QUERY: u8 = 10;
 
 /// A relay's query for a lease (RFC 4388, section 6.2): a head whose option 53 says so. It lies in
 /// the datagram's bytes, and contracts see these.
-#[derive(Debug, Drop)]
+#[derive(Drop)]
 pub struct Query<'a> {
     head: Head<'a>,
 }

@@ -1,7 +1,7 @@
 use off_base::Ip4;
 
 /// By what a pool is looked for.
-#[derive(Clone, Copy, Debug, PartialEq, Eq)]
+#[derive(Clone, Copy, PartialEq, Eq)]
 pub enum Wanted {
     /// The pool of a relay.
     Relay(Ip4),

@@ -70,7 +70,7 @@ fn is_possible_add_on(number: u8, row: &Row) -> bool
         (λ settings. nat_le number last_add_on && add_on_is_good settings) (as_add_on row.now) }
 {
     match row {
-        Row::AddOn(settings) => number <= LAST_ADD_ON && add_on_is_good(settings),
+        Row::AddOn(settings) => number <= LAST_ADD_ON && add_on_is_good(settings.as_settings()),
         _ => false,
     }
 }
@@ -79,7 +79,7 @@ fn is_possible_class(row: &Row) -> bool
     ensures { result ≡ passes (λ class. class_is_good class.settings) (as_class row.now) }
 {
     match row {
-        Row::Class(class) => class_is_good(&class.settings),
+        Row::Class(class) => class_is_good(class.settings.as_settings()),
         _ => false,
     }
 }

@@ -12,8 +12,10 @@ ghost use Rattle.off_account_rules.specs.Rows.{as_pool, as_pool_hub, as_lease, a
 ghost use Rattle.off_outside.specs.KeeperCalls.{Looks, Spent, WasCounted};
 
 use crate::reading::read_row;
-use off_base::{Ip4, Mac, Settings};
-use off_defs::{Batch, Class, DeviceLease, Key, Lease, Modem, Pool, Row, Site, Subscriber};
+use off_base::{Ip4, Mac};
+use off_defs::{
+    Batch, Class, DeviceLease, Key, Lease, Modem, Pool, Row, SharedSettings, Site, Subscriber,
+};
 use off_outside::{KeepErr, Keeper};
 use std::alloc::Global;
 
@@ -71,7 +73,7 @@ pub fn read_add_on<K: Keeper>(
     keeper: &mut K,
     n: u32,
     number: u8,
-) -> Result<Option<Settings>, KeepErr>
+) -> Result<Option<SharedSettings>, KeepErr>
     ensures told { Looks result (K.seen keeper.old) (K.seen keeper.new)
         (λ add_on t. add_on ≡ add_on_in t n number) }
     ensures counted { WasCounted (K.seen keeper.old) (K.seen keeper.new) }
@@ -216,7 +218,7 @@ fn as_subscriber(row: Option<Row>) -> Option<Subscriber>
     }
 }
 
-fn as_add_on(row: Option<Row>) -> Option<Settings>
+fn as_add_on(row: Option<Row>) -> Option<SharedSettings>
     ensures { result ≡ option_and_then as_add_on row }
 {
     let Some(row) = row else { return None };

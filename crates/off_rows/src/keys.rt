@@ -9,7 +9,7 @@ use std::marker::Model;
 
 /// The bytes of a key: 1 to 9 bytes, `len` of them, and zeros behind them. Contracts see the bytes
 /// without the zeros.
-#[derive(Clone, Copy, Debug, PartialEq, Eq)]
+#[derive(Clone, Copy, PartialEq, Eq)]
 pub struct KeyBytes {
     pub bytes: [u8; 9],
     pub len: u8,

@@ -16,8 +16,10 @@ ghost use Rattle.off_rows.specs.declared.faults.RowErr.TheVariants.{BadRow};
 use crate::devices::device;
 use crate::faults::RowErr;
 use crate::fields::Fields;
-use off_base::{Bytes, Ip4, Moment, NoMemory, Settings};
-use off_defs::{Batch, Class, Hold, Key, Lease, Modem, Pool, Row, Site, Subscriber};
+use off_base::{Bytes, Ip4, Moment, NoMemory};
+use off_defs::{
+    Batch, Class, Hold, Key, Lease, Modem, Pool, Row, SharedSettings, Site, Subscriber,
+};
 use off_tlv::{END_MARKER, read_settings};
 use std::alloc::Global;
 
@@ -198,7 +200,7 @@ fn hold(fields: &mut Fields) -> Result<Hold, RowErr>
     }
 }
 
-fn add_on(alloc: Global, bytes: &[u8]) -> Result<Settings, RowErr>
+fn add_on(alloc: Global, bytes: &[u8]) -> Result<SharedSettings, RowErr>
     ensures { MatchResult result
         (λ settings. SettingsStand (row.AddOn settings)
         × (row_bytes (row.AddOn settings) ≡ bytes.now)) (WhyNoAddOn bytes.now) }
@@ -229,7 +231,7 @@ fn class(alloc: Global, bytes: &[u8]) -> Result<Class, RowErr>
 
 // The settings that spell the bytes. They are read as a file, so that it has no fault but want of
 // memory.
-fn settings_of(alloc: Global, spelling: &[u8]) -> Result<Settings, NoMemory>
+fn settings_of(alloc: Global, spelling: &[u8]) -> Result<SharedSettings, NoMemory>
     requires { IsSettings spelling.now }
     ensures { IfOk result
         (λ settings. AllStand in_file settings × (spelling.now ≡ spelling_of settings)) }
@@ -238,7 +240,7 @@ fn settings_of(alloc: Global, spelling: &[u8]) -> Result<Settings, NoMemory>
     file.push_all(spelling)?;
     file.push_all(&[END_MARKER])?;
     match read_settings(alloc, file.as_slice()) {
-        Ok(settings) => Ok(settings),
+        Ok(settings) => SharedSettings::new(alloc, settings),
         Err(_) => Err(NoMemory),
     }
 }

@@ -22,7 +22,7 @@ pub fn encode(alloc: Global, r: &Row) -> Result<Bytes, NoMemory>
     match r {
         Row::Site(site) => site_bytes(alloc, site),
         Row::Subscriber(subscriber) => subscriber_bytes(alloc, subscriber),
-        Row::AddOn(settings) => add_on_bytes(alloc, settings),
+        Row::AddOn(settings) => add_on_bytes(alloc, settings.as_settings()),
         Row::Modem(modem) => modem_bytes(alloc, modem),
         Row::Class(class) => class_bytes(alloc, class),
         Row::Pool(pool) => pool_bytes(alloc, *pool),
@@ -87,7 +87,7 @@ fn class_bytes(alloc: Global, class: &Class) -> Result<Bytes, NoMemory>
 {
     let mut out = Bytes::new(alloc);
     push_text(&mut out, &class.name)?;
-    push_settings(&mut out, &class.settings)?;
+    push_settings(&mut out, class.settings.as_settings())?;
     Ok(out)
 }
 

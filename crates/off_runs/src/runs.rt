@@ -15,7 +15,7 @@ use off_base::{Ip4, Moment};
 use off_defs::Pool;
 
 /// Addresses in a row, from the first to the last.
-#[derive(Clone, Copy, Debug, PartialEq, Eq)]
+#[derive(Clone, Copy, PartialEq, Eq)]
 pub struct Run {
     pub first: Ip4,
     pub last: Ip4,

@@ -1,208 +1,30 @@
 -- The loop over the events: what holds after each turn, and what each end of the loop comes to.
-use Rattle.std.proofs.Common.{◌≡◌, ℕ, ◌+◌, ◌-◌, ◌<◌, ◌≤◌, ◌⊎◌, true, false, List, [], ◌∷◌, ◌++◌, length, take, drop, All, refl, sym, ap, ◌∙◌, subst, inl, inr, arith, append_assoc, append-nil, length-append, max}
+use Rattle.std.proofs.Common.{◌≡◌, ℕ, ◌+◌, ◌-◌, ◌<◌, ◌≤◌, ◌⊎◌, true, false, List, [], ◌∷◌, ◌++◌, length, take, drop, All, refl, sym, ap, ◌∙◌, subst, inl, inr, arith, append_assoc, append-nil, length-append}
 use Rattle.std.proofs.Math.Seq.{take-append_seam, drop-append_seam}
-use Rattle.std.proofs.lemmas.List.Elements.{All-same, All-push, All-take, All-head, All-tail, All-nil, All-cons}
-use Rattle.off_defs.specs.declared.events.Event.{Event}
+use Rattle.std.proofs.lemmas.List.Elements.{All-same, All-push, All-take, All-nil, All-cons}
 use Rattle.off_defs.specs.Told.{Stays}
-use Rattle.off_defs.specs.declared.results.Outcome.{Outcome}
-use Rattle.off_defs.specs.declared.results.Outcome.TheVariants.{Did, Memory, Keeper}
-use Rattle.off_defs.specs.Counts.{Grew, Tallied, commits_after, calls_after}
+use Rattle.off_defs.specs.Counts.{Grew, calls_after}
 use Rattle.off_defs.specs.State.{Tables, state_of}
-use Rattle.off_defs.specs.Events.{end_event}
-use Rattle.off_book.specs.Run.{Turn, TellsItsOutcome, keeper_failures, writes_by, sent_in, sent_by, line_of, lines_from, events_of, first_events, is_end, IsNoEnd, EndsLast, effect_of}
+use Rattle.off_book.specs.Run.{Turn, writes_by, line_of, lines_from, is_end, IsNoEnd, EndsLast}
 use Rattle.off_defs.proofs.ToldLemmas.{told_then, told_self, then_stays}
-use Rattle.off_defs.proofs.CountLemmas.{grew_then, later_grew, tallied_none, tallied_then, tallied_stays}
-use Rattle.off_book.specs.Crashes.{Begins, unless_memory}
-use Rattle.off_book.proofs.CrashLemmas.{OneTurn, OnlyReads, lasts_push, lasts_stay, doubts_by, unless_more}
-use Rattle.off_book.proofs.RunLemmas.{failures_by_push, commits_by_push, writes_by_push, sent_by_push, lost_by_push, lines_from_push}
+use Rattle.off_defs.proofs.CountLemmas.{later_grew, tallied_none, tallied_stays}
+use Rattle.off_book.proofs.RunLemmas.{writes_by_push, lines_from_push}
 use Rattle.off_outside.specs.LinkSeen.{LinkSeen}
 use Rattle.off_outside.specs.KeeperSeen.{KeeperSeen, Rests}
-use Rattle.off_laws.proofs.StepLaws.{step_good}
 use Rattle.off_office.specs.Desk.{Desk}
-use Rattle.off_outside.specs.LinkCalls.{first_event}
 use Rattle.off_outside.specs.Streams.{SinkSeen, SinkUnasked, Wrote, NotWritten}
-use Rattle.off_outside.specs.KeeperCalls.{Unasked, Still}
-use Rattle.off_outside.proofs.KeeperLemmas.{unasked_stays}
-use Rattle.off_office.specs.Conditions.{Mirrors}
-use Rattle.off_office.specs.Acting.{CountsFaults, EventBegan}
 use Rattle.off_serve.specs.declared.serving.Stop.TheVariants as stop
-use Rattle.off_serve.specs.Serving.{World, OfficeTurn, TurnMade, LineWritten, TurnWritten, TurnCut, NoTurn, LacksMemory, Missed, most_missed}
-use Rattle.off_serve.specs.Headline.{WroteText, CutText, LastsIn, RanTurns, CountsMissed, KeeperRan, RanFrom, SoFar, Served}
+use Rattle.off_serve.specs.Serving.{World, LineWritten, TurnWritten, TurnCut, NoTurn, LacksMemory, Missed, most_missed}
+use Rattle.off_serve.specs.Headline.{WroteText, CutText, LastsIn, RanTurns, CountsMissed, SoFar, Served}
 use Rattle.off_office.proofs.UpLemmas.{up_behind, up_chain, by_first, both_chain}
+use Rattle.off_serve.proofs.RanLemmas.{none_missed, missed_push, missed_behind, missed_lacks, ran_push}
+use Rattle.off_serve.proofs.FromLemmas.{from_push, from_same}
 
 -- `n` turns so far
 pub record Going (n : ℕ) (first last : Desk) (old new : World) : Type 0 where
   pub turns : List Turn
   pub count : length turns ≡ n
   pub so_far : SoFar turns first last old new
-
--- the events that were taken are the first of those to come, with one more
-next_events : (turns : List Turn) (turn : Turn) (events : List Event) → All IsNoEnd turns
-    → events_of turns ≡ first_events (length turns) events → turn.event ≡ first_event (drop (length turns) events)
-    → (events_of (turns ++ turn ∷ []) ≡ first_events (length (turns ++ turn ∷ [])) events) × (drop 1 (drop (length turns) events) ≡ drop (length (turns ++ turn ∷ [])) events)
-next_events [] turn [] no_end so_far next = (ap (λ v. v ∷ []) next, refl)
-next_events [] turn (event ∷ events) no_end so_far next = (ap (λ v. v ∷ []) next, refl)
-next_events (first ∷ turns) turn [] no_end so_far next =
-    let same : first.event ≡ end_event = cc in
-    let yes : is_end first.event.what ≡ true = ap (λ (e : Event). is_end e.what) same in
-    let no : is_end first.event.what ≡ false = All-head IsNoEnd first turns no_end in
-    absurd (let e : true ≡ false = sym yes ∙ no in cc)
-next_events (first ∷ turns) turn (event ∷ events) no_end so_far next =
-    let heads : first.event ≡ event = cc in
-    let tails : events_of turns ≡ first_events (length turns) events = cc in
-    let rest = next_events turns turn events (All-tail IsNoEnd first turns no_end) tails next in
-    (ap (λ v. v ∷ events_of (turns ++ turn ∷ [])) heads ∙ ap (λ v. event ∷ v) rest.0, rest.1)
-
--- no call of `next` has failed yet
-none_missed : (s : LinkSeen) → CountsMissed [] 0 s s
-none_missed s = record { failures = 0; few = omega arith; rows = omega arith; faults = tallied_none s.faults }
-
--- the failures before one turn more
-missed_push : {turns : List Turn} {turn : Turn} {before after : Desk} {a : LinkSeen} {b c : World} → CountsMissed turns 0 a b.link → TurnMade turn before after b c
-    → CountsMissed (turns ++ turn ∷ []) 0 a c.link
-missed_push {turns} {turn} {before} {after} {a} {b} {c} so_far made =
-    let sum : so_far.failures + 0 + made.failures ≡ so_far.failures + made.failures + 0 = omega arith in
-    record {
-      failures = so_far.failures + made.failures;
-      few = omega (arith, so_far.few, made.few, length-append turns (turn ∷ []));
-      rows = omega (arith, so_far.rows, made.few, made.longest);
-      faults = subst (λ n. Tallied n a.faults c.link.faults) sum (tallied_then so_far.faults made.faults);
-    }
-
--- failures behind the last turn
-missed_behind : {turns : List Turn} {n : ℕ} {a b c : LinkSeen} → CountsMissed turns 0 a b → c.longest ≡ max b.longest n → Tallied n b.faults c.faults → CountsMissed turns n a c
-missed_behind {turns} {n} {a} {b} {c} so_far longest more =
-    let sum : so_far.failures + 0 + n ≡ so_far.failures + n = omega arith in
-    record {
-      failures = so_far.failures;
-      few = so_far.few;
-      rows = omega (arith, so_far.rows, longest);
-      faults = subst (λ k. Tallied k a.faults c.faults) sum (tallied_then so_far.faults more);
-    }
-
--- failures behind the last turn, and then want of memory
-missed_lacks : {turns : List Turn} {a b c : LinkSeen} → (so_far : CountsMissed turns 0 a b) → LacksMemory b c → Grew (so_far.failures + c.missed) a.faults c.faults
-missed_lacks {turns} {a} {b} {c} so_far lacks =
-    let sum : so_far.failures + 0 + lacks.failures ≡ so_far.failures + c.missed = omega (arith, lacks.missed) in
-    subst (λ n. Grew n a.faults c.faults) sum (grew_then so_far.faults.grew lacks.faults)
-
-ran_push : {turns : List Turn} {turn : Turn} {before after : Desk} {a : LinkSeen} {b c : World} → RanTurns turns a b.link → CountsMissed turns 0 a b.link → All IsNoEnd turns
-    → TurnMade turn before after b c → RanTurns (turns ++ turn ∷ []) a c.link
-ran_push {turns} {turn} {before} {after} {a} {b} {c} ran missed no_end made = record {
-  left = told_then ran.left made.left (λ x y z before now.
-      let next = next_events turns turn x no_end before.0 (now.0 ∙ ap first_event before.1) in
-      (next.0, now.1 ∙ (ap (λ v. drop 1 v) before.1 ∙ next.1)));
-  marks = All-push (λ (t : Turn). length t.said.items ≡ length t.went) turns turn ran.marks made.marks;
-  sent = told_then ran.sent made.sent (λ x y z before now.
-      now ∙ (ap (λ k. k ++ sent_in turn) before ∙ (append_assoc x (sent_by turns) (sent_in turn) ∙ ap (λ k. x ++ k) (sym (sent_by_push turns turn)))));
-  unsent = subst (λ n. Tallied n a.unsent c.link.unsent) (sym (lost_by_push turns turn)) (tallied_then ran.unsent made.unsent);
-  up = both_chain missed.faults.grew.later made.faults.grew.later ran.unsent.grew.later made.unsent.grew.later ran.up made.up;
-}
-
--- the count of a turn by its outcome
-turn_tallied : (outcome : Outcome) (a b : ℕ) → CountsFaults outcome a b → Tallied (keeper_failures outcome) a b
-turn_tallied Did a b same = record { grew = record { later = omega (arith, same); grew = omega (arith, same) }; stands = λ none. same }
-turn_tallied Memory a b tallied = tallied
-turn_tallied Keeper a b tallied = tallied
-
-keeper_push : (turns : List Turn) (turn : Turn) (before after : Desk) (a b c : KeeperSeen) → KeeperRan [] turns a b → OfficeTurn turn before after b c
-    → KeeperRan [] (turns ++ turn ∷ []) a c
-keeper_push turns turn before after a b c ran made =
-    let tallied = turn_tallied turn.outcome b.faults c.faults made.faults in
-    record {
-      faults = subst (λ n. Tallied n a.faults c.faults) (sym (failures_by_push turns turn)) (tallied_then ran.faults tallied);
-      commits = made.commits ∙ (ap (commits_after turn.commit) ran.commits ∙ sym (commits_by_push turns turn a.commits));
-      up = up_chain ran.faults.grew.later tallied.grew.later ran.up made.up;
-    }
-
--- calls that ask nothing of the keeper
-keeper_same : (turns : List Turn) (a b c : KeeperSeen) → KeeperRan [] turns a b → Unasked b c → KeeperRan [] turns a c
-keeper_same turns a b c ran same = record {
-  faults = tallied_stays ran.faults same.quiet.faults;
-  commits = same.quiet.commits ∙ ran.commits;
-  up = up_chain ran.faults.grew.later (omega (arith, same.quiet.faults)) ran.up (λ up. inl (same.quiet.up up));
-}
-
--- calls that only read
-only_reads : (b c : KeeperSeen) → Still b c → OnlyReads b.opened c.opened b.doubt c.doubt b.moment c.moment
-only_reads b c still = record { later = still.later; past = still.past; within = still.within; doubts = still.doubts }
-
--- what a turn may have begun
-begun_so : (event : Event) (outcome : Outcome) (before : Desk) (y : Tables) (doubt : Type 0) (u : Tables) → Mirrors before y
-    → (u ≡ y) ⊎ (doubt ⊎ EventBegan event outcome before y u) → (u ≡ y) ⊎ (doubt ⊎ unless_memory outcome (Begins (state_of y before.held) event u))
-begun_so event outcome before y doubt u agree (inl same) = inl same
-begun_so event outcome before y doubt u agree (inr (inl is)) = inr (inl is)
-begun_so event outcome before y doubt u agree (inr (inr began)) = inr (inr (unless_more outcome (λ begun. begun agree) began))
-
--- what is told of a crash within a turn
-one_turn : (turn : Turn) (before after : Desk) (b c : KeeperSeen) → Rests c → OfficeTurn turn before after b c → (y z : Tables) → b.tables y → c.tables z → Mirrors before y
-    → OneTurn b.opened c.opened b.doubt c.doubt b.moment c.moment (state_of y before.held) (state_of z after.held) turn
-one_turn turn before after b c rests made y z told now agree = record {
-  later = made.crash.later;
-  past = made.crash.past;
-  within = λ m u behind upto opened. begun_so turn.event turn.outcome before y (b.doubt u) u agree (made.crash.within y told m u behind upto opened);
-  doubts = λ u ends. doubts_by b.doubt (state_of y before.held) turn u (λ begun. begun agree) (made.doubts y told u ends);
-  rests = λ u opened. rests z now u opened;
-}
-
--- the office goes on by one turn
-from_push : {turns : List Turn} {turn : Turn} {first before after : Desk} {a b c : KeeperSeen} → Rests c → RanFrom turns first before a b → OfficeTurn turn before after b c
-    → RanFrom (turns ++ turn ∷ []) first after a c
-from_push {turns} {turn} {first} {before} {after} {a} {b} {c} rests ran made = record {
-  run = record {
-    each = λ x told.
-        let g = ran.run.each x told in
-        let h = made.tables.each g.value g.told in
-        record {
-          value = h.value;
-          told = h.told;
-          fits = record {
-            holds = λ fits.
-                let half = g.fits.holds fits in
-                let step = h.fits.holds half.1.mirrors in (
-                  lasts_push b.opened c.opened b.doubt c.doubt a.doubt a.moment (state_of x first.held) turns b.moment c.moment (state_of g.value before.held)
-                      (state_of h.value after.held) turn half.0 step (one_turn turn before after b c rests made g.value h.value g.told h.told half.1.mirrors),
-                  record {
-                    good = step_good (state_of g.value before.held) turn.event turn.outcome (effect_of turn (state_of h.value after.held)) step half.1.good;
-                    mirrors = h.fits.stays half.1;
-                  },
-                );
-          };
-        };
-  };
-  past = λ m u early opened. ran.past m u early (made.crash.past m u (omega (arith, early, ran.later)) opened);
-  later = omega (arith, ran.later, made.crash.later);
-  fits = told_then ran.fits made.fits (λ x y z so_far next fits. next (so_far fits));
-  keeper = keeper_push turns turn before after a b c ran.keeper made;
-  tell = All-push TellsItsOutcome turns turn ran.tell made.tells;
-}
-
-from_same : {turns : List Turn} {first before after : Desk} {a b c : KeeperSeen} → RanFrom turns first before a b → after ≡ before → Unasked b c
-    → RanFrom turns first after a c
-from_same {turns} {first} {before} {after} {a} {b} {c} ran same keeper =
-    subst (λ (v : Desk). RanFrom turns first v a c) (sym same)
-    (record {
-      run = record {
-        each = λ x told.
-            let g = ran.run.each x told in
-            record {
-              value = g.value;
-              told = keeper.tables g.value g.told;
-              fits = record {
-                holds = λ agree. let half = g.fits.holds agree in (
-                  lasts_stay b.opened c.opened b.doubt c.doubt a.doubt a.moment (state_of x first.held) turns b.moment c.moment (state_of g.value before.held) half.0
-                      (only_reads b c keeper.quiet.still),
-                  half.1,
-                );
-              };
-            };
-      };
-      past = λ m u early opened. ran.past m u early (keeper.quiet.still.past m u (omega (arith, early, ran.later)) opened);
-      later = omega (arith, ran.later, keeper.quiet.still.later);
-      fits = then_stays ran.fits (unasked_stays keeper);
-      keeper = keeper_same turns a b c ran.keeper keeper;
-      tell = ran.tell;
-    })
 
 pub wrote_more : {x y : List ℕ} {a b c : SinkSeen} → WroteText x a b → Wrote y b c → WroteText (x ++ y) a c
 wrote_more {x} {y} p q = record {

@@ -7,7 +7,7 @@ use off_base::read_number;
 use off_defs::ImportKind;
 
 /// The words of `import`, read.
-#[derive(Clone, Copy, Debug)]
+#[derive(Clone, Copy)]
 pub struct ImportForm<'a> {
     pub store: &'a str,
     pub kind: ImportKind,

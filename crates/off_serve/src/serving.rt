@@ -16,7 +16,7 @@ use off_table_jobs::stay_closed;
 use std::alloc::Global;
 
 /// Why `serve` stopped.
-#[derive(Clone, Copy, Debug)]
+#[derive(Clone, Copy)]
 pub enum Stop {
     /// All turns were taken, or an End came.
     Finished,

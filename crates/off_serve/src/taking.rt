@@ -8,7 +8,7 @@ use std::alloc::Global;
 const MOST_MISSED: u32 = 16;
 
 /// What came of the tries to take an event.
-#[derive(Debug, Drop)]
+#[derive(Drop)]
 pub enum Taken {
     Took(Event),
     Memory,

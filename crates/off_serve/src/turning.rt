@@ -10,7 +10,7 @@ use off_outside::{Event, Failed, Keeper, Link, Replies, Sink, What};
 use std::alloc::Global;
 
 /// What came of one turn.
-#[derive(Clone, Copy, Debug)]
+#[derive(Clone, Copy)]
 pub enum Turned {
     /// An event was taken, and there may be more.
     Went,

@@ -14,14 +14,14 @@ pub const MOST_TURNS: u64 = 1_000_000_000_000_000;
 
 /// What the words ask main to make: the store, and the ports of DHCP, time, TFTP and HTTP in this
 /// order.
-#[derive(Clone, Copy, Debug)]
+#[derive(Clone, Copy)]
 pub struct Wanted<'a> {
     pub store: &'a str,
     pub ports: [u16; 4],
 }
 
 /// The words of `serve`, read.
-#[derive(Clone, Copy, Debug)]
+#[derive(Clone, Copy)]
 pub struct Form<'a> {
     pub store: &'a str,
     pub ports: [u16; 4],

@@ -62,8 +62,8 @@ fn settings_stand(row: &Row) -> bool
     ensures { IsTrue result ↔ SettingsStand row.now }
 {
     match row {
-        Row::AddOn(settings) => stand(settings),
-        Row::Class(class) => stand(&class.settings),
+        Row::AddOn(settings) => stand(settings.as_settings()),
+        Row::Class(class) => stand(class.settings.as_settings()),
         Row::Site(_) => true,
         Row::Subscriber(_) => true,
         Row::Modem(_) => true,

@@ -6,7 +6,7 @@ use off_outside::KeepErr;
 use sqlite::{Error, ErrorCode};
 
 /// Why a statement gave nothing.
-#[derive(Clone, Copy, Debug, PartialEq, Eq)]
+#[derive(Clone, Copy, PartialEq, Eq)]
 pub(crate) enum Refused {
     /// Memory was wanted, and refused.
     Memory,

@@ -27,7 +27,7 @@ const CACHED_PAGES: usize = 20_000;
 const MODE: u32 = 0o600;
 
 /// Why there is no store.
-#[derive(Clone, Copy, Debug, PartialEq, Eq)]
+#[derive(Clone, Copy, PartialEq, Eq)]
 pub enum StoreErr {
     /// Memory was wanted, and refused.
     Memory,

@@ -27,7 +27,7 @@ use off_transfer_rules::TftpWord;
 use std::alloc::Global;
 
 /// What an acknowledgement comes to, before anything is read for the peer.
-#[derive(Clone, Copy, Debug, PartialEq, Eq)]
+#[derive(Clone, Copy, PartialEq, Eq)]
 pub(crate) enum Stage {
     /// There is no transfer.
     Unknown,

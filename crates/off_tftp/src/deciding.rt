@@ -58,7 +58,7 @@ pub(crate) fn packet_to(to: Peer, bytes: Bytes) -> Sent
 }
 
 /// Why a datagram is refused.
-#[derive(Clone, Copy, Debug, PartialEq, Eq)]
+#[derive(Clone, Copy, PartialEq, Eq)]
 pub(crate) enum Refusal {
     /// It's no packet that is read, or of a kind that isn't served.
     Form,

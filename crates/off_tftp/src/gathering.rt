@@ -19,7 +19,7 @@ use crate::bodies::kept_or_built;
 use crate::judging::names_file;
 use crate::requests::Request;
 use off_base::{Ip4, Mac, Settings};
-use off_defs::{ADD_ONS, Class, Lease, Modem, Site, Subscriber};
+use off_defs::{ADD_ONS, Class, Lease, Modem, SharedSettings, Site, Subscriber};
 use off_files::{AddOns, profile_of};
 use off_kept::{Kept, KeptBody};
 use off_outside::{KeepErr, Keeper};
@@ -175,7 +175,7 @@ fn profile_from(
     let Some(class) = class else {
         return Ok(None);
     };
-    let profile = profile_of(alloc, who, &class.settings, add_ons)?;
+    let profile = profile_of(alloc, who, class.settings.as_settings(), add_ons)?;
     Ok(Some(profile))
 }
 
@@ -199,7 +199,7 @@ fn read_add_ons<K: Keeper>(
 }
 
 // Appends an add-on, if it's there.
-fn push_some(number: u8, settings: Option<Settings>, out: &mut AddOns) -> Result<(), KeepErr>
+fn push_some(number: u8, settings: Option<SharedSettings>, out: &mut AddOns) -> Result<(), KeepErr>
     ensures { MatchResult result (λ _. out.new ≡ with_add_on out.old number settings)
         (λ err. err ≡ Memory) }
 {

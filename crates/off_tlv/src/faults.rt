@@ -1,6 +1,6 @@
 /// Why a file spells no settings: its first fault in the order of reading. Places count bytes from
 /// 0.
-#[derive(Clone, Copy, Debug, PartialEq, Eq)]
+#[derive(Clone, Copy, PartialEq, Eq)]
 pub enum ReadFault {
     /// The setting whose code stands here passes the end of the file, or of its group; its length
     /// byte may be missing.
@@ -14,7 +14,7 @@ pub enum ReadFault {
 }
 
 /// Why settings weren't read.
-#[derive(Clone, Copy, Debug, PartialEq, Eq)]
+#[derive(Clone, Copy, PartialEq, Eq)]
 pub enum FileErr {
     /// The file has this fault.
     Read(ReadFault),

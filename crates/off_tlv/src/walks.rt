@@ -7,7 +7,7 @@ use std::marker::Model;
 
 /// A setting as it stands in the bytes that a walk goes over: its code, its value, and the place of
 /// its code.
-#[derive(Clone, Copy, Debug)]
+#[derive(Clone, Copy)]
 pub struct Tlv<'a> {
     pub code: u8,
     pub value: &'a [u8],

@@ -1,5 +1,5 @@
 /// What became of a TFTP datagram.
-#[derive(Clone, Copy, Debug, PartialEq, Eq)]
+#[derive(Clone, Copy, PartialEq, Eq)]
 pub enum TftpWord {
     /// It is no packet that the office reads, or of a kind that it doesn't know.
     Form,

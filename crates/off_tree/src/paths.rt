@@ -3,7 +3,7 @@ ghost use Rattle.off_tree.specs.Place.{below};
 
 /// Where a setting stands: its code and those of the groups around it, from the outermost on. Codes
 /// that aren't used are 0.
-#[derive(Clone, Copy, Debug, PartialEq, Eq)]
+#[derive(Clone, Copy, PartialEq, Eq)]
 pub struct Path {
     /// How many codes there are.
     pub depth: u8,
@@ -13,7 +13,7 @@ pub struct Path {
 }
 
 /// The first broken rule of a class's or an add-on's settings.
-#[derive(Clone, Copy, Debug, PartialEq, Eq)]
+#[derive(Clone, Copy, PartialEq, Eq)]
 pub enum TreeFault {
     /// No setting of this code may stand here, or it's a group in place of a leaf or the other way
     /// round.

@@ -5,7 +5,7 @@ ghost use Rattle.off_tree.specs.Table.{table_of, rule_of, rule_with, level_insid
 ghost use Rattle.off_tree.specs.Table.{is_single, is_needed};
 
 /// How often a setting stands among its neighbours.
-#[derive(Clone, Copy, Debug, PartialEq, Eq)]
+#[derive(Clone, Copy, PartialEq, Eq)]
 pub enum Times {
     Any,
     AtMostOnce,
@@ -14,7 +14,7 @@ pub enum Times {
 }
 
 /// What a value has to be.
-#[derive(Clone, Copy, Debug, PartialEq, Eq)]
+#[derive(Clone, Copy, PartialEq, Eq)]
 pub enum Range {
     Any,
     /// A number of one or two bytes, big-endian, with both bounds in the range.
@@ -24,7 +24,7 @@ pub enum Range {
 }
 
 /// A leaf with the bounds of its value's length, or a group.
-#[derive(Clone, Copy, Debug, PartialEq, Eq)]
+#[derive(Clone, Copy, PartialEq, Eq)]
 pub enum Form {
     Leaf {
         shortest: u8,
@@ -35,7 +35,7 @@ pub enum Form {
 }
 
 /// A line of a table.
-#[derive(Clone, Copy, Debug, PartialEq, Eq)]
+#[derive(Clone, Copy, PartialEq, Eq)]
 pub struct Rule {
     pub code: u8,
     pub times: Times,
@@ -43,14 +43,14 @@ pub struct Rule {
 }
 
 // Whose settings they are.
-#[derive(Clone, Copy, Debug, PartialEq, Eq)]
+#[derive(Clone, Copy, PartialEq, Eq)]
 pub enum Kind {
     Class,
     AddOn,
 }
 
 // Where a list of settings stands.
-#[derive(Clone, Copy, Debug, PartialEq, Eq)]
+#[derive(Clone, Copy, PartialEq, Eq)]
 pub enum Level {
     Top(Kind),
     Classifier(Kind),

@@ -2,7 +2,7 @@ use script_words::{Line, Unread};
 use std::alloc::Global;
 
 /// An object whose calls may be made to fail.
-#[derive(Clone, Copy, Debug, PartialEq, Eq)]
+#[derive(Clone, Copy, PartialEq, Eq)]
 pub enum Part {
     Link,
     Source,

@@ -34,10 +34,13 @@ fn an_impossible_row_is_none(rt: HostRuntime) -> Result<(), Fail> {
             Answer::Done(1),
         ),
     ] {
-        assert_eq!(rt; answers(alloc, &mut keeper, &counts, row)?, wanted, "{row}");
+        assert!(rt;
+            answers(alloc, &mut keeper, &counts, row)? == wanted,
+            "{row}"
+        );
     }
     let shown = answered(alloc, &mut keeper, &counts, &Command::Show(Key::Class(1)));
-    assert_eq!(rt; shown, Answer::Refused(Rule::NoRow));
+    assert!(rt; shown == Answer::Refused(Rule::NoRow));
     Ok(())
 }
 

@@ -26,7 +26,7 @@ pool 1 10.64.0.10 10.64.0.99 24 10.64.0.1 10.64.0.1";
 
 /// What a command is answered: with how many writes it is done, that it shows a row, or the rule
 /// that refuses it.
-#[derive(Clone, Copy, Debug, PartialEq, Eq)]
+#[derive(Clone, Copy, PartialEq, Eq)]
 pub(crate) enum Answer {
     Done(usize),
     Shown,

@@ -1,7 +1,7 @@
 //! A modem's file, block by block, with its bytes as another program gives them.
 
 use off_base::{Bytes, Ip4, Moment, NoMemory, Secret, Settings, Short};
-use off_defs::Subscriber;
+use off_defs::{SharedSettings, Subscriber};
 use off_files::{AddOns, Body, FileTail, block, profile_of, tail};
 use off_tlv::{read_settings, spelled_len};
 use std::alloc::Global;
@@ -156,7 +156,7 @@ fn gold(alloc: Global, active: bool, has_add_on: bool) -> Result<Made, NoMemory>
         add_ons: AddOns::new(alloc),
     };
     if has_add_on {
-        made.add_ons.push(0, settings_in(alloc, ADD_ON)?)?;
+        made.add_ons.push(0, SharedSettings::new(alloc, settings_in(alloc, ADD_ON)?)?)?;
     }
     Ok(made)
 }

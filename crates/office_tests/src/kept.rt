@@ -1,5 +1,5 @@
 use off_base::{Ip4, Mac, Moment, NoMemory, Setting, Settings};
-use off_defs::{Hold, Key, Lease, Row, Write, Writes};
+use off_defs::{Hold, Key, Lease, Row, SharedSettings, Write, Writes};
 use off_keepmem::MemKeeper;
 use off_outside::{Calls, KeepErr, Keeper};
 use std::alloc::Global;
@@ -39,6 +39,7 @@ fn next_writes(alloc: Global) -> Result<Writes, NoMemory> {
     writes.push(Write::Put(HELD, Row::Held(Ip4(0x0a40_000a))))?;
     writes.push(Write::Put(LEASED, lease(2)))?;
     writes.push(Write::Drop(Key::Hub(0)))?;
+    let settings = SharedSettings::new(alloc, settings)?;
     writes.push(Write::Put(ADD_ON, Row::AddOn(settings)))?;
     Ok(writes)
 }

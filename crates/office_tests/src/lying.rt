@@ -41,7 +41,7 @@ fn fresh_stray(step: u64) -> Silent<Stray> {
 fn a_walk_over_entries_that_do_not_rise_ends(rt: HostRuntime) -> Result<(), Fail> {
     for step in [0, 1] {
         let mut keeper = fresh_stray(step);
-        assert_eq!(rt; first_bad(rt.alloc(), &mut keeper)?, None);
+        assert!(rt; first_bad(rt.alloc(), &mut keeper)?.is_none());
         assert_eq!(rt; keeper.calls, 2);
         assert_eq!(rt; count_rows(rt.alloc(), &mut keeper)?.batches, 1);
         assert_eq!(rt; keeper.calls, 4);

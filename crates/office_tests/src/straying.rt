@@ -93,6 +93,6 @@ fn word_over(alloc: Global, keeper: &mut Silent<Stray>) -> Result<(DhcpWord, u64
 fn an_impossible_row_gives_no_lease(rt: HostRuntime) -> Result<(), Fail> {
     let mut keeper = unasked(Stray { number: 9 });
     let expected = (DhcpWord::NoRelayPool, 6);
-    assert_eq!(rt; word_over(rt.alloc(), &mut keeper), Ok(expected));
+    assert!(rt; word_over(rt.alloc(), &mut keeper) == Ok(expected));
     Ok(())
 }

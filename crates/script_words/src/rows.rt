@@ -2,8 +2,8 @@ use crate::line::{Line, Unread};
 use crate::trees::read_settings_of;
 use off_base::{Bytes, Ip4, Secret};
 use off_defs::{
-    Batch, Class, DeviceHold, DeviceLease, Hold, ImportKind, Key, Lease, Modem, Pool, Row, Site,
-    Subscriber,
+    Batch, Class, DeviceHold, DeviceLease, Hold, ImportKind, Key, Lease, Modem, Pool, Row,
+    SharedSettings, Site, Subscriber,
 };
 use std::alloc::Global;
 
@@ -32,7 +32,10 @@ pub fn read_row(alloc: Global, key: Key, line: &mut Line<'_>) -> Result<Row, Unr
     match key {
         Key::Site => Ok(Row::Site(site(alloc, line)?)),
         Key::Subscriber(_) => Ok(Row::Subscriber(subscriber(alloc, line)?)),
-        Key::AddOn(_, _) => Ok(Row::AddOn(read_settings_of(alloc, line)?)),
+        Key::AddOn(_, _) => Ok(Row::AddOn(SharedSettings::new(
+            alloc,
+            read_settings_of(alloc, line)?,
+        )?)),
         Key::Modem(_) => Ok(Row::Modem(modem(alloc, line)?)),
         Key::Class(_) => Ok(Row::Class(class(alloc, line)?)),
         Key::Pool(_) => Ok(Row::Pool(pool(line)?)),
@@ -89,7 +92,7 @@ fn class(alloc: Global, line: &mut Line<'_>) -> Result<Class, Unread> {
     let name = line.short(alloc)?;
     Ok(Class {
         name,
-        settings: read_settings_of(alloc, line)?,
+        settings: SharedSettings::new(alloc, read_settings_of(alloc, line)?)?,
     })
 }
 

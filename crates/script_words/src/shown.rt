@@ -18,7 +18,7 @@ pub fn show_row(page: &mut Page, key: &Key, row: &Row) -> Result<(), NoMemory> {
     match row {
         Row::Site(site) => show_site(page, site),
         Row::Subscriber(subscriber) => show_subscriber(page, subscriber),
-        Row::AddOn(settings) => show_settings(page, settings),
+        Row::AddOn(settings) => show_settings(page, settings.as_settings()),
         Row::Modem(modem) => show_modem(page, modem),
         Row::Class(class) => show_class(page, class),
         Row::Pool(pool) => show_pool(page, pool),
@@ -39,7 +39,7 @@ pub fn show_seen(page: &mut Page, key: &Key, row: &ShownRow) -> Result<(), NoMem
     match row {
         ShownRow::Site(site) => show_site(page, site),
         ShownRow::Subscriber(subscriber) => show_subscriber(page, subscriber),
-        ShownRow::AddOn(settings) => show_settings(page, settings),
+        ShownRow::AddOn(settings) => show_settings(page, settings.as_settings()),
         ShownRow::Modem(modem) => show_modem(page, modem),
         ShownRow::Class(class) => show_class(page, class),
         ShownRow::Pool(pool) => show_pool(page, pool),
@@ -95,7 +95,7 @@ fn show_modem(page: &mut Page, modem: &Modem) -> Result<(), NoMemory> {
 
 fn show_class(page: &mut Page, class: &Class) -> Result<(), NoMemory> {
     named(page, class.name.as_slice())?;
-    show_settings(page, &class.settings)
+    show_settings(page, class.settings.as_settings())
 }
 
 fn show_pool(page: &mut Page, pool: &Pool) -> Result<(), NoMemory> {
