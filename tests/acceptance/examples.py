@@ -1,5 +1,5 @@
 #!/usr/bin/env python3
-"""Checks that the scripts of examples, and what is expected of them, are what their generators write."""
+"""Checks that the script of examples, and what is expected of it, are what their generator writes."""
 import os
 import subprocess
 import sys
@@ -8,11 +8,9 @@ FOLDER = os.path.join(os.path.dirname(os.path.dirname(os.path.abspath(__file__))
 
 
 def main():
-    failed = 0
-    for name in ("office.py", "formats.py", "clerks.py"):
-        failed += subprocess.run([sys.executable, "-B", os.path.join(FOLDER, name), "check"], timeout=120).returncode != 0
-    print(f"acceptance: {failed} failed")
-    return 1 if failed else 0
+    failed = subprocess.run([sys.executable, "-B", os.path.join(FOLDER, "office.py"), "check"], timeout=120).returncode != 0
+    print(f"acceptance: {int(failed)} failed")
+    return int(failed)
 
 
 if __name__ == "__main__":

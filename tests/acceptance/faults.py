@@ -13,7 +13,7 @@ from harness import ROOT, check, failures, text_of
 
 CRATES = os.path.join(ROOT, "crates")
 # These run examples, and are no part of the office.
-ASIDE = {"office_script", "format_script", "clerk_script", "office_stage", "script_words", "office_tests", "lease_tests", "plain_leases",
+ASIDE = {"office_script", "format_questions", "clerk_questions", "office_stage", "script_words", "office_tests", "lease_tests", "plain_leases",
          "journal_tests", "host_tests"}
 # What the standard library names as an error.
 FOREIGN = {"Error"}

@@ -25,10 +25,9 @@ SHOWN = b'{"lease":86400,"log":"0.0.0.0","offset":3600,"server":"10.0.0.2"}'
 FAULTS = {word: b'{"at":"secret","fault":"%s"}' % word.encode() for word in ("field", "value")}
 # A line of the documents and examples that gives the secret to the office, to a modem, or to `seal` and `check`.
 GIVES = re.compile(r'PUT http\S+/(site|hubs/\d+) |--secret |^ *HEX=|`HEX=|"secret": "|\b(seal|check) 736563726574')
-# Where the examples' own programs print a hub's row, which clerks put, and that of the site of earlier days: after a run, as a command that was read or its
+# Where the examples' own program prints a hub's row, which clerks put, and that of the site of earlier days: after a run, as a command that was read or its
 # answer, and as the bytes of the row.
-ROW = r"row (hub \d+|site) "
-PRINTED = {"office_script": ROW, "clerk_script": r"(put|shown) hub \d+ ", "format_script": r"(hub \d+|site) "}
+PRINTED = r"((row |put |shown )?hub \d+|(row )?site) "
 
 
 # ---- the search itself
@@ -132,20 +131,19 @@ def refused_at_the_start(store):
 
 # ---- what is written down
 
-def expected(crate):
-    """What one of the programs that run examples prints, without the lines of its script that it repeats."""
-    given = set(text_of("crates", crate, "stdin").splitlines())
-    return [line for line in text_of("crates", crate, "stdout").splitlines() if line not in given and not line.startswith(("section ", "run ", "again "))]
+def expected():
+    """What the program that runs examples prints, without the lines of its script that it repeats."""
+    given = set(text_of("crates", "office_script", "stdin").splitlines())
+    return [line for line in text_of("crates", "office_script", "stdout").splitlines() if line not in given and not line.startswith(("section ", "run ", "again "))]
 
 
 def in_examples():
-    for crate, printed in PRINTED.items():
-        lines = expected(crate)
-        having = [line for line in lines if found_in(line.encode(), all_forms())]
-        check(having and all(re.match(printed, line) for line in having), f"{crate} prints it with a hub's row alone: {having[:3]}")
-        for line in lines:
-            name = line.encode().replace(FAULTS["field"], b"").replace(FAULTS["value"], b"")
-            check(EXAMPLE not in name, f"{crate}: its text stands as the name of the field alone: {line}")
+    lines = expected()
+    having = [line for line in lines if found_in(line.encode(), all_forms())]
+    check(having and all(re.match(PRINTED, line) for line in having), f"office_script prints it with a hub's row alone: {having[:3]}")
+    for line in lines:
+        name = line.encode().replace(FAULTS["field"], b"").replace(FAULTS["value"], b"")
+        check(EXAMPLE not in name, f"its text stands as the name of the field alone: {line}")
 
 
 def pages():

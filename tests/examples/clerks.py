@@ -1,14 +1,12 @@
-#!/usr/bin/env python3
-"""Writes crates/clerk_script/stdin and stdout: questions on what clerks ask, and their answers.
+"""Questions on what clerks ask, and their answers.
 
-The answers are said here by hand, from the tables of docs/CLERK_API.md, or computed by Python's csv, hashlib, json, ipaddress and re. With the word `check`
-it compares the two files with what it would write.
+The answers are said here by hand, from the tables of docs/CLERK_API.md, or computed by Python's csv, hashlib, json, ipaddress and re.
+office.py writes them into its script.
 """
 import hashlib
 import ipaddress
 import json
 import re
-import sys
 from itertools import accumulate
 
 from examples import Script, compact, escaped, quoted, reply
@@ -653,7 +651,8 @@ def device_pools():
     done(f"remove modem {MODEM}", [f"drop modem {MODEM}"], (1, 0, 0, 1, 1, 0, 1, 1), f"{DEVICES}; {live}")
 
 
-def main():
+def questions():
+    """The questions, and what is expected of each."""
     sessions()
     paths()
     bodies()
@@ -663,8 +662,4 @@ def main():
     tables()
     decisions()
     device_pools()
-    return script.write("clerk_script")
-
-
-if __name__ == "__main__":
-    sys.exit(main())
+    return script

@@ -1,14 +1,12 @@
-#!/usr/bin/env python3
-"""Writes crates/format_script/stdin and stdout: questions on formats, and their answers.
+"""Questions on formats, and their answers.
 
 The answers are said here by hand, from the standards' tables, or computed by Python's csv, hashlib, hmac, ipaddress and re and the readers of
-examples.py, which are written from the standards. With the word `check` it compares the two files with what it would write.
+examples.py, which are written from the standards. office.py writes them into its script.
 """
 import hashlib
 import hmac
 import ipaddress
 import re
-import sys
 
 from examples import GROUPS, Fault, Script, covered, escaped, hexed, ip, quoted, read_file, sealed, spelled, verdict
 from imports import HEADERS, MARK, MOST_ROWS, ImportFault, rows_of
@@ -511,7 +509,8 @@ def queries():
         ask(f"query {whole.hex()} {length - len(whole)}* 00", answer)
 
 
-def main():
+def questions():
+    """The questions, and what is expected of each."""
     texts()
     files()
     checks()
@@ -520,8 +519,4 @@ def main():
     imports()
     messages()
     queries()
-    return script.write("format_script")
-
-
-if __name__ == "__main__":
-    sys.exit(main())
+    return script

@@ -1,11 +1,12 @@
 #!/usr/bin/env python3
-"""Writes crates/office_script/stdin and stdout: examples of whole runs, and what is expected of each.
+"""Writes crates/office_script/stdin and stdout: examples of whole runs, and questions, with what is expected of each.
 
 The office of the worked examples is hub 0, class 1, subscriber 7, a modem and a pool. What is expected is said here by hand, from the rules
 in docs/, or computed by Python's hashlib, hmac and json and the readers of examples.py, which are written from the standards. The sections on
 DHCP are those of leases.py, those on devices behind modems of devices.py and devices_by_chance.py, those on TFTP of transfers.py, those on whole boots
 of boots.py, those on imports of import_job.py, those on drills of drills.py, those on calls that fail of failures.py, those on input from strangers of
-hostile.py, and those on cells of stores.py, which names what keeps the tables of each. With the word `check` it compares the two files with what it would write.
+hostile.py, and those on cells of stores.py, which names what keeps the tables of each. The questions are those of formats.py and
+clerks.py. With the word `check` it compares the two files with what it would write.
 """
 import sys
 
@@ -19,7 +20,9 @@ import import_job
 import leases
 import stores
 import transfers
+from clerks import questions as clerk_questions
 from examples import T, Fault, Script, answer, answered, compact, datagram, fixed, ip, outcome, request, sealed, time_reply, verdict
+from formats import questions as format_questions
 
 SECRET = "736563726574"
 FIRST = 0x0A40000A
@@ -943,6 +946,9 @@ def main():
     hostile.sections(script, OFFICE)
     stores.sections(script)
     script.script = stores.name_keepers(script.script)
+    for name, questions in (("formats", format_questions()), ("clerks", clerk_questions())):
+        script.script += ["", f"over {name}", *questions.script]
+        script.expected += questions.expected
     return script.write("office_script")
 
 

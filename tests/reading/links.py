@@ -16,7 +16,7 @@ import sys
 from definitions import ROOT
 
 CONTRACTS, ALLOCATING = ROOT / "docs" / "CONTRACTS.md", ROOT / "docs" / "ALLOCATING.md"
-SCRIPTS = {"O": "office_script", "F": "format_script", "C": "clerk_script"}
+SCRIPT = "office_script"
 LINK = re.compile(r"\[(?:[^\[\]]|\[[^\]]*\])*\]\(([^()\s]+)\)")
 CALL_LINK = re.compile(r"\[(`[^`]+`)\]\(([^)]+)\)")
 OWNER = re.compile(r"(?:impl(?:<.*?>)? (?:[\w:]+(?:<.*>)? for )?|pub trait )(\w+)")
@@ -183,16 +183,14 @@ def lost_calls():
 
 def lost_examples():
     """The examples that the page names and no script has. A name that ends with two points is a beginning."""
-    sections = {}
-    for letter, crate in SCRIPTS.items():
-        text = (ROOT / "crates" / crate / "stdin").read_text(encoding="utf8")
-        sections[letter] = re.findall(r"^section (.*)$", text, re.MULTILINE)
+    text = (ROOT / "crates" / SCRIPT / "stdin").read_text(encoding="utf8")
+    sections = re.findall(r"^section (.*)$", text, re.MULTILINE)
     for number, line in enumerate(lines_of(ALLOCATING), 1):
-        for letter, names in re.findall(r'\b([OFC]) ((?:"[^"]+"(?:, )?)+)', line):
+        for names in re.findall(r'\bO ((?:"[^"]+"(?:, )?)+)', line):
             for name in re.findall(r'"([^"]+)"', names):
                 front = name.removesuffix("..").rstrip()
-                if not any(section == name or (front != name and section.startswith(front)) for section in sections[letter]):
-                    yield f'docs/ALLOCATING.md:{number}: crates/{SCRIPTS[letter]}/stdin has no section "{name}"'
+                if not any(section == name or (front != name and section.startswith(front)) for section in sections):
+                    yield f'docs/ALLOCATING.md:{number}: crates/{SCRIPT}/stdin has no section "{name}"'
 
 
 def main():

@@ -1,12 +1,15 @@
-//! Runs examples that are data: each section of the script on standard input is served by
-//! `off_serve::run` over objects in memory, and what comes of it is printed.
+//! Plays examples that are data, from the script on standard input. A line `over NAME ..` begins a
+//! part of it.
 //!
-//! A line `over KEEPER ..` begins a part of the script and names what keeps the tables of its runs:
+//! Over a keeper each section is served by `off_serve::run` over objects in memory, and what comes
+//! of it is printed. The names say what keeps the tables of its runs:
 //! `memory`; `cells` in memory, where calls can be made to fail; a table of a `database` in memory;
 //! a `journal` on a disk in memory. What comes of a part over the first keeper is printed, and what
 //! comes of it over another where that is something else. Over `crashes`, a journal on a disk whose
 //! calls fail, each image that a crash may leave is opened behind each commit: nothing is printed
-//! where each has what was committed. The lines before the first part are shared by all.
+//! where each has what was committed. The lines before the first part are shared by all of these.
+//!
+//! Over `formats` or `clerks` each line is a question, and its answer is printed behind it.
 //!
 //! `tests/examples/README.md` says how a script is written. The text that is expected is the file
 //! `stdout`, which comes from worked examples, public vectors and `tests/examples/office.py`, and
@@ -21,9 +24,11 @@ mod watched;
 use crate::counted::{InCells, InDatabase, InJournal};
 use crate::script::{Part, is_whole, parts_of};
 use crate::watched::InWatched;
+use clerk_questions::Clerks;
+use format_questions::Formats;
 use off_keepmem::MemKeeper;
 use office_stage::{Kept, Stage};
-use script_words::{Page, Unread};
+use script_words::{Page, Unread, answer_all};
 use std::alloc::Global;
 use std::io;
 use std::io::{Read, Write};
@@ -92,9 +97,9 @@ fn compare(
     Ok(())
 }
 
-// Prints what comes of a part over each of its keepers.
-fn show_part(alloc: Global, page: &mut Page, part: &Part<'_>) -> Result<(), Unread> {
-    let mut keepers = part.keepers.split(|byte| *byte == b' ');
+// Prints what comes of a part's runs over each of its keepers.
+fn show_runs(alloc: Global, page: &mut Page, part: &Part<'_>) -> Result<(), Unread> {
+    let mut keepers = part.over.split(|byte| *byte == b' ');
     let Some(first) = keepers.next() else {
         return Err(Unread::Words);
     };
@@ -106,20 +111,27 @@ fn show_part(alloc: Global, page: &mut Page, part: &Part<'_>) -> Result<(), Unre
     Ok(())
 }
 
-// What comes of all parts, which stand behind the lines that they share.
-fn told(alloc: Global, script: &[u8]) -> Result<Page, Unread> {
-    let mut page = Page::new(alloc);
+fn show_part(alloc: Global, page: &mut Page, part: &Part<'_>) -> Result<(), Unread> {
+    match part.over {
+        b"formats" => answer_all(alloc, &Formats, page, part.lines),
+        b"clerks" => answer_all(alloc, &Clerks, page, part.lines),
+        _ => show_runs(alloc, page, part),
+    }
+}
+
+// Prints what comes of all parts, which stand behind the lines that they share.
+fn show(alloc: Global, page: &mut Page, script: &[u8]) -> Result<(), Unread> {
     let (shared, parts) = parts_of(script)?;
     let mut rest = parts;
     for _ in 0..script.len() {
         let (part, others) = Part::first_of(shared, rest)?;
-        show_part(alloc, &mut page, &part)?;
+        show_part(alloc, page, &part)?;
         match others {
             Some(parts) => rest = parts,
-            None => return Ok(page),
+            None => return Ok(()),
         }
     }
-    Ok(page)
+    Ok(())
 }
 
 fn main(rt: HostRuntime) -> ExitCode {
@@ -127,9 +139,8 @@ fn main(rt: HostRuntime) -> ExitCode {
     if rt.reader().read_to_end(&mut script).is_err() {
         return ExitCode::from(2);
     }
-    let Ok(page) = told(rt.alloc(), script.as_slice()) else {
-        return ExitCode::from(1);
-    };
+    let mut page = Page::new(rt.alloc());
+    let shown = show(rt.alloc(), &mut page, script.as_slice());
     let printed = io::writer(&rt).write_all(page.as_slice());
-    ExitCode::from(u8::from(printed.is_err()))
+    ExitCode::from(u8::from(shown.is_err() || printed.is_err()))
 }

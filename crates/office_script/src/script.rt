@@ -3,10 +3,10 @@ use script_words::Unread;
 /// A part of a script.
 #[derive(Clone, Copy)]
 pub struct Part<'a> {
-    /// The lines that it shares with the other parts.
+    /// The lines that it shares with the other parts over keepers.
     pub shared: &'a [u8],
-    /// The names of its keepers, a space between two.
-    pub keepers: &'a [u8],
+    /// What its first line names: keepers, a space between two, or what its questions are on.
+    pub over: &'a [u8],
     /// Its own lines.
     pub lines: &'a [u8],
 }
@@ -18,12 +18,12 @@ const OVER: &[u8] = b"\nover ";
 const LOST: &[u8] = b"a crash would leave other rows\n";
 
 impl<'a> Part<'a> {
-    /// The first part of those that begin with the names of their keepers, and the others.
+    /// The first part of those that begin with what they are over, and the others.
     pub fn first_of(
         shared: &'a [u8],
         parts: &'a [u8],
     ) -> Result<(Part<'a>, Option<&'a [u8]>), Unread> {
-        let Some((keepers, rest)) = split_at(parts, b"\n") else {
+        let Some((over, rest)) = split_at(parts, b"\n") else {
             return Err(Unread::Words);
         };
         let (lines, others) = match split_at(rest, OVER) {
@@ -33,7 +33,7 @@ impl<'a> Part<'a> {
         Ok((
             Part {
                 shared,
-                keepers,
+                over,
                 lines,
             },
             others,

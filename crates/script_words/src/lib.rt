@@ -1,7 +1,7 @@
 //! The words of examples that are data: bytes, numbers, keys, rows and settings, read from a line
 //! of a script and printed again; and how a script of questions is answered.
 //!
-//! The programs that read examples (`office_script`, `format_script`, `clerk_script`) share it.
+//! What plays examples (`office_stage`, `format_questions`, `clerk_questions`) shares it.
 //! Nothing is promised of it but that it returns: what a script shows stands beside it as the text
 //! that is expected.
 #![tactic(auto)]

@@ -1,10 +1,9 @@
-//! Answers questions on what clerks ask, a line each: HTTP requests and replies, commands and their
-//! JSON texts, faults, and the counts of tables. Each question is printed, and behind it its
-//! answer.
+//! Answers questions of examples on what clerks ask, a line each: HTTP requests and replies,
+//! commands and their JSON texts, faults, and the counts of tables.
 //!
-//! `tests/examples/README.md` says how a question is written. The text that is expected is the file
-//! `stdout`, which comes from the standards' rules, docs/CLERK_API.md and
-//! `tests/examples/clerks.py`, and never from this program.
+//! `tests/examples/README.md` says how a question is written. The text that is expected comes from
+//! the standards' rules, docs/CLERK_API.md and `tests/examples/clerks.py`, and never from what is
+//! answered here.
 #![tactic(auto)]
 
 mod commands;
@@ -13,11 +12,11 @@ mod deciding;
 mod faults;
 mod sessions;
 
-use script_words::{Answers, Line, Page, Unread, answer_all};
+use script_words::{Answers, Line, Page, Unread};
 use std::alloc::Global;
-use std::process::ExitCode;
 
-struct Clerks;
+/// The words of clerks' questions.
+pub struct Clerks;
 
 impl Answers for Clerks {
     fn answer(&self, alloc: Global, page: &mut Page, text: &[u8]) -> Result<(), Unread> {
@@ -38,8 +37,4 @@ impl Answers for Clerks {
             _ => Err(Unread::Words),
         }
     }
-}
-
-fn main(rt: HostRuntime) -> ExitCode {
-    answer_all(&rt, &Clerks)
 }

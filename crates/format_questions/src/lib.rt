@@ -1,10 +1,10 @@
-//! Answers questions on formats, a line each: numbers and addresses, configuration files and their
-//! MICs, trees of settings, keys and rows, imports, DHCP messages and the parts of their options,
-//! relays' queries. Each question is printed, and behind it its answer.
+//! Answers questions of examples on formats, a line each: numbers and addresses, configuration
+//! files and their MICs, trees of settings, keys and rows, imports, DHCP messages and the parts of
+//! their options, relays' queries.
 //!
-//! `tests/examples/README.md` says how a question is written. The text that is expected is the file
-//! `stdout`, which comes from public vectors, the standards' tables and
-//! `tests/examples/formats.py`, and never from this program.
+//! `tests/examples/README.md` says how a question is written. The text that is expected comes from
+//! public vectors, the standards' tables and `tests/examples/formats.py`, and never from what is
+//! answered here.
 #![tactic(auto)]
 
 mod files;
@@ -15,11 +15,11 @@ mod tables;
 mod texts;
 mod trees;
 
-use script_words::{Answers, Line, Page, Unread, answer_all};
+use script_words::{Answers, Line, Page, Unread};
 use std::alloc::Global;
-use std::process::ExitCode;
 
-struct Formats;
+/// The words of questions on formats.
+pub struct Formats;
 
 impl Answers for Formats {
     fn answer(&self, alloc: Global, page: &mut Page, text: &[u8]) -> Result<(), Unread> {
@@ -59,8 +59,4 @@ impl Answers for Formats {
             _ => Err(Unread::Words),
         }
     }
-}
-
-fn main(rt: HostRuntime) -> ExitCode {
-    answer_all(&rt, &Formats)
 }
