@@ -4,8 +4,8 @@
     python3 tests/reading/wrong_bodies.py [CRATE ..]     those of these crates, or of all
 
 It copies what git has of the checkout into a folder of its own, puts tests/wrong_bodies/CRATE/*.edit where the
-toolchain looks for such edits, and lets `rt must-fail` say of each whether the prover refuses it. All of them
-take an hour and more of the processor where nothing is proved yet. It needs `rt` on the PATH, and ends with
+toolchain looks for such edits, and lets `rt must-fail` say of each whether the prover refuses it. What
+stands below a crate is proved first where no check has kept it, which takes much longer than the edits. It needs `rt` on the PATH, and ends with
 its status.
 """
 import glob
