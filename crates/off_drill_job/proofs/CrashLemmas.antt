@@ -37,7 +37,7 @@ use Rattle.off_account_rules.specs.Good.{Good}
 use Rattle.off_account_rules.specs.Migration.{migrated}
 use Rattle.std.specs.Prelude.{IsTrue}
 use Rattle.off_drill_rules.specs.Rows.{begins_at}
-use Rattle.off_table_jobs.specs.Opening.{Would}
+use Rattle.off_office.specs.Closed.{Would}
 use Rattle.off_drill_job.specs.Stepping.{Given, commits_given, commands_of, book_writes, written_in, DoubtGiven, behind, LastsDrill, KeeperDid, KeeperDrilled}
 
 abbrev Opens : Type 1

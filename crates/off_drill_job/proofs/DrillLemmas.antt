@@ -29,9 +29,9 @@ use Rattle.off_jobs.proofs.EndingLemmas.{stands, kept, told_whole, sink_kept, en
 use Rattle.off_office.specs.Opening.{OpensTo}
 use Rattle.off_office.specs.Conditions.{Fits, Opened}
 use Rattle.off_office.proofs.OpeningLemmas.{leaves_opening, doubts_opened, empty_before, empty_stays}
-use Rattle.off_table_jobs.specs.Opening.{SameOrGood}
-use Rattle.off_table_jobs.proofs.ClosedLemmas.{closed_status, closed_kept, closed_same}
-use Rattle.off_table_jobs.proofs.OpeningLemmas.{opens_then}
+use Rattle.off_office.specs.Closed.{SameOrGood}
+use Rattle.off_office.proofs.ClosedLemmas.{closed_status, closed_kept, closed_same}
+use Rattle.off_office.proofs.OpeningLemmas.{opens_then}
 use Rattle.off_office.specs.Desk.{Desk}
 use Rattle.off_office.specs.declared.office.StartErr.TheVariants as start_err
 use Rattle.off_office.proofs.UpLemmas.{up_chain}
@@ -44,17 +44,19 @@ use Rattle.off_drill_laws.proofs.StageLemmas.{same_tally}
 use Rattle.off_drill_laws.proofs.LawLemmas.{drill_law, drill_is_there}
 use Rattle.off_drill_laws.proofs.AlongLemmas.{whole_of, front_of}
 use Rattle.off_drill_job.specs.Stepping.{Given, commands_of, KeeperDid}
-use Rattle.off_drill_job.specs.Founding.{founding, Builds, GaveFront, Halts}
+use Rattle.off_drill_parts.specs.Commands.{founding}
+use Rattle.off_drill_job.specs.Founding.{Builds, GaveFront, Halts}
 use Rattle.off_drill_job.specs.Exercising.{Exercised, Stopped}
-use Rattle.off_drill_job.specs.Tallying.{raised_by}
+use Rattle.off_drill_parts.specs.Tallying.{raised_by}
 use Rattle.off_drill_job.specs.Telling.{drill_end}
 use Rattle.off_drill_job.specs.Drilling.{FindsRows, LeavesDrill, GaveAll, Ends, DoneBy, BrokenBy, GoesOn, Drills}
 use Rattle.off_drill_job.specs.declared.drilling.Ended.{Ended}
 use Rattle.off_drill_job.specs.declared.drilling.Ended.TheVariants.{Closed, NotEmpty, Broken, Done}
-use Rattle.off_drill_job.proofs.CommandLemmas.{no_entries}
+use Rattle.off_drill_parts.proofs.CommandLemmas.{no_entries}
 use Rattle.off_drill_job.proofs.CrashLemmas.{keeper_turns, keeper_opened}
 use Rattle.off_drill_job.proofs.FoundingLemmas.{gave_none}
-use Rattle.off_drill_job.proofs.TurnLemmas.{tried_none, link_unasked, sent_nothing}
+use Rattle.off_drill_job.proofs.TurnLemmas.{tried_none}
+use Rattle.off_drill_job.proofs.LinkLemmas.{link_unasked, sent_nothing}
 
 -- ---- tables without rows
 

@@ -29,9 +29,10 @@ use Rattle.off_office.proofs.MirrorLemmas.{fits_as}
 use Rattle.off_drill_rules.specs.Rows.{begins_at, with_site, with_class, founded, peopled}
 use Rattle.off_drill_rules.specs.Law.{held_behind}
 use Rattle.off_drill_job.specs.Stepping.{Given, commands_of, book_writes, KeeperDid}
-use Rattle.off_drill_job.specs.Founding.{put_hub, put_class, put_pool, put_subscriber, put_modem, settling, peopling, founding, GaveCommand, AllGiven, Builds, GaveFront, Halts, PassesOver}
+use Rattle.off_drill_parts.specs.Commands.{put_hub, put_class, put_pool, put_subscriber, put_modem, settling, peopling, founding}
+use Rattle.off_drill_job.specs.Founding.{GaveCommand, AllGiven, Builds, GaveFront, Halts, PassesOver}
 use Rattle.off_drill_job.proofs.CrashLemmas.{done, commands_append, keeper_none, keeper_given, keeper_commanded, keeper_refused, keeper_lost, undone, undone_not}
-use Rattle.off_drill_job.proofs.CommandLemmas.{with_subscriber, site_step, pool_step, subscriber_step, modem_step}
+use Rattle.off_drill_parts.proofs.CommandLemmas.{with_subscriber, site_step, pool_step, subscriber_step, modem_step}
 
 -- ---- the front of the commands
 

@@ -1,8 +1,7 @@
-pub mod MessageLemmas
-pub mod CommandLemmas
 pub mod CrashLemmas
 pub mod FoundingLemmas
-pub mod TallyLemmas
+pub mod LinkLemmas
 pub mod TurnLemmas
+pub mod ExerciseLemmas
 pub mod ServingLemmas
 pub mod DrillLemmas

@@ -20,7 +20,9 @@ use Rattle.off_drill_laws.specs.Stages.{Stage, Waits, HasOffer, HasLease, Gets, 
 use Rattle.off_drill_laws.proofs.StageLemmas.{waits_moves, offer_moves, lease_moves, GetsMoves, one_block, the_end, gets_moves}
 use Rattle.off_drill_job.specs.Exercising.{TookTurn, LosesTurn, Exercised, Stopped}
 use Rattle.off_drill_job.proofs.CrashLemmas.{keeper_none}
-use Rattle.off_drill_job.proofs.TurnLemmas.{tried_none, link_unasked, exercised_then, exercised_one, exercised_never, exercised_past, stopped_then}
+use Rattle.off_drill_job.proofs.TurnLemmas.{tried_none}
+use Rattle.off_drill_job.proofs.LinkLemmas.{link_unasked}
+use Rattle.off_drill_job.proofs.ExerciseLemmas.{exercised_then, exercised_one, exercised_never, exercised_past, stopped_then}
 
 -- memory was wanted before any event
 pub loses_at_once : (d : Desk) (k : KeeperSeen) (l : LinkSeen) → Rests k → LosesTurn keep.Memory d k k l l

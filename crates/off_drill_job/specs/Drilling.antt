@@ -16,7 +16,7 @@ use Rattle.off_outside.specs.Streams.{SinkSeen}
 use Rattle.off_jobs.specs.Health.{of_keeper, of_sink, NoFault}
 use Rattle.off_jobs.specs.Ending.{JobEnds}
 use Rattle.off_office.specs.Acting.{NotStarted}
-use Rattle.off_table_jobs.specs.Opening.{SameOrGood}
+use Rattle.off_office.specs.Closed.{SameOrGood}
 use Rattle.off_office.specs.Opening.{OpensTo}
 use Rattle.off_office.specs.Conditions.{Fits}
 use Rattle.off_office.specs.Desk.{Desk}
@@ -25,9 +25,10 @@ use Rattle.off_drill_rules.specs.Rows.{drill_tables}
 use Rattle.off_drill_rules.specs.Law.{AllDid, WholeDrill, FrontDrill}
 use Rattle.off_drill_rules.specs.Numbers.{none_yet, tally_by, drill_tally}
 use Rattle.off_drill_job.specs.Stepping.{Given, commands_of, KeeperDid, KeeperDrilled}
-use Rattle.off_drill_job.specs.Founding.{founding, AllGiven, GaveFront}
+use Rattle.off_drill_parts.specs.Commands.{founding}
+use Rattle.off_drill_job.specs.Founding.{AllGiven, GaveFront}
 use Rattle.off_drill_job.specs.Exercising.{SentTurns, TriedOne}
-use Rattle.off_drill_job.specs.Tallying.{raised_by}
+use Rattle.off_drill_parts.specs.Tallying.{raised_by}
 use Rattle.off_drill_job.specs.Telling.{drill_end}
 use Rattle.off_drill_job.specs.declared.drilling.Ended.{Ended}
 use Rattle.off_drill_job.specs.declared.drilling.Ended.TheVariants.{Closed, NotEmpty, Broken, Done}

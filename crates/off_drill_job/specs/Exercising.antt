@@ -22,7 +22,7 @@ use Rattle.off_drill_rules.specs.Law.{AllDid}
 use Rattle.off_drill_rules.specs.Numbers.{tally_of, tally_by}
 use Rattle.off_drill_laws.specs.Stages.{Stage, Waits, Stands, served, Along}
 use Rattle.off_drill_job.specs.Stepping.{KeeperDid}
-use Rattle.off_drill_job.specs.Tallying.{raised_by}
+use Rattle.off_drill_parts.specs.Tallying.{raised_by}
 
 -- what turns did to the link: no event was taken, and each item was sent or is counted
 pub record SentTurns (turns : List Turn) (old new : LinkSeen) : Type 0 where

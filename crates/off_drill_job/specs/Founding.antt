@@ -1,7 +1,6 @@
--- The commands of a drill, and what they do to the tables.
-use Rattle.std.specs.Prelude.{◌≡◌, ◌≢◌, ℕ, zero, suc, ◌+◌, ◌≤◌, List, [], ◌∷◌, ◌++◌, length, All, Result, Ok, Err}
+-- What the commands of a drill do to the tables.
+use Rattle.std.specs.Prelude.{◌≡◌, ◌≢◌, ◌≤◌, List, [], ◌∷◌, ◌++◌, length, All, Result, Ok, Err}
 use Rattle.off_orders.specs.declared.orders.Command.{Command}
-use Rattle.off_orders.specs.declared.orders.Command.TheVariants.{PutHub, PutSubscriber, PutModem, PutClass, PutPool}
 use Rattle.off_defs.specs.declared.writes.Write.{Write}
 use Rattle.off_defs.specs.declared.results.Outcome.TheVariants.{Did}
 use Rattle.off_defs.specs.Counts.{Tallied}
@@ -17,34 +16,8 @@ use Rattle.off_outside.specs.KeeperSeen.{KeeperSeen}
 use Rattle.off_outside.specs.KeeperCalls.{StaysUp, keeper_faults_in}
 use Rattle.off_office.specs.Conditions.{Fits}
 use Rattle.off_office.specs.Desk.{Desk}
-use Rattle.off_drill_rules.specs.Rows.{begins_at, site, class, pool, subscriber, modem, mac}
+use Rattle.off_drill_rules.specs.Rows.{begins_at}
 use Rattle.off_drill_job.specs.Stepping.{Given, commands_of, KeeperDid}
-
-abbrev pub put_hub : Command
-put_hub = PutHub 0 site
-
-abbrev pub put_class : Command
-put_class = PutClass 1 class
-
-abbrev pub put_pool : Command
-put_pool = PutPool 1 pool 0
-
-abbrev pub put_subscriber : ℕ → Command
-put_subscriber i = PutSubscriber i (subscriber i)
-
-abbrev pub put_modem : ℕ → Command
-put_modem i = PutModem (mac i) (modem i)
-
--- the commands of the next modem behind k others, of so many modems, and of a whole office
-abbrev pub settling : ℕ → List Command
-settling k = put_subscriber (k + 1) ∷ put_modem (k + 1) ∷ []
-
-abbrev pub peopling : ℕ → List Command
-peopling zero = []
-peopling (suc k) = peopling k ++ settling k
-
-abbrev pub founding : ℕ → List Command
-founding n = put_hub ∷ put_class ∷ put_pool ∷ peopling n
 
 -- A command was given to the office at the drill's first moment: the tables are those of the book's
 -- step, which are as before where a rule refuses it.

@@ -17,7 +17,7 @@ use Rattle.off_outside.specs.KeeperSeen.{KeeperSeen}
 use Rattle.off_office.specs.Opening.{LeavesOpening, doubt_opened}
 use Rattle.off_office.specs.Conditions.{WhereFit}
 use Rattle.off_office.specs.Desk.{Desk}
-use Rattle.off_table_jobs.specs.Opening.{Would}
+use Rattle.off_office.specs.Closed.{Would}
 use Rattle.off_drill_rules.specs.Rows.{begins_at}
 
 -- A command that the office was given, and what it wrote, in one commit. One that a rule refused is

@@ -1,7 +1,7 @@
 -- How a drill ends.
 use Rattle.std.specs.Prelude.{ℕ, codes}
 use Rattle.off_jobs.specs.Ending.{Ending, ending_of, refused_as, undone_end}
-use Rattle.off_table_jobs.specs.Opening.{closed_end}
+use Rattle.off_office.specs.Closed.{closed_end}
 use Rattle.off_drill_rules.specs.Numbers.{summary}
 use Rattle.off_drill_job.specs.declared.drilling.Ended.{Ended}
 use Rattle.off_drill_job.specs.declared.drilling.Ended.TheVariants.{Closed, NotEmpty, Broken, Done}

@@ -5,8 +5,8 @@ ghost use Rattle.off_drill_job.specs.Drilling.{FindsRows, GoesOn, Ends, Drills};
 
 use crate::exercising::exercise;
 use crate::founding::found;
-use crate::tallying::none_yet;
 use crate::telling::tell_end;
+use off_drill_parts::none_yet;
 use off_drill_rules::Tally;
 use off_office::{Office, StartErr};
 use off_outside::{KeepErr, Keeper, Link, Sink};

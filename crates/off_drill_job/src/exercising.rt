@@ -1,11 +1,10 @@
 ghost use Rattle.std.specs.Prelude.{◌≡◌, ◌≤◌, ◌<◌, ◌+◌, MatchResult};
 ghost use Rattle.off_drill_laws.specs.Stages.{Waits, Gets};
-ghost use Rattle.off_drill_job.specs.Asking.{event_for, hoped_line};
+ghost use Rattle.off_drill_parts.specs.Asking.{event_for, hoped_line};
 ghost use Rattle.off_drill_job.specs.Founding.{Halts};
 ghost use Rattle.off_drill_job.specs.Exercising.{TookTurn, LosesTurn, Exercised, Stopped};
 
-use crate::messages::{Ask, hoped_line, message};
-use crate::tallying::count_said;
+use off_drill_parts::{Ask, count_said, hoped_line, message};
 use off_drill_rules::Tally;
 use off_office::{Office, send_all};
 use off_outside::{Event, KeepErr, Keeper, Link, Outcome, Replies};

@@ -6,12 +6,11 @@ ghost use Rattle.off_order_laws.specs.Laws.{secret_fits};
 ghost use Rattle.off_drill_rules.specs.Rows.{begins_at, with_site, with_class, founded, peopled};
 ghost use Rattle.off_drill_rules.specs.Law.{held_behind};
 ghost use Rattle.off_drill_job.specs.Founding.{GaveCommand, Builds, Halts, PassesOver};
-ghost use Rattle.off_drill_job.specs.Founding.{put_class, settling, peopling, founding};
+ghost use Rattle.off_drill_parts.specs.Commands.{put_class, settling, peopling, founding};
 
-use crate::commands::{put_class, put_hub, put_modem, put_pool, put_subscriber};
-use crate::rows::BEGINS_AT;
 use off_accounts::AccountErr;
 use off_base::Moment;
+use off_drill_parts::{BEGINS_AT, put_class, put_hub, put_modem, put_pool, put_subscriber};
 use off_office::Office;
 use off_orders::Command;
 use off_outside::{KeepErr, Keeper};

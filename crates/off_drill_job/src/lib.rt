@@ -2,13 +2,9 @@
 //! without rows, has so many modems boot in it, one after another, and tells what it counted.
 #![tactic(auto)]
 
-mod commands;
 mod drilling;
 mod exercising;
 mod founding;
-mod messages;
-mod rows;
-mod tallying;
 mod telling;
 
 pub use drilling::{Ended, drill};

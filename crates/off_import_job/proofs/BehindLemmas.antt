@@ -18,7 +18,7 @@ use Rattle.off_office.specs.Answering.{CommandBegins}
 use Rattle.off_office.specs.Conditions.{Opened}
 use Rattle.off_office.specs.Opening.{IsMigrated, OpensTo}
 use Rattle.off_office.proofs.OpeningLemmas.{migrated_by}
-use Rattle.off_table_jobs.specs.Opening.{Would}
+use Rattle.off_office.specs.Closed.{Would}
 use Rattle.off_import_job.specs.Importing.{LostBehind, SettledBoth}
 
 -- what holds of the opened tables is weakened

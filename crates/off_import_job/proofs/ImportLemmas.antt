@@ -41,12 +41,12 @@ use Rattle.off_office.specs.Conditions.{Opened}
 use Rattle.off_office.specs.Opening.{OpensTo}
 use Rattle.off_office.specs.Desk.{Desk}
 use Rattle.off_office.specs.declared.office.StartErr.TheVariants as start_err
-use Rattle.off_table_jobs.specs.Opening.{SameOrGood}
+use Rattle.off_office.specs.Closed.{SameOrGood}
 use Rattle.off_import_job.specs.Telling.{import_end}
 use Rattle.off_import_job.specs.Importing.{ReadAs, NotTaken, DidCommand, CarriesOut, LeftUndone, Ends, Doable, Imports}
 use Rattle.off_import_job.specs.declared.importing.Ended.{Ended}
-use Rattle.off_table_jobs.proofs.ClosedLemmas.{closed_status, closed_kept, closed_same}
-use Rattle.off_table_jobs.proofs.OpeningLemmas.{opens_then}
+use Rattle.off_office.proofs.ClosedLemmas.{closed_status, closed_kept, closed_same}
+use Rattle.off_office.proofs.OpeningLemmas.{opens_then}
 use Rattle.off_import_job.proofs.BehindLemmas.{opens_as, settled_both, lost_behind}
 use Rattle.off_import_job.specs.declared.importing.Ended.TheVariants.{Closed, Unread, NoImport, NotDone, Done}
 

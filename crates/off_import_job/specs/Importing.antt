@@ -30,7 +30,7 @@ use Rattle.off_office.specs.Acting.{NotStarted}
 use Rattle.off_office.specs.Opening.{IsMigrated, OpensTo}
 use Rattle.off_office.specs.Answering.{Commanded, NotCommanded, CountsRows}
 use Rattle.off_office.specs.Desk.{Desk}
-use Rattle.off_table_jobs.specs.Opening.{Would, SameOrGood}
+use Rattle.off_office.specs.Closed.{Would, SameOrGood}
 use Rattle.off_import_job.specs.Telling.{import_end}
 use Rattle.off_import_job.specs.declared.importing.Ended.{Ended}
 use Rattle.off_import_job.specs.declared.importing.Ended.TheVariants.{Closed, Unread, NoImport, NotDone, Done}

@@ -9,7 +9,7 @@ use Rattle.off_import_rules.specs.declared.faults.ImportErr.TheVariants as impor
 use Rattle.off_accounts.specs.declared.results.AccountErr.{AccountErr}
 use Rattle.off_accounts.specs.declared.results.AccountErr.TheVariants as account_err
 use Rattle.off_jobs.specs.Ending.{Ending, ending_of, keeper_refused, memory_refused, refused_as, unread_end}
-use Rattle.off_table_jobs.specs.Opening.{closed_end}
+use Rattle.off_office.specs.Closed.{closed_end}
 use Rattle.off_import_job.specs.declared.importing.Ended.{Ended}
 use Rattle.off_import_job.specs.declared.importing.Ended.TheVariants.{Closed, Unread, NoImport, NotDone, Done}
 

@@ -12,9 +12,9 @@ use off_clerk::fault_word;
 use off_clerk_rules::Fault;
 use off_import::{ImportErr, fault_words};
 use off_jobs::{Line, numbered_line, refused_line, tell, tell_memory, tell_undone, tell_unread};
+use off_office::stay_closed;
 use off_orders::Rule;
 use off_outside::{KeepErr, Sink};
-use off_table_jobs::stay_closed;
 
 /// Tells what became of an import, and answers the status, or 4 where the sink fails.
 pub(crate) fn tell_end<W: Sink>(ended: Ended, out: &mut W) -> u8

@@ -12,3 +12,4 @@ pub mod AgreementLemmas
 pub mod MirrorLemmas
 pub mod OpeningLemmas
 pub mod SettleLemmas
+pub mod ClosedLemmas

@@ -34,7 +34,7 @@ use Rattle.off_outside.specs.declared.keeper.KeepErr.{KeepErr}
 use Rattle.off_outside.specs.declared.keeper.KeepErr.TheVariants as keep
 use Rattle.off_outside.specs.KeeperSeen.{KeeperSeen, Rests}
 use Rattle.off_outside.specs.KeeperCalls.{Reads, NotDone, NotCommitted, Settled, IsWritten, Spent, WasCounted, WalksOnce}
-use Rattle.off_outside.proofs.KeeperLemmas.{reads_then, settled_then, not_begun, not_begun_then, not_committed_as, spent_one, spent_then, spent_within}
+use Rattle.off_outside.proofs.KeeperLemmas.{reads_then, settled_then, not_begun, not_begun_then, not_committed_as, settled_read, spent_one, spent_then, spent_within}
 use Rattle.off_tftp.specs.Agreements.{AllAgreed}
 use Rattle.off_office.proofs.AgreementLemmas.{agreements_stay}
 use Rattle.off_office.specs.Desk.{Desk}
@@ -225,3 +225,18 @@ empty_before t e = empty_if t (row_at t key.Site) e
 pub empty_stays : migrated map.empty ≡ map.empty
 unfolding migrated
 empty_stays = ap (λ (o : Option Row). write_all map.empty (migration_of o)) (map.get-empty key_cmp key.Site)
+
+-- tables that opened are read
+pub opens_then : {P Q R : Tables → Type 0} {a b c : KeeperSeen} → Rests a → OpensTo P a b → Reads Q b c → ((u : Tables) → P u → Q u → R u) → OpensTo R a c
+opens_then rests opened reads join = record {
+  opens = opened.opens;
+  writes = opened.writes;
+  are = opened.are;
+  settled = settled_read rests opened.settled reads;
+  tables = record {
+    each = λ t told.
+        let o = opened.tables.each t told in
+        let read = reads.tables o.value o.told in
+        record { value = o.value; told = read.0; fits = (o.fits.0, join o.value o.fits.1 read.1) };
+  };
+}

@@ -1,5 +1,6 @@
 pub mod Desk
 pub mod Opening
+pub mod Closed
 pub mod Conditions
 pub mod Answering
 pub mod Asking

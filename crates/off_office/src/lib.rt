@@ -3,6 +3,7 @@
 //! (`sending`). An item that doesn't go out is passed over, and counted by the link.
 #![tactic(auto)]
 
+mod closed;
 mod commanding;
 mod messages;
 mod office;
@@ -11,5 +12,6 @@ mod queries;
 mod sending;
 mod transfers;
 
+pub use closed::stay_closed;
 pub use office::{Office, StartErr};
 pub use sending::{send_all, send_one};

@@ -32,17 +32,18 @@ use Rattle.off_outside.specs.Streams.{SinkSeen}
 use Rattle.off_office.specs.Desk.{Desk}
 use Rattle.off_office.specs.Acting.{NotStarted}
 use Rattle.off_office.specs.declared.office.StartErr.{StartErr}
-use Rattle.off_drill_job.proofs.TurnLemmas.{link_unasked}
-use Rattle.off_serve.specs.declared.serving.Stop.{Stop}
-use Rattle.off_serve.specs.declared.serving.Stop.TheVariants as stop
-use Rattle.off_serve.specs.Serving.{World, world_of}
+use Rattle.off_drill_job.proofs.LinkLemmas.{link_unasked}
+use Rattle.off_turns.specs.declared.events.Stop.{Stop}
+use Rattle.off_turns.specs.declared.events.Stop.TheVariants as stop
+use Rattle.off_turns.specs.Serving.{World, world_of}
 use Rattle.off_jobs.specs.Ending.{Ending, Tells, link_refused, memory_refused}
 use Rattle.off_jobs.specs.Health.{NoFault, AllUp}
 use Rattle.off_jobs.proofs.EndingLemmas.{stands, kept, ends_by, sink_kept as told_kept}
-use Rattle.off_table_jobs.specs.Opening.{closed_end}
-use Rattle.off_table_jobs.proofs.ClosedLemmas.{closed_status, closed_kept}
-use Rattle.off_serve.specs.Headline.{WroteText, CutText, LastsIn, RanTurns, KeeperRan, RanFrom, RanOffice, Stops, Served, OwnLine, Ended, Ends, all_of, Completed, ServesAsOffice, own_writes}
-use Rattle.off_serve.proofs.ServeLemmas.{wrote_more, wrote_same, cut_more, cut_same}
+use Rattle.off_office.specs.Closed.{closed_end}
+use Rattle.off_office.proofs.ClosedLemmas.{closed_status, closed_kept}
+use Rattle.off_turns.specs.Loop.{WroteText, CutText, LastsIn, RanTurns, KeeperRan, RanFrom, Stops, Served}
+use Rattle.off_turns.proofs.ServeLemmas.{wrote_more, wrote_same, cut_more, cut_same}
+use Rattle.off_serve.specs.Headline.{RanOffice, OwnLine, Ended, Ends, all_of, Completed, ServesAsOffice, own_writes}
 use Rattle.off_office.proofs.UpLemmas.{up_chain}
 
 own_line : (own : Ending) (text : List ℕ) (status : ℕ) (a b c : SinkSeen) → WroteText text a b → Tells own status b c → OwnLine own text status a c

@@ -1,15 +1,6 @@
-//! The top call: the words of the command line, the loop over events, and the lines of the log.
+//! The top call: does what the words of the command line ask, and answers the exit status.
 #![tactic(auto)]
 
-mod drill_words;
-mod import_words;
-mod jobs;
-mod lines;
-mod sending;
 mod serving;
-mod taking;
-mod turning;
-mod words;
 
 pub use serving::run;
-pub use words::{Wanted, place};

@@ -1,32 +1,18 @@
-ghost use Rattle.std.specs.Prelude.{◌≡◌, ◌++◌, ◌≤◌, length, map, string_bytes, MatchOption};
+ghost use Rattle.std.specs.Prelude.{◌≡◌, map, string_bytes, MatchOption};
 ghost use Rattle.off_book.specs.Words.{job_of};
-ghost use Rattle.off_serve.specs.Reading.{asked_for, DrillsFew};
-ghost use Rattle.off_serve.specs.Headline.{Served, Ended, ServesAsOffice, RefusesAll};
+ghost use Rattle.off_words.specs.Reading.{asked_for, DrillsFew};
+ghost use Rattle.off_turns.specs.Serving.{world_of};
+ghost use Rattle.off_serve.specs.Headline.{Ended, ServesAsOffice, RefusesAll};
 ghost use Rattle.off_serve.specs.Headline.{DoesJob, outside_of};
-ghost use Rattle.off_serve.specs.Serving.{world_of};
 
-use crate::jobs::{Asked, read_words};
-use crate::turning::{Turned, take_turn};
 use off_drill_job::drill;
 use off_import_job::import_input;
 use off_jobs::{check_input, seal_input, tell, tell_memory};
-use off_office::Office;
+use off_office::{Office, stay_closed};
 use off_outside::{Keeper, Link, Sink, Source};
-use off_table_jobs::stay_closed;
+use off_turns::{Stop, serve_events};
+use off_words::{Asked, read_words};
 use std::alloc::Global;
-
-/// Why `serve` stopped.
-#[derive(Clone, Copy)]
-pub enum Stop {
-    /// All turns were taken, or an End came.
-    Finished,
-    /// Memory was wanted for the next event.
-    Memory,
-    /// The link failed too often in a row.
-    Link,
-    /// The sink failed.
-    Sink,
-}
 
 /// The top call: does what the words ask, and answers the program's exit status.
 ///
@@ -123,30 +109,4 @@ fn finish<W: Sink>(stop: Stop, out: &mut W) -> u8
         Stop::Link => tell(out, b"link refused\n", 5),
         Stop::Sink => 4,
     }
-}
-
-/// Takes events until an End, `turns` of them at most.
-pub fn serve_events<L: Link, K: Keeper, W: Sink>(
-    alloc: Global,
-    turns: u64,
-    office: &mut Office,
-    link: &mut L,
-    keeper: &mut K,
-    out: &mut W,
-) -> Stop
-    requires { (L.seen link.old).missed ≡ 0 }
-    ensures { Served result turns office.old office.new
-        (world_of (L.seen link.old) (K.seen keeper.old) (W.seen out.old))
-        (world_of (L.seen link.new) (K.seen keeper.new) (W.seen out.new)) }
-{
-    for done in 0..turns {
-        match take_turn(alloc, done + 1, office, link, keeper, out) {
-            Turned::Went => {}
-            Turned::Ended => return Stop::Finished,
-            Turned::Cut => return Stop::Sink,
-            Turned::Memory => return Stop::Memory,
-            Turned::Missed => return Stop::Link,
-        }
-    }
-    Stop::Finished
 }

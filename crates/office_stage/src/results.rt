@@ -3,7 +3,7 @@ use crate::outside::Outside;
 use crate::scene::Scene;
 use off_base::{NoMemory, Peer};
 use off_outside::{MemLink, SentRef, Service};
-use off_serve::place;
+use off_words::place;
 use script_words::{Page, Unread, show_row};
 use std::alloc::Global;
 

@@ -15,8 +15,9 @@ use off_host::{
 };
 use off_keepmem::MemKeeper;
 use off_outside::{Calls, Events, Keeper, Link, MemLink, Sink, Source};
-use off_serve::{Wanted, place, run};
+use off_serve::run;
 use off_store::{StoreErr, open_journal, open_store};
+use off_words::{Wanted, place};
 use std::env;
 use std::io::ErrorKind;
 use std::process::ExitCode;

@@ -1,5 +1,5 @@
 use Rattle.std.proofs.lemmas.Result.{err_from_is_err_and}
-use Rattle.off_drill_job.proofs.TurnLemmas.{exercised_none, exercised_then, stopped_then}
+use Rattle.off_drill_job.proofs.ExerciseLemmas.{exercised_none, exercised_then, stopped_then}
 use Rattle.off_drill_job.proofs.exercising.exercise.Goals as goal
 
 pub loop-k-init : goal.loop-k-init

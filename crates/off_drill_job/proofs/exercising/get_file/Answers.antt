@@ -1,6 +1,6 @@
 use Rattle.std.proofs.Common.{inl}
 use Rattle.std.proofs.lemmas.Result.{err_from_is_err_and}
-use Rattle.off_drill_job.proofs.TurnLemmas.{exercised_none, exercised_then, stopped_behind}
+use Rattle.off_drill_job.proofs.ExerciseLemmas.{exercised_none, exercised_then, stopped_behind}
 use Rattle.off_drill_job.proofs.ServingLemmas.{had_block, had_all, never_so_many}
 use Rattle.off_drill_job.proofs.exercising.get_file.Goals as goal
 

@@ -1,7 +1,7 @@
 use Rattle.std.proofs.Common.{inl, ◌+◌}
 use Rattle.std.proofs.lemmas.Result.{err_from_is_err_and}
 use Rattle.off_drill_laws.specs.Stages.{Waits, Gets}
-use Rattle.off_drill_job.proofs.TurnLemmas.{exercised_none, exercised_then, stopped_behind}
+use Rattle.off_drill_job.proofs.ExerciseLemmas.{exercised_none, exercised_then, stopped_behind}
 use Rattle.off_drill_job.proofs.ServingLemmas.{had_offer, no_offer, had_lease, no_lease, had_file, no_file, ends_serving}
 use Rattle.off_drill_job.proofs.exercising.serve_modem.Goals as goal
 

@@ -1,6 +1,7 @@
 use Rattle.std.proofs.Common.{ap, ◌∙◌, List, ℕ}
 use Rattle.std.specs.Str.{bytes_eq}
-use Rattle.off_drill_job.proofs.TurnLemmas.{took, wanted_memory, keeper_failed, link_unasked}
+use Rattle.off_drill_job.proofs.TurnLemmas.{took, wanted_memory, keeper_failed}
+use Rattle.off_drill_job.proofs.LinkLemmas.{link_unasked}
 use Rattle.off_drill_job.proofs.exercising.take.Goals as goal
 
 pub returns-in-Did : goal.returns-in-Did

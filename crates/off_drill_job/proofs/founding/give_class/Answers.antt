@@ -1,8 +1,8 @@
 use Rattle.std.proofs.Common.{◌∷◌, []}
 use Rattle.std.proofs.lemmas.Result.{err_from_is_err_and}
 use Rattle.off_drill_rules.specs.Rows.{with_site, with_class}
-use Rattle.off_drill_job.specs.Founding.{put_class}
-use Rattle.off_drill_job.proofs.CommandLemmas.{class_step}
+use Rattle.off_drill_parts.specs.Commands.{put_class}
+use Rattle.off_drill_parts.proofs.CommandLemmas.{class_step}
 use Rattle.off_drill_job.proofs.FoundingLemmas.{ends_as, ends_builds, halts_at_once}
 use Rattle.off_drill_job.proofs.founding.give_class.Goals as goal
 

@@ -1,7 +1,8 @@
 use Rattle.std.proofs.Common.{◌≡◌}
 use Rattle.off_drill_rules.specs.Rows.{founded, peopled}
 use Rattle.off_drill_rules.specs.Law.{held_behind}
-use Rattle.off_drill_job.specs.Founding.{peopling, Builds}
+use Rattle.off_drill_parts.specs.Commands.{peopling}
+use Rattle.off_drill_job.specs.Founding.{Builds}
 use Rattle.off_drill_job.proofs.founding.people.Given as goal
 
 abbrev pub invariant-loop-k : goal.invariant-loop-k

@@ -1,5 +1,5 @@
 use Rattle.off_serve.specs.Headline.{DoesJob, outside_of}
-use Rattle.off_serve.specs.Reading.{asked_for}
+use Rattle.off_words.specs.Reading.{asked_for}
 use Rattle.off_serve.proofs.HeadlineLemmas.{by_words}
 use Rattle.off_serve.proofs.serving.run.Goals as goal
 

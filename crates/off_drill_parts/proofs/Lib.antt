@@ -1,0 +1,3 @@
+mod MessageLemmas
+pub mod CommandLemmas
+pub mod TallyLemmas

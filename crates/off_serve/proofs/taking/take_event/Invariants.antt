@@ -1,5 +1,0 @@
-use Rattle.off_serve.specs.Serving.{Missed}
-use Rattle.off_serve.proofs.taking.take_event.Given as goal
-
-abbrev pub invariant-loop-attempt : goal.invariant-loop-attempt
-invariant-loop-attempt g l = Missed l._attempt (g.L.Link.seen l.fn.link) (g.L.Link.seen l.link)

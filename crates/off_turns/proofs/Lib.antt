@@ -1,0 +1,5 @@
+mod TakeLemmas
+mod TurnLemmas
+mod RanLemmas
+mod FromLemmas
+pub mod ServeLemmas
