@@ -1,1 +1,4 @@
 pub mod Begin
+pub mod AnyKeeper
+pub mod AnyKeeperLaws
+pub mod Places

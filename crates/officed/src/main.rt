@@ -13,11 +13,10 @@ use off_host::{
     Addresses, Log, LogSink, OpenErr, SocketLink, StandardInput, StandardOutput,
     open_standard_streams,
 };
-use off_keepmem::MemKeeper;
 use off_outside::{Calls, Events, Keeper, Link, MemLink, Sink, Source};
 use off_serve::run;
-use off_store::{StoreErr, open_journal, open_store};
-use off_words::{Wanted, place};
+use off_store::{StoreErr, in_memory, open_keeper, place_named};
+use off_words::place;
 use std::env;
 use std::io::ErrorKind;
 use std::process::ExitCode;
@@ -26,9 +25,6 @@ use std::process::ExitCode;
 const DRILLED_ITEMS: usize = 24_000;
 
 const DRILLED_OCTETS: usize = 3_200_000;
-
-// What stands before the path of a journal.
-const JOURNAL: &str = "journal:";
 
 fn main(rt: HostRuntime) -> ExitCode {
     if !open_standard_streams() {
@@ -59,45 +55,22 @@ fn main(rt: HostRuntime) -> ExitCode {
 fn serve(rt: &HostRuntime, words: &[String]) -> Ended {
     let mut input = StandardInput::new(rt);
     let mut output = StandardOutput::new(rt);
-    match place(words) {
-        Some(wanted) => run_wanted(rt, words, &wanted, &mut input, &mut output),
-        None => {
-            let mut keeper = MemKeeper::new(rt.alloc(), Calls::new(rt.alloc()));
-            run_alone(rt, words, &mut keeper, &mut input, &mut output)
-        }
-    }
-}
-
-// Makes the store that the words name, and then what they want beside it.
-fn run_wanted(
-    rt: &HostRuntime,
-    words: &[String],
-    wanted: &Wanted<'_>,
-    input: &mut StandardInput,
-    output: &mut StandardOutput,
-) -> Ended {
-    if wanted.store == "memory" {
-        let mut keeper = MemKeeper::new(rt.alloc(), Calls::new(rt.alloc()));
-        return run_over(rt, words, &wanted.ports, &mut keeper, input, output);
-    }
-    if let Some(path) = wanted.store.strip_prefix(JOURNAL) {
-        return match open_journal(rt, path) {
-            Ok(mut keeper) => run_over(rt, words, &wanted.ports, &mut keeper, input, output),
-            Err(error) => no_store(rt, error),
-        };
-    }
-    match open_store(rt, wanted.store) {
-        Ok(mut keeper) => run_over(rt, words, &wanted.ports, &mut keeper, input, output),
-        Err(error) => no_store(rt, error),
-    }
-}
-
-// Why there is no store.
-fn no_store(rt: &HostRuntime, error: StoreErr) -> Ended {
-    match error {
-        StoreErr::Memory => no_memory(rt),
-        StoreErr::Refused => Ended::NoStore,
-    }
+    let Some(wanted) = place(words) else {
+        return run_alone(rt, words, &mut in_memory(rt), &mut input, &mut output);
+    };
+    let mut keeper = match open_keeper(rt, place_named(wanted.store)) {
+        Ok(keeper) => keeper,
+        Err(StoreErr::Memory) => return no_memory(rt),
+        Err(StoreErr::Refused) => return Ended::NoStore,
+    };
+    run_over(
+        rt,
+        words,
+        &wanted.ports,
+        &mut keeper,
+        &mut input,
+        &mut output,
+    )
 }
 
 // Runs over a keeper, on sockets where events are to come. An import and a drill take none, so they
