@@ -1,7 +1,7 @@
 #!/usr/bin/env python3
-"""Clients of devices that ask officed for addresses: bin/modem with devices of its own, and udhcpc, where it's installed, behind a relay of this script.
+"""Clients of devices that ask officed for addresses: bin/office-modem with devices of its own, and udhcpc, where it's installed, behind a relay of this script.
 
-bin/modem boots three devices where two may be, and says who has which address, who is refused and who gives back. udhcpc stands in a network of its own, at the
+bin/office-modem boots three devices where two may be, and says who has which address, who is refused and who gives back. udhcpc stands in a network of its own, at the
 end of a cable whose relay names the modem: it gets an address, renews it without the relay and gives it back. Where `unshare -rn` isn't allowed it says so and
 skips. It ends what it started, and takes some seconds.
 """
@@ -30,7 +30,7 @@ from messages import split  # noqa: E402
 PATIENCE = 60
 
 
-# ---- bin/modem
+# ---- bin/office-modem
 
 LIMITED = 10
 # On a busy machine a client asks twice.
@@ -38,15 +38,15 @@ BOOTED, RENEWED = "( offer)+( ack)+(( cpe-offer)+( cpe-ack)+){2}", "( cpe-ack){2
 
 
 def modem_boots(devices, *more):
-    """The status of bin/modem with so many devices, and what it says of them."""
-    words = [os.path.join(ROOT, "bin", "modem"), "--server", SERVER, "--relay", RELAY, "--mac", leases.mac(LIMITED).hex(), "--serial", modems.serial(LIMITED),
+    """The status of bin/office-modem with so many devices, and what it says of them."""
+    words = [os.path.join(ROOT, "bin", "office-modem"), "--server", SERVER, "--relay", RELAY, "--mac", leases.mac(LIMITED).hex(), "--serial", modems.serial(LIMITED),
              "--devices", str(devices), *more]
     done = subprocess.run(words, stdout=subprocess.PIPE, timeout=PATIENCE)
     return done.returncode, [line for line in done.stdout.decode().splitlines() if line.startswith(("device", "RELEASE", "FAILED"))]
 
 
 def in_words():
-    """bin/modem says who has which address, who is refused and who gives back."""
+    """bin/office-modem says who has which address, who is refused and who gives back."""
     furnish()
     given = [(place, mac_of(LIMITED, place).hex(":"), f"10.64.64.{place - 1}") for place in (1, 2)]
     has = [f"device {place}  {mac} has {held} for 3600 s, by {SERVER}" for place, mac, held in given]
@@ -56,7 +56,7 @@ def in_words():
                 "FAILED    of 3 devices 2 have addresses"]
     for devices, more, wanted in ((3, ["--release"], (1, expected)), (2, [], (0, [*has, *renewed]))):
         found = modem_boots(devices, *more)
-        check(found == wanted, f"bin/modem --devices {devices}: {found}, and not {wanted}")
+        check(found == wanted, f"bin/office-modem --devices {devices}: {found}, and not {wanted}")
 
 
 def helper():
@@ -64,7 +64,7 @@ def helper():
         with running(log):
             in_words()
             clerk.ask("GET", "/site")
-        are_of_the_form(log, f"{BOOTED}( cpe-limit){{3}}{RENEWED}( cpe-released){{2}} released{BOOTED}{RENEWED}", "bin/modem")
+        are_of_the_form(log, f"{BOOTED}( cpe-limit){{3}}{RENEWED}( cpe-released){{2}} released{BOOTED}{RENEWED}", "bin/office-modem")
 
 
 def are_of_the_form(log, form, what):

@@ -1,9 +1,9 @@
 #!/usr/bin/env python3
-"""The first office of examples/first-office boots a modem, and bin/modem sees what is wrong.
+"""The first office of examples/first-office boots a modem, and bin/office-modem sees what is wrong.
 
 The example runs on loopback and, in a network of its own, on the standard ports; each printed line
 is compared with the README's second screen. A modem with another secret or another serial number
-fails. Then bin/modem alone: it reads a file in small blocks from a server of this script that loses
+fails. Then bin/office-modem alone: it reads a file in small blocks from a server of this script that loses
 every third packet and answers `tsize`, tells each setting in words, and refuses a file that differs
 in one bit. It ends what it started, and takes some seconds.
 """
@@ -86,7 +86,7 @@ def boots():
     check(status == 0 and released, "the address is given back")
 
 
-# ---- bin/modem alone
+# ---- bin/office-modem alone
 
 PARTS = {"rate": b"\x08\x04\0\x98\x96\x80", "name": b"\x04\x03up\0", "sets": b"\x06\x01\x05"}
 EVERY = [
@@ -181,7 +181,7 @@ def reads_from_afar():
     check(printed(modem.tell_file, file, {b"tsize": 9}, 1, 0)[1], "another size than said")
 
 
-modem = loaded("modem")
+modem = loaded("office-modem")
 
 
 def main():

@@ -1,9 +1,12 @@
 #!/usr/bin/env python3
-"""What `make install` puts in place: the program, its unit, its manual page and its helpers.
+"""What `make install` puts in place: the program, its unit, its helpers and pages of each.
 
-It is installed into a folder of this script and removed again. The unit's words are tried with the
-program, and systemd judges the unit; the manual page has each status and each variable, and is laid
-out without a warning. What a tool is missing for is said and skipped.
+It is installed into a folder of this script and removed again. There each helper names the release
+of the file VERSION, and so do the unit and the manual pages; each option of a helper is in its page
+and is completed by bash; no link of a page leads to a file or a heading that isn't there. The
+unit's words are tried with the program, and systemd judges the unit; the manual page has each
+status and each variable. Each page is laid out without a warning. What a tool is missing for is
+said and skipped. It takes some seconds.
 """
 # needs: make
 import os
@@ -18,15 +21,18 @@ from harness import PROGRAM, ROOT, check, free_ports, listed, script, text_of
 
 DOC = "share/doc/officed"
 HELPERS = ["office-all", "office-clerk", "office-copy", "office-counts", "office-desk",
-           "office-modem", "office-sql", "office-watch"]
+           "office-modem", "office-sql", "office-unit", "office-watch"]
 UNITS = ("officed.service", "officed-counts.service", "officed-copy.service", "officed-copy.timer")
 INSTALLED = {
     **{f"bin/{name}": 0o755 for name in ("officed", *HELPERS)},
-    **{f"lib/systemd/system/{name}": 0o644 for name in UNITS}, "share/man/man8/officed.8": 0o644,
+    **{f"lib/systemd/system/{name}": 0o644 for name in UNITS},
+    **{f"share/man/man8/{name}.8": 0o644 for name in ("officed", *HELPERS)},
+    **{f"share/bash-completion/completions/{name}": 0o644 for name in ("officed", *HELPERS)},
+    **{f"share/officed/{name}": 0o644 for name in ("VERSION", "MESSAGES.md")},
     **{f"{DOC}/{name}": 0o644 for name in (
         "OPERATING.md", "MESSAGES.md", "CLERK_API.md", "openapi.json", "SIZING.md", "ALARMS.md",
-        "UPGRADING.md", "PAST_ONE_MACHINE.md", "COMPARISON.md", "nginx.conf",
-        "prometheus-rules.yml")},
+        "UPGRADING.md", "PAST_ONE_MACHINE.md", "COMPARISON.md", "CHANGELOG.md", "LICENSE", "NOTICE",
+        "nginx.conf", "prometheus-rules.yml")},
     **{f"{DOC}/first-office/{name}": 0o644 for name in (
         "hub-0.json", "class-1.json", "pool-1.json", "subscriber-7.json",
         "modem-02aabbccddee.json")},
@@ -61,9 +67,9 @@ def installs(folder):
         with open(os.path.join(root, "lib/systemd/system", name), encoding="utf-8") as held:
             unit = held.read()
         check(part in unit and "/usr/local" not in unit, f"{name} has the prefix")
-    helped = subprocess.run([os.path.join(root, "bin", "office-modem"), "--help"], timeout=30,
-                            stdout=subprocess.DEVNULL)
-    check(helped.returncode == 0, "a helper runs from there")
+    releases(root)
+    pages_of_helpers(root)
+    links(os.path.join(root, DOC))
     status, said = make("uninstall", *words)
     check((status, files_under(folder)) == (0, {}), f"all is removed: {status} {said}")
     status, said = make("install", f"DESTDIR={folder}", "OFFICED=/nowhere")
@@ -71,9 +77,92 @@ def installs(folder):
     check(not files_under(folder), "and nothing is there")
 
 
+def read(*parts):
+    with open(os.path.join(*parts), encoding="utf-8") as held:
+        return held.read()
+
+
+def printed(*words):
+    done = subprocess.run(words, timeout=30, stdout=subprocess.PIPE, stderr=subprocess.STDOUT)
+    return done.stdout.decode().strip()
+
+
+def releases(root):
+    """One release, in all that is installed: that of the file VERSION, a semantic one."""
+    release = text_of("VERSION").strip()
+    check(re.fullmatch(r"\d+\.\d+\.\d+(-[0-9A-Za-z.-]+)?", release), f"VERSION: {release}")
+    for name in HELPERS:
+        for folder in (os.path.join(root, "bin"), os.path.join(ROOT, "bin")):
+            said = printed(os.path.join(folder, name), "--version")
+            check(said == f"{name} {release}", f"{folder}/{name} --version: {said}")
+        title = read(root, "share/man/man8", name + ".8").partition("\n")[0]
+        check(f'"officed {release}"' in title, f"the page of {name}: {title}")
+    for name in ("lib/systemd/system/officed.service", "share/man/man8/officed.8"):
+        text = read(root, name)
+        check(f"officed {release}" in text and "@VERSION@" not in text, f"{name} has the release")
+
+
+# What bash offers for a command's first word.
+COMPLETED = """
+PATH=%(bin)s:$PATH
+. %(file)s
+COMP_WORDS=(%(name)s "")
+COMP_CWORD=1
+_officed %(name)s "" %(name)s
+printf '%%s\\n' "${COMPREPLY[@]}"
+"""
+
+
+def pages_of_helpers(root):
+    """Each option that a helper prints is in its page and is completed."""
+    for name in ("officed", *HELPERS):
+        page = read(root, "share/man/man8", name + ".8").replace("\\-", "-")
+        file = os.path.join(root, "share/bash-completion/completions", name)
+        asked = COMPLETED % {"bin": os.path.join(root, "bin"), "file": file, "name": name}
+        offered = set(printed("bash", "-c", asked).split())
+        options = {"serve", "import", "drill", "seal", "check"}
+        if name != "officed":
+            helped = printed(os.path.join(root, "bin", name), "--help")
+            options = set(re.findall(r"(?m)^  (?:-\w, )?(--[a-z-]+)", helped))
+            check(len(options) > 1, f"{name} has options: {options}")
+        check(options <= offered, f"{name} is completed: {options - offered} is missing")
+        missing = [each for each in options if each not in page]
+        check(not missing, f"the page of {name} has all: {missing} is missing")
+        laid_out(os.path.join(root, "share/man/man8", name + ".8"))
+
+
+LINK = re.compile(r"\]\(([^()\s]+)\)")
+
+
+def slug_of(heading):
+    text = re.sub(r"\[([^\]]*)\]\([^)]*\)", r"\1", heading).strip().lower()
+    return re.sub(r"[^\w\- ]", "", text).replace(" ", "-")
+
+
+def links(folder):
+    """Each link of an installed page leads to a file and a heading that are there."""
+    count = 0
+    for name in sorted(os.listdir(folder)):
+        for target in LINK.findall(read(folder, name)) if name.endswith(".md") else ():
+            file, _, place = target.partition("#")
+            if "://" in target:
+                continue
+            count += 1
+            path = os.path.join(folder, file or name)
+            check(os.path.exists(path), f"{name} leads to {target}")
+            if place and os.path.exists(path):
+                headings = [slug_of(each) for each in re.findall(r"(?m)^#+ (.*)$", read(path))]
+                check(place in headings or f'"{place}"' in read(path), f"{name}: {target}")
+    check(count > 50, f"only {count} links were looked at")
+    print(f"{count} links of installed pages lead somewhere")
+
+
 def unit_words():
     """The unit's command, its words, with another store, other ports and no turns."""
-    words = re.search(r"(?m)^ExecStart=(.*)$", text_of("packaging", "officed.service"))[1].split()
+    unit = text_of("packaging", "officed.service")
+    known = dict(re.findall(r"(OFFICED_(?:STORE|PORTS))=(\S+)", re.sub(r"(?m)^#.*", "", unit)))
+    words = re.search(r"(?m)^ExecStart=(.*)$", unit)[1].split()
+    words = [known[word[2:-1]] if word.startswith("${") else word for word in words]
     names = dict(zip(words[2::2], words[3::2]))
     check(words[:2] == ["/usr/local/bin/officed", "serve"], "the unit serves")
     check(names.get("--turns") == "1000000000000000", "as long as can be")
@@ -90,8 +179,8 @@ def systemd(folder):
         return
     for name in UNITS:
         with open(os.path.join(folder, name), "w", encoding="utf-8") as held:
-            held.write(text_of("packaging", name).replace(
-                "ExecStart=/usr/local/bin/officed", f"ExecStart={shutil.which('true')}"))
+            held.write(re.sub(r"(?m)^(Exec\w+=-?)/usr/local/bin/office\w*(-unit)?",
+                              rf"\1{shutil.which('true')}", text_of("packaging", name)))
     for name in UNITS:
         done = subprocess.run(
             ["systemd-analyze", "verify", "--man=no", os.path.join(folder, name)], timeout=60,
@@ -135,15 +224,18 @@ def manual():
     names = re.findall(r"(?m)^(?:\.BR? )?(office\\-\w+)", page[page.index(".SH SEE ALSO"):])
     told = sorted(name.replace("\\", "") for name in names)
     check(told == HELPERS, f"the helpers: {told}")
-    if not shutil.which("groff"):
-        print("the manual's layout: skipped, since this machine has no groff")
-        return
-    words = ["groff", "-ww", "-man", "-Tutf8", os.path.join(ROOT, "packaging", "officed.8")]
-    done = subprocess.run(words, timeout=60, stdout=subprocess.PIPE, stderr=subprocess.PIPE)
-    check((done.returncode, done.stderr) == (0, b""), f"the layout: {done.stderr.decode()}")
+
+
+def laid_out(path):
+    if shutil.which("groff"):
+        done = subprocess.run(["groff", "-ww", "-man", "-Tutf8", path], timeout=60,
+                              stdout=subprocess.PIPE, stderr=subprocess.PIPE)
+        check((done.returncode, done.stderr) == (0, b""), f"the layout: {done.stderr.decode()}")
 
 
 def main():
+    if not shutil.which("groff"):
+        print("the layout of manual pages: skipped, since this machine has no groff")
     with tempfile.TemporaryDirectory() as folder:
         installs(folder)
         systemd(folder)

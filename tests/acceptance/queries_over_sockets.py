@@ -4,7 +4,7 @@
 A relay boots 200 modems, of which some release and some decline. Then it asks 10,000 times who has an address or which address a modem has, 32 queries at
 a time: of addresses and modems by chance, through the relay of a second pool too, and between them as an unknown relay, in a form that isn't answered, and
 by datagrams that are no queries. Each byte of each answer, and the word of each line of the log, is compared with the model of tests/examples/leases.py; what
-is left of a lease, with the clock. Then bin/modem asks, and says in words what it was answered. Where `unshare -rn` isn't allowed it says so and skips. It
+is left of a lease, with the clock. Then bin/office-modem asks, and says in words what it was answered. Where `unshare -rn` isn't allowed it says so and skips. It
 ends what it started, and takes some seconds.
 """
 import os
@@ -83,7 +83,7 @@ def ask_all(talk, far):
 
 
 def asks_in_words(talk):
-    """What bin/modem says of each kind of answer."""
+    """What bin/office-modem says of each kind of answer."""
     talk.relay.close()
     free, declined, held = ip(FIRST), ip(FIRST + 1), ip(FIRST + 2)
     pairs = leases.mac(2).hex(":")
@@ -92,7 +92,7 @@ def asks_in_words(talk):
             (declined, 1, f"no modem has {declined}, which a pool of the office has, by {SERVER}"),
             ("10.99.0.1", 1, f"no pool of the office has 10.99.0.1, by {SERVER}"), ("02:aa:bb:cc:dd:00", 1, f"02:aa:bb:cc:dd:00 has no address, by {SERVER}")]
     for what, status, words in told:
-        done = subprocess.run([os.path.join(ROOT, "bin", "modem"), "--ask-lease", what, "--server", SERVER, "--relay", RELAY], stdout=subprocess.PIPE, timeout=30)
+        done = subprocess.run([os.path.join(ROOT, "bin", "office-modem"), "--ask-lease", what, "--server", SERVER, "--relay", RELAY], stdout=subprocess.PIPE, timeout=30)
         lines = done.stdout.decode().splitlines()
         check(done.returncode == status and re.sub(r"\d+ s more", "S s more", lines[-1]) == f"answer    {words}", f"{what}: {lines[-1:]} with {done.returncode}")
         talk.words.append(talk.model.take(int(time.time()), leases.who_has(what) if what.count(".") == 3 else leases.query(

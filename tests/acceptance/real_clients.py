@@ -5,7 +5,7 @@ In three networks of its own, those of the office, of a relay and of a modem, ea
 installed (dhcrelay, dnsmasq) carries each client that is (udhcpc, dhclient), which gets an address,
 renews it and gives it back; between, each TFTP client that is installed (tftp-hpa, atftp, curl,
 busybox) fetches the modem's file, with and without the options that it knows (RFC 2348 and 2349),
-bin/modem reads its settings and checks, and rdate asks for the time by UDP. What isn't installed is
+bin/office-modem reads its settings and checks, and rdate asks for the time by UDP. What isn't installed is
 named and skipped. It ends what it started, and takes a minute.
 """
 # needs: unshare nsenter ip
@@ -219,7 +219,7 @@ def fetchers(name, out):
 
 def fetches(network, folder, address, name):
     """Each client gets the modem's own file, good by both checks."""
-    modem = loaded("modem")
+    modem = loaded("office-modem")
     held = bytes(map(int, address.split(".")))
     path = os.path.join(folder, "file.cm")
     for words, _ in fetchers(name, path):

@@ -2,7 +2,7 @@
 """bin/office-watch tells which modem each line of an office is about.
 
 In a network of its own two hundred modems boot, renew, decline and release, with bad datagrams
-between, and bin/modem boots one to the end of its file. What was sent is captured by this script,
+between, and bin/office-modem boots one to the end of its file. What was sent is captured by this script,
 and by tcpdump where it's there. The modem of each line is the one that had sent the datagram, while
 the lines come and from the captures after it; the meaning is the page's. Then frames of each kind
 of link, lines of devices behind modems, a modem's address in a store, and what can't be read. It
@@ -25,7 +25,7 @@ from harness import ROOT, alone, check, is_built, loaded, may_be_alone, script, 
 from harness import modems
 from store_reader import DEVICE_POOL, DEVICES, device, made
 
-WATCH, MODEM = (os.path.join(ROOT, "bin", name) for name in ("office-watch", "modem"))
+WATCH, MODEM = (os.path.join(ROOT, "bin", name) for name in ("office-watch", "office-modem"))
 PORTS = ",".join(map(str, modems.PORTS[:3]))
 HEAD = struct.pack("<IHHiIII", 0xA1B2C3D4, 2, 4, 0, 0, 65535, 101)
 LINE = re.compile(r"(\S+) +(\S+) +(\S+) +(\S+) +(\d+) (\w+) ([^:]*)(?:: (.*))?")
