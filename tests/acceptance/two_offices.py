@@ -22,7 +22,7 @@ from harness.network import address_of_lo, loopback
 from harness.told import SECRET
 
 ALL, COPY, MODEM, SQL = (os.path.join(ROOT, "bin", name)
-                         for name in ("office-all", "office-copy", "modem", "office-sql"))
+                         for name in ("office-all", "office-copy", "office-modem", "office-sql"))
 HTTP = 8080
 PATIENCE = 240
 FIRST, SECOND = "10.0.0.2", "10.0.0.3"
