@@ -3,10 +3,13 @@
 
 It does so in a small repository of this script, whose scripts pass, fail, lack a program, need the
 proof, skip themselves or go on too long, over a program that is there already. The merge gate calls
-the same command with --proved. It takes some seconds.
+the same command with --proved. packaging/install-needs installs what is missing, by a package
+manager of this script, and knows a package for each program that a script names. It takes some
+seconds.
 """
 # needs: make
 import os
+import re
 import shutil
 import subprocess
 import sys
@@ -86,12 +89,58 @@ def proved(folder):
     check(status == 2 and "`rt`" in told and not said, f"no program: {status} {said} {told}")
 
 
+# Of which Debian package each program is that a script needs; of one that Debian hasn't, nothing.
+PACKAGES = {"make": "make", "curl": "curl", "openapi-spec-validator": "", "openssl": "openssl",
+            "nginx": "nginx-light", "dhcpd": "isc-dhcp-server", "unshare": "util-linux", "nsenter": "util-linux",
+            "ip": "iproute2", "systemd-analyze": "systemd"}
+# A package manager that has git and make, and writes down what it's asked.
+MANAGER = """#!/bin/sh
+case ${0##*/} in
+    id) echo 0 ;;
+    dpkg-query) case "$*" in *" git" | *" make") echo "install ok installed" ;; *) exit 1 ;; esac ;;
+    apt-get) echo "$*$([ -x "$POLICY" ] && ! "$POLICY" && echo ", and nothing may start")" \\
+        >>"$ASKED" ;;
+esac
+"""
+
+
+def needs(folder):
+    """What is missing is installed, once, and each program that a script needs has a package."""
+    tool = os.path.join(ROOT, "packaging", "install-needs")
+    status, said, _ = run(folder, tool, "--print")
+    known = said.split()
+    check(status == 0 and known[:4] == ["git", "make", "python3", "curl"], f"packages: {known}")
+    scripts = os.path.join(ROOT, "tests", "acceptance")
+    for name in sorted(os.listdir(scripts)):
+        text = text_of("tests", "acceptance", name) if name.endswith(".py") else ""
+        for program in " ".join(re.findall(r"(?m)^# needs: (.*)$", text)).split():
+            check(PACKAGES.get(program) in ("", *known), f"{name} needs {program}, of which package?")
+    tools, asked = os.path.join(folder, "tools"), os.path.join(folder, "asked")
+    os.mkdir(tools)
+    for name in ("id", "dpkg-query", "apt-get"):
+        with open(os.path.join(tools, name), "w", encoding="utf-8") as held:
+            held.write(MANAGER)
+        os.chmod(os.path.join(tools, name), 0o755)
+    policy = os.path.join(folder, "policy")
+    status, said, told = run(folder, "env", f"ASKED={asked}", f"POLICY={policy}",
+                             f"PATH={tools}:/usr/bin:/bin", tool)
+    check(not os.path.exists(policy), "servers may start again then")
+    with open(asked, encoding="utf-8") as held:
+        found = held.read().splitlines()
+    words = [f"{each}, and nothing may start"
+             for each in ("update -q", "install -y -q --no-install-recommends python3 curl")]
+    check((status, found) == (0, words), f"what is missing: {status} {found} {told}")
+    check("install-needs: apt-get install python3 curl\n" in said, f"it prints that: {said}")
+    check(run(folder, tool, "--nothing")[0] == 2, "words that aren't known")
+
+
 def main():
     check("tests/check --proved" in text_of(".ci", "run"), "the gate runs the same scripts")
     with tempfile.TemporaryDirectory() as folder:
         repository(os.path.realpath(folder))
         unproved(os.path.realpath(folder))
         proved(os.path.realpath(folder))
+        needs(os.path.realpath(folder))
 
 
 if __name__ == "__main__":
