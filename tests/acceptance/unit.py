@@ -4,8 +4,9 @@
 In namespaces of its own, over this machine's files and without a trace in them, `make install` puts
 the office in place and systemd starts it. It has a user of its own and one right, answers at the
 standard ports, and is started again where it's killed; where the program keeps a store on disk, it
-is copied while it runs, and a row that was put is there after the kill. It ends what it started,
-and takes some seconds.
+is copied while it runs, and a row that was put is there after the kill. The start is done when the
+four ports answer. The journal has a line that says so, and one of what each end means: of a kill,
+and of a port that another program has. It ends what it started, and takes some seconds.
 """
 # needs: systemd-analyze unshare make curl
 import os
@@ -55,6 +56,8 @@ answers() {
 }
 ip link set lo up
 answers
+systemctl start officed
+echo "active: $(systemctl is-active officed)"
 pid=$(systemctl show -p MainPID --value officed)
 grep -E '^(Uid|CapEff|CapBnd|NoNewPrivs|Seccomp):' /proc/$pid/status
 echo "large pages: $(grep -c '^VmFlags:.* hg' /proc/$pid/smaps)"
@@ -70,6 +73,18 @@ answers
 systemctl show -p NRestarts officed
 curl -s -m 5 http://127.0.0.1:8080/subscribers/7
 echo
+echo row shown
+systemctl stop officed
+python3 -c 'import socket, time
+taken = socket.socket(socket.AF_INET, socket.SOCK_DGRAM)
+taken.bind(("0.0.0.0", 37))
+time.sleep(60)' &
+taken=$!
+sleep 1
+systemctl start officed || echo "refused: $(systemctl show -p ExecMainStatus officed)"
+kill $taken
+journalctl --sync
+journalctl -u officed -o cat | grep '^office-unit: '
 echo end
 systemctl exit 0 || systemctl poweroff -f
 """
@@ -149,7 +164,16 @@ def judge(text, has_store):
     copied = re.search(r"(?m)^1 rows, [\d,]+ bytes, checked; the office stood for", text)
     check(bool(copied) == has_store, "its store is copied while it runs")
     row = '{"active":true,"cpes":2,"name":"Ann"}' if has_store else '{"fault":"no-row"}'
-    check(f"\n{row}\nend\n" in text, f"and then there is {row}")
+    check(f"\n{row}\nrow shown\n" in text, f"and then there is {row}")
+    check("active: active\n" in text, "it's active when its ports answer")
+    said = re.findall(r"(?m)^office-unit: (.*)$", text)
+    forms = ["ready: the four ports answer, .* s after the start",
+             "the office ended with signal KILL: .*", "ready: .*",
+             "the office ended with signal TERM: somebody stopped it",
+             "the office ended before it was ready",
+             "the office ended with status 10: port 37 is in use by another program .*"]
+    check(len(said) == len(forms) and all(map(re.fullmatch, forms, said)), f"the journal: {said}")
+    check("\nrefused: ExecMainStatus=10\n" in text, "it isn't started again then")
 
 
 def main():
