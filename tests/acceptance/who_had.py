@@ -12,6 +12,7 @@ import io
 import os
 import random
 import shutil
+import struct
 import subprocess
 import sys
 import tempfile
@@ -21,7 +22,7 @@ from harness import ROOT, check, script
 from journal_kills import journal_of
 from store_reader import big, hub, ip, text
 
-READER = os.path.join(ROOT, "bin", "office-sql")
+READER, WATCH = (os.path.join(ROOT, "bin", each) for each in ("office-sql", "office-watch"))
 NAMES = ["address", "modem", "device", "subscriber", "from (UTC)", "until (UTC)", "ended"]
 T0, DAY, HOUR = 1_700_000_000, 86_400, 3600
 OFFERED, BOUND, DECLINED = 1, 2, 3
@@ -269,8 +270,55 @@ def beside_a_model():
     print("3 journals of 1,500 records beside a model, at once and in pieces")
 
 
+# ---- the trail of office-watch
+
+def packet(now, kind, owner, held, *options, to_office=False):
+    """A message to the office or an answer, as tcpdump has it of a link without a head."""
+    op, fields = (1, (held, "0.0.0.0")) if to_office else (2, ("0.0.0.0", held))
+    data = bytes([op, 1, 6, 0]) + big(now, 4) + bytes(4) + ip(fields[0]) + ip(fields[1]) + bytes(4)
+    data += ip("10.64.0.1") + owner + bytes(10 + 64 + 128) + b"\x63\x82\x53\x63\x35\1"
+    data += bytes([kind]) + b"".join(options) + b"\xff"
+    udp = struct.pack(">HHHH", 67, 67, 8 + len(data), 0) + data
+    whole = struct.pack(">BBHHHBBH", 0x45, 0, 20 + len(udp), 0, 0, 64, 17, 0) + bytes(8) + udp
+    return struct.pack("<IIII", now, 0, len(whole), len(whole)) + whole
+
+
+def trail():
+    """Acknowledgements, a release and a device, of three days; the oldest day's file goes."""
+    lasts, behind = b"\x33\4" + big(DAY, 4), b"\x52\x08\2\6" + mac(1)
+    packets = [packet(T0 - 9 * DAY, 5, mac(1), A, lasts), packet(T0, 5, mac(1), A, lasts),
+               packet(T0 + 10, 5, mac(9), D, lasts, behind),
+               packet(T0 + DAY // 2, 5, mac(1), A, lasts),
+               packet(T0 + DAY, 7, mac(1), A, to_office=True),
+               packet(T0 + DAY + 5, 5, mac(2), A, lasts)]
+    words = ["ack", "ack", "cpe-ack", "ack", "released", "ack"]
+    with tempfile.TemporaryDirectory() as folder:
+        capture, lines, store, path = (os.path.join(folder, each) for each in
+                                       ("pcap", "lines", "office.journal", "trail"))
+        write(store, FIRST)
+        with open(capture, "wb") as file:
+            file.write(struct.pack("<IHHiIII", 0xA1B2C3D4, 2, 4, 0, 0, 65535, 101))
+            file.write(b"".join(packets))
+        with open(lines, "w") as file:
+            file.writelines(f"{place} dhcp {each}\n" for place, each in enumerate(words, 1))
+        given = ["--capture", capture, "--store", store, "--trail", path, "--trail-days", "7"]
+        done = subprocess.run([sys.executable, WATCH, *given, lines], stdout=subprocess.PIPE,
+                              stderr=subprocess.PIPE, timeout=60)
+        check(done.returncode == 0, f"office-watch: {done.stderr.decode()}")
+        days = sorted(each for each in os.listdir(folder) if each.startswith("trail"))
+        check(days == ["trail", "trail-20231114"], f"a file of each day: {days}")
+        shown(path, A, [line(A, 1, 0, 7, T0, T0 + DAY, "released"),
+                        line(A, 2, 0, 8, T0 + DAY + 5, T0 + 2 * DAY + 5)], "a trail")
+        shown(path, D, [line(D, 1, 9, 7, T0 + 10, T0 + 10 + DAY)], "a trail: a device")
+        shown(path, A, [line(A, 2, 0, 8, T0 + DAY + 5, T0 + 2 * DAY + 5)], "at a moment", "--at",
+              str(T0 + DAY + 6))
+        check(os.stat(path).st_mode & 0o777 == 0o600, "a trail is its owner's alone")
+    print("a trail of office-watch")
+
+
 def main():
     by_hand()
+    trail()
     windows()
     beside_a_model()
 
