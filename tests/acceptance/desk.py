@@ -220,7 +220,7 @@ def imports(browser, port):
         state = json.loads(browser.get("/import/state"))
         time.sleep(0.1)
     check((state["rows"], state["put"], state["lost"]) == (4500, 4000, 500), f"{state}")
-    check("row,column 4100,3" in state["faults"][0], f"{state['faults']}")
+    check("line 8,200, column cpes: `0`" in state["faults"][0], f"{state['faults']}")
     check(row(port, "/subscribers/4000") is not None, "a row of it")
 
 
