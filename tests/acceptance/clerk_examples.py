@@ -107,9 +107,11 @@ REFUSED = [
     (("delete", "subscribers/7"), b"", "has-modems", "remove the modem first"),
     (("delete", "classes/1"), b"", "class-in-use", "another class first"),
     (("import", "-"), b"mac,subscriber,class\n", "header", "mac,subscriber,class,serial"),
-    (("import", "-"), rows("modems", "1,2"), "width", "row 1 hasn't"),
-    (("import", "-"), rows("subscribers", "1,maybe,2,"), "import-field", "1,2"),
-    (("import", "-"), rows("modems", "020000000003,8,1,"), "no-subscriber", "row or limit 1"),
+    (("import", "-"), rows("modems", "1,2"), "width", "line 2: `1,2`: "),
+    (("import", "-"), rows("subscribers", "1,maybe,2,"), "import-field",
+     "line 2, column active: `maybe`: "),
+    (("import", "-"), rows("modems", "020000000003,8,1,"), "no-subscriber",
+     "line 2, column subscriber: `8`: "),
     (("import", "--batch", "9", "-"), rows("modems"), "batch-differs", "import 9"),
 ]
 
@@ -148,7 +150,7 @@ def by_parts(port):
     words = ("import", "-")
     status, said, wrong = clerk(port, *words, given=people(4100))
     check((status, said) == (1, summary.format("4,000", "500", "0")), f"parts: {status} {said}")
-    check("rows 4001 to 4500: " in wrong and "row,column 4100,3 " in wrong, f"which: {wrong}")
+    check("rows 4001 to 4500: " in wrong and "line 8,200, column cpes: `0`: " in wrong, f"which: {wrong}")
     check(clerk(port, "get", "subscribers/4001")[0] == 1, "a refused part puts nothing")
     for what in ("mended", "once more"):
         status, said, wrong = clerk(port, *words, given=people())

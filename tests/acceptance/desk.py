@@ -4,10 +4,12 @@
 It is asked as a browser asks, over an office with tables in memory and a copy of this script's:
 each kind of row is put, shown and removed by its form, and the office has what the form said; what
 the office refuses is told; a file of 4,500 rows is handed in; lists, counts and lines are shown.
-Who names another host, or has no token of the desk's, changes nothing. The desk's table of settings
-is that of the definitions. Where chromium is there, it fills the forms itself, and with
-OFFICE_SHOTS pictures of the pages are left in that folder. It ends what it started, and takes some
-seconds.
+Find finds names, serial numbers and addresses, and says when nothing was found; a removal asks
+first; long lists have pages; a pool that can't work has a warning; pages ask the office of no row
+that isn't there; an office that is off is named so. Who names another host, or has no token of the
+desk's, changes nothing. The desk's table of settings is that of the definitions. Where chromium is
+there, it fills the forms itself, no page is wider than a narrow window, and with OFFICE_SHOTS
+pictures of the pages are left in that folder. It ends what it started, and takes some seconds.
 """
 import argparse
 import base64
@@ -39,6 +41,10 @@ POOL = {"first": "10.64.0.10", "last": "10.64.0.99", "prefix": "24", "router": "
         "relay": "10.64.0.1", "hub": "0"}
 FOR_DEVICES = {"first": "10.128.0.10", "last": "10.128.0.20", "prefix": "24",
                "router": "10.128.0.1", "relay": "10.128.0.1"}
+# Add-ons of subscriber 7 as the store has them: each a flow upstream of some bytes.
+ADD_ONS = [(b"\x03" + bytes([0, 0, 0, 7, place]), b"\0\x05" + b"\x18\x03\x01\x01\x03")
+           for place in (0, 3)]
+ANN_SHOWN = {"active": True, "cpes": 2, "name": "Ann"}
 ANN = {"active": "on", "cpes": "2", "name": "Ann <O'Neil> & \"Sons\""}
 MODEM = {"subscriber": "7", "class": "1", "serial": "SN01"}
 
@@ -136,7 +142,16 @@ def classes(browser, port):
     fields = {**browser.fields(text), "value:s.0.0": "3"}
     check(browser.post("/addon/7/0", fields)[0] == "Done.", "an add-on")
     check(row(port, "/subscribers/7/addons/0")["settings"][0]["code"] == 24, "the add-on")
-    check("upstream service flow" in browser.get("/subscriber/7"), "and it's shown")
+    check("upstream service flow" in browser.get("/addon/7/0"), "and it's shown")
+    _, text = browser.post("/class/1", {**browser.fields(browser.get("/class/1")),
+                                        "choice": "s.1:8"}, "add")
+    fields = {**browser.fields(text), "value:s.1.2": "1.5 Gbit/s"}
+    check(browser.post("/class/1", fields)[0] == "Done.", "a rate with its unit")
+    parts = row(port, "/classes/1")["settings"][1]["parts"]
+    # 1.5 * 10^9, as 32 bits.
+    check(parts[2] == {"code": 8, "hex": "59682f00"}, f"the rate is {parts}")
+    shown = browser.get("/class/1")
+    check('value="1,500,000,000"' in shown and "1.5 Gbit/s" in shown, "and is shown by both")
 
 
 def refused(browser):
@@ -144,13 +159,13 @@ def refused(browser):
     fields = browser.fields(browser.get("/class/1"))
     for path, given, action, word, part in (
             ("/hub/0", {**SITE, "lease": "59"}, "save", "site", "`lease` isn't 60"),
-            ("/hub/1", {**SITE, "lease": "x"}, "save", "", "lease: a whole number"),
+            ("/hub/1", {**SITE, "lease": "x"}, "save", "", "lease: it must be a whole number"),
             ("/hub/0", {**SITE, "secret": "zz"}, "save", "value", "`secret`"),
             ("/hub/0", {}, "delete", "hub-in-use", "give the pool another hub first"),
             ("/hub/9", {}, "delete", "no-row", "no such row"),
             ("/pool/2", {**POOL, "first": "10.65.0.1", "last": "10.65.0.2", "relay": "10.65.0.1",
                          "hub": "9"}, "save", "no-hub", "put the hub first"),
-            ("/pool/2", {**POOL, "hub": ""}, "save", "", "hub: a whole number"),
+            ("/pool/2", {**POOL, "hub": ""}, "save", "", "hub: it must be a whole number"),
             ("/pool/2", {**POOL, "first": "10.64.0.100"}, "save", "pool-size", "above"),
             ("/pool/2", {**POOL, "relay": "10.64.0.2"}, "save", "pool-overlap", "pool 1"),
             ("/pool/2", {**POOL, "first": "10.65.0.1", "last": "10.65.0.2"}, "save", "relay-taken",
@@ -187,9 +202,19 @@ def others(browser):
     found = browser.ask("GET", "/find?device-pool=3")
     check(found[::2] == (303, "/device-pool/3"), f"a new pool for devices is at {found[2]}")
     for what, where in (("7", "/subscriber/7"), ("02:AA:bb:cc:dd:ee", "/modem/02aabbccddee"),
-                        ("10.64.0.10", "/lease/10.64.0.10"), ("?", "/")):
+                        ("10.64.0.10", "/lease/10.64.0.10"), ("ann", "/subscriber/7"),
+                        ("sn01", "/modem/02aabbccddee"), ("Gold", "/class/1"),
+                        ("02-00-00-00-00-a2", "/lease/10.128.0.11")):
         found = browser.ask("GET", "/find?" + urllib.parse.urlencode({"what": what}))
         check(found[::2] == (303, where), f"{what} is at {found[2]}")
+    for what, part in (("?", "No subscriber has"), ("", "Write what to look for"),
+                       ("nobody", "“nobody”"), ("02aabbccdd00", "Put a modem 02aabbccdd00"),
+                       ("99", "Put a subscriber 99")):
+        found = browser.ask("GET", "/find?" + urllib.parse.urlencode({"what": what}))
+        check(found[0] == 200 and "<h1>Nothing found</h1>" in found[1] and part in found[1],
+              f"nothing is found of {what!r}: {found[1][-400:]}")
+    several = browser.ask("GET", "/find?what=0200000000a1")[1]
+    check("/lease/10.128.0.10" in several and "/lease/10.128.0.14" in several, "two of them")
 
 
 def lists(browser):
@@ -199,9 +224,13 @@ def lists(browser):
                         "As of the copy of "]),
             ("/hubs", ["/hub/0", "10.0.0.2", "As of the copy of "]), ("/hub/1", ["Hub 1"]),
             ("/subscribers", ["/subscriber/8"]), ("/classes", ["/class/1", "gold"]),
+            ("/", ["<h2>Hubs</h2>", "/hub/0", "86,400"]),
             ("/subscriber/7", ["02aabbccddf0", "10.64.0.10"]),
             ("/modem/02aabbccddee", ["Its lease: 10.64.0.10, ", "0200000000a1", "10.128.0.10"]),
-            ("/lease/10.64.0.10", ["It has no lease."]),
+            ("/lease/10.64.0.10", ["It has no lease.", 'in <a href="/pool/1">']),
+            ("/lease/10.9.9.9", ["No pool of the copy has 10.9.9.9."]),
+            ("/subscriber/7", ['class="gone"', "/new-modem/7", "upstream service flow"]),
+            ("/subscriber/9999", ["There is no such subscriber yet"]),
             ("/lease/10.128.0.14", ["0200000000a1", "/modem/02aabbccdd77"]),
             ("/", ["http 200", "in the last hour", "</span> 0%"]),
             ("/lines", ["a clerk&#x27;s command was done, and answered"])):
@@ -220,7 +249,7 @@ def imports(browser, port):
         state = json.loads(browser.get("/import/state"))
         time.sleep(0.1)
     check((state["rows"], state["put"], state["lost"]) == (4500, 4000, 500), f"{state}")
-    check("row,column 4100,3" in state["faults"][0], f"{state['faults']}")
+    check("line 8,200, column cpes: `0`" in state["faults"][0], f"{state['faults']}")
     check(row(port, "/subscribers/4000") is not None, "a row of it")
 
 
@@ -263,7 +292,7 @@ def copies_and_counts():
         store = os.path.join(folder, "office.db")
         made(store).close()
         copy = desk.Copy(argparse.Namespace(store=store, copy=None), folder)
-        check([line[0] for line in copy.rows("pools")] == ["1"], "a list of its own copy")
+        check([line[0] for line in copy.rows("pools")] == [1], "a list of its own copy")
         check(copy.moment().startswith("As of the copy of "), copy.moment())
         copy.store, copy.path = os.path.join(folder, "none"), os.path.join(folder, "other")
         check(copy.rows("pools") == [] and "office-copy: " in copy.moment(), copy.moment())
@@ -277,6 +306,7 @@ def copies_and_counts():
           == {"tftp block N": 3, "dhcp ack": 1}, f"the last hour: {series}")
     check(series["tftp block N"][-3:] in ([2, 0, 1], [0, 1, 0]), "each in its minute")
     lines.counts, lines.last = {}, []
+    lines.take("16 http wait")
     lines.take("17 dhcp offer", lambda: None)
     lines.take("18 dhcp ack")
     check([word for word, _ in lines.series()] == ["dhcp ack"],
@@ -288,7 +318,7 @@ class Told:
     """An office that answers what it's told to, and keeps what it was asked."""
 
     def __init__(self, rows):
-        self.rows, self.asked = rows, []
+        self.rows, self.asked, self.clerk = rows, [], loaded("office-clerk")
 
     def ask(self, method, path, row=None):
         self.asked.append((method, path, row))
@@ -318,12 +348,107 @@ def devices():
             title, text = desk.shown_at(path, {})
             check(all(part in text for part in parts), f"{path}: {title} has {parts}")
         check("0200000000a1" not in desk.shown_at("/modem/02aabbccddef", {})[1], "another's device")
+        desk.office.rows["subscribers/7"], desk.office.asked = ANN_SHOWN, []
+        desk.shown_at("/subscriber/7", {})
+        check(desk.office.asked == [("GET", "subscribers/7", None)],
+              f"a subscriber's page asks for that row alone: {desk.office.asked}")
         told = desk.change("/device-pool/1", {**FOR_DEVICES, "action": "save"})[1]
         check(desk.office.asked[-2] == ("PUT", "device-pools/1", shown), f"{desk.office.asked[-2]}")
         check("Done." in told, "it's put")
         desk.change("/device-pool/1", {"action": "delete"})
         check(desk.office.asked[-2] == ("DELETE", "device-pools/1", None), "and removed")
-    check(module.found_at({"device-pool": " 3"}) == "/device-pool/3", "a new one")
+        check(desk.find({"device-pool": " 3"}) == "/device-pool/3", "a new one")
+
+
+def has(text, parts, what):
+    for part in parts:
+        check(part in text, f"{what} has {part!r}: {text[-1500:]}")
+
+
+def removals(browser, port):
+    """A removal asks first and names what goes with the row; what isn't there has no button."""
+    for path, parts in (
+            ("/subscriber/7", ["Remove subscriber 7?", "Its add-ons 0, 3 go with it.",
+                               "It has the modem 02aabbccddee: remove that first.", "Keep it"]),
+            ("/pool/1", ["Remove pool 1?", "Its leases that have ended go with it."]),
+            ("/hub/0", ["Pool 1 has it: give that another hub first."]),
+            ("/class/1", ["Remove class 1?", "modems have it: give them another class first."]),
+            ("/modem/02aabbccddee", ["Its lease stays until it ends."]),
+            ("/device-pool/1", ["Remove pool 1 for devices?"])):
+        has(browser.post(path, {}, "ask")[1], parts, f"the question of {path}")
+    check(row(port, "/subscribers/7") is not None, "asking removes nothing")
+    for path in ("/subscriber/99", "/pool/9", "/hub/9", "/class/9", "/device-pool/9",
+                 "/modem/020000000099", "/addon/7/5"):
+        text = browser.get(path)
+        check('class="gone"' not in text and "There is no such" in text, f"{path} has no Remove")
+
+
+def new_modems(browser, port):
+    """A modem is made from its subscriber's page, by the name of its class."""
+    given = {"mac": "02:00:00:00:00:31", "class": "GOLD", "serial": "SN31"}
+    check(browser.post("/new-modem/7", given)[0] == "Done.", "a modem of a subscriber's page")
+    check(row(port, "/modems/020000000031") == {"subscriber": 7, "class": 1, "serial": "SN31"},
+          "which the office has")
+    check('value="gold"' in browser.get("/modem/020000000031"), "its class by its name")
+    for changed, part in (({}, "is there already, of subscriber 7"), ({"mac": "x"}, "x is no "),
+                          ({"mac": "020000000032", "class": "lead"}, "no class has the name")):
+        told = browser.post("/new-modem/7", {**given, **changed})[0]
+        check(part in told, f"{changed}: {told}")
+    check(row(port, "/modems/020000000032") is None, "and nothing is put")
+
+
+def warnings(browser):
+    """A pool that can't serve all its addresses is put, and its page says why."""
+    wrong = {**POOL, "first": "10.66.0.0", "last": "10.66.0.9", "relay": "10.66.0.1",
+             "router": "10.67.0.1"}
+    told, text = browser.post("/pool/66", wrong)
+    check(told == "Done.", f"the pool is put: {told}")
+    has(text, ["10.66.0.0 is the network&#x27;s own address",
+               "10.66.0.1 is the relay", "router 10.67.0.1 isn&#x27;t in the pool"], "its page")
+    check(browser.post("/pool/66", {}, "delete")[0] == "Done.", "and is removed")
+    check('class="warn"' not in browser.get("/pool/1"), "a good pool has no warning")
+
+
+def pages():
+    """A list of many rows has pages, and numbers have separators."""
+    module = loaded("office-desk")
+    many = [ROWS[0], *((b"\x02" + number.to_bytes(4, "big"),
+                        b"\x01\x02" + bytes([len(b"Ann %d" % number)]) + b"Ann %d" % number)
+                       for number in range(1, 1051))]
+    with tempfile.TemporaryDirectory() as folder:
+        copy = os.path.join(folder, "office.db")
+        made(copy, many).close()
+        desk = module.Desk(argparse.Namespace(office="", ca=None, store=None, copy=copy, unit=None,
+                                              lines=None, page=None), folder)
+        desk.office = Told({})
+        for query, first, last, part in (({}, 1, 100, "page 1 of 11"),
+                                         ({"page": "3"}, 201, 300, "page 3 of 11"),
+                                         ({"page": "99"}, 1001, 1050, "1,001 to 1,050 of 1,050")):
+            text = desk.shown_at("/subscribers", query)[1]
+            shown = [int(each) for each in re.findall(r'"/subscriber/(\d+)">\d', text)]
+            check(shown == list(range(first, last + 1)), f"{query}: {shown[:2]} {shown[-2:]}")
+            has(text, [part], f"{query}")
+        found = desk.find({"what": "ann 10", "page": "1"})
+        # Ann 10, 100 to 109 and 1000 to 1050.
+        check(found[1].count("subscriber/") == 1 + 10 + 51, f"results: {found[1][:300]}")
+
+
+def off():
+    """An office that doesn't answer is named so, and lists are shown all the same."""
+    module, port = loaded("office-desk"), free_ports()[3]
+    with tempfile.TemporaryDirectory() as folder:
+        copy = os.path.join(folder, "office.db")
+        made(copy, [*ROWS, DEVICE_POOL, *DEVICES]).close()
+        desk = module.Desk(argparse.Namespace(office=f"http://127.0.0.1:{port}", ca=None,
+                                              store=None, copy=copy, unit=None, lines=None,
+                                              page=None), folder)
+        for path in ("/", "/subscriber/7", "/import"):
+            title, text = desk.shown_at(path, {})
+            has(text, ["The office is off", "Connection refused", "systemctl start officed"], path)
+            check("Errno" not in text, f"{path} in words")
+        has(desk.shown_at("/", {})[1], ["/pool/1"], "the overview")
+        told = desk.change("/subscriber/7", {**ANN, "action": "save"})[1]
+        has(told, ["The office is off"], "what isn't done")
 
 
 # Chromium reads descriptor 3 and writes 4; others first, lest one takes another's place.
@@ -389,6 +514,12 @@ class Chromium:
         self.call("Page.navigate", url=url)
         self.until(f"location.href === {json.dumps(url)} && document.readyState === 'complete'")
 
+    def looks(self, scheme, width):
+        self.call("Emulation.setEmulatedMedia", features=[
+            {"name": "prefers-color-scheme", "value": scheme}])
+        self.call("Emulation.setDeviceMetricsOverride", width=width, height=900,
+                  deviceScaleFactor=1, mobile=False)
+
     def picture(self, name):
         folder = os.environ.get("OFFICE_SHOTS")
         if folder:
@@ -421,10 +552,18 @@ def filled(page, port, folder):
         held.write(people())
     browser = Chromium(os.path.join(folder, "chromium"))
     try:
-        for name in ("", "pools", "classes", "subscribers", "lines", "hubs", "hub/0",
-                     "subscriber/7", "class/1"):
-            browser.go(f"{home}/{name}")
-            browser.picture(name.replace("/", "-") or "overview")
+        for scheme, width in (("dark", 600), ("dark", 1200), ("light", 600), ("light", 1200)):
+            browser.looks(scheme, width)
+            for name in ("", "pools", "classes", "subscribers", "lines", "hubs", "hub/0", "pool/1",
+                         "subscriber/7", "class/1", "modem/02aabbccddee", "import", "find?what=0200000000a1"):
+                browser.go(f"{home}/{name}")
+                wide = browser.run("document.documentElement.scrollWidth")
+                check(wide <= width, f"/{name} is {wide} pixels wide at {width}")
+                shade = browser.run("getComputedStyle(document.body).backgroundColor")
+                check((int(re.search(r"\d+", shade)[0]) < 128) == (scheme == "dark"),
+                      f"/{name} is {scheme}: {shade}")
+                browser.picture(f"{re.sub('[/?=]', '-', name) or 'overview'}-{scheme}-{width}")
+        browser.go(f"{home}/class/1")
         browser.run("document.querySelector('[aria-label=\"parameter sets\"]').value = '7'")
         browser.run("document.querySelector('button[value=save]').click()")
         browser.until(f"({SAID}) === 'Done.'")
@@ -452,6 +591,9 @@ def tried(desk, port, folder):
     browser = Browser(desk)
     rows(browser, port)
     refused(browser)
+    removals(browser, port)
+    new_modems(browser, port)
+    warnings(browser)
     others(browser)
     imports(browser, port)
     time.sleep(1)
@@ -466,12 +608,14 @@ def main():
     settings()
     copies_and_counts()
     devices()
+    pages()
+    off()
     if not is_built():
         return 1
     ports, desk = free_ports(), free_ports()[3]
     with tempfile.TemporaryDirectory() as folder:
         copy, log = os.path.join(folder, "office.db"), os.path.join(folder, "log")
-        made(copy, [*ROWS, DEVICE_POOL, *DEVICES]).close()
+        made(copy, [*ROWS, DEVICE_POOL, *DEVICES, *ADD_ONS]).close()
         words = [DESK, "--office", f"http://127.0.0.1:{ports[3]}", "--copy", copy, "--lines", log,
                  "--port", str(desk)]
         with open(log, "wb") as lines, serving(ports, lines):
