@@ -1,9 +1,11 @@
 -- A run with one more turn at its end.
-use Rattle.std.proofs.Common.{◌≡◌, ℕ, suc, ◌+◌, Bool, true, false, not, cond, List, [], ◌∷◌, ◌++◌, length, count_by, refl, sym, ap, ◌∙◌, arith, append_assoc, append-nil}
+use Rattle.std.proofs.Common.{◌≡◌, ℕ, suc, ◌+◌, Bool, true, false, not, cond, List, [], ◌∷◌, ◌++◌, length, count_by, refl, sym, ap, ◌∙◌, subst, arith, append_assoc, append-nil}
 use Rattle.std.proofs.lemmas.List.Sums.{sum_by-append}
 use Rattle.off_defs.specs.declared.results.Sent.{Sent}
 use Rattle.off_defs.specs.Counts.{commits_after, calls_after}
-use Rattle.off_book.specs.Run.{Turn, marked, sent_in, sent_by, lost_in, lost_by, keeper_failures, failures_by, trouble, troubles_by, commits_by, writes_by, line_of, lines_from, all_went}
+use Rattle.off_defs.specs.State.{State}
+use Rattle.off_book.specs.Step.{Step}
+use Rattle.off_book.specs.Run.{Turn, Run, effect_of, marked, sent_in, sent_by, lost_in, lost_by, keeper_failures, failures_by, trouble, troubles_by, commits_by, writes_by, line_of, lines_from, all_went}
 
 pub sent_by_push : (turns : List Turn) (turn : Turn) → sent_by (turns ++ turn ∷ []) ≡ sent_by turns ++ sent_in turn
 sent_by_push [] turn = append-nil (sent_in turn)
@@ -58,3 +60,8 @@ all_went_push (false ∷ marks) mark = refl
 pub lost_push : (marks : List Bool) (mark : Bool) → count_by not (marks ++ mark ∷ []) ≡ count_by not marks + cond mark 0 1
 lost_push marks true = sum_by-append (λ m. cond (not m) 1 0) marks (true ∷ [])
 lost_push marks false = sum_by-append (λ m. cond (not m) 1 0) marks (false ∷ [])
+
+-- it is a run, whose last turn is a step from where the others led to
+pub run_push : (s : State) (turns : List Turn) (mid last : State) (turn : Turn) → Run s turns mid → Step mid turn.event turn.outcome (effect_of turn last) → Run s (turns ++ turn ∷ []) last
+run_push s [] mid last turn run step = (last, (subst (λ v. Step v turn.event turn.outcome (effect_of turn last)) run step, refl))
+run_push s (first ∷ turns) mid last turn run step = (run.0, (run.1.0, run_push run.0 turns mid last turn run.1.1 step))

@@ -1,7 +1,7 @@
 -- A run of the office: a list of turns, each an event with its outcome, what was said and which of
 -- the things to send went out. The states between the turns aren't in the list; Run says that there
 -- are some.
-use Rattle.std.specs.Prelude.{◌≡◌, ℕ, ◌+◌, ◌-◌, Bool, true, false, cond, not, List, [], ◌∷◌, ◌++◌, length, take, All, ◌==◌, decimal, codes, count_by, max}
+use Rattle.std.specs.Prelude.{◌≡◌, ℕ, ◌+◌, ◌-◌, Bool, true, false, cond, not, List, [], ◌∷◌, ◌++◌, length, take, map, All, ◌==◌, decimal, codes, count_by, max}
 use Rattle.off_defs.specs.declared.events.Event.{Event}
 use Rattle.off_defs.specs.declared.events.What.{What}
 use Rattle.off_defs.specs.declared.events.What.TheVariants.{Datagram, Piece, Closed, Tick, End}
@@ -67,6 +67,16 @@ lost_in turn = count_by not turn.went
 abbrev pub sent_by : List Turn → List Sent
 sent_by [] = []
 sent_by (turn ∷ turns) = sent_in turn ++ sent_by turns
+
+-- a moment once for each of some items; and so of what turns sent, each turn at a moment of its own
+abbrev pub moment_of_each : ℕ → List Sent → List ℕ
+moment_of_each moment items = map (λ _. moment) items
+
+abbrev pub moments_by : List Turn → List ℕ → List ℕ
+moments_by [] moments = []
+moments_by (turn ∷ turns) [] = []
+moments_by (turn ∷ turns) (moment ∷ moments) =
+    moment_of_each moment (sent_in turn) ++ moments_by turns moments
 
 abbrev pub lost_by : List Turn → ℕ
 lost_by [] = 0

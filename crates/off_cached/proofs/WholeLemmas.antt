@@ -31,6 +31,7 @@ store_did {writes} s v r u w a b m n same written more done = record {
   up = λ up. up;
   faults = done.faults;
   commits = more;
+  waits = refl;
   crash = crash_whole s v r w a b m n;
   sure = λ t told u doubt. doubt;
 }

@@ -1,5 +1,5 @@
 -- What is seen of a keeper over a store whose rows are in memory.
-use Rattle.std.specs.Prelude.{◌≡◌, ℕ}
+use Rattle.std.specs.Prelude.{◌≡◌, ℕ, false}
 use Rattle.off_defs.specs.State.{Tables}
 use Rattle.off_defs.specs.Told.{Goes}
 use Rattle.off_outside.specs.KeeperSeen.{KeeperSeen}
@@ -20,6 +20,7 @@ whole_seen store rows calls commits = record {
   moment = 0;
   opened = λ moment tables. ⊥;
   doubt = λ tables. ⊥;
+  waits = false;
 }
 
 -- where not all rows were read, what is seen is what is seen of the store

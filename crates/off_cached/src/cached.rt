@@ -7,7 +7,7 @@ ghost use Rattle.off_cached.specs.CachedLaws.{one_cached, cached_rests};
 use crate::reading::read_rows;
 use crate::whole::Whole;
 use off_defs::{Key, Row, Writes};
-use off_outside::{KeepErr, Keeper};
+use off_outside::{Failed, KeepErr, Keeper};
 use std::alloc::Global;
 
 /// A keeper over a store, with the store's rows in memory where all of them could be read.
@@ -67,6 +67,34 @@ impl<K: Keeper> Keeper for Cached<K> {
         match self {
             Cached::Whole(whole) => whole.commit(alloc, writes),
             Cached::Store(store) => store.commit(alloc, writes),
+        }
+    }
+
+    fn stage(&mut self, alloc: Global, writes: &Writes) -> Result<(), KeepErr> {
+        match self {
+            Cached::Whole(whole) => whole.stage(alloc, writes),
+            Cached::Store(store) => store.stage(alloc, writes),
+        }
+    }
+
+    fn secure(&mut self) -> Result<(), Failed> {
+        match self {
+            Cached::Whole(whole) => whole.secure(),
+            Cached::Store(store) => store.secure(),
+        }
+    }
+
+    fn waits(&self) -> bool {
+        match self {
+            Cached::Whole(whole) => whole.waits(),
+            Cached::Store(store) => store.waits(),
+        }
+    }
+
+    fn moment(&self) -> u64 {
+        match self {
+            Cached::Whole(whole) => whole.moment(),
+            Cached::Store(store) => store.moment(),
         }
     }
 

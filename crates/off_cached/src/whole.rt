@@ -10,7 +10,7 @@ ghost use Rattle.off_cached.specs.Cached.{whole_seen};
 
 use off_defs::{Key, Row, Writes};
 use off_keepmem::MemKeeper;
-use off_outside::{KeepErr, Keeper, one_more};
+use off_outside::{Failed, KeepErr, Keeper, one_more};
 use std::alloc::Global;
 
 /// A store and all of its rows. The tables are those in memory; the store has them for the next
@@ -81,6 +81,24 @@ impl<K: Keeper> Keeper for Whole<K> {
         self.rows.apply(plan);
         self.commits = one_more(self.commits);
         Ok(())
+    }
+
+    #[tactic(auto, using(off_outside::proofs::KeeperLemmas::stages_commit))]
+    fn stage(&mut self, alloc: Global, writes: &Writes) -> Result<(), KeepErr> {
+        self.commit(alloc, writes)
+    }
+
+    #[tactic(auto, using(off_outside::proofs::KeeperLemmas::secured_none))]
+    fn secure(&mut self) -> Result<(), Failed> {
+        Ok(())
+    }
+
+    fn waits(&self) -> bool {
+        false
+    }
+
+    fn moment(&self) -> u64 {
+        0
     }
 
     ghost one_tables = { λ s up. one_exact s.rows.tables };

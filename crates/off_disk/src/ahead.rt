@@ -94,6 +94,10 @@ impl<D: Disk> Disk for ReadAhead<D> {
         self.disk.length()
     }
 
+    fn moment(&self) -> u64 {
+        self.disk.moment()
+    }
+
     fn read(&mut self, at: u64, out: &mut [u8]) -> Result<(), Failed> {
         let count = out.len();
         if count > self.room.len() {

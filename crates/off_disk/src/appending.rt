@@ -1,6 +1,6 @@
 //! The two changes of a journal's file: a record is appended, and a gate in doubt is closed.
 ghost use Rattle.std.specs.Prelude.{◌≡◌, ℕ, List, ◌++◌, ◌<◌, ◌≤◌, length, MatchResult, true};
-ghost use Rattle.std.specs.Prelude.{false};
+ghost use Rattle.std.specs.Prelude.{false, [], ◌∷◌, OnOk};
 ghost use Rattle.off_disk.specs.DiskCalls.{HasStored, NotWritten};
 ghost use Rattle.off_disk.specs.Crashing.{Appends, Settles, closed_record};
 ghost use Rattle.off_disk.specs.Records.{IsShort};
@@ -36,12 +36,13 @@ pub fn append<D: Disk>(disk: &mut D, gate: u64, bytes: &[u8]) -> Appended
     Appended::Opened
 }
 
-/// Closes a gate, open, broken or in doubt.
+/// Closes a gate, open, broken or in doubt: its byte is 0 then.
 pub fn close<D: Disk>(disk: &mut D, gate: u64) -> Result<(), Failed>
     requires { gate < (D.seen disk.old).size }
-    ensures { MatchResult result
+    ensures settles { MatchResult result
         (λ _. Settles gate true (D.seen disk.old) (D.seen disk.new))
         (λ _. Settles gate false (D.seen disk.old) (D.seen disk.new)) }
+    ensures stored { OnOk result (HasStored gate (0 ∷ []) (D.seen disk.old) (D.seen disk.new)) }
 {
     let Ok(()) = write_synced(disk, gate, &[0]) else {
         return Err(Failed);

@@ -16,6 +16,11 @@ pub trait Disk {
     fn length(&self) -> u64
         ensures { result ≡ (seen self.now).size };
 
+    /// The moment by the disk's own clock, by which it tells what a crash may leave. A disk that
+    /// tells nothing of crashes stays at 0.
+    fn moment(&self) -> u64
+        ensures { result ≡ (seen self.now).moment };
+
     /// Reads the bytes from a place on.
     fn read(&mut self, at: u64, out: &mut [u8]) -> Result<(), Failed>
         requires { at + length out.old ≤ (seen self.old).size }

@@ -28,7 +28,11 @@ use Rattle.off_jobs.specs.Health.{Stood}
 use Rattle.off_jobs.proofs.EndingLemmas.{stands, kept, told_whole, sink_kept, ends_by}
 use Rattle.off_office.specs.Opening.{OpensTo}
 use Rattle.off_office.specs.Conditions.{Fits, Opened}
+use Rattle.off_office.specs.Opening.{SavesOpened}
+use Rattle.off_office.specs.Given.{job_steps}
 use Rattle.off_office.proofs.OpeningLemmas.{leaves_opening, doubts_opened, empty_before, empty_stays}
+use Rattle.off_book.specs.Crashes.{Saves}
+use Rattle.off_book.proofs.SavesLemmas.{OnlyReads, saves_none, saves_doubt, saves_stay}
 use Rattle.off_office.specs.Closed.{SameOrGood}
 use Rattle.off_office.proofs.ClosedLemmas.{closed_status, closed_kept, closed_same}
 use Rattle.off_office.proofs.OpeningLemmas.{opens_then}
@@ -36,14 +40,15 @@ use Rattle.off_office.specs.Desk.{Desk}
 use Rattle.off_office.specs.declared.office.StartErr.TheVariants as start_err
 use Rattle.off_office.proofs.UpLemmas.{up_chain}
 use Rattle.off_drill_rules.specs.declared.tally.Tally.{Tally}
-use Rattle.off_drill_rules.specs.Rows.{peopled, drill_tables}
+use Rattle.off_drill_rules.specs.Rows.{begins_at, peopled, drill_tables}
 use Rattle.off_drill_rules.specs.Law.{FrontDrill, held_behind, drill_state}
 use Rattle.off_drill_rules.specs.Numbers.{none_yet, tally_by, drill_tally}
 use Rattle.off_drill_laws.specs.Stages.{Waits, Along}
 use Rattle.off_drill_laws.proofs.StageLemmas.{same_tally}
 use Rattle.off_drill_laws.proofs.LawLemmas.{drill_law, drill_is_there}
 use Rattle.off_drill_laws.proofs.AlongLemmas.{whole_of, front_of}
-use Rattle.off_drill_job.specs.Stepping.{Given, commands_of, KeeperDid}
+use Rattle.off_office.specs.Given.{Given}
+use Rattle.off_drill_job.specs.Stepping.{commands_of, KeeperDid}
 use Rattle.off_drill_parts.specs.Commands.{founding}
 use Rattle.off_drill_job.specs.Founding.{Builds, GaveFront, Halts}
 use Rattle.off_drill_job.specs.Exercising.{Exercised, Stopped}
@@ -185,9 +190,19 @@ up_behind {P} {i} {k} o opened stays = λ up. subst (λ n. o.up ⊎ Grew 1 n o.f
 tallied_after : {P : Tables → Type 0} {n : ℕ} {i k : KeeperSeen} (o : KeeperSeen) → OpensTo P i k → Tallied n k.faults o.faults → Tallied n i.faults o.faults
 tallied_after {P} {n} {i} {k} o opened tallied = subst (λ m. Tallied n m o.faults) opened.settled.faults tallied
 
-opened_or : {doubt more : Type 0} (t v u : Tables) → v ≡ migrated t → (doubt → more) → (u ≡ v) ⊎ doubt → (u ≡ migrated t) ⊎ more
-opened_or t v u is wider (inl same) = inl (same ∙ is)
-opened_or t v u is wider (inr doubt) = inr (wider doubt)
+-- what a crash leaves where no command was given
+none_given : {d : Desk} {err : KeepErr} (i j k : KeeperSeen) → Rests i → Rests j → (opened : Opened d i j) → NotDone err j k → (t : Tables) (told : i.tables t)
+    → SavesOpened (job_steps begins_at) i k t [] (state_of (opened.tables.each t told).value held_at_start)
+none_given i j k rests rests_on opened not t told =
+    let o = opened.tables.each t told in
+    let reads : OnlyReads j.opened k.opened j.doubt k.doubt j.moment k.moment = record { later = not.still.later; past = not.still.past; within = not.still.within; doubts = not.still.doubts } in
+    let saves = (saves_stay (saves_none {steps = job_steps begins_at} (state_of o.value held_at_start) refl (rests_on o.value o.told)) k.opened k.doubt k.moment reads).next in
+    record {
+      at = j.moment;
+      opening = leaves_opening rests opened not.still.past t told;
+      saves = saves_doubt (doubts_opened opened t told)
+          (subst (λ (v : Tables). Saves (job_steps begins_at) j.doubt j.moment (state_of v held_at_start) [] k.opened k.doubt false k.moment (state_of o.value held_at_start)) o.fits.0 saves);
+    }
 
 pub ends_unread : (n : ℕ) → n ≤ 4000 → (err : KeepErr) (d : Desk) (i j k : KeeperSeen) (l : LinkSeen) → Rests i → Rests j → Opened d i j → NotDone err j k → Ends (Broken err) n i k l l
 ends_unread n few err d i j k l rests rests_on opened not = record {
@@ -214,26 +229,7 @@ ends_unread n few err d i j k l rests rests_on opened not = record {
           record {
             value = o.value;
             told = not.tables o.value o.told;
-            fits = (
-              held_at_start,
-              (
-                j.moment,
-                (
-                  leaves_opening rests opened not.still.past t told,
-                  (
-                    ap (λ (v : Tables). state_of v held_at_start) o.fits.0,
-                    (
-                      not.still.later,
-                      (
-                        λ u ends. doubts_opened opened t told u (not.still.doubts u ends),
-                        λ m u early upto shown.
-                            opened_or t o.value u o.fits.0 (doubts_opened opened t told u) (rests_on o.value o.told u (not.still.within m u early upto shown)),
-                      ),
-                    ),
-                  ),
-                ),
-              ),
-            );
+            fits = (held_at_start, none_given i j k rests rests_on opened not t told);
           };
     };
   };

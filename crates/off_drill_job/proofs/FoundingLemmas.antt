@@ -28,10 +28,12 @@ use Rattle.off_office.specs.Desk.{Desk}
 use Rattle.off_office.proofs.MirrorLemmas.{fits_as}
 use Rattle.off_drill_rules.specs.Rows.{begins_at, with_site, with_class, founded, peopled}
 use Rattle.off_drill_rules.specs.Law.{held_behind}
-use Rattle.off_drill_job.specs.Stepping.{Given, commands_of, book_writes, KeeperDid}
+use Rattle.off_office.specs.Given.{Given}
+use Rattle.off_drill_job.specs.Stepping.{commands_of, book_writes, KeeperDid}
 use Rattle.off_drill_parts.specs.Commands.{put_hub, put_class, put_pool, put_subscriber, put_modem, settling, peopling, founding}
 use Rattle.off_drill_job.specs.Founding.{GaveCommand, AllGiven, Builds, GaveFront, Halts, PassesOver}
-use Rattle.off_drill_job.proofs.CrashLemmas.{done, commands_append, keeper_none, keeper_given, keeper_commanded, keeper_refused, keeper_lost, undone, undone_not}
+use Rattle.off_office.proofs.GivenLemmas.{done, undone}
+use Rattle.off_drill_job.proofs.CrashLemmas.{commands_append, keeper_none, keeper_given, keeper_commanded, keeper_refused, keeper_lost, undone_not}
 use Rattle.off_drill_parts.proofs.CommandLemmas.{with_subscriber, site_step, pool_step, subscriber_step, modem_step}
 
 -- ---- the front of the commands
@@ -135,7 +137,7 @@ module _ (command : Command) (before after : Desk) (k l : KeeperSeen) (sound : I
   lost_by err stays not = record {
     after = after;
     given = [];
-    lost = undone command before after k l first rests now comes err ∷ [];
+    lost = undone command err ∷ [];
     gave = lost_front err;
     tables = record { each = λ t told. record { value = t; told = not.tables t told; fits = λ fit. fit.good } };
     up = not.up;
@@ -143,9 +145,9 @@ module _ (command : Command) (before after : Desk) (k l : KeeperSeen) (sound : I
     keeper = keeper_lost command before after k l first rests now comes err not stays;
   }
     where
-      lost_front : (e : KeepErr) → GaveFront (command ∷ []) [] (undone command before after k l first rests now comes e ∷ [])
-      lost_front keep.Memory = front_one (undone command before after k l first rests now comes keep.Memory) (undone_not command before after k l first rests now comes keep.Memory)
-      lost_front keep.Failed = front_one (undone command before after k l first rests now comes keep.Failed) (undone_not command before after k l first rests now comes keep.Failed)
+      lost_front : (e : KeepErr) → GaveFront (command ∷ []) [] (undone command e ∷ [])
+      lost_front keep.Memory = front_one (undone command keep.Memory) (undone_not command before after k l first rests now comes keep.Memory)
+      lost_front keep.Failed = front_one (undone command keep.Failed) (undone_not command before after k l first rests now comes keep.Failed)
 
   refused_writes : (row : ℕ) (broken : Rule) (t : Tables) → (Mirrors before t → clerk_step t after.held.now command ≡ step_refused t row broken) → Mirrors before t → book_writes t command ≡ []
   refused_writes row broken t refused agree = ap (λ (n : ℕ). (clerk_step t n command).writes) (sym now) ∙ ap (λ (s : Stepped). s.writes) (refused agree)

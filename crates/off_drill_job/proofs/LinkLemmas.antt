@@ -57,4 +57,4 @@ sent_unasked {turns} {a} {b} {c} p q = record {
 }
 
 pub link_unasked : (l : LinkSeen) → LinkUnasked l l
-link_unasked l = record { left = stays_self; sent = stays_self; up = λ up. up; missed = refl; longest = refl; faults = refl; unsent = refl }
+link_unasked l = record { left = stays_self; sent = stays_self; moments = stays_self; up = λ up. up; missed = refl; longest = refl; faults = refl; unsent = refl }

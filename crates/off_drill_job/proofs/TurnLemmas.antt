@@ -33,8 +33,8 @@ did_whole (Closed conn) said = λ j. record { items = append-nil said.items j; l
 did_whole Tick said = λ j. record { items = append-nil said.items j; line = said.line }
 did_whole End said = λ j. record { items = append-nil said.items j; line = said.line }
 
-pub took : (event : Event) (words : List ℕ) (said : Said) (all same : Bool) (before after : Desk) (a b : KeeperSeen) (l m : LinkSeen) (c d : Tally)
-    → Rests a → Rests b → Acts event Did said before after a b → SentAll said.items all l m → d ≡ raised_by c (tally_of said) → same ≡ bytes_eq said.line words
+pub took : (event : Event) (words : List ℕ) (said : Said) (all same : Bool) (before after : Desk) (a b : KeeperSeen) (l m : LinkSeen) (c d : Tally) {moment : ℕ}
+    → Rests a → Rests b → Acts event Did said before after a b → SentAll said.items moment all l m → d ≡ raised_by c (tally_of said) → same ≡ bytes_eq said.line words
     → TookTurn event words same before after a b l m c d
 took event words said all same before after a b l m c d first rests acts sending counts says =
     let turn : Turn = record { event = event; outcome = Did; said = said; commit = acts.commit; went = sending.marks } in

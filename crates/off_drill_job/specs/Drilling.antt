@@ -24,7 +24,8 @@ use Rattle.off_drill_rules.specs.declared.tally.Tally.{Tally}
 use Rattle.off_drill_rules.specs.Rows.{drill_tables}
 use Rattle.off_drill_rules.specs.Law.{AllDid, WholeDrill, FrontDrill}
 use Rattle.off_drill_rules.specs.Numbers.{none_yet, tally_by, drill_tally}
-use Rattle.off_drill_job.specs.Stepping.{Given, commands_of, KeeperDid, KeeperDrilled}
+use Rattle.off_office.specs.Given.{Given}
+use Rattle.off_drill_job.specs.Stepping.{commands_of, KeeperDid, KeeperDrilled}
 use Rattle.off_drill_parts.specs.Commands.{founding}
 use Rattle.off_drill_job.specs.Founding.{AllGiven, GaveFront}
 use Rattle.off_drill_job.specs.Exercising.{SentTurns, TriedOne}

@@ -17,7 +17,8 @@ use Rattle.off_outside.specs.KeeperCalls.{StaysUp, keeper_faults_in}
 use Rattle.off_office.specs.Conditions.{Fits}
 use Rattle.off_office.specs.Desk.{Desk}
 use Rattle.off_drill_rules.specs.Rows.{begins_at}
-use Rattle.off_drill_job.specs.Stepping.{Given, commands_of, KeeperDid}
+use Rattle.off_office.specs.Given.{Given}
+use Rattle.off_drill_job.specs.Stepping.{commands_of, KeeperDid}
 
 -- A command was given to the office at the drill's first moment: the tables are those of the book's
 -- step, which are as before where a rule refuses it.

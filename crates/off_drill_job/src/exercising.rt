@@ -7,7 +7,7 @@ ghost use Rattle.off_drill_job.specs.Exercising.{TookTurn, LosesTurn, Exercised,
 use off_drill_parts::{Ask, count_said, hoped_line, message};
 use off_drill_rules::Tally;
 use off_office::{Office, send_all};
-use off_outside::{Event, KeepErr, Keeper, Link, Outcome, Replies};
+use off_outside::{Event, KeepErr, Keeper, Link, Outcome, Pass, Replies};
 use std::alloc::Global;
 
 /// How many packets a modem acknowledges of one file at most.
@@ -150,7 +150,7 @@ fn take<L: Link, K: Keeper>(
     let mut replies = Replies::new(alloc);
     match office.step(keeper, event, &mut replies) {
         Outcome::Did => {
-            let _all = send_all(link, &replies);
+            let _all = send_all(link, Pass::of(keeper), &replies);
             *tally = count_said(*tally, &replies);
             Ok(replies.line() == words)
         }

@@ -1,4 +1,4 @@
-ghost use Rattle.std.specs.Prelude.{◌≡◌, ◌+◌, ◌≤◌, ◌^◌, length, max, MatchResult};
+ghost use Rattle.std.specs.Prelude.{◌≡◌, ◌+◌, ◌≤◌, ◌^◌, false, true, length, max, MatchResult, OnErr, OnOk};
 ghost use Rattle.off_defs.specs.Counts.{Grew};
 ghost use Rattle.off_defs.specs.Told.{one_none};
 ghost use Rattle.off_disk.specs.DiskCalls.{HasRead, HasWritten, HasSynced};
@@ -44,6 +44,7 @@ impl FileDisk {
     // Counts a call that failed.
     fn fail(&mut self) -> Failed
         ensures size { self.new.size ≡ self.old.size }
+        ensures broken { self.new.is_broken ≡ self.old.is_broken }
         ensures faults { Grew 1 self.old.faults self.new.faults }
     {
         self.faults = one_more(self.faults);
@@ -58,6 +59,10 @@ impl Disk for FileDisk {
         self.size
     }
 
+    fn moment(&self) -> u64 {
+        0
+    }
+
     #[tactic(auto, using(crate::proofs::FileLemmas::file_calls))]
     fn read(&mut self, at: u64, out: &mut [u8]) -> Result<(), Failed> {
         match self.file.read_exact_at(out, at) {
@@ -67,7 +72,18 @@ impl Disk for FileDisk {
     }
 
     #[tactic(auto, using(crate::proofs::FileLemmas::file_calls))]
-    fn write_at(&mut self, at: u64, piece: &[u8]) -> Result<(), Failed> {
+    fn write_at(&mut self, at: u64, piece: &[u8]) -> Result<(), Failed>
+        requires { at ≤ (file_seen self.old.size self.old.faults).size }
+        ensures told { MatchResult result
+            (λ _. HasWritten at piece.now (file_seen self.old.size self.old.faults)
+            (file_seen self.new.size self.new.faults))
+            (λ _. NotWritten at (length piece.now) (file_seen self.old.size self.old.faults)
+            (file_seen self.new.size self.new.faults)) }
+
+        // After a sync that failed nothing is written any more.
+        ensures refused { OnOk result (self.old.is_broken ≡ false) }
+        ensures broken { self.new.is_broken ≡ self.old.is_broken }
+    {
         if self.is_broken || piece.len() as u64 > MOST_BYTES - at {
             return Err(self.fail());
         }
@@ -81,7 +97,17 @@ impl Disk for FileDisk {
     }
 
     #[tactic(auto, using(crate::proofs::FileLemmas::file_calls))]
-    fn sync(&mut self) -> Result<(), Failed> {
+    fn sync(&mut self) -> Result<(), Failed>
+        ensures told { MatchResult result
+            (λ _. HasSynced (file_seen self.old.size self.old.faults)
+            (file_seen self.new.size self.new.faults))
+            (λ _. NotSynced (file_seen self.old.size self.old.faults)
+            (file_seen self.new.size self.new.faults)) }
+
+        // After a sync that failed no later one says that all is well.
+        ensures refused { OnOk result (self.old.is_broken ≡ false) }
+        ensures breaks { OnErr result (self.new.is_broken ≡ true) }
+    {
         if !self.is_broken && self.file.sync_data().is_ok() {
             return Ok(());
         }

@@ -8,6 +8,7 @@ link_counts missed longest faults unsent =
     record {
       left = λ _. ⊥;
       sent = λ _. ⊥;
+      moments = λ _. ⊥;
       up = Unit {0};
       missed = missed;
       longest = longest;

@@ -1,6 +1,8 @@
-ghost use Rattle.std.specs.Prelude.{◌≡◌, IfOk};
+ghost use Rattle.std.specs.Prelude.{◌≡◌, IfOk, max};
+ghost use Rattle.off_defs.specs.Counts.{Grew, one_more};
 ghost use Rattle.off_defs.specs.Told.{one_none};
 ghost use Rattle.off_host.specs.Untold.{link_counts};
+ghost use Rattle.off_outside.specs.declared.link.LinkErr.TheVariants as link_err;
 
 use crate::addresses::Addresses;
 use crate::clerks::Clerks;
@@ -9,7 +11,7 @@ use crate::log::Log;
 use crate::watching::Watched;
 use mio::{Events, Poll};
 use off_base::{Moment, NoMemory, Peer};
-use off_outside::{Event, Failed, Link, LinkErr, Service, What};
+use off_outside::{Event, Failed, Link, LinkErr, Pass, Service, What, one_more};
 use off_peers::OwnPorts;
 use std::alloc::Global;
 use std::io;
@@ -80,6 +82,22 @@ impl SocketLink {
     }
 }
 
+impl SocketLink {
+    // Counts a call that gives no event.
+    fn miss(&mut self) -> LinkErr
+        ensures err { result ≡ link_err.Failed }
+        ensures missed { self.new.missed ≡ one_more self.old.missed }
+        ensures longest { self.new.longest ≡ max self.old.longest (one_more self.old.missed) }
+        ensures faults { Grew 1 self.old.faults self.new.faults }
+        ensures unsent { self.new.unsent ≡ self.old.unsent }
+    {
+        self.missed = one_more(self.missed);
+        self.longest = self.longest.max(self.missed);
+        self.faults = one_more(self.faults);
+        LinkErr::Failed
+    }
+}
+
 impl Link for SocketLink {
     ghost seen = { λ s. link_counts s.missed s.longest s.faults s.unsent };
 
@@ -89,16 +107,28 @@ impl Link for SocketLink {
                 self.missed = 0;
                 Ok(event)
             }
-            Err(Failed) => {
-                self.missed = self.missed.saturating_add(1);
-                self.longest = self.longest.max(self.missed);
-                self.faults = self.faults.saturating_add(1);
-                Err(LinkErr::Failed)
-            }
+            Err(Failed) => Err(self.miss()),
         }
     }
 
-    fn send(&mut self, service: Service, to: Peer, bytes: &[u8]) -> Result<(), Failed> {
+    fn next_waiting(&mut self, alloc: Global) -> Result<Option<Event>, LinkErr> {
+        match self.asking.next_waiting(alloc) {
+            Ok(Some(event)) => {
+                self.missed = 0;
+                Ok(Some(event))
+            }
+            Ok(None) => Ok(None),
+            Err(Failed) => Err(self.miss()),
+        }
+    }
+
+    fn send(
+        &mut self,
+        _pass: Pass,
+        service: Service,
+        to: Peer,
+        bytes: &[u8],
+    ) -> Result<(), Failed> {
         if self.asking.datagrams.send(service, to, bytes) {
             return Ok(());
         }
@@ -106,7 +136,7 @@ impl Link for SocketLink {
         Err(Failed)
     }
 
-    fn answer(&mut self, conn: u32, bytes: &[u8]) -> Result<(), Failed> {
+    fn answer(&mut self, _pass: Pass, conn: u32, bytes: &[u8]) -> Result<(), Failed> {
         if self.asking.clerks.answer(conn, bytes) {
             return Ok(());
         }
@@ -114,7 +144,7 @@ impl Link for SocketLink {
         Err(Failed)
     }
 
-    fn close(&mut self, conn: u32) -> Result<(), Failed> {
+    fn close(&mut self, _pass: Pass, conn: u32) -> Result<(), Failed> {
         self.asking.clerks.close(conn);
         Ok(())
     }
@@ -122,6 +152,8 @@ impl Link for SocketLink {
     ghost one_left = { λ _ up. one_none };
 
     ghost one_sent = { λ _ up. one_none };
+
+    ghost one_moments = { λ _ up. one_none };
 }
 
 // Whose turn it is to be asked.
@@ -206,13 +238,29 @@ impl Asking {
         Ok(self.tick(at))
     }
 
+    // What a socket has, or a Tick, if one waits: the system is asked without a wait if no socket is
+    // known to have something.
+    fn next_waiting(&mut self, alloc: Global) -> Result<Option<Event>, Failed> {
+        if !self.may_have_any() {
+            self.look(0)?;
+        }
+        if !self.may_have_any() {
+            return Ok(None);
+        }
+        self.round(alloc)
+    }
+
+    fn may_have_any(&self) -> bool {
+        self.datagrams.may_have_any() || self.clerks.may_have(self.looked)
+    }
+
     // Sleeps where no socket may have something, and else asks those that may.
     fn round(&mut self, alloc: Global) -> Result<Option<Event>, Failed> {
         let at = self.clock()?;
         if at.0 != self.last_tick {
             return Ok(Some(self.tick(at)));
         }
-        if !self.datagrams.may_have_any() && !self.clerks.may_have(self.looked) {
+        if !self.may_have_any() {
             let left = self.clerks.due().saturating_sub(self.looked);
             self.look(left.min(LONGEST_SLEEP))?;
             return Ok(None);

@@ -61,7 +61,7 @@ pub reads_here : {P : Tables → Type 0} (d : DiskSeen) (r : Tables) (g : ℕ) (
     → Reads P (journal_seen d r g l a) (journal_seen d r g l b)
 reads_here {P} d r g l a b own commits has = record {
   tables = λ t told. (told, subst P (sym told.0) has);
-  quiet = record { up = λ up. up; faults = omega (arith, own); commits = commits; still = still_here d r r g l a b refl };
+  quiet = record { up = λ up. up; faults = omega (arith, own); commits = commits; waits = refl; still = still_here d r r g l a b refl };
 }
 
 pub wants_here : (d : DiskSeen) (r : Tables) (g : ℕ) (l : Last) (a b : Counts) → b.own ≡ a.own → b.commits ≡ a.commits
@@ -71,6 +71,7 @@ wants_here d r g l a b own commits = record {
   up = λ up. inl up;
   faults = none_counted d.faults a.own b.own own;
   commits = commits;
+  waits = refl;
   still = still_here d r r g l a b refl;
 }
 
@@ -83,6 +84,7 @@ refused_here P err d r s g l a b same faults commits = record {
   up = λ up. inl up;
   faults = faults;
   commits = commits;
+  waits = refl;
   crash = crash_here (begun_by err P) d r s g l a b same;
 }
 
@@ -119,7 +121,7 @@ doubt_either (inr b) = inr (inl b)
 -- nothing is in doubt
 pub settled_none : (d : DiskSeen) (r : Tables) (g : ℕ) (a : Counts) → HasSettled (journal_seen d r g Closed a) (journal_seen d r g Closed a)
 settled_none d r g a = record {
-  settling = record { tables = λ t told. told; commits = refl; calls = refl; crash = crash_here Nothing d r r g Closed a a refl };
+  settling = record { tables = λ t told. told; commits = refl; calls = refl; waits = refl; crash = crash_here Nothing d r r g Closed a a refl };
   faults = refl;
   sure = λ u doubt. doubt;
 }
@@ -155,6 +157,7 @@ settled_now d e r g ws a s = record {
         );
     commits = refl;
     calls = refl;
+    waits = refl;
     crash = settle_crash d e r g ws Closed a true s (λ u doubt. absurd doubt);
   };
   faults = omega (arith, s.faults);
@@ -179,6 +182,7 @@ not_settled d e r g ws a s = record {
         );
     commits = refl;
     calls = refl;
+    waits = refl;
     crash = settle_crash d e r g ws (Doubtful ws) a false s (λ u doubt. doubt);
   };
   faults = grew_beside 1 d.faults e.faults a.own a.own s.faults refl;
@@ -272,6 +276,7 @@ opened_commit d e r s g h ws a b can done after next own commits = record {
   up = λ up. up;
   faults = omega (arith, done.faults, own);
   commits = commits;
+  waits = refl;
   crash = append_crash (IsWritten ws) d e r s g h ws appended.Opened Closed a b (commit_of ws can) done (λ t u begun. begun) (λ t same u doubt. absurd doubt);
   sure = λ t told u doubt. doubt;
 }
@@ -283,6 +288,7 @@ closed_commit d e r g ws a can done = record {
   up = λ up. inl up;
   faults = tallied_one (grew_beside 1 d.faults e.faults a.own a.own done.faults refl);
   commits = refl;
+  waits = refl;
   crash = append_crash (IsWritten ws) d e r r g g ws appended.Closed Closed a a (commit_of ws can) done (λ t u begun. begun) (λ t same u doubt. absurd doubt);
 }
 
@@ -293,6 +299,7 @@ doubtful_commit d e r g ws a can done = record {
   up = λ up. inl up;
   faults = tallied_one (grew_beside 1 d.faults e.faults a.own a.own done.faults refl);
   commits = refl;
+  waits = refl;
   crash = append_crash (IsWritten ws) d e r r g g ws appended.Doubtful (Doubtful ws) a a (commit_of ws can) done (λ t u begun. begun)
       (λ t same u doubt. doubt ∙ ap (λ (x : Tables). write_all x ws) (sym same));
 }
@@ -305,6 +312,7 @@ pub record Quietly (old new : KeeperSeen) : Type 0 where
   pub up : old.up → new.up
   pub faults : new.faults ≡ old.faults
   pub commits : new.commits ≡ old.commits
+  pub waits : new.waits ≡ old.waits
   pub crash : Crash Nothing old new
 
 pub quietly_here : (d : DiskSeen) (r s : Tables) (g : ℕ) (l : Last) (a b : Counts) → s ≡ r → b.own ≡ a.own → b.commits ≡ a.commits
@@ -314,6 +322,7 @@ quietly_here d r s g l a b same own commits = record {
   up = λ up. up;
   faults = omega (arith, own);
   commits = commits;
+  waits = refl;
   crash = crash_here Nothing d r s g l a b same;
 }
 
@@ -324,6 +333,7 @@ quietly_settled d e r s g h l m a b p = record {
   up = λ up. up;
   faults = p.faults;
   commits = p.settling.commits;
+  waits = p.settling.waits;
   crash = p.settling.crash;
 }
 
@@ -364,6 +374,7 @@ committed_then {ws} q p = record {
   up = λ up. p.up (q.up up);
   faults = p.faults ∙ q.faults;
   commits = p.commits ∙ ap one_more q.commits;
+  waits = p.waits;
   crash = crash_then q p.crash;
   sure = λ t told u doubt. p.sure t (q.tables t told) u doubt;
 }
@@ -374,6 +385,7 @@ not_committed_then {P} {err} {a} {b} {c} q p = record {
   up = λ up. up_either a b c q.faults (p.up (q.up up));
   faults = subst (λ (k : ℕ). Tallied (keeper_faults_in err) k c.faults) q.faults p.faults;
   commits = p.commits ∙ q.commits;
+  waits = p.waits ∙ q.waits;
   crash = crash_then q p.crash;
 }
 
@@ -383,6 +395,7 @@ not_settled_commit P {a} {b} up s = record {
   up = λ was. inl up;
   faults = tallied_one s.faults;
   commits = s.settling.commits;
+  waits = s.settling.waits;
   crash = record {
     later = s.settling.crash.later;
     past = s.settling.crash.past;
@@ -397,6 +410,7 @@ quietly_then p q = record {
   up = λ up. q.up (p.up up);
   faults = q.faults ∙ p.faults;
   commits = q.commits ∙ p.commits;
+  waits = q.waits ∙ p.waits;
   crash = crash_then p q.crash;
 }
 

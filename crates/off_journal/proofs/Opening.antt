@@ -1,6 +1,7 @@
 -- What an opening finds, and what it leaves.
 use Rattle.std.proofs.Common.{◌≡◌, ℕ, ◌<◌, ◌≤◌, ◌⊎◌, inl, inr, true, false, List, [], ◌∷◌, ◌++◌, length, drop, refl, sym, ap, subst, ◌∙◌, arith, length-append, map as each}
 use Rattle.std.proofs.lemmas.Bool.{cases_lt}
+use Rattle.std.proofs.lemmas.List.{nil_from_length}
 use Rattle.std.specs.FinMap as map
 use Rattle.off_defs.specs.declared.writes.Write.{Write}
 use Rattle.off_defs.specs.State.{Tables}
@@ -20,7 +21,7 @@ use Rattle.off_journal.specs.declared.keeper.Last.TheVariants.{Closed}
 use Rattle.off_journal.specs.declared.begin.OpenErr.{OpenErr}
 use Rattle.off_journal.specs.declared.begin.OpenErr.TheVariants as why
 use Rattle.off_journal.specs.declared.begin.Gate.TheVariants.{Shut, Broken}
-use Rattle.off_journal.specs.Begin.{Gives, OpensAsBefore, HasBegun, GateAt, FaultsAt, AllReadIn, NotAllRead, BadIn, HasOpened, NotOpened}
+use Rattle.off_journal.specs.Begin.{Gives, OpensAsBefore, HasBegun, GateAt, FaultsAt, AllReadIn, NotAllRead, BadIn, HasOpened, NotOpened, MadeEmpty}
 
 -- ---- what opens
 
@@ -262,6 +263,16 @@ made rows d0 d1 d2 empty s lengths none t =
           gives_by rows [] b tt empty (tiny_stands b (omega (arith, few)));
       as_before = before_then (elapsed s.kept.passes) (elapsed w.passes) (kept_before s.kept) (make_before s (empty_left s lengths none) w.passes);
     }
+
+-- a journal that was made is the one byte, and one that was there wasn't empty
+pub made_empty : (d0 d1 d2 : DiskSeen) → Lengths d1 → d1.size ≡ 0 → HasStored 0 (0 ∷ []) d1 d2 → MadeEmpty d0 d2
+made_empty d0 d1 d2 lengths none t empty b told =
+    let before = t.written.bytes b told in
+    let nothing : before.0 ≡ [] = nil_from_length before.0 (lengths before.0 before.1.0 ∙ none) in
+    before.1.1 ∙ ap (λ (v : List ℕ). 0 ∷ drop 1 v) nothing
+
+pub not_made_empty : (d0 d1 d2 : DiskSeen) → HasSynced d0 d1 → (d1.size ≡ 0 → ⊥) → MadeEmpty d0 d2
+not_made_empty d0 d1 d2 s some empty b told = absurd (some (s.kept.size ∙ empty))
 
 pub begun : (rows : Tables) (gate : ℕ) (d0 d1 : DiskSeen) (a : Counts) → a ≡ record { own = 0; calls = 0; commits = 0 } → HasOpened rows gate d0 d1
     → HasBegun d0 (journal_seen d1 rows gate Closed a)

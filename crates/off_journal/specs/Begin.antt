@@ -1,5 +1,5 @@
 -- What an opening of a journal says.
-use Rattle.std.specs.Prelude.{◌≡◌, ◌≢◌, ℕ, ◌+◌, ◌<◌, ◌≤◌, ◌^◌, List, ◌∷◌, ◌++◌, length, drop}
+use Rattle.std.specs.Prelude.{◌≡◌, ◌≢◌, ℕ, ◌+◌, ◌<◌, ◌≤◌, ◌^◌, List, [], ◌∷◌, ◌++◌, length, drop}
 use Rattle.std.specs.Prelude.{Bool, true, false, Result, Ok, Err, map as each}
 use Rattle.off_defs.specs.declared.writes.Write.{Write}
 use Rattle.off_defs.specs.State.{Tables}
@@ -139,6 +139,10 @@ pub record HasOpened (rows : Tables) (gate : ℕ) (old new : DiskSeen) : Type 0 
   pub keeps : Keeps rows gate Closed new
   pub gives : (b : List ℕ) → old.bytes b → Gives b rows
   pub as_before : OpensAsBefore old new
+
+-- A journal that is made on an empty disk is one closed gate, the byte 0.
+abbrev pub MadeEmpty : DiskSeen → DiskSeen → Type 0
+MadeEmpty old new = old.size ≡ 0 → (b : List ℕ) → new.bytes b → b ≡ 0 ∷ []
 
 pub record NotOpened (why : OpenErr) (old new : DiskSeen) : Type 0 where
   pub time : Elapsed old new

@@ -1,6 +1,6 @@
 -- What is seen of a keeper over a journal, and what it keeps of its disk.
 use Rattle.std.specs.Prelude.{◌≡◌, ℕ, ◌+◌, ◌≤◌, ◌^◌, ◌⊎◌, ◌++◌, List, length}
-use Rattle.std.specs.Prelude.{map as each, Result, Ok, Err}
+use Rattle.std.specs.Prelude.{map as each, false, Result, Ok, Err}
 use Rattle.off_defs.specs.declared.writes.Write.{Write}
 use Rattle.off_defs.specs.State.{Tables}
 use Rattle.off_defs.specs.Tables.{write_all}
@@ -53,6 +53,7 @@ journal_seen disk rows gate last counts = record {
   moment = disk.moment;
   opened = λ m u. (c : List ℕ) × (disk.left m c × Opens c u);
   doubt = doubt_of last rows;
+  waits = false;
 }
 
 -- a fault of the own was counted
@@ -106,6 +107,7 @@ pub record Settling (old new : KeeperSeen) : Type 0 where
   pub tables : (t : Tables) → old.tables t → new.tables t
   pub commits : new.commits ≡ old.commits
   pub calls : new.calls ≡ old.calls
+  pub waits : new.waits ≡ old.waits
   pub crash : Crash Nothing old new
 
 pub record HasSettled (old new : KeeperSeen) : Type 0 where

@@ -1,11 +1,11 @@
 ghost use Rattle.std.specs.Prelude.{◌≡◌, ℕ, ◌+◌, ◌<◌, ◌≤◌, ◌^◌, ◌++◌, [], ◌∷◌, List, length};
-ghost use Rattle.std.specs.Prelude.{MatchResult, MatchBool, MatchOption, IfOk};
+ghost use Rattle.std.specs.Prelude.{MatchResult, MatchBool, MatchOption, IfOk, OnOk};
 ghost use Rattle.std.specs.Int.{to_be_bytes, w32};
 ghost use Rattle.off_outside.specs.KeeperSeen.{KeeperSeen};
 ghost use Rattle.off_disk.specs.DiskCalls.{HasRead};
 ghost use Rattle.off_journal.specs.Begin.{RecordRead, AllReadIn, HasOpened, NotOpened, HasBegun};
 ghost use Rattle.off_journal.specs.Begin.{NotBegun, NotAllRead};
-ghost use Rattle.off_journal.specs.Begin.{PayloadDone, IsNotOne, NotLooked};
+ghost use Rattle.off_journal.specs.Begin.{PayloadDone, IsNotOne, NotLooked, MadeEmpty};
 
 use crate::keeper::{Counts, JournalKeeper, Last};
 use crate::reading::{PayloadErr, read_payload};
@@ -83,10 +83,12 @@ impl<D: Disk> JournalKeeper<D> {
     /// Opens the journal on a disk, and makes one where the disk is empty. The tables are in memory
     /// from then on.
     pub fn begin(alloc: Global, disk: D) -> Result<JournalKeeper<D>, Unopened<D>>
-        ensures { MatchResult result
+        ensures begun { MatchResult result
             (λ keeper. HasBegun (D.seen disk)
             (⟦<JournalKeeper<D> as Keeper>⟧.seen keeper))
             (λ refused. NotBegun refused.why (D.seen disk) (D.seen refused.disk)) }
+        ensures made { IfOk result (λ keeper. MadeEmpty (D.seen disk) (D.seen keeper.disk)) }
+        ensures room { IfOk result (λ keeper. keeper.room ≡ 0) }
     {
         JournalKeeper::begin_with_room(alloc, disk, 0)
     }
@@ -99,10 +101,12 @@ impl<D: Disk> JournalKeeper<D> {
         disk: D,
         room: usize,
     ) -> Result<JournalKeeper<D>, Unopened<D>>
-        ensures { MatchResult result
+        ensures begun { MatchResult result
             (λ keeper. HasBegun (D.seen disk)
             (⟦<JournalKeeper<D> as Keeper>⟧.seen keeper))
             (λ refused. NotBegun refused.why (D.seen disk) (D.seen refused.disk)) }
+        ensures made { IfOk result (λ keeper. MadeEmpty (D.seen disk) (D.seen keeper.disk)) }
+        ensures room { IfOk result (λ keeper. keeper.room ≡ room) }
     {
         let Ok(stretch) = zeros(alloc, STRETCH) else {
             let why = OpenErr::Memory;
@@ -128,7 +132,8 @@ impl<D: Disk> JournalKeeper<D> {
 
 // The journal of a disk, repaired.
 fn open<D: Disk>(alloc: Global, disk: &mut D) -> Result<Found, OpenErr>
-    ensures { MatchResult result
+    ensures made { OnOk result (MadeEmpty (D.seen disk.old) (D.seen disk.new)) }
+    ensures opened { MatchResult result
         (λ found. HasOpened found.rows.tables found.gate (D.seen disk.old) (D.seen disk.new))
         (λ why. NotOpened why (D.seen disk.old) (D.seen disk.new)) }
 {

@@ -195,6 +195,24 @@ impl<D: Disk> Keeper for JournalKeeper<D> {
         }
     }
 
+    #[tactic(auto, using(off_outside::proofs::KeeperLemmas::stages_commit))]
+    fn stage(&mut self, alloc: Global, writes: &Writes) -> Result<(), KeepErr> {
+        self.commit(alloc, writes)
+    }
+
+    #[tactic(auto, using(off_outside::proofs::KeeperLemmas::secured_none))]
+    fn secure(&mut self) -> Result<(), Failed> {
+        Ok(())
+    }
+
+    fn waits(&self) -> bool {
+        false
+    }
+
+    fn moment(&self) -> u64 {
+        self.disk.moment()
+    }
+
     ghost one_tables = { λ s up. one_journal_tells (D.seen s.disk) s.rows.tables s.gate s.last
         s.counts };
 

@@ -88,6 +88,7 @@ read_tells {P} {old} {new} p read = record {
     up = λ up. up;
     faults = ap (λ (m : MemKeeperHeld). m.faults) read.after;
     commits = ap (λ (m : MemKeeperHeld). m.commits) read.after;
+    waits = refl;
     still = still_seen old new;
   };
 }
@@ -105,6 +106,7 @@ undone_tells err old new undone = record {
   up = λ up. inl up;
   faults = undone_counts err old new undone;
   commits = undone.commits;
+  waits = refl;
   still = still_seen old new;
 }
 
@@ -130,6 +132,7 @@ commit_told writes (Ok a) old new h = record {
   up = λ up. up;
   faults = h.faults;
   commits = h.commits;
+  waits = refl;
   crash = crash_seen old new;
   sure = λ t told u doubt. doubt;
 }
@@ -138,6 +141,7 @@ commit_told writes (Err err) old new h = record {
   up = λ up. inl up;
   faults = undone_counts err old new h;
   commits = h.commits;
+  waits = refl;
   crash = crash_seen old new;
 }
 

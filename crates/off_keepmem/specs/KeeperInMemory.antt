@@ -1,5 +1,5 @@
 -- The keeper in memory: what it holds, and exactly what each call makes of it.
-use Rattle.std.specs.Prelude.{◌≡◌, ℕ, ◌≤◌, max, List, Result, MatchResult}
+use Rattle.std.specs.Prelude.{◌≡◌, ℕ, false, ◌≤◌, max, List, Result, MatchResult}
 use Rattle.std.specs.FinMap as map
 use Rattle.off_defs.specs.declared.writes.Write.{Write}
 use Rattle.off_defs.specs.State.{Tables}
@@ -41,6 +41,7 @@ keeper_seen m = record {
   moment = 0;
   opened = λ moment tables. ⊥;
   doubt = λ tables. ⊥;
+  waits = false;
 }
 
 -- what is seen of a keeper in memory is all that it holds

@@ -13,7 +13,7 @@ use crate::planned::Planned;
 use crate::table::Table;
 use off_base::NoMemory;
 use off_defs::{Key, Row, Write, Writes};
-use off_outside::{Calls, Failing, KeepErr, Keeper, one_more};
+use off_outside::{Calls, Failed, Failing, KeepErr, Keeper, one_more};
 use std::alloc::Global;
 use std::marker::Model;
 
@@ -232,6 +232,24 @@ impl Keeper for MemKeeper {
         ensures exact { MemCommits result self.old self.new writes.now }
     {
         self.do_all(alloc, writes)
+    }
+
+    #[tactic(auto, using(off_outside::proofs::KeeperLemmas::stages_commit))]
+    fn stage(&mut self, alloc: Global, writes: &Writes) -> Result<(), KeepErr> {
+        self.commit(alloc, writes)
+    }
+
+    #[tactic(auto, using(off_outside::proofs::KeeperLemmas::secured_none))]
+    fn secure(&mut self) -> Result<(), Failed> {
+        Ok(())
+    }
+
+    fn waits(&self) -> bool {
+        false
+    }
+
+    fn moment(&self) -> u64 {
+        0
     }
 
     ghost one_tables = { λ m up. one_exact m.tables };

@@ -70,6 +70,7 @@ read_over {P} {Q} {a} {b} {c} {d} read counted leads = record {
     up = read.up;
     faults = omega (arith, read.faults, counted.own);
     commits = counted.commits;
+    waits = refl;
     still = still_over a b c d;
   };
 }
@@ -84,6 +85,7 @@ kept_over {err} {a} {b} {c} {d} kept counted = record {
   up = λ up. up_cells 1 a.faults b.faults c.own d.own (kept.up up) counted.own;
   faults = cells_counted (keeper_faults_in err) a.faults b.faults c.own d.own kept.faults counted.own;
   commits = counted.commits;
+  waits = refl;
   still = still_over a b c d;
 }
 
@@ -93,6 +95,7 @@ wanting_over {P} {a} {b} {c} {d} read counted = record {
   up = λ up. inl (read.up up);
   faults = none_counted a.faults b.faults c.own d.own read.faults counted.own;
   commits = counted.commits;
+  waits = refl;
   still = still_over a b c d;
 }
 
@@ -102,6 +105,7 @@ bad_over {P} {a} {b} {c} {d} read counted = record {
   up = λ up. inl (read.up up);
   faults = own_counted a.faults b.faults c.own d.own read.faults counted.own counted.fits;
   commits = counted.commits;
+  waits = refl;
   still = still_over a b c d;
 }
 
@@ -123,6 +127,7 @@ committed_over {writes} {a} {b} {c} {d} done all own commits = record {
   up = done.up;
   faults = omega (arith, done.faults, own);
   commits = commits;
+  waits = refl;
   crash = crash_over (IsWritten writes) a b c d;
   sure = λ t told u doubt. doubt;
 }
@@ -133,6 +138,7 @@ uncommitted_over writes {err} {a} {b} {c} {d} kept counted = record {
   up = λ up. up_cells 1 a.faults b.faults c.own d.own (kept.up up) counted.own;
   faults = cells_counted (keeper_faults_in err) a.faults b.faults c.own d.own kept.faults counted.own;
   commits = counted.commits;
+  waits = refl;
   crash = crash_over (begun_by err (IsWritten writes)) a b c d;
 }
 
@@ -143,6 +149,7 @@ unspelled_over writes {a} {c} {d} counted = record {
   up = λ up. inl up;
   faults = own_counted a.faults a.faults c.own d.own refl counted.own counted.fits;
   commits = counted.commits;
+  waits = refl;
   crash = crash_over (begun_by Failed (IsWritten writes)) a a c d;
 }
 
@@ -152,6 +159,7 @@ unwritten_over writes {a} {c} {d} counted = record {
   up = λ up. inl up;
   faults = none_counted a.faults a.faults c.own d.own refl counted.own;
   commits = counted.commits;
+  waits = refl;
   crash = crash_over (begun_by Memory (IsWritten writes)) a a c d;
 }
 

@@ -1,5 +1,5 @@
 -- What is seen of a keeper over cells.
-use Rattle.std.specs.Prelude.{◌≡◌, ◌+◌}
+use Rattle.std.specs.Prelude.{◌≡◌, ◌+◌, false}
 use Rattle.off_defs.specs.State.{Tables}
 use Rattle.off_outside.specs.KeeperSeen.{KeeperSeen}
 use Rattle.off_cells.specs.CellsSeen.{CellMap, CellsSeen}
@@ -24,6 +24,7 @@ over seen counts = record {
   moment = 0;
   opened = λ moment tables. ⊥;
   doubt = λ tables. ⊥;
+  waits = false;
 }
 
 -- what a keeper tells that has just begun over cells

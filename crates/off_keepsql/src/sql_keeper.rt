@@ -16,7 +16,7 @@ use crate::reading::{entry_of, row_of};
 use crate::spelling::spell_all;
 use off_cells::Cells;
 use off_defs::{Key, Row, Writes};
-use off_outside::{KeepErr, Keeper};
+use off_outside::{Failed, KeepErr, Keeper};
 use off_rows::{KeyBytes, encode_key};
 use std::alloc::Global;
 
@@ -110,6 +110,24 @@ impl<C: Cells> Keeper for SqlKeeper<C> {
         self.cells.commit(alloc, &spelled)?;
         self.counts.count_commit();
         Ok(())
+    }
+
+    #[tactic(auto, using(off_outside::proofs::KeeperLemmas::stages_commit))]
+    fn stage(&mut self, alloc: Global, writes: &Writes) -> Result<(), KeepErr> {
+        self.commit(alloc, writes)
+    }
+
+    #[tactic(auto, using(off_outside::proofs::KeeperLemmas::secured_none))]
+    fn secure(&mut self) -> Result<(), Failed> {
+        Ok(())
+    }
+
+    fn waits(&self) -> bool {
+        false
+    }
+
+    fn moment(&self) -> u64 {
+        0
     }
 
     ghost one_tables = { λ s up. one_stored (C.seen s.cells) (C.one_cells s.cells up) };

@@ -1,5 +1,5 @@
 -- What a disk in memory holds behind one more call.
-use Rattle.std.proofs.Common.{◌≡◌, ℕ, ◌+◌, ◌<◌, ◌≤◌, max, Option, Some, None, List, [], ◌∷◌, ◌++◌, length, take, drop, refl, sym, ap, subst, ◌∙◌, arith, length-append, length-take, length-drop, append-nil, ◌-◌}
+use Rattle.std.proofs.Common.{◌≡◌, ℕ, suc, ◌+◌, ◌<◌, ◌≤◌, max, Option, Some, None, List, [], ◌∷◌, ◌++◌, length, take, drop, refl, sym, ap, subst, ◌∙◌, arith, length-append, length-take, length-drop, append-nil, ◌-◌}
 use Rattle.std.proofs.Math.Seq.{take-length}
 use Rattle.std.proofs.lemmas.List.{take-append-le, drop-append-le, take_all, nil_from_length}
 use Rattle.off_memdisk.specs.MemDisks.{calls_of, total_of, room_of, written_in, reads_after, IsSound, DiskHeld, MemDiskHeld, used, most_bytes}
@@ -23,6 +23,12 @@ calls_wrote (Wrote a n ∷ marks) at len pieces piece joined long =
     ∙ ap (λ (cs : List (Option (ℕ × List ℕ))). Some (a, take n pieces) ∷ cs) rest)
 calls_wrote (Synced ∷ marks) at len pieces piece joined long =
     ap (λ (cs : List (Option (ℕ × List ℕ))). None ∷ cs) (calls_wrote marks at len pieces piece joined long)
+
+-- a call is recorded for each mark
+pub calls_length : (marks : List Mark) (pieces : List ℕ) → length marks ≡ length (calls_of marks pieces)
+calls_length [] pieces = refl
+calls_length (Wrote at len ∷ marks) pieces = ap (λ (n : ℕ). suc n) (calls_length marks (drop len pieces))
+calls_length (Synced ∷ marks) pieces = ap (λ (n : ℕ). suc n) (calls_length marks pieces)
 
 pub calls_synced : (marks : List Mark) (pieces : List ℕ) → calls_of (marks ++ Synced ∷ []) pieces ≡ calls_of marks pieces ++ None ∷ []
 calls_synced [] pieces = refl

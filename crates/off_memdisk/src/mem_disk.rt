@@ -200,6 +200,11 @@ impl Disk for MemDisk {
         self.bytes.len() as u64
     }
 
+    #[tactic(auto, using(crate::proofs::HeldLemmas::calls_length))]
+    fn moment(&self) -> u64 {
+        self.marks.len() as u64
+    }
+
     fn read(&mut self, at: u64, out: &mut [u8]) -> Result<(), Failed>
         requires { at + length out.old ≤ (mem_seen self.old).size }
         ensures told { MatchResult result

@@ -306,6 +306,7 @@ message_handled from bytes said before after a b none did spent = record {
   up = λ up. inl (did.settled.up up);
   faults = did.settled.faults;
   commits = did.settled.commits;
+  waits = did.settled.waits;
   asks = asks_as_message bytes a b none spent;
   crash = did.settled.crash;
   doubts = did.settled.doubts;

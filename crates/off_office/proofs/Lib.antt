@@ -13,3 +13,4 @@ pub mod MirrorLemmas
 pub mod OpeningLemmas
 pub mod SettleLemmas
 pub mod ClosedLemmas
+pub mod GivenLemmas

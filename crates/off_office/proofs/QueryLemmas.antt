@@ -63,6 +63,7 @@ query_handled from bytes query said desk a b rests asks did spent = record {
   up = λ up. inl (did.reads.quiet.up up);
   faults = did.reads.quiet.faults;
   commits = did.reads.quiet.commits;
+  waits = did.reads.quiet.waits;
   asks = subst (λ (asked : Option (List ℕ)). DhcpAsks asked (message_of bytes) a b) (sym asks) spent;
   crash = still_crash rests did.reads.quiet.still;
   doubts = λ t told u doubt. did.reads.quiet.still.doubts u doubt;

@@ -234,6 +234,7 @@ packet_handled from bytes said before after a b rests reads moves says spent few
   up = λ up. inl (reads.quiet.up up);
   faults = reads.quiet.faults;
   commits = reads.quiet.commits;
+  waits = reads.quiet.waits;
   asks = spent;
   crash = still_crash rests reads.quiet.still;
   doubts = λ t told u doubt. reads.quiet.still.doubts u doubt;

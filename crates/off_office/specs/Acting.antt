@@ -18,7 +18,7 @@ use Rattle.off_book.specs.Step.{Step, Does, TellsOutcome, completed}
 use Rattle.off_book.specs.Http.{without_connection}
 use Rattle.off_book.specs.Crashes.{Begins, doubt_in, unless_memory}
 use Rattle.off_outside.specs.KeeperSeen.{KeeperSeen}
-use Rattle.off_outside.specs.KeeperCalls.{Reads, NotCommitted, StaysUp, Unasked, Crash, IsWritten}
+use Rattle.off_outside.specs.KeeperCalls.{Reads, NotCommitted, StaysUp, Unasked, Crash, IsWritten, waits_after}
 use Rattle.off_outside.specs.declared.keeper.KeepErr.{KeepErr}
 use Rattle.off_outside.specs.declared.keeper.KeepErr.TheVariants as keep
 use Rattle.off_kept.specs.Entries.{Entries, without_written}
@@ -178,6 +178,7 @@ pub record Handled (what : What) (outcome : Outcome) (said : Said) (before after
   pub up : StaysUp old new
   pub faults : CountsFaults outcome old.faults new.faults
   pub commits : new.commits ≡ commits_after commit old.commits
+  pub waits : new.waits ≡ waits_after commit old.waits
   pub asks : Asks what before.held old new
   pub few : AsksFew what before after old new
   pub crash : Crash (begun_in outcome (IsWritten commit) (DoingBegins what before)) old new
@@ -196,7 +197,8 @@ pub record ActsQuietly (event : Event) (outcome : Outcome) (said : Said) (before
   pub same : StaysAs before after
   pub keeper : Unasked old new
 
--- One event. `commit` is what it wrote to the tables, in one commit, which the keeper has counted.
+-- One event. `commit` is what it wrote to the tables, in one commit, which the keeper has counted, and
+-- which has saved what waited, if there was any.
 -- Where the office mirrored the tables, it's the step of the book, and it keeps of the bodies what
 -- `kept_behind` says; where they were good, they stay so, and the office mirrors them again. A
 -- crash meanwhile leaves the tables before it, the commit in doubt, or what the event would leave,
@@ -215,6 +217,7 @@ pub record Acts (event : Event) (outcome : Outcome) (said : Said) (before after 
   pub up : StaysUp old new
   pub faults : CountsFaults outcome old.faults new.faults
   pub commits : new.commits ≡ commits_after commit old.commits
+  pub waits : new.waits ≡ waits_after commit old.waits
   pub asks : Asks event.what before.held old new
   pub few : AsksFew event.what (desk_at before event.at.0) after old new
   pub crash : Crash (EventBegan event outcome before) old new

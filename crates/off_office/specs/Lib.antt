@@ -1,6 +1,7 @@
 pub mod Desk
 pub mod Opening
 pub mod Closed
+pub mod Given
 pub mod Conditions
 pub mod Answering
 pub mod Asking

@@ -1,5 +1,5 @@
 -- Calls of a keeper in a row.
-use Rattle.std.proofs.Common.{◌≡◌, ℕ, ◌+◌, ◌<◌, ◌≤◌, ◌⊎◌, List, [], ◌∷◌, length, refl, sym, ap, ◌∙◌, subst, inl, inr, arith}
+use Rattle.std.proofs.Common.{◌≡◌, ℕ, Bool, false, Result, Ok, Err, ◌+◌, ◌<◌, ◌≤◌, ◌⊎◌, List, [], ◌∷◌, length, refl, sym, ap, ◌∙◌, subst, inl, inr, arith}
 use mathlib.Core.Logic.{⊎_map}
 use Rattle.std.proofs.lemmas.Bool.{cases_lt}
 use Rattle.off_defs.specs.declared.writes.Write.{Write}
@@ -12,7 +12,7 @@ use Rattle.off_defs.proofs.TableLemmas.{doubt_more}
 use Rattle.off_outside.specs.declared.keeper.KeepErr.{KeepErr}
 use Rattle.off_outside.specs.declared.keeper.KeepErr.TheVariants.{Memory, Failed}
 use Rattle.off_outside.specs.KeeperSeen.{KeeperSeen, Rests}
-use Rattle.off_outside.specs.KeeperCalls.{Still, Crash, Quiet, Reads, NotDone, Committed, NotCommitted, Settled, StaysUp, begun_by, Spent, WasCounted, Unasked}
+use Rattle.off_outside.specs.KeeperCalls.{Still, Crash, Quiet, Reads, NotDone, Committed, NotCommitted, Settled, StaysUp, begun_by, Spent, WasCounted, Unasked, Staged, Secured, doubt_saved, waits_after, Commits, Stages}
 
 -- at one moment
 at_same : (seen : KeeperSeen) (m n : ℕ) (u : Tables) → m ≡ n → seen.opened m u → seen.opened n u
@@ -40,13 +40,14 @@ still_then {a} {b} {c} p q = record {
 }
 
 pub quiet_self : (a : KeeperSeen) → Quiet a a
-quiet_self a = record { up = λ up. up; faults = refl; commits = refl; still = still_self a }
+quiet_self a = record { up = λ up. up; faults = refl; commits = refl; waits = refl; still = still_self a }
 
 pub quiet_then : {a b c : KeeperSeen} → Quiet a b → Quiet b c → Quiet a c
 quiet_then p q = record {
   up = λ up. q.up (p.up up);
   faults = q.faults ∙ p.faults;
   commits = q.commits ∙ p.commits;
+  waits = q.waits ∙ p.waits;
   still = still_then p.still q.still;
 }
 
@@ -78,6 +79,7 @@ failed_then {P} {err} {a} {b} {c} p q = record {
   up = stays_up_then a b c p.quiet q.up;
   faults = tallied_behind p.quiet.faults q.faults;
   commits = q.commits ∙ p.quiet.commits;
+  waits = q.waits ∙ p.quiet.waits;
   still = still_then p.quiet.still q.still;
 }
 
@@ -97,6 +99,7 @@ wants_memory a = record {
   up = λ up. inl up;
   faults = tallied_none a.faults;
   commits = refl;
+  waits = refl;
   still = still_self a;
 }
 
@@ -115,7 +118,7 @@ crash_self a = record {
 
 -- memory was wanted before any call
 pub nothing_begun : {P : Tables → Tables → Type 0} (a : KeeperSeen) → NotCommitted P Memory a a
-nothing_begun a = record { tables = λ t told. told; up = λ up. inl up; faults = tallied_none a.faults; commits = refl; crash = crash_self a }
+nothing_begun a = record { tables = λ t told. told; up = λ up. inl up; faults = tallied_none a.faults; commits = refl; waits = refl; crash = crash_self a }
 
 -- nothing to write is done by nothing, and writes by their commit
 pub settled_none : (writes : List Write) (a : KeeperSeen) → length writes ≡ 0 → Settled writes a a
@@ -124,6 +127,7 @@ settled_none [] a none = record {
   up = λ up. up;
   faults = refl;
   commits = refl;
+  waits = refl;
   crash = crash_self a;
   doubts = λ t told u doubt. doubt;
 }
@@ -136,6 +140,7 @@ settled_commit (write ∷ writes) some done = record {
   up = done.up;
   faults = done.faults;
   commits = done.commits;
+  waits = done.waits;
   crash = done.crash;
   doubts = done.sure;
 }
@@ -201,7 +206,7 @@ read_crash {P} {Q} {a} {b} {c} rests reads crash = record {
 
 -- a call that wasn't done, as one that may have begun something
 pub not_begun : {P : Tables → Tables → Type 0} {err : KeepErr} {a b : KeeperSeen} → Rests a → NotDone err a b → NotCommitted P err a b
-not_begun rests p = record { tables = p.tables; up = p.up; faults = p.faults; commits = p.commits; crash = still_crash rests p.still }
+not_begun rests p = record { tables = p.tables; up = p.up; faults = p.faults; commits = p.commits; waits = p.waits; crash = still_crash rests p.still }
 
 pub not_begun_then : {P : Tables → Tables → Type 0} {Q : Tables → Type 0} {err : KeepErr} {a b c : KeeperSeen} → Rests a → Reads Q a b → NotCommitted P err b c
     → NotCommitted P err a c
@@ -210,6 +215,7 @@ not_begun_then {P} {Q} {err} {a} {b} {c} rests p q = record {
   up = stays_up_then a b c p.quiet q.up;
   faults = tallied_behind p.quiet.faults q.faults;
   commits = q.commits ∙ p.quiet.commits;
+  waits = q.waits ∙ p.quiet.waits;
   crash = read_crash rests p q.crash;
 }
 
@@ -225,6 +231,7 @@ not_committed_as {P} {Q} {err} p more = record {
   up = p.up;
   faults = p.faults;
   commits = p.commits;
+  waits = p.waits;
   crash = crash_weaker p.crash (λ t told u begun. begun_weaker err P Q t t u (more t told u) begun);
 }
 
@@ -235,6 +242,7 @@ settled_then {Q} {writes} {a} {b} {c} rests p q = record {
   up = λ up. q.up (p.quiet.up up);
   faults = q.faults ∙ p.quiet.faults;
   commits = q.commits ∙ ap (commits_after writes) p.quiet.commits;
+  waits = q.waits ∙ ap (waits_after writes) p.quiet.waits;
   crash = read_crash rests p q.crash;
   doubts = λ t told u doubt. doubt_more writes (p.quiet.still.doubts u) (q.doubts t (p.tables t told).0 u doubt);
 }
@@ -267,6 +275,7 @@ settled_read {Q} {writes} rests p q = record {
   up = λ up. q.quiet.up (p.up up);
   faults = q.quiet.faults ∙ p.faults;
   commits = q.quiet.commits ∙ p.commits;
+  waits = q.quiet.waits ∙ p.waits;
   crash = crash_still rests p.crash q.quiet.still;
   doubts = λ t told u doubt. p.doubts t told u (q.quiet.still.doubts u doubt);
 }
@@ -298,4 +307,33 @@ crash_both {P} {Q} {R} {a} {b} {c} p q mid = record {
   past = λ m u before opened. p.past m u before (q.past m u (omega (arith, before, p.later)) opened);
   within = λ t told m u behind upto opened. both_within p q mid t told m u behind upto opened (cases_lt b.moment m);
   doubts = λ t told u doubt. let g = mid.each t told in doubt_both (p.doubts t told u) (g.fits.1 u) (q.doubts g.value g.told u doubt);
+}
+
+-- ---- a keeper that saves at once
+
+-- a commit, as writes that are staged and don't wait
+pub staged_commit : {writes : List Write} {a b : KeeperSeen} → Committed writes a b → Staged writes a b
+staged_commit done = record {
+  tables = done.tables;
+  up = done.up;
+  faults = done.faults;
+  commits = done.commits;
+  crash = crash_weaker done.crash (λ t told u written. inr written);
+  sure = λ none t told u doubt. absurd (done.sure t told u doubt);
+}
+
+pub stages_commit : (r : Result (Unit {0}) KeepErr) (a b : KeeperSeen) (writes : List Write) → Commits r a b writes → Stages r a b writes
+stages_commit (Ok u) a b writes done = staged_commit done
+stages_commit (Err e) a b writes undone = undone
+
+-- nothing waits, so it is saved
+pub secured_none : (a : KeeperSeen) → a.waits ≡ false → Secured a a
+secured_none a none = record {
+  tables = λ t told. told;
+  up = λ up. up;
+  faults = refl;
+  commits = refl;
+  waits = none;
+  crash = crash_self a;
+  sure = λ t told u doubt. subst (λ (w : Bool). doubt_saved w (a.doubt u)) (sym none) doubt;
 }

@@ -37,9 +37,9 @@ posted octets bytes (first ∷ items) item within =
     ap (λ v. v ∷ map (item_in (octets ++ bytes)) (items ++ item ∷ [])) same ∙ ap (λ v. item_in octets first ∷ v) others
 
 -- the box with one more item
-pub posted_box : (octets more bytes : List ℕ) (items longer : List Item) (item : Item) (given : Sent) (a b : ℕ) → more ≡ octets ++ bytes → longer ≡ items ++ item ∷ []
+pub posted_box : (octets more bytes : List ℕ) (items longer : List Item) (item : Item) (given : Sent) (moments kept : List ℕ) (a b : ℕ) → more ≡ octets ++ bytes → longer ≡ items ++ item ∷ [] → kept ≡ moments
     → All (IsWithin octets) items → item_in (octets ++ bytes) item ≡ given
-    → ◌≡◌ {A = OutboxHeld} (record { sent = map (item_in more) longer; item_room = a; octet_room = b })
-    (record { sent = map (item_in octets) items ++ given ∷ []; item_room = a; octet_room = b })
-posted_box octets more bytes items longer item given a b is_more is_longer within is =
-    rw (is_more, is_longer) (ap (λ v. record { sent = v; item_room = a; octet_room = b }) (posted octets bytes items item within ∙ ap (λ v. map (item_in octets) items ++ v ∷ []) is))
+    → ◌≡◌ {A = OutboxHeld} (record { sent = map (item_in more) longer; moments = kept; item_room = a; octet_room = b })
+    (record { sent = map (item_in octets) items ++ given ∷ []; moments = moments; item_room = a; octet_room = b })
+posted_box octets more bytes items longer item given moments kept a b is_more is_longer is_kept within is =
+    rw (is_more, is_longer, is_kept) (ap (λ v. record { sent = v; moments = moments; item_room = a; octet_room = b }) (posted octets bytes items item within ∙ ap (λ v. map (item_in octets) items ++ v ∷ []) is))

@@ -1,5 +1,5 @@
 -- The forms in memory: what each holds, and exactly what each call makes of it.
-use Rattle.std.specs.Prelude.{◌≡◌, ℕ, ◌-◌, ◌<◌, ◌≤◌, List, [], ◌∷◌, ◌++◌, drop, take, length, min, Contains, ◌⊎◌, Result, MatchResult, max}
+use Rattle.std.specs.Prelude.{◌≡◌, ℕ, ◌-◌, ◌<◌, ◌≤◌, List, [], ◌∷◌, ◌++◌, drop, take, length, min, Contains, ◌⊎◌, Option, None, Some, Result, MatchResult, max}
 use Rattle.off_defs.specs.declared.events.Event.{Event}
 use Rattle.off_defs.specs.declared.results.Sent.{Sent}
 use Rattle.off_defs.specs.Counts.{one_more, most_count}
@@ -25,31 +25,38 @@ one_called calls = record calls { made = next_call calls }
 abbrev pub IsToFail : CallsHeld → Type 0
 IsToFail calls = Contains calls.listed (next_call calls)
 
--- what was sent, and the room that is left for items and for their bytes
+-- what was sent, with the moment of each item, and the room that is left for items and for their
+-- bytes
 pub record OutboxHeld : Type 0 where
   pub sent : List Sent
+  pub moments : List ℕ
   pub item_room : ℕ
   pub octet_room : ℕ
 
 abbrev pub HasRoom : OutboxHeld → ℕ → Type 0
 HasRoom box len = (0 < box.item_room) × (len ≤ box.octet_room)
 
-abbrev pub with_item : OutboxHeld → Sent → ℕ → OutboxHeld
-with_item box item len =
+abbrev pub with_item : OutboxHeld → Sent → ℕ → ℕ → OutboxHeld
+with_item box item moment len =
     record {
       sent = box.sent ++ item ∷ [];
+      moments = box.moments ++ moment ∷ [];
       item_room = box.item_room - 1;
       octet_room = box.octet_room - len;
     }
 
 abbrev pub empty_outbox : ℕ → ℕ → OutboxHeld
-empty_outbox items octets = record { sent = []; item_room = items; octet_room = octets }
+empty_outbox items octets =
+    record { sent = []; moments = []; item_room = items; octet_room = octets }
 
--- a link in memory
+-- A link in memory. When `next` takes an event, so many of those to come wait already: `together`.
+-- So many wait now: `waiting`.
 pub record MemLinkHeld : Type 0 where
   pub left : List Event
   pub outbox : OutboxHeld
   pub calls : CallsHeld
+  pub together : ℕ
+  pub waiting : ℕ
   pub missed : ℕ
   pub longest : ℕ
   pub faults : ℕ
@@ -60,6 +67,7 @@ abbrev pub link_seen : MemLinkHeld → LinkSeen
 link_seen m = record {
   left = λ events. events ≡ m.left;
   sent = λ items. items ≡ m.outbox.sent;
+  moments = λ moments. moments ≡ m.outbox.moments;
   up = Unit {0};
   missed = m.missed;
   longest = m.longest;
@@ -71,6 +79,7 @@ link_seen m = record {
 pub record LinkTells (m : MemLinkHeld) (seen : LinkSeen) : Type 0 where
   pub left : seen.left m.left
   pub sent : seen.sent m.outbox.sent
+  pub moments : seen.moments m.outbox.moments
   pub up : seen.up
   pub missed : seen.missed ≡ m.missed
   pub longest : seen.longest ≡ m.longest
@@ -85,7 +94,8 @@ link_called m = record m { calls = one_called m.calls }
 pub record MemTook (event : Event) (old new : MemLinkHeld) : Type 0 where
   pub unlisted : ¬ (IsToFail old.calls)
   pub first : event ≡ first_event old.left
-  pub after : new ≡ record (link_called old) { left = drop 1 old.left; missed = 0 }
+  pub after : new
+      ≡ record (link_called old) { left = drop 1 old.left; missed = 0; waiting = old.together }
 
 pub record MemNotTook (err : LinkErr) (old new : MemLinkHeld) : Type 0 where
   pub listed : IsToFail old.calls
@@ -96,11 +106,29 @@ pub record MemNotTook (err : LinkErr) (old new : MemLinkHeld) : Type 0 where
     faults = one_more old.faults;
   }
 
+-- `next_waiting` gives the first event exactly if one waits and the call isn't listed; where none
+-- waits nothing is counted
+pub record MemTookWaiting (event : Event) (old new : MemLinkHeld) : Type 0 where
+  pub waits : 0 < old.waiting
+  pub some : 0 < length old.left
+  pub unlisted : ¬ (IsToFail old.calls)
+  pub first : event ≡ first_event old.left
+  pub after : new
+      ≡ record (link_called old) { left = drop 1 old.left; missed = 0; waiting = old.waiting - 1 }
+
+pub record MemNoneWaits (old new : MemLinkHeld) : Type 0 where
+  pub none : (old.waiting ≡ 0) ⊎ (old.left ≡ [])
+  pub after : new ≡ old
+
+abbrev pub MemTookIfWaiting : Option Event → MemLinkHeld → MemLinkHeld → Type 0
+MemTookIfWaiting (Some event) old new = MemTookWaiting event old new
+MemTookIfWaiting None old new = MemNoneWaits old new
+
 -- an item of `len` bytes is sent exactly where the call isn't listed and there is room
-pub record MemSent (item : Sent) (len : ℕ) (old new : MemLinkHeld) : Type 0 where
+pub record MemSent (item : Sent) (moment len : ℕ) (old new : MemLinkHeld) : Type 0 where
   pub unlisted : ¬ (IsToFail old.calls)
   pub room : HasRoom old.outbox len
-  pub after : new ≡ record (link_called old) { outbox = with_item old.outbox item len }
+  pub after : new ≡ record (link_called old) { outbox = with_item old.outbox item moment len }
 
 pub record MemNotSent (len : ℕ) (old new : MemLinkHeld) : Type 0 where
   pub cause : IsToFail old.calls ⊎ (¬ (HasRoom old.outbox len))
@@ -111,9 +139,13 @@ abbrev pub MemTakes : Result Event LinkErr → MemLinkHeld → MemLinkHeld → T
 MemTakes result old new =
     MatchResult result (λ event. MemTook event old new) (λ err. MemNotTook err old new)
 
-abbrev pub MemSends : Result (Unit {0}) Failed → Sent → ℕ → MemLinkHeld → MemLinkHeld → Type 0
-MemSends result item len old new =
-    MatchResult result (λ _. MemSent item len old new) (λ _. MemNotSent len old new)
+abbrev pub MemTakesWaiting : Result (Option Event) LinkErr → MemLinkHeld → MemLinkHeld → Type 0
+MemTakesWaiting result old new =
+    MatchResult result (λ event. MemTookIfWaiting event old new) (λ err. MemNotTook err old new)
+
+abbrev pub MemSends : Result (Unit {0}) Failed → Sent → ℕ → ℕ → MemLinkHeld → MemLinkHeld → Type 0
+MemSends result item moment len old new =
+    MatchResult result (λ _. MemSent item moment len old new) (λ _. MemNotSent len old new)
 
 -- a link that has just been made
 abbrev pub new_link : List Event → ℕ → ℕ → List ℕ → MemLinkHeld
@@ -121,6 +153,8 @@ new_link events items octets fails = record {
   left = events;
   outbox = empty_outbox items octets;
   calls = record { listed = fails; made = 0 };
+  together = 0;
+  waiting = 0;
   missed = 0;
   longest = 0;
   faults = 0;

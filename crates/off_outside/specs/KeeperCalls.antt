@@ -1,5 +1,5 @@
 -- What each call of a keeper does to each of its meanings.
-use Rattle.std.specs.Prelude.{◌≡◌, ℕ, ◌+◌, ◌<◌, ◌≤◌, ◌⊎◌, List, Result, MatchResult}
+use Rattle.std.specs.Prelude.{◌≡◌, ℕ, ◌+◌, ◌<◌, ◌≤◌, ◌⊎◌, Bool, true, false, List, [], ◌∷◌, Result, MatchResult}
 use Rattle.std.specs.FinMap as map
 use Rattle.off_defs.specs.declared.writes.Write.{Write}
 use Rattle.off_defs.specs.State.{Tables}
@@ -8,12 +8,13 @@ use Rattle.off_defs.specs.Told.{Told}
 use Rattle.off_defs.specs.Counts.{Grew, Tallied, one_more, commits_after}
 use Rattle.off_outside.specs.KeeperSeen.{KeeperSeen}
 use Rattle.off_outside.specs.declared.keeper.KeepErr.{KeepErr}
-use Rattle.off_outside.specs.declared.keeper.KeepErr.TheVariants.{Memory, Failed}
+use Rattle.off_outside.specs.declared.keeper.KeepErr.TheVariants.{Memory, Failed as FailedCall}
+use Rattle.off_outside.specs.declared.link.Failed.{Failed}
 
 -- how many faults an error counts: want of memory is no failure
 abbrev pub keeper_faults_in : KeepErr → ℕ
 keeper_faults_in Memory = 0
-keeper_faults_in Failed = 1
+keeper_faults_in FailedCall = 1
 
 -- the keeper stays up, or has counted a fault
 abbrev pub StaysUp : KeeperSeen → KeeperSeen → Type 0
@@ -42,6 +43,7 @@ pub record Quiet (old new : KeeperSeen) : Type 0 where
   pub up : old.up → new.up
   pub faults : new.faults ≡ old.faults
   pub commits : new.commits ≡ old.commits
+  pub waits : new.waits ≡ old.waits
   pub still : Still old new
 
 -- The tables were read: P holds of them, and they are told still. It holds of one call, and of
@@ -56,33 +58,37 @@ pub record NotDone (err : KeepErr) (old new : KeeperSeen) : Type 0 where
   pub up : StaysUp old new
   pub faults : Tallied (keeper_faults_in err) old.faults new.faults
   pub commits : new.commits ≡ old.commits
+  pub waits : new.waits ≡ old.waits
   pub still : Still old new
 
 -- what writes make of tables
 abbrev pub IsWritten : List Write → Tables → Tables → Type 0
 IsWritten writes before after = after ≡ write_all before writes
 
--- the writes were done, all of them; no commit is in doubt any more
+-- The writes were done, all of them, and all that waited before them: nothing waits any more, and
+-- nothing is in doubt.
 pub record Committed (writes : List Write) (old new : KeeperSeen) : Type 0 where
   pub tables : Told old.tables new.tables (IsWritten writes)
   pub up : old.up → new.up
   pub faults : new.faults ≡ old.faults
   pub commits : new.commits ≡ one_more old.commits
+  pub waits : new.waits ≡ false
   pub crash : Crash (IsWritten writes) old new
   pub sure : (t : Tables) → old.tables t → (u : Tables) → new.doubt u → ⊥
 
 -- what a commit has begun that wasn't done: nothing, where memory was wanted
 abbrev pub begun_by : KeepErr → (Tables → Tables → Type 0) → Tables → Tables → Type 0
 begun_by Memory P before after = ⊥
-begun_by Failed P before after = P before after
+begun_by FailedCall P before after = P before after
 
--- none of the writes was done: the tables are as before
+-- none of the writes was done: the tables are as before, and what waited waits
 pub record NotCommitted (P : Tables → Tables → Type 0) (err : KeepErr)
     (old new : KeeperSeen) : Type 0 where
   pub tables : (t : Tables) → old.tables t → new.tables t
   pub up : StaysUp old new
   pub faults : Tallied (keeper_faults_in err) old.faults new.faults
   pub commits : new.commits ≡ old.commits
+  pub waits : new.waits ≡ old.waits
   pub crash : Crash (begun_by err P) old new
 
 -- a call that looks at the tables, and one that commits writes, by the answer
@@ -94,6 +100,63 @@ abbrev pub Commits : Result (Unit {0}) KeepErr → KeeperSeen → KeeperSeen →
 Commits result old new writes =
     MatchResult result (λ _. Committed writes old new)
     (λ err. NotCommitted (IsWritten writes) err old new)
+
+-- The tables are those before, or those that writes make of them. What is in doubt after a call
+-- that has writes wait is so of this: a crash may leave the tables before it too.
+abbrev pub WrittenOrNot : List Write → Tables → Tables → Type 0
+WrittenOrNot writes before after = (after ≡ before) ⊎ IsWritten writes before after
+
+-- The writes were done in the tables that are told. They wait to be saved; or, if nothing waits after
+-- the call, they are saved with all that waited before them, and then nothing is in doubt, unless
+-- there were no writes.
+pub record Staged (writes : List Write) (old new : KeeperSeen) : Type 0 where
+  pub tables : Told old.tables new.tables (IsWritten writes)
+  pub up : old.up → new.up
+  pub faults : new.faults ≡ old.faults
+  pub commits : new.commits ≡ one_more old.commits
+  pub crash : Crash (WrittenOrNot writes) old new
+  pub sure : new.waits ≡ false → (t : Tables) → old.tables t → (u : Tables) → new.doubt u →
+      doubt_behind writes (old.doubt u)
+
+-- a call that does writes in the tables and may have them wait, by the answer
+abbrev pub Stages : Result (Unit {0}) KeepErr → KeeperSeen → KeeperSeen → List Write → Type 0
+Stages result old new writes =
+    MatchResult result (λ _. Staged writes old new)
+    (λ err. NotCommitted (IsWritten writes) err old new)
+
+-- the tables as they were
+abbrev pub IsSame : Tables → Tables → Type 0
+IsSame before after = after ≡ before
+
+-- what is in doubt after a call that has saved what waited: nothing, if anything waited
+abbrev pub doubt_saved : Bool → Type 0 → Type 0
+doubt_saved true doubt = ⊥
+doubt_saved false doubt = doubt
+
+-- What waited is saved, and the tables are as before. A crash meanwhile leaves these, or what was in
+-- doubt before.
+pub record Secured (old new : KeeperSeen) : Type 0 where
+  pub tables : (t : Tables) → old.tables t → new.tables t
+  pub up : old.up → new.up
+  pub faults : new.faults ≡ old.faults
+  pub commits : new.commits ≡ old.commits
+  pub waits : new.waits ≡ false
+  pub crash : Crash IsSame old new
+  pub sure : (t : Tables) → old.tables t → (u : Tables) → new.doubt u →
+      doubt_saved old.waits (old.doubt u)
+
+-- It isn't: what waited waits, and the keeper has counted a fault.
+pub record NotSecured (old new : KeeperSeen) : Type 0 where
+  pub tables : (t : Tables) → old.tables t → new.tables t
+  pub up : StaysUp old new
+  pub faults : Grew 1 old.faults new.faults
+  pub commits : new.commits ≡ old.commits
+  pub waits : new.waits ≡ old.waits
+  pub crash : Crash IsSame old new
+
+-- a call that saves what waits, by the answer: it fails by a fault alone, and wants no memory
+abbrev pub Secures : Result (Unit {0}) Failed → KeeperSeen → KeeperSeen → Type 0
+Secures result old new = MatchResult result (λ _. Secured old new) (λ _. NotSecured old new)
 
 -- at most n calls were made
 pub record Spent (n : ℕ) (old new : KeeperSeen) : Type 0 where
@@ -115,12 +178,18 @@ pub record Unasked (old new : KeeperSeen) : Type 0 where
   pub quiet : Quiet old new
   pub calls : new.calls ≡ old.calls
 
+-- what waits after a commit of these writes: nothing, if there were any
+abbrev pub waits_after : List Write → Bool → Bool
+waits_after [] waits = waits
+waits_after (write ∷ writes) waits = false
+
 -- What was planned was done: the writes in one commit, where there are any, and else nothing.
 pub record Settled (writes : List Write) (old new : KeeperSeen) : Type 0 where
   pub tables : Told old.tables new.tables (IsWritten writes)
   pub up : old.up → new.up
   pub faults : new.faults ≡ old.faults
   pub commits : new.commits ≡ commits_after writes old.commits
+  pub waits : new.waits ≡ waits_after writes old.waits
   pub crash : Crash (IsWritten writes) old new
   pub doubts : (t : Tables) → old.tables t → (u : Tables) → new.doubt u →
       doubt_behind writes (old.doubt u)

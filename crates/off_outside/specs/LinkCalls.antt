@@ -1,5 +1,5 @@
 -- What each call of a link does to each of its meanings.
-use Rattle.std.specs.Prelude.{◌≡◌, ℕ, ◌⊎◌, List, [], ◌∷◌, ◌++◌, drop, max, Result, MatchResult}
+use Rattle.std.specs.Prelude.{◌≡◌, ℕ, ◌⊎◌, List, [], ◌∷◌, ◌++◌, drop, max, Option, None, Some, Result, MatchResult}
 use Rattle.off_defs.specs.declared.events.Event.{Event}
 use Rattle.off_defs.specs.declared.results.Sent.{Sent}
 use Rattle.off_defs.specs.Told.{Told, Stays}
@@ -25,6 +25,7 @@ pub record Took (event : Event) (old new : LinkSeen) : Type 0 where
   pub left : Told old.left new.left
       (λ before after. (event ≡ first_event before) × (after ≡ drop 1 before))
   pub sent : Stays old.sent new.sent
+  pub moments : Stays old.moments new.moments
   pub up : old.up → new.up
   pub missed : new.missed ≡ 0
   pub longest : new.longest ≡ old.longest
@@ -49,16 +50,18 @@ longest_after link_err.Failed missed longest = max longest (one_more missed)
 pub record NotTook (err : LinkErr) (old new : LinkSeen) : Type 0 where
   pub left : Stays old.left new.left
   pub sent : Stays old.sent new.sent
+  pub moments : Stays old.moments new.moments
   pub up : old.up → new.up ⊎ Grew 1 old.faults new.faults
   pub missed : new.missed ≡ missed_after err old.missed
   pub longest : new.longest ≡ longest_after err old.missed old.longest
   pub faults : Grew (faults_in err) old.faults new.faults
   pub unsent : new.unsent ≡ old.unsent
 
--- an item was sent
-pub record WasSent (item : Sent) (old new : LinkSeen) : Type 0 where
+-- an item was sent, at this moment of the keeper
+pub record WasSent (item : Sent) (moment : ℕ) (old new : LinkSeen) : Type 0 where
   pub left : Stays old.left new.left
   pub sent : Told old.sent new.sent (λ before after. after ≡ before ++ item ∷ [])
+  pub moments : Told old.moments new.moments (λ before after. after ≡ before ++ moment ∷ [])
   pub up : old.up → new.up
   pub missed : new.missed ≡ old.missed
   pub longest : new.longest ≡ old.longest
@@ -69,6 +72,7 @@ pub record WasSent (item : Sent) (old new : LinkSeen) : Type 0 where
 pub record NotSent (old new : LinkSeen) : Type 0 where
   pub left : Stays old.left new.left
   pub sent : Stays old.sent new.sent
+  pub moments : Stays old.moments new.moments
   pub up : old.up → new.up ⊎ Grew 1 old.unsent new.unsent
   pub missed : new.missed ≡ old.missed
   pub longest : new.longest ≡ old.longest
@@ -79,6 +83,7 @@ pub record NotSent (old new : LinkSeen) : Type 0 where
 pub record LinkUnasked (old new : LinkSeen) : Type 0 where
   pub left : Stays old.left new.left
   pub sent : Stays old.sent new.sent
+  pub moments : Stays old.moments new.moments
   pub up : old.up → new.up
   pub missed : new.missed ≡ old.missed
   pub longest : new.longest ≡ old.longest
@@ -89,5 +94,15 @@ pub record LinkUnasked (old new : LinkSeen) : Type 0 where
 abbrev pub Takes : Result Event LinkErr → LinkSeen → LinkSeen → Type 0
 Takes result old new = MatchResult result (λ event. Took event old new) (λ err. NotTook err old new)
 
-abbrev pub Sends : Result (Unit {0}) Failed → Sent → LinkSeen → LinkSeen → Type 0
-Sends result item old new = MatchResult result (λ _. WasSent item old new) (λ _. NotSent old new)
+-- what a call that takes an event that waits does: it may take none
+abbrev pub TookWaiting : Option Event → LinkSeen → LinkSeen → Type 0
+TookWaiting (Some event) old new = Took event old new
+TookWaiting None old new = LinkUnasked old new
+
+abbrev pub TakesWaiting : Result (Option Event) LinkErr → LinkSeen → LinkSeen → Type 0
+TakesWaiting result old new =
+    MatchResult result (λ event. TookWaiting event old new) (λ err. NotTook err old new)
+
+abbrev pub Sends : Result (Unit {0}) Failed → Sent → ℕ → LinkSeen → LinkSeen → Type 0
+Sends result item moment old new =
+    MatchResult result (λ _. WasSent item moment old new) (λ _. NotSent old new)

@@ -18,9 +18,10 @@ ghost use Rattle.std.specs.Prelude.{
 };
 ghost use Rattle.std.specs.Vec.{vec_capacity};
 ghost use Rattle.off_defs.specs.declared.results.Sent.TheVariants as sent;
-ghost use Rattle.off_outside.specs.InMemory.{HasRoom, with_item};
+ghost use Rattle.off_outside.specs.InMemory.{HasRoom, empty_outbox, with_item};
 ghost use Rattle.off_outside.specs.Outboxes.{lent_item};
 
+use crate::pass::Pass;
 use off_base::{NoMemory, Peer};
 use off_defs::Service;
 use std::alloc::Global;
@@ -62,17 +63,18 @@ enum Item {
     },
 }
 
-/// What was sent, in room that was taken when it was made.
+/// What was sent, each item with its moment, in room that was taken when it was made.
 #[derive(Drop)]
 pub struct Outbox {
     items: Vec<Item>,
+    moments: Vec<u64>,
     octets: Vec<u8>,
     item_room: usize,
     octet_room: usize,
 }
 
 impl Model for Outbox {
-    ghost use Rattle.std.specs.Prelude.{◌+◌, ◌≤◌, map, All, vec_len};
+    ghost use Rattle.std.specs.Prelude.{◌≡◌, ◌+◌, ◌≤◌, map, All, vec_len};
     ghost use Rattle.std.specs.Vec.{vec_capacity};
     ghost use Rattle.off_outside.specs.InMemory.{OutboxHeld};
 
@@ -82,22 +84,27 @@ impl Model for Outbox {
 
     ghost view = { λ b. record {
       sent = map (item_in b.octets.items) b.items.items;
+      moments = b.moments.items;
       item_room = b.item_room;
       octet_room = b.octet_room;
     } };
 
     ghost invariant = { λ b. All (IsWithin b.octets.items) b.items.items
         × (vec_len b.items + b.item_room ≤ vec_capacity b.items)
+        × (vec_len b.moments + b.item_room ≤ vec_capacity b.moments)
+        × (vec_len b.moments ≡ vec_len b.items)
         × (vec_len b.octets + b.octet_room ≤ vec_capacity b.octets) };
 }
 
 impl Outbox {
     /// Takes room for `items` items of `octets` bytes in all.
     pub fn new(alloc: Global, items: usize, octets: usize) -> Result<Outbox, NoMemory>
-        ensures { IfOk result (λ box. box
-            ≡ record { sent = []; item_room = items; octet_room = octets }) }
+        ensures { IfOk result (λ box. box ≡ empty_outbox items octets) }
     {
         let Ok(room) = Vec::with_capacity(alloc, items) else {
+            return Err(NoMemory);
+        };
+        let Ok(moments) = Vec::with_capacity(alloc, items) else {
             return Err(NoMemory);
         };
         let Ok(buffer) = Vec::with_capacity(alloc, octets) else {
@@ -105,6 +112,7 @@ impl Outbox {
         };
         Ok(Outbox {
             items: room,
+            moments,
             octets: buffer,
             item_room: items,
             octet_room: octets,
@@ -119,10 +127,10 @@ impl Outbox {
     }
 
     /// Keeps a datagram.
-    pub fn datagram(&mut self, service: Service, to: Peer, bytes: &[u8])
+    pub fn datagram(&mut self, pass: Pass, service: Service, to: Peer, bytes: &[u8])
         requires { HasRoom self.old (length bytes.now) }
-        ensures { self.new
-            ≡ with_item self.old (sent.Datagram service to bytes.now) (length bytes.now) }
+        ensures { self.new ≡ with_item self.old (sent.Datagram service to bytes.now) pass.moment
+            (length bytes.now) }
     {
         let at = self.octets.len();
         let len = bytes.len();
@@ -133,29 +141,33 @@ impl Outbox {
             len,
         };
         put(&mut self.items, &mut self.octets, item, bytes);
+        keep(&mut self.moments, pass);
         self.item_room -= 1;
         self.octet_room -= len;
     }
 
     /// Keeps an answer.
-    pub fn answer(&mut self, conn: u32, bytes: &[u8])
+    pub fn answer(&mut self, pass: Pass, conn: u32, bytes: &[u8])
         requires { HasRoom self.old (length bytes.now) }
-        ensures { self.new ≡ with_item self.old (sent.Answer conn bytes.now) (length bytes.now) }
+        ensures { self.new ≡ with_item self.old (sent.Answer conn bytes.now) pass.moment
+            (length bytes.now) }
     {
         let at = self.octets.len();
         let len = bytes.len();
         let item = Item::Answer { conn, at, len };
         put(&mut self.items, &mut self.octets, item, bytes);
+        keep(&mut self.moments, pass);
         self.item_room -= 1;
         self.octet_room -= len;
     }
 
     /// Keeps the end of a connection.
-    pub fn close(&mut self, conn: u32)
+    pub fn close(&mut self, pass: Pass, conn: u32)
         requires { HasRoom self.old 0 }
-        ensures { self.new ≡ with_item self.old (sent.Close conn) 0 }
+        ensures { self.new ≡ with_item self.old (sent.Close conn) pass.moment 0 }
     {
         self.items.push_reserved(Item::Close { conn });
+        keep(&mut self.moments, pass);
         self.item_room -= 1;
     }
 
@@ -164,6 +176,14 @@ impl Outbox {
         ensures { result ≡ length self.now.sent }
     {
         self.items.len()
+    }
+
+    /// The moment of item `i`, from 0.
+    pub fn moment(&self, i: usize) -> u64
+        requires { i < length self.now.moments }
+        ensures { slice_get self.now.moments i ≡ Some result }
+    {
+        self.moments[i]
     }
 
     /// Item `i`, from 0.
@@ -212,4 +232,14 @@ fn put(items: &mut Vec<Item>, octets: &mut Vec<u8>, item: Item, bytes: &[u8])
 {
     items.push_reserved(item);
     let _fits = octets.extend_from_slice(bytes);
+}
+
+// Keeps the moment of an item where room was taken for it.
+fn keep(moments: &mut Vec<u64>, pass: Pass)
+    requires { vec_len moments.old < vec_capacity moments.old }
+    ensures moments { moments.new.items ≡ moments.old.items ++ pass.moment ∷ [] }
+    ensures len { vec_len moments.new ≡ vec_len moments.old + 1 }
+    ensures capacity { vec_capacity moments.old ≤ vec_capacity moments.new }
+{
+    moments.push_reserved(pass.moment());
 }

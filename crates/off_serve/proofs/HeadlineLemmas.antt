@@ -1,10 +1,10 @@
 -- From the loop and the run's own line to the headline.
 use Rattle.std.proofs.Common.{◌≡◌, ◌≢◌, ℕ, ◌⊎◌, List, [], ◌∷◌, All, Option, Some, MatchOption, refl, ap, ◌∙◌, subst, inl, inr, arith}
 use Rattle.off_defs.specs.Told.{Told}
+use Rattle.off_defs.proofs.ToldLemmas.{told_weaker}
 use Rattle.off_defs.specs.declared.writes.Write.{Write}
 use Rattle.off_defs.specs.State.{Tables, State, Held, held_at_start, start, state_of}
-use Rattle.off_book.specs.Crashes.{Lasts}
-use Rattle.off_book.proofs.CrashLemmas.{lasts_run, lasts_doubt}
+use Rattle.off_book.proofs.SavesLemmas.{saves_doubt}
 use Rattle.off_book.specs.Words.{Job}
 use Rattle.off_book.specs.Run.{Turn, SaysMemory, failures_by, commits_by, lost_by, lines_from}
 use Rattle.off_book.proofs.StepLemmas.{turns_did}
@@ -25,7 +25,6 @@ use Rattle.off_cpe_boot_laws.specs.Served.{DevicesAreServed}
 use Rattle.off_cpe_boot_laws.proofs.Binding.{devices_are_served, all_devices_are_served}
 use Rattle.off_isolation.proofs.RunLemmas as isolation
 use Rattle.off_import_runs.proofs.Runs.{imports_act_once_through}
-use Rattle.off_office.specs.Opening.{doubt_opened}
 use Rattle.off_office.specs.Conditions.{Opened}
 use Rattle.off_office.proofs.OpeningLemmas.{leaves_opening, doubts_opened, opened_good, opened_state}
 use Rattle.off_outside.specs.Streams.{SinkSeen}
@@ -41,9 +40,9 @@ use Rattle.off_jobs.specs.Health.{NoFault, AllUp}
 use Rattle.off_jobs.proofs.EndingLemmas.{stands, kept, ends_by, sink_kept as told_kept}
 use Rattle.off_office.specs.Closed.{closed_end}
 use Rattle.off_office.proofs.ClosedLemmas.{closed_status, closed_kept}
-use Rattle.off_turns.specs.Loop.{WroteText, CutText, LastsIn, RanTurns, KeeperRan, RanFrom, Stops, Served}
+use Rattle.off_turns.specs.Loop.{WroteText, CutText, SavesIn, RanTurns, KeeperRan, RanFrom, Stops, Served}
 use Rattle.off_turns.proofs.ServeLemmas.{wrote_more, wrote_same, cut_more, cut_same}
-use Rattle.off_serve.specs.Headline.{RanOffice, OwnLine, Ended, Ends, all_of, Completed, ServesAsOffice, own_writes}
+use Rattle.off_serve.specs.Headline.{AnswersAreSaved, RanOffice, OwnLine, Ended, Ends, all_of, Completed, ServesAsOffice, own_writes}
 use Rattle.off_office.proofs.UpLemmas.{up_chain}
 
 own_line : (own : Ending) (text : List ℕ) (status : ℕ) (a b c : SinkSeen) → WroteText text a b → Tells own status b c → OwnLine own text status a c
@@ -84,10 +83,10 @@ status_of stop.Memory budget turns old new status none other ends =
 status_of stop.Link budget turns old new status none other ends = absurd (omega (arith, none.0.0.same, none.0.0.room, ends.0.faults.faults.grew.grew))
 status_of stop.Sink budget turns old new status none other ends = absurd (cut_counts old new none ends.1.text)
 
-complete_of : (reason : Stop) (budget : ℕ) (turns : List Turn) (held : Held) (old new : World) (status : ℕ) → RanTurns turns old.link new.link
-    → RanOffice turns held old.keeper new.keeper → Ends reason budget turns old new status
+complete_of : (reason : Stop) (budget : ℕ) (turns : List Turn) (moments : List ℕ) (held : Held) (old new : World) (status : ℕ) → RanTurns turns moments old.link new.link
+    → RanOffice turns moments held old.keeper new.keeper → Ends reason budget turns old new status
     → Calm old new → All (λ (turn : Turn). ¬ (SaysMemory turn)) turns → status ≢ 6 → Completed turns status
-complete_of reason budget turns held old new status ran office ends none silent other =
+complete_of reason budget turns moments held old new status ran office ends none silent other =
     let did = turns_did turns office.tell (omega (arith, none.1.0.same, none.1.0.room, office.keeper.faults.grew.grew)) silent in
     let lost : lost_by turns ≡ 0 = omega (arith, none.0.1.same, none.0.1.room, ran.unsent.grew.grew) in
     record {
@@ -117,52 +116,41 @@ keeper_opened turns first a b c settled ran = record {
 }
 
 -- what a crash leaves from the opening on
-lasts_behind : (turns : List Turn) (first last : Desk) (a b c : KeeperSeen) → Opened first a b → first.held ≡ held_at_start
-    → (t v u : Tables) → a.tables t → v ≡ migrated t → LastsIn b c (state_of v first.held) turns (state_of u last.held)
-    → Lasts c.opened c.doubt (doubt_opened a t) b.moment (start (migrated t)) turns c.moment (state_of u last.held)
-lasts_behind turns first last a b c opened fresh t v u told is lasts =
-    lasts_doubt c.opened c.doubt b.doubt (doubt_opened a t) b.moment (start (migrated t)) turns c.moment (state_of u last.held) (doubts_opened opened t told)
-    (subst (λ (s : State). LastsIn b c s turns (state_of u last.held)) (opened_state first t v is fresh) lasts)
+saves_behind : (turns : List Turn) (moments : List ℕ) (first last : Desk) (a b c : KeeperSeen) → Rests a → Opened first a b → first.held ≡ held_at_start → RanFrom turns moments first last b c
+    → (t v u : Tables) → a.tables t → v ≡ migrated t → SavesIn b c (state_of v first.held) turns moments (state_of u last.held)
+    → AnswersAreSaved a c t turns moments (state_of u last.held)
+saves_behind turns moments first last a b c rests opened fresh ran t v u told is saves =
+    let here = subst (λ (s : State). SavesIn b c s turns moments (state_of u last.held)) (opened_state first t v is fresh) saves in
+    record {
+      opened = record { at = b.moment; opening = leaves_opening rests opened ran.past t told; saves = saves_doubt (doubts_opened opened t told) here.saves };
+      sent = here.sent;
+    }
 
 -- an office that opened, and its turns
-ran_office : {turns : List Turn} {first last : Desk} {a b c : KeeperSeen} → Rests a → Opened first a b → first.held ≡ held_at_start
-    → RanFrom turns first last b c → RanOffice turns last.held a c
-ran_office {turns} {first} {last} {a} {b} {c} rests opened fresh ran = record {
-  run = record {
-    each = λ t told.
-        let o = opened.tables.each t told in
-        let g = ran.run.each o.value o.told in
-        record {
-          value = g.value;
-          told = g.told;
-          fits = lasts_run c.opened c.doubt (doubt_opened a t) b.moment (start (migrated t)) turns c.moment (state_of g.value last.held)
-              (lasts_behind turns first last a b c opened fresh t o.value g.value told o.fits.0 (g.fits.holds o.fits.1).0);
-        };
-  };
-  crash = record {
-    each = λ t told.
-        let o = opened.tables.each t told in
-        let g = ran.run.each o.value o.told in
-        record {
-          value = g.value;
-          told = g.told;
-          fits = (
-            b.moment,
-            (
-              leaves_opening rests opened ran.past t told,
-              lasts_behind turns first last a b c opened fresh t o.value g.value told o.fits.0 (g.fits.holds o.fits.1).0,
-            ),
-          );
-        };
-  };
-  first = opened.writes;
-  are = opened.are;
-  keeper = keeper_opened turns opened.writes a b c opened.settled ran.keeper;
-  tell = ran.tell;
-}
+ran_office : {turns : List Turn} {moments : List ℕ} {first last : Desk} {a b c : KeeperSeen} → Rests a → Opened first a b → first.held ≡ held_at_start
+    → RanFrom turns moments first last b c → RanOffice turns moments last.held a c
+ran_office {turns} {moments} {first} {last} {a} {b} {c} rests opened fresh ran =
+    let crash : Told a.tables c.tables (λ t u. AnswersAreSaved a c t turns moments (state_of u last.held)) = record {
+      each = λ t told.
+          let o = opened.tables.each t told in
+          let g = ran.run.each o.value o.told in
+          record {
+            value = g.value;
+            told = g.told;
+            fits = saves_behind turns moments first last a b c rests opened fresh ran t o.value g.value told o.fits.0 (g.fits.holds o.fits.1).0;
+          };
+    } in
+    record {
+      run = told_weaker crash (λ t u saved. saved.opened.saves.run);
+      crash = crash;
+      first = opened.writes;
+      are = opened.are;
+      keeper = keeper_opened turns opened.writes a b c opened.settled ran.keeper;
+      tell = ran.tell;
+    }
 
 -- the opened tables are good, and stay so over the turns
-good_again : {turns : List Turn} {first last : Desk} {a b c : KeeperSeen} → Opened first a b → RanFrom turns first last b c → Told a.tables c.tables (λ t u. Good u)
+good_again : {turns : List Turn} {moments : List ℕ} {first last : Desk} {a b c : KeeperSeen} → Opened first a b → RanFrom turns moments first last b c → Told a.tables c.tables (λ t u. Good u)
 good_again opened ran = record {
   each = λ t told.
       let o = opened.tables.each t told in
@@ -195,9 +183,9 @@ sink_kept stop.Memory budget turns old new status none ends up = own_kept memory
 sink_kept stop.Link budget turns old new status none ends up = own_kept link_refused (lines_from 1 turns) status old new none ends.1 up
 sink_kept stop.Sink budget turns old new status none ends up = absurd (cut_counts old new none ends.1.text)
 
-all_kept : (reason : Stop) (budget : ℕ) (turns : List Turn) (held : Held) (old new : World) (status : ℕ) → RanTurns turns old.link new.link
-    → RanOffice turns held old.keeper new.keeper → Ends reason budget turns old new status → Calm old new → AllUp (all_of old new)
-all_kept reason budget turns held old new status ran office ends none =
+all_kept : (reason : Stop) (budget : ℕ) (turns : List Turn) (moments : List ℕ) (held : Held) (old new : World) (status : ℕ) → RanTurns turns moments old.link new.link
+    → RanOffice turns moments held old.keeper new.keeper → Ends reason budget turns old new status → Calm old new → AllUp (all_of old new)
+all_kept reason budget turns moments held old new status ran office ends none =
     (λ up. link_kept old new none (ran.up up), (λ up. kept none.1.0 (office.keeper.up up), (sink_kept reason budget turns old new status none ends, tt)))
 
 pub serves : (budget : ℕ) (link link' : LinkSeen) (k l m : KeeperSeen) (a b c : SinkSeen) (reason : Stop) (first last : Desk) (status : ℕ)
@@ -207,7 +195,7 @@ serves budget link link' k l m a b c reason first last status rests opened fresh
     let ends = ends_of reason budget served.turns link link' l k m a b c status served.stops ended in
     let office = ran_office rests opened fresh served.office in
     let complete =
-    complete_of reason budget served.turns last.held (world_of link k a) (world_of link' m c) status served.ran office ends in
+    complete_of reason budget served.turns served.moments last.held (world_of link k a) (world_of link' m c) status served.ran office ends in
     inr (record {
       reason = reason;
       turns = served.turns;
@@ -215,6 +203,7 @@ serves budget link link' k l m a b c reason first last status rests opened fresh
       opens = opened.opens;
       within = served.within;
       ends_last = served.ends_last;
+      moments = served.moments;
       ran = served.ran;
       office = office;
       good = good_again opened served.office;
@@ -227,7 +216,7 @@ serves budget link link' k l m a b c reason first last status rests opened fresh
       imports = λ t told. imports_act_once_through (start (migrated t)) _ served.turns (office.run.each t told).fits;
       ends = ends;
       writes = ended_writes reason status b c ended ∙ ap (own_writes reason) served.writes;
-      up = all_kept reason budget served.turns last.held (world_of link k a) (world_of link' m c) status served.ran office ends;
+      up = all_kept reason budget served.turns served.moments last.held (world_of link k a) (world_of link' m c) status served.ran office ends;
       complete = complete;
       all_modems = λ t told. each_served served.turns (world_of link k a) (world_of link' m c) status (migrated t) (opened_good opened t told) complete;
       all_devices = λ t told. each_device_served served.turns (world_of link k a) (world_of link' m c) status (migrated t) (opened_good opened t told) complete;

@@ -8,7 +8,7 @@ use Rattle.off_defs.specs.declared.writes.Write.{Write}
 use Rattle.off_defs.specs.State.{Tables, State, Held, state_of, start}
 use Rattle.off_defs.specs.declared.results.Outcome.TheVariants as outcome
 use Rattle.off_book.specs.Run.{Turn, Run, SaysMemory, TellsItsOutcome, failures_by, commits_by, writes_by, sent_by, lost_by, lines_from, line_of, events_of, first_events, is_end, IsNoEnd, EndsLast}
-use Rattle.off_book.specs.Crashes.{Lasts}
+use Rattle.off_book.specs.Crashes.{turn_steps, SafeWhenSent}
 use Rattle.off_laws.specs.Leases.{LeasesHoldThrough}
 use Rattle.off_cpe_runs.specs.Holding.{DevicesHoldThrough}
 use Rattle.off_transfer_runs.specs.Served.{FilesAreServedThrough}
@@ -24,7 +24,7 @@ use Rattle.off_outside.specs.KeeperSeen.{KeeperSeen}
 use Rattle.off_office.specs.Desk.{Desk}
 use Rattle.off_outside.specs.KeeperCalls.{StaysUp, Unasked}
 use Rattle.off_outside.specs.LinkCalls.{LinkUnasked, LinkStaysUp}
-use Rattle.off_office.specs.Opening.{LeavesOpening, doubt_opened}
+use Rattle.off_office.specs.Opening.{SavesOpened}
 use Rattle.off_office.specs.Conditions.{WhereFit, StaysFit}
 use Rattle.off_office.specs.Acting.{NotStarted}
 use Rattle.off_outside.specs.Streams.{SourceSeen, SourceUnasked, SinkSeen, SinkUnasked, SinkStaysUp, HasFront}
@@ -40,21 +40,23 @@ use Rattle.off_turns.specs.Loop.{WroteText, CutText, RanTurns, KeeperRan, Finish
 use Rattle.off_turns.specs.declared.events.Stop.{Stop}
 use Rattle.off_turns.specs.declared.events.Stop.TheVariants as stop
 
--- A run that begins with the opening of the tables lasts through crashes, by what the keeper tells of
--- them.
-abbrev pub LastsOpened : KeeperSeen → KeeperSeen → Tables → List Turn → State → Type 0
-LastsOpened old new t turns last =
-    (at : ℕ) × (LeavesOpening at old new t
-    × Lasts new.opened new.doubt (doubt_opened old t) at (start (migrated t)) turns new.moment
-    last)
+-- What a crash leaves of the turns, after the opening of the tables, and when what they say was sent:
+-- at each moment so many of the turns are safe, that is a crash then, or later, leaves them; and at
+-- the moment at which an item of a turn was sent, the turn was safe, if it was acted on.
+pub record AnswersAreSaved (old new : KeeperSeen) (t : Tables) (turns : List Turn)
+    (moments : List ℕ) (last : State) : Type 0 where
+  pub opened : SavesOpened turn_steps old new t turns last
+  pub sent : SafeWhenSent opened.saves.safe 0 turns moments
 
 -- The turns are a run of the office, from its start over the tables that were told, once the site
--- of earlier days is the hub 0, to what it held at the end over those that are told then.
-pub record RanOffice (turns : List Turn) (held : Held) (old new : KeeperSeen) : Type 0 where
+-- of a store from before hubs is the hub 0, to what it held at the end over those that are told then.
+pub record RanOffice (turns : List Turn) (moments : List ℕ) (held : Held) (old new : KeeperSeen)
+    : Type 0 where
   pub run : Told old.tables new.tables (λ t u. Run (start (migrated t)) turns (state_of u held))
-  -- and at every moment an opening after a crash gives the tables behind so many of the first
-  -- turns, never fewer than a moment before, or one commit more
-  pub crash : Told old.tables new.tables (λ t u. LastsOpened old new t turns (state_of u held))
+  -- and nothing that was answered is lost: at the moment at which an item was sent, and ever after,
+  -- an opening after a crash gives tables in which its turn has its place
+  pub crash : Told old.tables new.tables
+      (λ t u. AnswersAreSaved old new t turns moments (state_of u held))
   -- what was written first is the migration
   pub first : List Write
   pub are : (t : Tables) → old.tables t → first ≡ migration t
@@ -127,10 +129,12 @@ pub record RunsAsOffice (budget : ℕ) (old new : World) (status : ℕ) : Type 0
   -- at most `budget` events, and no End but the last
   pub within : length turns ≤ budget
   pub ends_last : EndsLast turns
+  -- the keeper's moments at which each turn's items were sent
+  pub moments : List ℕ
   -- they are the first of the link's, and what the office says is what was sent
-  pub ran : RanTurns turns old.link new.link
-  -- they are a run of the abstract office, and leave its tables
-  pub office : RanOffice turns held old.keeper new.keeper
+  pub ran : RanTurns turns moments old.link new.link
+  -- they are a run of the abstract office, and leave its tables; what was sent is saved
+  pub office : RanOffice turns moments held old.keeper new.keeper
   -- the tables that it leaves are good
   pub good : Told old.keeper.tables new.keeper.tables (λ t u. Good u)
   -- over the run, from its start over the opened tables: no address is live for two clients, no

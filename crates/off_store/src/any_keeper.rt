@@ -4,7 +4,7 @@ ghost use Rattle.off_store.specs.AnyKeeper.{any_seen};
 ghost use Rattle.off_store.specs.AnyKeeperLaws.{one_any, any_rests};
 
 use off_defs::{Key, Row, Writes};
-use off_outside::{KeepErr, Keeper};
+use off_outside::{Failed, KeepErr, Keeper};
 use std::alloc::Global;
 
 /// A keeper of tables in one of three places.
@@ -42,6 +42,38 @@ impl<M: Keeper, J: Keeper, D: Keeper> Keeper for AnyKeeper<M, J, D> {
             AnyKeeper::Memory(keeper) => keeper.commit(alloc, writes),
             AnyKeeper::Journal(keeper) => keeper.commit(alloc, writes),
             AnyKeeper::Database(keeper) => keeper.commit(alloc, writes),
+        }
+    }
+
+    fn stage(&mut self, alloc: Global, writes: &Writes) -> Result<(), KeepErr> {
+        match self {
+            AnyKeeper::Memory(keeper) => keeper.stage(alloc, writes),
+            AnyKeeper::Journal(keeper) => keeper.stage(alloc, writes),
+            AnyKeeper::Database(keeper) => keeper.stage(alloc, writes),
+        }
+    }
+
+    fn secure(&mut self) -> Result<(), Failed> {
+        match self {
+            AnyKeeper::Memory(keeper) => keeper.secure(),
+            AnyKeeper::Journal(keeper) => keeper.secure(),
+            AnyKeeper::Database(keeper) => keeper.secure(),
+        }
+    }
+
+    fn waits(&self) -> bool {
+        match self {
+            AnyKeeper::Memory(keeper) => keeper.waits(),
+            AnyKeeper::Journal(keeper) => keeper.waits(),
+            AnyKeeper::Database(keeper) => keeper.waits(),
+        }
+    }
+
+    fn moment(&self) -> u64 {
+        match self {
+            AnyKeeper::Memory(keeper) => keeper.moment(),
+            AnyKeeper::Journal(keeper) => keeper.moment(),
+            AnyKeeper::Database(keeper) => keeper.moment(),
         }
     }
 

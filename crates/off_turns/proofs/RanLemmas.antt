@@ -1,10 +1,10 @@
 -- What was taken and sent by the turns so far, with one turn more.
-use Rattle.std.proofs.Common.{◌≡◌, ℕ, ◌+◌, true, false, List, [], ◌∷◌, ◌++◌, length, drop, All, refl, sym, ap, ◌∙◌, subst, arith, append_assoc, length-append, max}
+use Rattle.std.proofs.Common.{◌≡◌, ℕ, ◌+◌, true, false, List, [], ◌∷◌, ◌++◌, length, drop, All, refl, sym, ap, ◌∙◌, subst, arith, append_assoc, append-nil, length-append, max}
 use Rattle.std.proofs.lemmas.List.Elements.{All-push, All-head, All-tail}
 use Rattle.off_defs.specs.declared.events.Event.{Event}
 use Rattle.off_defs.specs.Counts.{Grew, Tallied}
 use Rattle.off_defs.specs.Events.{end_event}
-use Rattle.off_book.specs.Run.{Turn, sent_in, sent_by, events_of, first_events, is_end, IsNoEnd}
+use Rattle.off_book.specs.Run.{Turn, sent_in, sent_by, moment_of_each, moments_by, events_of, first_events, is_end, IsNoEnd}
 use Rattle.off_defs.proofs.ToldLemmas.{told_then}
 use Rattle.off_defs.proofs.CountLemmas.{grew_then, tallied_none, tallied_then}
 use Rattle.off_book.proofs.RunLemmas.{sent_by_push, lost_by_push}
@@ -65,15 +65,29 @@ missed_lacks {turns} {a} {b} {c} so_far lacks =
     let sum : so_far.failures + 0 + lacks.failures ≡ so_far.failures + c.missed = omega (arith, lacks.missed) in
     subst (λ n. Grew n a.faults c.faults) sum (grew_then so_far.faults.grew lacks.faults)
 
-pub ran_push : {turns : List Turn} {turn : Turn} {before after : Desk} {a : LinkSeen} {b c : World} → RanTurns turns a b.link → CountsMissed turns 0 a b.link → All IsNoEnd turns
-    → TurnMade turn before after b c → RanTurns (turns ++ turn ∷ []) a c.link
-ran_push {turns} {turn} {before} {after} {a} {b} {c} ran missed no_end made = record {
+-- the moments of the turns so far, with one turn more
+moments_push : (turns : List Turn) (moments : List ℕ) (turn : Turn) (moment : ℕ) → length moments ≡ length turns
+    → moments_by (turns ++ turn ∷ []) (moments ++ moment ∷ []) ≡ moments_by turns moments ++ moment_of_each moment (sent_in turn)
+moments_push [] [] turn moment same = append-nil (moment_of_each moment (sent_in turn))
+moments_push [] (m ∷ moments) turn moment same = absurd (omega arith)
+moments_push (first ∷ turns) [] turn moment same = absurd (omega arith)
+moments_push (first ∷ turns) (m ∷ moments) turn moment same =
+    ap (λ v. moment_of_each m (sent_in first) ++ v) (moments_push turns moments turn moment (omega arith))
+    ∙ sym (append_assoc (moment_of_each m (sent_in first)) (moments_by turns moments) (moment_of_each moment (sent_in turn)))
+
+pub ran_push : {turns : List Turn} {moments : List ℕ} {turn : Turn} {before after : Desk} {a : LinkSeen} {b c : World} → RanTurns turns moments a b.link
+    → CountsMissed turns 0 a b.link → All IsNoEnd turns → TurnMade turn before after b c → RanTurns (turns ++ turn ∷ []) (moments ++ c.keeper.moment ∷ []) a c.link
+ran_push {turns} {moments} {turn} {before} {after} {a} {b} {c} ran missed no_end made = record {
   left = told_then ran.left made.left (λ x y z before now.
       let next = next_events turns turn x no_end before.0 (now.0 ∙ ap first_event before.1) in
       (next.0, now.1 ∙ (ap (λ v. drop 1 v) before.1 ∙ next.1)));
   marks = All-push (λ (t : Turn). length t.said.items ≡ length t.went) turns turn ran.marks made.marks;
   sent = told_then ran.sent made.sent (λ x y z before now.
       now ∙ (ap (λ k. k ++ sent_in turn) before ∙ (append_assoc x (sent_by turns) (sent_in turn) ∙ ap (λ k. x ++ k) (sym (sent_by_push turns turn)))));
+  moments_of = omega (arith, ran.moments_of, length-append moments (c.keeper.moment ∷ []), length-append turns (turn ∷ []));
+  moments_are = told_then ran.moments_are made.moments (λ x y z before now.
+      let each = moment_of_each c.keeper.moment (sent_in turn) in
+      now ∙ (ap (λ k. k ++ each) before ∙ (append_assoc x (moments_by turns moments) each ∙ ap (λ k. x ++ k) (sym (moments_push turns moments turn c.keeper.moment ran.moments_of)))));
   unsent = subst (λ n. Tallied n a.unsent c.link.unsent) (sym (lost_by_push turns turn)) (tallied_then ran.unsent made.unsent);
   up = both_chain missed.faults.grew.later made.faults.grew.later ran.unsent.grew.later made.unsent.grew.later ran.up made.up;
 }

@@ -9,13 +9,14 @@ use Rattle.off_book.specs.Run.{Turn, writes_by, line_of, lines_from, is_end, IsN
 use Rattle.off_defs.proofs.ToldLemmas.{told_then, told_self, then_stays}
 use Rattle.off_defs.proofs.CountLemmas.{later_grew, tallied_none, tallied_stays}
 use Rattle.off_book.proofs.RunLemmas.{writes_by_push, lines_from_push}
+use Rattle.off_book.proofs.SavesLemmas.{saves_none}
 use Rattle.off_outside.specs.LinkSeen.{LinkSeen}
 use Rattle.off_outside.specs.KeeperSeen.{KeeperSeen, Rests}
 use Rattle.off_office.specs.Desk.{Desk}
 use Rattle.off_outside.specs.Streams.{SinkSeen, SinkUnasked, Wrote, NotWritten}
 use Rattle.off_turns.specs.declared.events.Stop.TheVariants as stop
 use Rattle.off_turns.specs.Serving.{World, LineWritten, TurnWritten, TurnCut, NoTurn, LacksMemory, Missed, most_missed}
-use Rattle.off_turns.specs.Loop.{WroteText, CutText, LastsIn, RanTurns, CountsMissed, SoFar, Served}
+use Rattle.off_turns.specs.Loop.{WroteText, CutText, SavesIn, RanTurns, CountsMissed, SoFar, Served}
 use Rattle.off_office.proofs.UpLemmas.{up_behind, up_chain, by_first, both_chain}
 use Rattle.off_turns.proofs.RanLemmas.{none_missed, missed_push, missed_behind, missed_lacks, ran_push}
 use Rattle.off_turns.proofs.FromLemmas.{from_push, from_same}
@@ -39,27 +40,24 @@ wrote_none a = record { written = told_self (λ x. sym (append-nil x)); up = λ 
 pub wrote_same : {x : List ℕ} {a b c : SinkSeen} → WroteText x a b → SinkUnasked b c → WroteText x a c
 wrote_same p q = record { written = then_stays p.written q.written; up = λ up. q.up (p.up up); faults = q.faults ∙ p.faults }
 
-begins_so : (first : Desk) (k : KeeperSeen) → Rests k → (x : Tables) → k.tables x → LastsIn k k (state_of x first.held) [] (state_of x first.held)
-begins_so first k rests x told = (
-  refl,
-  (
-    (let e : k.moment ≤ k.moment = omega arith in e),
-    (
-      λ u ends. ends,
-      λ m u early upto opened. let same : m ≡ k.moment = omega arith in rests x told u (subst (λ n. k.opened n u) same opened),
-    ),
-  ),
-)
+begins_so : (first : Desk) (k : KeeperSeen) → Rests k → (x : Tables) → k.tables x → SavesIn k k (state_of x first.held) [] [] (state_of x first.held)
+begins_so first k rests x told = record {
+  saves = saves_none (state_of x first.held) refl (λ u shown. rests x told u shown);
+  sent = tt;
+}
 
 pub going_none : (first : Desk) (w : World) → Rests w.keeper → w.link.missed ≡ 0 → Going 0 first first w w
 going_none first w rests none = record {
   turns = [];
   count = refl;
   so_far = record {
+    moments = [];
     ran = record {
       left = told_self (λ x. (refl, refl));
       marks = All-nil _;
       sent = told_self (λ x. sym (append-nil x));
+      moments_of = refl;
+      moments_are = told_self (λ x. sym (append-nil x));
       unsent = tallied_none w.link.unsent;
       up = λ up. inl up;
     };
@@ -104,6 +102,7 @@ going_more {n} {first} {before} {after} {a} {b} {c} rests going went = record {
   turns = going.turns ++ went.turn ∷ [];
   count = omega (arith, length-append going.turns (went.turn ∷ []), going.count);
   so_far = record {
+    moments = going.so_far.moments ++ c.keeper.moment ∷ [];
     ran = ran_push going.so_far.ran going.so_far.faults going.so_far.no_end went.made;
     office = from_push rests going.so_far.office went.made.office;
     no_end = All-push IsNoEnd going.turns went.turn going.so_far.no_end went.last;
@@ -142,12 +141,14 @@ cut_same {x} {y} {a} {b} {c} p q = record {
 }
 
 -- nothing was taken or sent
-ran_stays : {turns : List Turn} {a b c : LinkSeen} → RanTurns turns a b → CountsMissed turns 0 a b → Stays b.left c.left → Stays b.sent c.sent
-    → (b.up → c.up ⊎ Grew 1 b.faults c.faults) → b.faults ≤ c.faults → c.unsent ≡ b.unsent → RanTurns turns a c
-ran_stays {turns} {a} {b} {c} ran missed left sent up later unsent = record {
+ran_stays : {turns : List Turn} {moments : List ℕ} {a b c : LinkSeen} → RanTurns turns moments a b → CountsMissed turns 0 a b → Stays b.left c.left → Stays b.sent c.sent → Stays b.moments c.moments
+    → (b.up → c.up ⊎ Grew 1 b.faults c.faults) → b.faults ≤ c.faults → c.unsent ≡ b.unsent → RanTurns turns moments a c
+ran_stays {turns} {moments} {a} {b} {c} ran missed left sent same up later unsent = record {
   left = then_stays ran.left left;
   marks = ran.marks;
   sent = then_stays ran.sent sent;
+  moments_of = ran.moments_of;
+  moments_are = then_stays ran.moments_are same;
   unsent = tallied_stays ran.unsent unsent;
   up = both_chain missed.faults.grew.later later ran.unsent.grew.later (omega (arith, unsent)) ran.up (λ is. by_first (up is));
 }
@@ -160,6 +161,7 @@ served_end {n} {budget} {first} {before} {after} {a} {b} {c} rests going more en
   turns = going.turns ++ ended.turn ∷ [];
   within = omega (arith, length-append going.turns (ended.turn ∷ []), going.count);
   ends_last = ends_last going.turns ended.turn going.so_far.no_end;
+  moments = going.so_far.moments ++ c.keeper.moment ∷ [];
   ran = ran_push going.so_far.ran going.so_far.faults going.so_far.no_end ended.made;
   office = from_push rests going.so_far.office ended.made.office;
   stops = record {
@@ -176,6 +178,7 @@ served_cut {n} {budget} {first} {before} {after} {a} {b} {c} rests going more cu
   turns = going.turns ++ cut.turn ∷ [];
   within = omega (arith, length-append going.turns (cut.turn ∷ []), going.count);
   ends_last = ends_last going.turns cut.turn going.so_far.no_end;
+  moments = going.so_far.moments ++ c.keeper.moment ∷ [];
   ran = ran_push going.so_far.ran going.so_far.faults going.so_far.no_end cut.made;
   office = from_push rests going.so_far.office cut.made.office;
   stops = record {
@@ -194,7 +197,8 @@ served_memory {n} {budget} {first} {before} {after} {a} {b} {c} going more lacks
   turns = going.turns;
   within = omega (arith, going.count);
   ends_last = no_end_ends going.turns going.so_far.no_end;
-  ran = ran_stays going.so_far.ran going.so_far.faults lacks.link.left lacks.link.sent lacks.link.up lacks.link.faults.later lacks.link.unsent;
+  moments = going.so_far.moments;
+  ran = ran_stays going.so_far.ran going.so_far.faults lacks.link.left lacks.link.sent lacks.link.moments lacks.link.up lacks.link.faults.later lacks.link.unsent;
   office = from_same going.so_far.office lacks.same lacks.keeper;
   stops = (
     record {
@@ -216,7 +220,8 @@ served_missed {n} {budget} {first} {before} {after} {a} {b} {c} going more misse
   turns = going.turns;
   within = omega (arith, going.count);
   ends_last = no_end_ends going.turns going.so_far.no_end;
-  ran = ran_stays going.so_far.ran going.so_far.faults missed.link.left missed.link.sent missed.link.up missed.link.faults.grew.later missed.link.unsent;
+  moments = going.so_far.moments;
+  ran = ran_stays going.so_far.ran going.so_far.faults missed.link.left missed.link.sent missed.link.moments missed.link.up missed.link.faults.grew.later missed.link.unsent;
   office = from_same going.so_far.office missed.same missed.keeper;
   stops = (
     record {
@@ -235,6 +240,7 @@ served_all {n} {budget} {first} {last} {a} {b} going all within = record {
   turns = going.turns;
   within = omega (arith, going.count);
   ends_last = no_end_ends going.turns going.so_far.no_end;
+  moments = going.so_far.moments;
   ran = going.so_far.ran;
   office = going.so_far.office;
   stops = record {

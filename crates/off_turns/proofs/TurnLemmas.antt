@@ -1,5 +1,5 @@
 -- One turn: the event that was taken, what the office made of it, what was sent, and the line.
-use Rattle.std.proofs.Common.{◌≡◌, ℕ, Bool, ◌&&◌, List, Result, Ok, Err, MatchResult, refl, ap, ◌∙◌, subst, arith}
+use Rattle.std.proofs.Common.{◌≡◌, ℕ, Bool, ◌&&◌, List, ◌++◌, Result, Ok, Err, MatchResult, refl, ap, ◌∙◌, subst, arith}
 use Rattle.off_defs.specs.declared.events.Event.{Event}
 use Rattle.off_defs.specs.declared.results.Outcome.{Outcome}
 use Rattle.off_defs.specs.declared.writes.Write.{Write}
@@ -26,14 +26,15 @@ turn_of event outcome said commit went =
     record { event = event; outcome = outcome; said = completed event.what outcome said; commit = commit; went = went }
 
 acted : (event : Event) (outcome : Outcome) (said : Said) (all : Bool) (before after : Desk) (a b : LinkSeen) (k l : KeeperSeen) (s t : SinkSeen)
-    → (acts : Acts event outcome said before after k l) → (sending : SentAll (completed event.what outcome said).items all a b)
+    → (acts : Acts event outcome said before after k l) → (sending : SentAll (completed event.what outcome said).items l.moment all a b)
     → Acted event (turn_of event outcome said acts.commit sending.marks) before after (world_of a k s) (world_of b l t)
 acted event outcome said all before after a b k l s t acts sending = record {
   taken = refl;
-  office = record { tables = acts.tables; fits = acts.fits; up = acts.up; faults = acts.faults; commits = acts.commits; asks = acts.asks; crash = acts.crash; doubts = acts.doubts; tells = acts.tells };
+  office = record { tables = acts.tables; fits = acts.fits; up = acts.up; faults = acts.faults; commits = acts.commits; waits = acts.waits; asks = acts.asks; crash = acts.crash; doubts = acts.doubts; tells = acts.tells };
   marks = sending.each;
   left = sending.left;
   sent = sending.sent;
+  moments = sending.moments;
   up = sending.up;
   missed = sending.missed;
   longest = sending.longest;
@@ -42,7 +43,7 @@ acted event outcome said all before after a b k l s t acts sending = record {
 }
 
 ends_as : (event : Event) (n : ℕ) (outcome : Outcome) (said : Said) (text : List ℕ) (all : Bool) (before after : Desk) (a b : LinkSeen) (k l : KeeperSeen) (s t : SinkSeen)
-    (r : Result (Unit {0}) Failed) → Acts event outcome said before after k l → SentAll (completed event.what outcome said).items all a b → text ≡ said.line
+    (r : Result (Unit {0}) Failed) → Acts event outcome said before after k l → SentAll (completed event.what outcome said).items l.moment all a b → text ≡ said.line
     → MatchResult r (λ _. LineWritten text (line_text n event.what text all) s t) (λ _. LineCut text (line_text n event.what text all) s t)
     → MatchResult r (λ _. ActWritten event n before after (world_of a k s) (world_of b l t)) (λ _. ActCut event n before after (world_of a k s) (world_of b l t))
 ends_as event n outcome said text all before after a b k l s t (Ok u) acts sending same wrote = record {
@@ -57,11 +58,13 @@ ends_as event n outcome said text all before after a b k l s t (Err e) acts send
 }
 
 pub act_ends : (event : Event) (n : ℕ) (outcome : Outcome) (said : Said) (text : List ℕ) (all more : Bool) (before after : Desk) (a b c : LinkSeen) (k l : KeeperSeen) (s t : SinkSeen)
-    (r : Result (Unit {0}) Failed) → Acts event outcome said before after k l → SentAll said.items all a b → SentAll (added_items event.what outcome) more b c → text ≡ said.line
+    (r : Result (Unit {0}) Failed) (moment : ℕ) → Acts event outcome said before after k l → moment ≡ l.moment → SentAll said.items moment all a b
+    → SentAll (added_items event.what outcome) moment more b c → text ≡ said.line
     → MatchResult r (λ _. LineWritten text (line_text n event.what text (all && more)) s t) (λ _. LineCut text (line_text n event.what text (all && more)) s t)
     → MatchResult r (λ _. ActWritten event n before after (world_of a k s) (world_of c l t)) (λ _. ActCut event n before after (world_of a k s) (world_of c l t))
-act_ends event n outcome said text all more before after a b c k l s t r acts sending added same wrote =
-    ends_as event n outcome said text (all && more) before after a c k l s t r acts (sent_then said.items (added_items event.what outcome) all more sending added) same wrote
+act_ends event n outcome said text all more before after a b c k l s t r moment acts now sending added same wrote =
+    let sent = subst (λ (m : ℕ). SentAll (said.items ++ added_items event.what outcome) m (all && more) a c) now (sent_then said.items (added_items event.what outcome) moment all more sending added) in
+    ends_as event n outcome said text (all && more) before after a c k l s t r acts sent same wrote
 
 turn_made : {event : Event} {turn : Turn} {before after : Desk} {a : LinkSeen} {s : SinkSeen} {b c : World} → TookBehind event a b.link → Acted event turn before after b c
     → TurnMade turn before after (world_of a b.keeper s) c
@@ -70,6 +73,7 @@ turn_made {turn = turn} {c = c} took act = record {
   office = act.office;
   marks = act.marks;
   sent = stays_then took.sent act.sent;
+  moments = stays_then took.moments act.moments;
   up = both_chain took.faults.grew.later (omega (arith, act.faults)) (omega (arith, took.unsent)) act.unsent.grew.later (λ up. by_first (took.up up)) (λ up. by_second (act.up up));
   missed = act.missed ∙ took.missed;
   failures = took.failures;

@@ -1,12 +1,12 @@
 -- The loop over the events: what its turns did to the link, to the keeper and to the sink, and why
 -- it stopped.
-use Rattle.std.specs.Prelude.{◌≡◌, ℕ, ◌+◌, ◌-◌, ◌*◌, ◌<◌, ◌≤◌, true, List, [], ◌∷◌, ◌++◌, length, drop, max, All, ◌⊎◌}
+use Rattle.std.specs.Prelude.{◌≡◌, ℕ, ◌+◌, ◌-◌, ◌*◌, ◌<◌, ◌≤◌, true, false, List, [], ◌∷◌, ◌++◌, length, drop, max, All, ◌⊎◌}
 use Rattle.off_defs.specs.Told.{Told}
 use Rattle.off_defs.specs.Counts.{Grew, Tallied, commits_after}
 use Rattle.off_defs.specs.declared.writes.Write.{Write}
 use Rattle.off_defs.specs.State.{Tables, State, state_of}
-use Rattle.off_book.specs.Run.{Turn, TellsItsOutcome, failures_by, commits_by, writes_by, sent_by, lost_by, lines_from, line_of, events_of, first_events, is_end, IsNoEnd, EndsLast}
-use Rattle.off_book.specs.Crashes.{Lasts}
+use Rattle.off_book.specs.Run.{Turn, TellsItsOutcome, failures_by, commits_by, writes_by, sent_by, moments_by, lost_by, lines_from, line_of, events_of, first_events, is_end, IsNoEnd, EndsLast}
+use Rattle.off_book.specs.Crashes.{turn_steps, Saves, SafeWhenSent}
 use Rattle.off_outside.specs.LinkSeen.{LinkSeen}
 use Rattle.off_outside.specs.KeeperSeen.{KeeperSeen}
 use Rattle.off_outside.specs.KeeperCalls.{StaysUp}
@@ -30,8 +30,8 @@ pub record CutText (text last : List ℕ) (old new : SinkSeen) : Type 0 where
   pub up : SinkStaysUp old new
   pub faults : Grew 1 old.faults new.faults
 
--- what the turns did to the link
-pub record RanTurns (turns : List Turn) (old new : LinkSeen) : Type 0 where
+-- What the turns did to the link, each at a moment of the keeper, in order.
+pub record RanTurns (turns : List Turn) (moments : List ℕ) (old new : LinkSeen) : Type 0 where
   -- the events are the first of those to come, with one End behind the last
   pub left : Told old.left new.left
       (λ before after. (events_of turns ≡ first_events (length turns) before)
@@ -39,6 +39,10 @@ pub record RanTurns (turns : List Turn) (old new : LinkSeen) : Type 0 where
   -- each item of a turn was sent or is counted
   pub marks : All (λ turn. length turn.said.items ≡ length turn.went) turns
   pub sent : Told old.sent new.sent (λ before after. after ≡ before ++ sent_by turns)
+  -- and was sent at the moment of its turn
+  pub moments_of : length moments ≡ length turns
+  pub moments_are : Told old.moments new.moments
+      (λ before after. after ≡ before ++ moments_by turns moments)
   pub unsent : Tallied (lost_by turns) old.unsent new.unsent
   pub up : LinkStaysUp old new
 
@@ -50,10 +54,13 @@ pub record CountsMissed (turns : List Turn) (more : ℕ) (old new : LinkSeen) : 
   pub rows : new.longest ≤ max old.longest (max 15 more)
   pub faults : Tallied (failures + more) old.faults new.faults
 
--- the run lasts through crashes, by what the keeper tells of them
-abbrev pub LastsIn : KeeperSeen → KeeperSeen → State → List Turn → State → Type 0
-LastsIn old new s turns last =
-    Lasts new.opened new.doubt old.doubt old.moment s turns new.moment last
+-- The turns are a run, and by what the keeper tells of crashes so many of them are safe at each
+-- moment; what each turn that was acted on says was sent when the turn was.
+pub record SavesIn (old new : KeeperSeen) (s : State) (turns : List Turn) (moments : List ℕ)
+    (last : State) : Type 0 where
+  pub saves : Saves turn_steps old.doubt old.moment s turns new.opened new.doubt false new.moment
+      last
+  pub sent : SafeWhenSent saves.safe 0 turns moments
 
 -- What the turns did to the keeper, behind these first writes: each in which it failed is counted,
 -- and where it failed in none the count stands; each that wrote anything made one commit, and so did
@@ -64,10 +71,11 @@ pub record KeeperRan (first : List Write) (turns : List Turn) (old new : KeeperS
   pub up : StaysUp old new
 
 -- The turns are a run of the office from a state on, where the office fitted the tables; and then it
--- fits them still.
-pub record RanFrom (turns : List Turn) (first last : Desk) (old new : KeeperSeen) : Type 0 where
+-- fits them still. `moments` are those of the keeper at which each turn's items were sent.
+pub record RanFrom (turns : List Turn) (moments : List ℕ) (first last : Desk)
+    (old new : KeeperSeen) : Type 0 where
   pub run : Told old.tables new.tables
-      (WhereFit first last (λ t u. LastsIn old new (state_of t first.held) turns
+      (WhereFit first last (λ t u. SavesIn old new (state_of t first.held) turns moments
       (state_of u last.held)))
   pub past : (m : ℕ) (u : Tables) → m ≤ old.moment → new.opened m u → old.opened m u
   pub later : old.moment ≤ new.moment
@@ -77,8 +85,9 @@ pub record RanFrom (turns : List Turn) (first last : Desk) (old new : KeeperSeen
 
 -- `serve` has taken these turns, none an End, and goes on
 pub record SoFar (turns : List Turn) (first last : Desk) (old new : World) : Type 0 where
-  pub ran : RanTurns turns old.link new.link
-  pub office : RanFrom turns first last old.keeper new.keeper
+  pub moments : List ℕ
+  pub ran : RanTurns turns moments old.link new.link
+  pub office : RanFrom turns moments first last old.keeper new.keeper
   pub no_end : All IsNoEnd turns
   pub missed : new.link.missed ≡ 0
   pub faults : CountsMissed turns 0 old.link new.link
@@ -141,8 +150,9 @@ pub record Served (reason : Stop) (budget : ℕ) (first last : Desk) (old new : 
   pub turns : List Turn
   pub within : length turns ≤ budget
   pub ends_last : EndsLast turns
-  pub ran : RanTurns turns old.link new.link
-  pub office : RanFrom turns first last old.keeper new.keeper
+  pub moments : List ℕ
+  pub ran : RanTurns turns moments old.link new.link
+  pub office : RanFrom turns moments first last old.keeper new.keeper
   pub stops : Stops reason budget turns old new
   -- nothing was written but the lines of the turns
   pub writes : new.sink.calls ≡ writes_by turns old.sink.calls

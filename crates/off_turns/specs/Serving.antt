@@ -5,10 +5,10 @@ use Rattle.off_defs.specs.Told.{Told, Stays}
 use Rattle.off_defs.specs.Counts.{Grew, Tallied, commits_after, calls_after}
 use Rattle.off_defs.specs.State.{Tables, state_of}
 use Rattle.off_book.specs.Step.{Step}
-use Rattle.off_book.specs.Run.{Turn, effect_of, TellsItsOutcome, sent_in, lost_in, line_of, is_end}
+use Rattle.off_book.specs.Run.{Turn, effect_of, TellsItsOutcome, moment_of_each, sent_in, lost_in, line_of, is_end}
 use Rattle.off_outside.specs.LinkSeen.{LinkSeen}
 use Rattle.off_outside.specs.KeeperSeen.{KeeperSeen}
-use Rattle.off_outside.specs.KeeperCalls.{StaysUp, Unasked, Crash}
+use Rattle.off_outside.specs.KeeperCalls.{StaysUp, Unasked, Crash, waits_after}
 use Rattle.off_office.specs.Desk.{Desk}
 use Rattle.off_office.specs.Conditions.{Under, StaysFit}
 use Rattle.off_office.specs.Asking.{Asks}
@@ -28,6 +28,7 @@ most_missed = 16
 pub record Missed (n : ℕ) (old new : LinkSeen) : Type 0 where
   pub left : Stays old.left new.left
   pub sent : Stays old.sent new.sent
+  pub moments : Stays old.moments new.moments
   pub up : old.up → new.up ⊎ Grew 1 old.faults new.faults
   pub missed : new.missed ≡ n
   pub longest : new.longest ≡ max old.longest n
@@ -40,6 +41,7 @@ pub record LacksMemory (old new : LinkSeen) : Type 0 where
   pub few : failures < most_missed
   pub left : Stays old.left new.left
   pub sent : Stays old.sent new.sent
+  pub moments : Stays old.moments new.moments
   pub up : old.up → new.up ⊎ Grew 1 old.faults new.faults
   pub missed : new.missed ≡ failures
   pub longest : new.longest ≡ max old.longest failures
@@ -53,6 +55,7 @@ pub record TookBehind (event : Event) (old new : LinkSeen) : Type 0 where
   pub left : Told old.left new.left
       (λ before after. (event ≡ first_event before) × (after ≡ drop 1 before))
   pub sent : Stays old.sent new.sent
+  pub moments : Stays old.moments new.moments
   pub up : old.up → new.up ⊎ Grew 1 old.faults new.faults
   pub missed : new.missed ≡ 0
   pub longest : new.longest ≡ max old.longest failures
@@ -88,6 +91,7 @@ pub record OfficeTurn (turn : Turn) (before after : Desk) (old new : KeeperSeen)
   pub up : StaysUp old new
   pub faults : CountsFaults turn.outcome old.faults new.faults
   pub commits : new.commits ≡ commits_after turn.commit old.commits
+  pub waits : new.waits ≡ waits_after turn.commit old.waits
   pub asks : Asks turn.event.what before.held old new
   pub crash : Crash (EventBegan turn.event turn.outcome before) old new
   pub doubts : LeavesDoubt turn.outcome turn.commit (EventBegins turn.event before) old new
@@ -105,7 +109,8 @@ pub record LineCut (words text : List ℕ) (old new : SinkSeen) : Type 0 where
   pub cut : NotWritten text old new
   pub calls : new.calls ≡ calls_after words old.calls
 
--- the office acted on an event that was taken, and what it said was sent or is counted
+-- the office acted on an event that was taken, and what it said was sent or is counted: it was sent
+-- at the moment at which the keeper was then
 pub record Acted (event : Event) (turn : Turn) (before after : Desk) (old new : World) : Type 0
   where
     pub taken : turn.event ≡ event
@@ -113,6 +118,8 @@ pub record Acted (event : Event) (turn : Turn) (before after : Desk) (old new : 
     pub marks : length turn.said.items ≡ length turn.went
     pub left : Stays old.link.left new.link.left
     pub sent : Told old.link.sent new.link.sent (λ before now. now ≡ before ++ sent_in turn)
+    pub moments : Told old.link.moments new.link.moments
+        (λ before now. now ≡ before ++ moment_of_each new.keeper.moment (sent_in turn))
     pub up : old.link.up → new.link.up ⊎ Grew 1 old.link.unsent new.link.unsent
     pub missed : new.link.missed ≡ old.link.missed
     pub longest : new.link.longest ≡ old.link.longest
@@ -127,6 +134,8 @@ pub record TurnMade (turn : Turn) (before after : Desk) (old new : World) : Type
   pub office : OfficeTurn turn before after old.keeper new.keeper
   pub marks : length turn.said.items ≡ length turn.went
   pub sent : Told old.link.sent new.link.sent (λ before now. now ≡ before ++ sent_in turn)
+  pub moments : Told old.link.moments new.link.moments
+      (λ before now. now ≡ before ++ moment_of_each new.keeper.moment (sent_in turn))
   pub up : LinkStaysUp old.link new.link
   pub missed : new.link.missed ≡ 0
   pub failures : ℕ

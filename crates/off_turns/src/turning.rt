@@ -6,7 +6,7 @@ use crate::lines::write_line;
 use crate::sending::send_added;
 use crate::taking::{Taken, take_event};
 use off_office::{Office, send_all};
-use off_outside::{Event, Failed, Keeper, Link, Replies, Sink, What};
+use off_outside::{Event, Failed, Keeper, Link, Pass, Replies, Sink, What};
 use std::alloc::Global;
 
 /// What came of one turn.
@@ -71,8 +71,9 @@ fn act<L: Link, K: Keeper, W: Sink>(
 {
     let mut replies = Replies::new(alloc);
     let outcome = office.step(keeper, event, &mut replies);
-    let said = send_all(link, &replies);
-    let added = send_added(link, &event.what, outcome);
+    let pass = Pass::of(keeper);
+    let said = send_all(link, pass, &replies);
+    let added = send_added(link, pass, &event.what, outcome);
     write_line(out, number, event, replies.line(), said & added)
 }
 

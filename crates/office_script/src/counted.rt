@@ -3,7 +3,7 @@ use off_defs::{Key, Row, Writes};
 use off_journal::JournalKeeper;
 use off_keepsql::{CellWrite, CellWrites, Cells, MemCells, SqlCells, SqlKeeper};
 use off_memdisk::MemDisk;
-use off_outside::{Calls, KeepErr, Keeper};
+use off_outside::{Calls, Failed, KeepErr, Keeper};
 use off_rows::KeyBytes;
 use office_stage::Kept;
 use script_words::Unread;
@@ -45,6 +45,23 @@ impl<K: Keeper> Keeper for Counted<K> {
     fn commit(&mut self, alloc: Global, writes: &Writes) -> Result<(), KeepErr> {
         self.calls = self.calls.saturating_add(1);
         self.keeper.commit(alloc, writes)
+    }
+
+    fn stage(&mut self, alloc: Global, writes: &Writes) -> Result<(), KeepErr> {
+        self.calls = self.calls.saturating_add(1);
+        self.keeper.stage(alloc, writes)
+    }
+
+    fn secure(&mut self) -> Result<(), Failed> {
+        self.keeper.secure()
+    }
+
+    fn waits(&self) -> bool {
+        self.keeper.waits()
+    }
+
+    fn moment(&self) -> u64 {
+        self.keeper.moment()
     }
 
     ghost one_tables = { λ s. K.one_tables s.keeper };

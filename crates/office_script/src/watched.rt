@@ -3,7 +3,7 @@ use off_base::{Bytes, NoMemory};
 use off_defs::{Key, Row, Writes};
 use off_journal::JournalKeeper;
 use off_memdisk::MemDisk;
-use off_outside::{Calls, KeepErr, Keeper};
+use off_outside::{Calls, Failed, KeepErr, Keeper};
 use off_rows::KeyBytes;
 use office_stage::Kept;
 use script_words::Unread;
@@ -68,6 +68,32 @@ impl<K: Keeper + OnDisk> Keeper for Watched<K> {
             is_done,
         );
         result
+    }
+
+    fn stage(&mut self, alloc: Global, writes: &Writes) -> Result<(), KeepErr> {
+        self.calls = self.calls.saturating_add(1);
+        let result = self.keeper.stage(alloc, writes);
+        let is_done = result.is_ok();
+        watch(
+            alloc,
+            self.keeper.lies_on(),
+            &mut self.crashes,
+            writes,
+            is_done,
+        );
+        result
+    }
+
+    fn secure(&mut self) -> Result<(), Failed> {
+        self.keeper.secure()
+    }
+
+    fn waits(&self) -> bool {
+        self.keeper.waits()
+    }
+
+    fn moment(&self) -> u64 {
+        self.keeper.moment()
     }
 
     ghost one_tables = { λ s. K.one_tables s.keeper };

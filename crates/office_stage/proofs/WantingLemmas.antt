@@ -10,6 +10,7 @@ pub wanted : (a : LinkSeen) → NotTook Memory a a
 wanted a = record {
   left = told_self (λ t. refl);
   sent = told_self (λ t. refl);
+  moments = told_self (λ t. refl);
   up = λ up. inl up;
   missed = refl;
   longest = refl;

@@ -2,7 +2,7 @@ ghost use Rattle.std.specs.Prelude.{◌≡◌};
 ghost use Rattle.off_defs.specs.Told.{one_exact};
 
 use off_base::Peer;
-use off_outside::{Calls, Event, Failed, Link, LinkErr, MemLink, Service, one_more};
+use off_outside::{Calls, Event, Failed, Link, LinkErr, MemLink, Pass, Service, one_more};
 use std::alloc::Global;
 
 /// A link in memory, for which memory is wanted at listed calls of `next`; these are counted from
@@ -44,19 +44,31 @@ impl Link for WantingLink {
         self.link.next(alloc)
     }
 
-    fn send(&mut self, service: Service, to: Peer, bytes: &[u8]) -> Result<(), Failed> {
-        self.link.send(service, to, bytes)
+    fn next_waiting(&mut self, alloc: Global) -> Result<Option<Event>, LinkErr> {
+        self.link.next_waiting(alloc)
     }
 
-    fn answer(&mut self, conn: u32, bytes: &[u8]) -> Result<(), Failed> {
-        self.link.answer(conn, bytes)
+    fn send(
+        &mut self,
+        pass: Pass,
+        service: Service,
+        to: Peer,
+        bytes: &[u8],
+    ) -> Result<(), Failed> {
+        self.link.send(pass, service, to, bytes)
     }
 
-    fn close(&mut self, conn: u32) -> Result<(), Failed> {
-        self.link.close(conn)
+    fn answer(&mut self, pass: Pass, conn: u32, bytes: &[u8]) -> Result<(), Failed> {
+        self.link.answer(pass, conn, bytes)
+    }
+
+    fn close(&mut self, pass: Pass, conn: u32) -> Result<(), Failed> {
+        self.link.close(pass, conn)
     }
 
     ghost one_left = { λ w up. one_exact w.link.left };
 
     ghost one_sent = { λ w up. one_exact w.link.outbox.sent };
+
+    ghost one_moments = { λ w up. one_exact w.link.outbox.moments };
 }

@@ -1,5 +1,5 @@
 -- What is seen of a keeper that tells nothing: its counts.
-use Rattle.std.specs.Prelude.{ℕ}
+use Rattle.std.specs.Prelude.{ℕ, false}
 use Rattle.off_outside.specs.KeeperSeen.{KeeperSeen}
 
 abbrev pub keeper_counts : ℕ → ℕ → ℕ → KeeperSeen
@@ -12,4 +12,5 @@ keeper_counts faults calls commits = record {
   moment = 0;
   opened = λ _ _. ⊥;
   doubt = λ _. ⊥;
+  waits = false;
 }

@@ -2,7 +2,7 @@ ghost use Rattle.off_defs.specs.Told.{one_none};
 ghost use Rattle.office_tests.specs.Untold.{keeper_counts};
 
 use off_defs::{Key, Row, Writes};
-use off_outside::{KeepErr, Keeper, one_more};
+use off_outside::{Failed, KeepErr, Keeper, one_more};
 use std::alloc::Global;
 
 /// What a keeper answers that tells nothing; `None` where it wants memory. So many commits were
@@ -58,6 +58,24 @@ impl<A: Answers> Keeper for Silent<A> {
         };
         self.commits = one_more(self.commits);
         Ok(())
+    }
+
+    #[tactic(auto, using(off_outside::proofs::KeeperLemmas::stages_commit))]
+    fn stage(&mut self, alloc: Global, writes: &Writes) -> Result<(), KeepErr> {
+        self.commit(alloc, writes)
+    }
+
+    #[tactic(auto, using(off_outside::proofs::KeeperLemmas::secured_none))]
+    fn secure(&mut self) -> Result<(), Failed> {
+        Ok(())
+    }
+
+    fn waits(&self) -> bool {
+        false
+    }
+
+    fn moment(&self) -> u64 {
+        0
     }
 
     ghost one_tables = { λ _ up. one_none };

@@ -6,4 +6,4 @@ use Rattle.off_outside.proofs.outbox.Outbox.answer.Goals as goal
 pub returns : goal.returns
 returns c =
     rw (← c.self.view_is)
-    (posted_box _ _ _ _ _ _ _ _ _ c.put.ensures.octets c.put.ensures.items c.self.invariant.0 (ap (λ v. sent.Answer c.args.conn v) (last_part_at c.self.inside.octets.items c.args.bytes.now _ (search rules))))
+    (posted_box _ _ _ _ _ _ _ _ _ _ _ c.put.ensures.octets c.put.ensures.items c.keep.ensures.moments c.self.invariant.0 (ap (λ v. sent.Answer c.args.conn v) (last_part_at c.self.inside.octets.items c.args.bytes.now _ (search rules))))
