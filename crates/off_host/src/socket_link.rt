@@ -12,7 +12,7 @@ use crate::watching::Watched;
 use mio::{Events, Poll};
 use off_base::{Moment, NoMemory, Peer};
 use off_outside::{Event, Failed, Link, LinkErr, Pass, Service, What, one_more};
-use off_peers::OwnPorts;
+use off_peers::{OwnPorts, PortTable};
 use std::alloc::Global;
 use std::io;
 use std::time::{Duration, Instant, SystemTime};
@@ -69,7 +69,8 @@ impl SocketLink {
         let Ok(ready) = Events::with_capacity(rt.alloc(), MOST_READY) else {
             return Err(OpenErr::Memory);
         };
-        match Asking::open(rt, ready, addresses, ports, log) {
+        let heard = PortTable::new(rt.alloc())?;
+        match Asking::open(rt, ready, heard, addresses, ports, log) {
             Ok(asking) => Ok(SocketLink {
                 asking,
                 missed: 0,
@@ -199,6 +200,7 @@ impl Asking {
     fn open(
         rt: &HostRuntime,
         ready: Events,
+        heard: PortTable,
         addresses: Addresses,
         ports: &[u16; 4],
         log: Log,
@@ -209,7 +211,7 @@ impl Asking {
             time: ports[1],
             tftp: ports[2],
         };
-        let datagrams = Datagrams::open(rt, poll.registry(), addresses.udp, own)?;
+        let datagrams = Datagrams::open(rt, poll.registry(), addresses.udp, own, heard)?;
         let clerks = Clerks::open(rt, poll.registry(), addresses.http, ports[3])?;
         Ok(Asking {
             rt: rt.clone()?,
