@@ -18,6 +18,9 @@ from definitions import ROOT
 CONTRACTS, ALLOCATING = ROOT / "docs" / "CONTRACTS.md", ROOT / "docs" / "ALLOCATING.md"
 SCRIPT = "office_script"
 LINK = re.compile(r"\[(?:[^\[\]]|\[[^\]]*\])*\]\(([^()\s]+)\)")
+# a link that is named elsewhere in its page, and a picture
+NAMED_LINK = re.compile(r"^\[[^\[\]]+\]: (\S+)$")
+PICTURE = re.compile(r'<(?:img|source)\b[^>]*\b(?:src|srcset)="([^"]+)"')
 CALL_LINK = re.compile(r"\[(`[^`]+`)\]\(([^)]+)\)")
 OWNER = re.compile(r"(?:impl(?:<.*?>)? (?:[\w:]+(?:<.*>)? for )?|pub trait )(\w+)")
 Place = collections.namedtuple("Place", "owner name public path line")
@@ -81,7 +84,8 @@ def broken_links(page):
         fenced ^= line.startswith("```")
         if fenced or line.startswith("    "):
             continue
-        for target in LINK.findall(re.sub(r"(?<!\[)`[^`]*`(?!\])", "", line)):
+        shown = re.sub(r"(?<!\[)`[^`]*`(?!\])", "", line)
+        for target in [*LINK.findall(shown), *NAMED_LINK.findall(line), *PICTURE.findall(line)]:
             fault = fault_of(page, target)
             if fault:
                 yield f"{page.relative_to(ROOT)}:{number}: {target}: {fault}"
