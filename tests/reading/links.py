@@ -20,7 +20,7 @@ SCRIPT = "office_script"
 LINK = re.compile(r"\[(?:[^\[\]]|\[[^\]]*\])*\]\(([^()\s]+)\)")
 # a link that is named elsewhere in its page, and a picture
 NAMED_LINK = re.compile(r"^\[[^\[\]]+\]: (\S+)$")
-PICTURE = re.compile(r'<(?:img|source)\b[^>]*\b(?:src|srcset)="([^"]+)"')
+PICTURE = re.compile(r'\b(?:src|srcset)="([^"]+)"')
 CALL_LINK = re.compile(r"\[(`[^`]+`)\]\(([^)]+)\)")
 OWNER = re.compile(r"(?:impl(?:<.*?>)? (?:[\w:]+(?:<.*>)? for )?|pub trait )(\w+)")
 Place = collections.namedtuple("Place", "owner name public path line")
