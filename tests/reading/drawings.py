@@ -180,18 +180,20 @@ class Layers:
         for crate in sorted(set(named) - set(self.needs)):
             yield f"layers.txt has {crate}, and crates.txt doesn't"
         for crate, needed in self.needs.items():
-            for other in needed:
-                (row, column), (its_row, its_column) = self.place[crate], self.place[other]
-                if row == its_row and its_column > column:
-                    yield f"{crate} needs {other}, which is in a later layer of its service"
+            for other in filter(self.place.get, needed):
+                if not self._may_need(self.place[crate], self.place[other]):
+                    yield f"{crate} needs {other}, against the order of rows and columns"
 
-    def needed_services(self, name):
-        """The other services that the crates of this one need, most needed first."""
-        count = collections.Counter()
-        for crate, (row, _) in self.place.items():
-            if row == name:
-                count.update({self.place[other][0] for other in self.needs[crate]} - {name})
-        return [other for other, _ in sorted(count.items(), key=lambda one: (-one[1], one[0]))]
+    def _may_need(self, own, other):
+        """Upwards, or in its own row to the left; laws of runs need the office too. No definition
+        or law needs a machine."""
+        names, machines = [name for name, _ in self.rows], self.layers.index("Machines")
+        if other[1] == machines and own[1] != machines:
+            return False
+        if own[1] > machines:
+            return True
+        (row, column), (its_row, its_column) = [(names.index(one[0]), one[1]) for one in (own, other)]
+        return its_row < row or its_row == row and its_column <= column
 
     def svg(self, colours):
         head, wide, gap = 150, 172, 8
