@@ -16,7 +16,9 @@ import sys
 
 ROOT = pathlib.Path(__file__).resolve().parents[2]
 SHORT = ["README.md", "docs/PROMISES.md"]
-PLAIN = [*SHORT, "docs/BENCH.md", "docs/ARCHITECTURE.md", "docs/CONTRACTS.md", "docs/DECISIONS.md"]
+PLAIN = [
+    *SHORT, "docs/ARCHITECTURE.md", "docs/BENCH.md", "docs/CONTRACTS.md", "docs/DECISIONS.md", "docs/GLOSSARY.md",
+]
 MOST_WORDS, MOST_COLUMNS = 40, 100
 TIME = r"(?:ms|s|seconds|minutes|hours|days)"
 BANNED = [
