@@ -45,7 +45,8 @@ class Canvas:
 
     def line(self, x1, y1, x2, y2, stroke, dashed=False):
         dash = " stroke-dasharray='3 4'" if dashed else ""
-        self.lines.append(f"<line x1='{x1}' y1='{y1}' x2='{x2}' y2='{y2}' stroke='{stroke}'{dash}/>")
+        ends = f"x1='{x1}' y1='{y1}' x2='{x2}' y2='{y2}'"
+        self.lines.append(f"<line {ends} stroke='{stroke}'{dash}/>")
 
     def arrow(self, x1, x2, y, stroke):
         """A horizontal arrow with its head at `x2`."""
@@ -179,8 +180,8 @@ class Layers:
                 yield f"layers.txt names {crate} {named.count(crate)} times"
         for crate in sorted(set(named) - set(self.needs)):
             yield f"layers.txt has {crate}, and crates.txt doesn't"
-        for crate, needed in self.needs.items():
-            for other in filter(self.place.get, needed):
+        for crate in filter(self.place.get, self.needs):
+            for other in filter(self.place.get, self.needs[crate]):
                 if not self._may_need(self.place[crate], self.place[other]):
                     yield f"{crate} needs {other}, against the order of rows and columns"
 
@@ -192,8 +193,8 @@ class Layers:
             return False
         if own[1] > machines:
             return True
-        (row, column), (its_row, its_column) = [(names.index(one[0]), one[1]) for one in (own, other)]
-        return its_row < row or its_row == row and its_column <= column
+        row, its_row = names.index(own[0]), names.index(other[0])
+        return its_row < row or its_row == row and other[1] <= own[1]
 
     def svg(self, colours):
         head, wide, gap = 150, 172, 8

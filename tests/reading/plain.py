@@ -1,13 +1,13 @@
 #!/usr/bin/env python3
-"""Whether the pages are plain: their sentences, their lines, their words, their links, their drawings.
+"""Whether the pages are plain: their sentences, lines, words, links and drawings.
 
     python3 tests/reading/plain.py           what isn't: status 1
     python3 tests/reading/plain.py --words   also how many words each page has
 
 Of the pages that were rewritten in plain English (PLAIN): no line over 100 columns, and none of the
 habits of BANNED outside of code. Of those that everybody reads (SHORT): no sentence over 40 words.
-Of all pages: what links.py finds. Of all drawings and charts: each one made anew equals the one that
-is kept. It is no part of the gate.
+Of all pages: what links.py finds. Of all drawings and charts: each one made anew equals the one
+that is kept. It is no part of the gate.
 """
 import pathlib
 import re
@@ -17,7 +17,8 @@ import sys
 ROOT = pathlib.Path(__file__).resolve().parents[2]
 SHORT = ["README.md", "docs/PROMISES.md"]
 PLAIN = [
-    *SHORT, "docs/ARCHITECTURE.md", "docs/BENCH.md", "docs/CONTRACTS.md", "docs/DECISIONS.md", "docs/GLOSSARY.md",
+    *SHORT, "docs/ARCHITECTURE.md", "docs/BENCH.md", "docs/CONTRACTS.md", "docs/DECISIONS.md",
+    "docs/GLOSSARY.md",
 ]
 MOST_WORDS, MOST_COLUMNS = 40, 100
 TIME = r"(?:ms|s|seconds|minutes|hours|days)"
