@@ -150,7 +150,9 @@ def pages():
     yield ["README.md"]
     for folder in ("docs", "examples", "packaging"):
         for at, _, names in os.walk(os.path.join(ROOT, folder)):
-            yield from ([os.path.relpath(at, ROOT), name] for name in sorted(names))
+            # a screenshot has no text
+            texts = sorted(name for name in names if not name.endswith(".png"))
+            yield from ([os.path.relpath(at, ROOT), name] for name in texts)
 
 
 def in_pages():

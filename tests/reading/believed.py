@@ -3,6 +3,7 @@
 
     python3 tests/reading/believed.py [-v]       the numbers, with -v those of each file; status 1 where the page isn't up to date
     python3 tests/reading/believed.py --write    writes the page's tables anew
+    python3 tests/reading/believed.py --inner    the words of inner contracts too, a line a file: lines, file, words
 
 Begins with the words of the clauses of `run` in crates/off_serve/src, and goes on to every definition of a `specs/` file that one of them names.
 Beside these it counts the Rust types that they speak of, and what the contracts and laws of the traits of `run` add. Lines are counted without
@@ -13,7 +14,7 @@ import re
 import sys
 
 from definitions import ROOT, WORD, spec_files
-from page import PAGE, Trait, page_of, units_of
+from page import PAGE, Trait, inner_lines, page_of, units_of
 
 RUN = ROOT / "crates" / "off_serve" / "src"
 GHOST = re.compile(r"ghost use Rattle\.([\w.]+?)(?:\.\{([^}]*)\}| as (\w+));")
@@ -142,6 +143,8 @@ def main():
     text, numbers = page_of(PAGE.read_text(encoding="utf8"), files, units, reach.uses)
     if "-v" in sys.argv:
         print("\n".join(f"{unit.lines():5} {unit.title}: {', '.join(row.name for row in unit.rows)}" for unit in units))
+    if "--inner" in sys.argv:
+        print("\n".join(inner_lines(files, reach.uses)))
     print("\n".join(numbers))
     if "--write" in sys.argv:
         PAGE.write_text(text, encoding="utf8")

@@ -5,7 +5,7 @@
     python3 tests/reading/links.py --write     gives each call of docs/CONTRACTS.md the line where it stands now, and then looks
 
 Of each document: a link within the repository leads to a file that is there, and to a heading or a line that this has. Of docs/CONTRACTS.md:
-each call of its second column is a link to the line in `src/` where it's declared, with its contract. Of docs/ALLOCATING.md: each call of its first
+each call of a list under the name of a crate is a link to the line in `src/` where it's declared, with its contract. Of docs/ALLOCATING.md: each call of its first
 column is declared, and each example that it names is a section of its script. It is no part of the gate.
 """
 import collections
@@ -18,11 +18,14 @@ from definitions import ROOT
 CONTRACTS, ALLOCATING = ROOT / "docs" / "CONTRACTS.md", ROOT / "docs" / "ALLOCATING.md"
 SCRIPT = "office_script"
 LINK = re.compile(r"\[(?:[^\[\]]|\[[^\]]*\])*\]\(([^()\s]+)\)")
+# a link that is named elsewhere in its page, and a picture
+NAMED_LINK = re.compile(r"^\[[^\[\]]+\]: (\S+)$")
+PICTURE = re.compile(r'\b(?:src|srcset)="([^"]+)"')
 CALL_LINK = re.compile(r"\[(`[^`]+`)\]\(([^)]+)\)")
 OWNER = re.compile(r"(?:impl(?:<.*?>)? (?:[\w:]+(?:<.*>)? for )?|pub trait )(\w+)")
 Place = collections.namedtuple("Place", "owner name public path line")
 ITEM = re.compile(r"(?:pub(?:\(\w+\))? )?(?:const )?(?:fn|struct|enum|trait|type) (\w+)")
-# a word of the second column: a crate that has what is named behind it, or a call
+# a word of such a list: a crate that has what is named after it, or a call
 NAMED = re.compile(r"\b(off_\w+)|`([^`]+)`")
 
 
@@ -81,7 +84,8 @@ def broken_links(page):
         fenced ^= line.startswith("```")
         if fenced or line.startswith("    "):
             continue
-        for target in LINK.findall(re.sub(r"(?<!\[)`[^`]*`(?!\])", "", line)):
+        shown = re.sub(r"(?<!\[)`[^`]*`(?!\])", "", line)
+        for target in [*LINK.findall(shown), *NAMED_LINK.findall(line), *PICTURE.findall(line)]:
             fault = fault_of(page, target)
             if fault:
                 yield f"{page.relative_to(ROOT)}:{number}: {target}: {fault}"
@@ -118,23 +122,22 @@ def place_of(crate, name, owner):
 
 
 class Calls:
-    """The second column of the page, read from above: in which crate a name stands, and whose it is."""
+    """The lists of the page, read from above: in which crate a name is, and whose it is."""
 
     def __init__(self):
         self.crate, self.here, self.owner, self.faults = None, None, None, []
 
     def linked(self, number, line):
-        """A row with a link for each of its calls."""
-        cells = line.split(" | ")
-        if not line.startswith("| ") or len(cells) < 3 or cells[0] in ("| Crate", "|---"):
+        """A line of a crate's list with a link for each of its calls."""
+        heading = re.fullmatch(r"## ((?:off_)\w+|officed)", line)
+        if heading:
+            self.crate, self.here, self.owner = heading.group(1), None, None
+        if line.startswith("- "):
+            # what is said of the inside of a crate names no calls
+            self.here = None if line.startswith("- inside: ") else self.crate
+        if not self.here or not line.startswith(("- ", "  ")):
             return line
-        crates = re.findall(r"off_\w+|officed", cells[0])
-        if crates:
-            self.crate, self.owner = crates[0], None
-        self.here = self.crate
-        plain = CALL_LINK.sub(r"\1", cells[1])
-        cells[1] = NAMED.sub(lambda match: self._link(number, match), plain)
-        return " | ".join(cells)
+        return NAMED.sub(lambda match: self._link(number, match), CALL_LINK.sub(r"\1", line))
 
     def _link(self, number, match):
         crate, name = match.groups()
@@ -151,7 +154,7 @@ class Calls:
 
 
 def contracts_linked():
-    """The page with its links as they should be, and the calls that stand nowhere."""
+    """The page with its links as they should be, and the calls that are nowhere."""
     calls = Calls()
     lines = [calls.linked(number, line) for number, line in enumerate(CONTRACTS.read_text(encoding="utf8").split("\n"), 1)]
     return "\n".join(lines), calls.faults
@@ -162,8 +165,8 @@ def wrong_links(linked):
     for number, (line, right) in enumerate(zip(CONTRACTS.read_text(encoding="utf8").split("\n"), linked.split("\n")), 1):
         if line != right:
             wrong = set(CALL_LINK.findall(right)) - set(CALL_LINK.findall(line))
-            told = "; ".join(f"{name} stands at {target.removeprefix('../')}" for name, target in sorted(wrong))
-            yield f"docs/CONTRACTS.md:{number}: {told or 'a link stands where no call is'}"
+            told = "; ".join(f"{name} is at {target.removeprefix('../')}" for name, target in sorted(wrong))
+            yield f"docs/CONTRACTS.md:{number}: {told or 'a link where no call is'}"
 
 
 # ---- the calls and the examples of ALLOCATING

@@ -1,4 +1,4 @@
-"""The tables of docs/DEFINITIONS.md: the words that must be believed, in reading order, and the words of inner contracts."""
+"""The tables of docs/DEFINITIONS.md: the words that must be believed, in reading order. Words of inner contracts are only counted there."""
 import collections
 import re
 
@@ -171,10 +171,10 @@ def believed_table(units):
             yield f"| `{row.name}` | {row.lines} | | {row.standard} |\n".replace("|  |", "| |")
 
 
-def inner_table(inner):
-    yield "| File | Lines | Words |\n|---|--:|---|\n"
-    for file, rows in inner:
-        yield f"| `{place_of(file.path)}` | {sum(row.lines for row in rows)} | {', '.join(f'`{row.name}`' for row in rows)} |\n"
+def inner_lines(files, uses):
+    """The words of inner contracts, a line a file."""
+    for file, rows in inner_words(files, uses):
+        yield f"{sum(row.lines for row in rows):5} {place_of(file.path)}: {', '.join(row.name for row in rows)}"
 
 
 def page_of(old, files, units, uses):
@@ -184,7 +184,6 @@ def page_of(old, files, units, uses):
     parts = ["| Part | Words | Lines |\n|---|--:|--:|\n"]
     parts += [f"| {name} | {number(words)} | {number(lines)} |\n" for name, words, lines in sums]
     parts += ["\n## What the office does\n\n", *believed_table(units)]
-    parts += ["\n## Words of inner contracts\n\n", *inner_table(inner)]
     head, _, rest = old.partition(BEGINS)
     _, _, tail = rest.partition(ENDS)
     numbers = [f"{lines:6} lines, {words:5} words: {name.strip('*')}" for name, words, lines in sums]

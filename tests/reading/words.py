@@ -3,8 +3,8 @@
 
     python3 tests/reading/words.py
 
-Prints each word that stands for more than one definition, with the files; then each file of specs/, proofs/ or src/ where two of a word come
-together, by its `use` lines or beside a definition of its own, and each word for which docs/DECISIONS.md gives no reason. Ends with status 1
+Prints each word that has more than one definition, with the files; then each file of specs/, proofs/ or src/ where two of a word come
+together, by its `use` lines or beside a definition of its own, and each word for which tests/reading/WORDS.md gives no reason. Ends with status 1
 where there is one of these. It is no part of the gate.
 """
 import collections
@@ -47,10 +47,10 @@ def meetings(shared):
 
 
 def reasons():
-    """The words for which the page of decisions gives a reason."""
-    page = (TOP / "docs" / "DECISIONS.md").read_text(encoding="utf8")
+    """The words for which the page gives a reason."""
+    page = (TOP / "tests" / "reading" / "WORDS.md").read_text(encoding="utf8")
     rows = page[page.index("| Words | Why |"):].split("\n\n")[0].split("\n")[2:]
-    return {word for row in rows for word in re.findall(r"`([^`]+)`", row.split("|")[1])}
+    return {word for row in filter(None, rows) for word in re.findall(r"`([^`]+)`", row.split("|")[1])}
 
 
 def main():
@@ -58,8 +58,8 @@ def main():
     for word, where in shared.items():
         print(f"{word}: {', '.join(where)}")
     given = reasons()
-    faults = meetings(shared) + [f"{word}: no reason in docs/DECISIONS.md" for word in shared if word not in given]
-    faults += [f"{word}: docs/DECISIONS.md has a reason, and it stands once" for word in sorted(given - set(shared))]
+    faults = meetings(shared) + [f"{word}: no reason in tests/reading/WORDS.md" for word in shared if word not in given]
+    faults += [f"{word}: tests/reading/WORDS.md has a reason, and it is defined once" for word in sorted(given - set(shared))]
     print("\n".join(faults + [f"{len(shared)} words, {len(faults)} faults"]))
     return 1 if faults else 0
 

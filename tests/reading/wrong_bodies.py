@@ -1,5 +1,5 @@
 #!/usr/bin/env python3
-"""Tries the wrong bodies that stand outside of the merge gate, which has its own in crates/*/must-fail.
+"""Tries the wrong bodies that are outside of the merge gate, which has its own in crates/*/must-fail.
 
     python3 tests/reading/wrong_bodies.py [CRATE ..]     those of these crates, or of all
 
@@ -19,11 +19,12 @@ ROOT = os.path.dirname(os.path.dirname(os.path.dirname(os.path.abspath(__file__)
 
 
 def main():
-    every = sorted(os.path.basename(folder) for folder in glob.glob(os.path.join(ROOT, "tests", "wrong_bodies", "*")))
+    folders = glob.glob(os.path.join(ROOT, "tests", "wrong_bodies", "*", ""))
+    every = sorted(os.path.basename(os.path.dirname(folder)) for folder in folders)
     crates = sys.argv[1:] or every
     unknown = [crate for crate in crates if crate not in every]
     if unknown:
-        print(f"wrong_bodies: no wrong bodies stand under tests/wrong_bodies for {', '.join(unknown)}", file=sys.stderr)
+        print(f"wrong_bodies: tests/wrong_bodies has none for {', '.join(unknown)}", file=sys.stderr)
         return 2
     with tempfile.TemporaryDirectory() as copy:
         listed = subprocess.run(["git", "ls-files", "-z", "crates", "crates.txt", "HANDLES"], cwd=ROOT, check=True, stdout=subprocess.PIPE).stdout
