@@ -2,7 +2,7 @@ ghost use Rattle.std.specs.Prelude.{◌≡◌, false};
 ghost use Rattle.std.specs.Net.Addr.{ipv4_bits};
 ghost use Rattle.std.specs.Net.Socket.{v4_ip, v4_port};
 ghost use Rattle.off_peers.specs.Reflections.{IsReflection};
-ghost use Rattle.off_host.specs.Heard.{is_of_service, GivesDatagram, IsSocketAddress};
+ghost use Rattle.off_host.specs.Heard.{is_taken, rows_after, GivesDatagram, IsSocketAddress};
 
 use crate::addresses::Addresses;
 use crate::system::ask_for_room;
@@ -11,7 +11,9 @@ use mio::net::UdpSocket;
 use mio::{Interest, Registry};
 use off_base::{Bytes, Ip4, Moment, NoMemory, Peer};
 use off_outside::{Failed, Service, What};
-use off_peers::{OwnPorts, is_acknowledgement, is_reflection, is_time_answer};
+use off_peers::{
+    OwnPorts, PortTable, is_acknowledgement, is_forged, is_reflection, is_time_answer,
+};
 use std::alloc::Global;
 use std::io::{self, ErrorKind};
 use std::net::{Ipv4Addr, SocketAddr, SocketAddrV4};
@@ -50,10 +52,17 @@ struct Port {
 /// One UDP socket for each service.
 #[derive(Drop)]
 pub struct Datagrams {
+    sockets: Sockets,
+    own: OwnPorts,
+    // Which ports of clients the TFTP port hears.
+    heard: PortTable,
+}
+
+#[derive(Drop)]
+struct Sockets {
     dhcp: Port,
     time: Port,
     tftp: Port,
-    own: OwnPorts,
 }
 
 impl Datagrams {
@@ -63,6 +72,7 @@ impl Datagrams {
         registry: &Registry,
         address: Ip4,
         own: OwnPorts,
+        heard: PortTable,
     ) -> io::Result<Datagrams> {
         let dhcp = Port::open(rt, registry, address, own.dhcp, Service::Dhcp)?;
         // A refusal to a client that has no address goes to 255.255.255.255.
@@ -70,39 +80,40 @@ impl Datagrams {
         let time = Port::open(rt, registry, address, own.time, Service::Time)?;
         let tftp = Port::open(rt, registry, address, own.tftp, Service::Tftp)?;
         Ok(Datagrams {
-            dhcp,
-            time,
-            tftp,
+            sockets: Sockets { dhcp, time, tftp },
             own,
+            heard,
         })
     }
 
     /// Whether a datagram may have come.
     pub fn may_have(&self, service: Service) -> bool {
-        self.port(service).may_have
+        self.sockets.port(service).may_have
     }
 
     /// Whether a datagram may have come for some service.
     pub fn may_have_any(&self) -> bool {
-        self.dhcp.may_have || self.time.may_have || self.tftp.may_have
+        [Service::Dhcp, Service::Time, Service::Tftp]
+            .iter()
+            .any(|service| self.may_have(*service))
     }
 
     /// Takes it that a datagram has come for a service.
     pub fn hear(&mut self, service: Service) {
-        self.port_mut(service).may_have = true;
+        self.sockets.port_mut(service).may_have = true;
     }
 
     /// The next datagram of a service, if one has come. One for which memory was refused is
     /// dropped.
     pub fn ask(&mut self, alloc: Global, service: Service, now: Moment) -> Result<Asked, Failed> {
         let own = self.own;
-        let port = self.port_mut(service);
+        let port = self.sockets.port_mut(service);
         for _attempt in 0..MOST_DROPPED {
             match port.socket.recv_from(&mut port.room) {
                 Ok((count, SocketAddr::V4(address))) => {
                     let from = peer_at(address);
                     let datagram = &port.room[..count];
-                    if takes(service, from, datagram, own, now) {
+                    if takes(service, from, datagram, own, now, &mut self.heard) {
                         return Ok(gave(alloc, service, from, datagram));
                     }
                 }
@@ -123,12 +134,14 @@ impl Datagrams {
     /// Sends a datagram, and tells whether all of it went out.
     pub fn send(&self, service: Service, to: Peer, bytes: &[u8]) -> bool {
         let address = socket_address(to.ip, to.port);
-        match self.port(service).socket.send_to(bytes, address) {
+        match self.sockets.port(service).socket.send_to(bytes, address) {
             Ok(count) => count == bytes.len(),
             Err(_error) => false,
         }
     }
+}
 
+impl Sockets {
     fn port(&self, service: Service) -> &Port {
         match service {
             Service::Dhcp => &self.dhcp,
@@ -186,20 +199,34 @@ fn peer_at(address: SocketAddrV4) -> Peer
     }
 }
 
-// Whether a datagram becomes an event.
-fn takes(service: Service, from: Peer, datagram: &[u8], own: OwnPorts, now: Moment) -> bool
-    ensures refused { IsReflection service from own → result ≡ false }
+// Whether a datagram becomes an event. One to the TFTP port that is of the service may open a port of
+// its sender.
+fn takes(
+    service: Service,
+    from: Peer,
+    datagram: &[u8],
+    own: OwnPorts,
+    now: Moment,
+    heard: &mut PortTable,
+) -> bool
+    ensures refused { IsReflection service from own
+        → (result ≡ false) × (heard.new ≡ heard.old) }
     ensures taken { ¬ (IsReflection service from own)
-        → result ≡ is_of_service service datagram.now now.0 }
+        → result ≡ is_taken service from datagram.now now.0 heard.old }
+    ensures known { ¬ (IsReflection service from own)
+        → heard.new ≡ rows_after service from datagram.now now.0 heard.old }
 {
     if is_reflection(service, from, own) {
         return false;
     }
     match service {
-        Service::Dhcp => true,
+        Service::Dhcp => !is_forged(datagram, from.ip),
         Service::Time => !is_time_answer(datagram, now),
         // An acknowledgement tells a time of some hours in 2036 alone, and is taken then too.
-        Service::Tftp => is_acknowledgement(datagram) || !is_time_answer(datagram, now),
+        Service::Tftp => {
+            (is_acknowledgement(datagram) || !is_time_answer(datagram, now))
+                && heard.hear(from, now)
+        }
     }
 }
 

@@ -10,7 +10,7 @@ use crate::watching::Watched;
 use mio::{Events, Poll};
 use off_base::{Moment, NoMemory, Peer};
 use off_outside::{Event, Failed, Link, LinkErr, Service, What};
-use off_peers::OwnPorts;
+use off_peers::{OwnPorts, PortTable};
 use std::alloc::Global;
 use std::io;
 use std::time::{Duration, Instant, SystemTime};
@@ -67,7 +67,8 @@ impl SocketLink {
         let Ok(ready) = Events::with_capacity(rt.alloc(), MOST_READY) else {
             return Err(OpenErr::Memory);
         };
-        match Asking::open(rt, ready, addresses, ports, log) {
+        let heard = PortTable::new(rt.alloc())?;
+        match Asking::open(rt, ready, heard, addresses, ports, log) {
             Ok(asking) => Ok(SocketLink {
                 asking,
                 missed: 0,
@@ -167,6 +168,7 @@ impl Asking {
     fn open(
         rt: &HostRuntime,
         ready: Events,
+        heard: PortTable,
         addresses: Addresses,
         ports: &[u16; 4],
         log: Log,
@@ -177,7 +179,7 @@ impl Asking {
             time: ports[1],
             tftp: ports[2],
         };
-        let datagrams = Datagrams::open(rt, poll.registry(), addresses.udp, own)?;
+        let datagrams = Datagrams::open(rt, poll.registry(), addresses.udp, own, heard)?;
         let clerks = Clerks::open(rt, poll.registry(), addresses.http, ports[3])?;
         Ok(Asking {
             rt: rt.clone()?,

@@ -1,3 +1,5 @@
 pub mod UnsentHeld
 pub mod Connections
 pub mod Reflections
+pub mod Forgeries
+pub mod Ports

@@ -3,11 +3,15 @@
 #![tactic(auto)]
 
 mod connection;
+mod forging;
+mod hearing;
 mod numbers;
 mod reflecting;
 mod unsent;
 
 pub use connection::{Connection, Heard};
+pub use forging::is_forged;
+pub use hearing::{Opened, PortTable, Ports};
 pub use numbers::Numbers;
 pub use reflecting::{OwnPorts, is_acknowledgement, is_reflection, is_time_answer};
 pub use unsent::{ANSWER_ROOM, Sending, Unsent};
