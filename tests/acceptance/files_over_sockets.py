@@ -359,7 +359,7 @@ def bad_packets(talk, modems):
 
 def crowd(talk, modems):
     """256 transfers begin, a 257th is refused, and nobody goes on: each is sent again five times, and closed."""
-    clients = [modem.reading(talk) for modem in modems] + [modems[0].reading(talk, port=6000 + number) for number in range(56)]
+    clients = [modem.reading(talk) for modem in modems] + [modem.reading(talk, port=6000) for modem in modems[:56]]
     came = collections.defaultdict(list)
     talk.settles()
     # The loopback keeps some hundred packets of those that wait.

@@ -21,7 +21,7 @@ from harness import modems as office
 from harness.clerks import answer_in, connect, read_to_end, request, spelled
 from harness.machine import resident
 from harness.mutating import fits_request, mutated, mutated_request, words_of_message, words_of_packet
-from harness.network import port_of, took
+from harness.network import port_of, sends_as_client, speaks_for_itself, took
 from harness.told import SECRET
 
 sys.dont_write_bytecode = True
@@ -37,6 +37,8 @@ AT_ONCE = 50
 MOST_GROWTH = 1 << 20
 # Of the first modem messages are changed; the second one reads files from its address, and a device behind it has an address too.
 MODEM, READER, AT = 3, 5, ip(office.FIRST + 9)
+# The addresses that messages without a relay are of.
+OWN = (ip(office.FIRST), "10.64.32.9")
 DEVICE, DEVICES = "10.64.32.9", {"first": "10.64.32.0", "last": "10.64.32.99", "prefix": 24, "router": office.RELAY, "relay": office.RELAY}
 
 
@@ -161,8 +163,10 @@ class Fuzzing:
         """Sends so many at once, and judges the line of each."""
         sent = [mutated(self.chance, each, front=front) for _ in range(count)]
         sent = [data for data in sent if service == "dhcp" or not is_time_answer(data)]
+        # A message without a relay is dropped, and has no line, where it doesn't come from its client's address.
+        sent = [data for data in sent if service != "dhcp" or speaks_for_itself(data) in (None, *OWN)]
         for data in sent:
-            sender.sendto(data, (office.SERVER, port))
+            sends_as_client(sender, data, (office.SERVER, port)) if service == "dhcp" else sender.sendto(data, (office.SERVER, port))
         told = self.told(service, len(sent))
         check(len(told) == len(sent), f"{service}: {len(told)} lines of {len(sent)} datagrams")
         for data, words in zip(sent, told):
@@ -305,7 +309,7 @@ def ends_well(fuzz):
         each.close()
     own = office.modem(MODEM)
     talk = office.Conversation()
-    talk.relay.sendto(leases.releases(ip(office.FIRST), **own), (office.SERVER, office.PORTS[0]))
+    sends_as_client(talk.relay, leases.releases(ip(office.FIRST), **own), (office.SERVER, office.PORTS[0]))
     talk.relay.sendto(leases.discover(**own), (office.SERVER, office.PORTS[0]))
     offer = took(talk.relay)
     check(offer is not None, "a modem is offered an address")

@@ -6,7 +6,8 @@ installed (dhcrelay, dnsmasq) carries each client that is (udhcpc, dhclient), wh
 renews it and gives it back; between, each TFTP client that is installed (tftp-hpa, atftp, curl,
 busybox) fetches the modem's file, with and without the options that it knows (RFC 2348 and 2349),
 bin/modem reads its settings and checks, and rdate asks for the time by UDP. What isn't installed is
-named and skipped. It ends what it started, and takes a minute.
+named and skipped. It ends what it started, and takes some minutes, since an address has four
+ports a minute.
 """
 # needs: unshare nsenter ip
 import contextlib
@@ -27,6 +28,8 @@ OFFICE, ROUTER, RELAY = "10.0.0.2", "10.0.0.1", "10.64.0.1"
 MAC, SERIAL = "02:aa:bb:cc:dd:ee", "SN01"
 # What a modem says of itself: option 43, its parts 2 (a modem) and 4 (its serial number).
 ABOUT = b"\x02\x03ECM\x04\x04" + SERIAL.encode()
+# When each address asked for a file from a port.
+OPENED = {}
 # Both clients tell what they were given by this script, which sets the address.
 HOOK = """#!/bin/sh
 [ -n "$1" ] && reason=$1
@@ -217,6 +220,13 @@ def fetchers(name, out):
     return [([found(tool), *words], asks) for tool, asks, words in known if found(tool)]
 
 
+def waits_for_a_port(opened):
+    """Each client asks from a port of its own, and the office hears four new ports of an address in a minute."""
+    if len(opened) >= 4:
+        time.sleep(max(0.0, opened[-4] + 61 - time.monotonic()))
+    opened.append(time.monotonic())
+
+
 def fetches(network, folder, address, name):
     """Each client gets the modem's own file, good by both checks."""
     modem = loaded("modem")
@@ -224,6 +234,7 @@ def fetches(network, folder, address, name):
     path = os.path.join(folder, "file.cm")
     for words, _ in fetchers(name, path):
         tool = " ".join(words[:6])
+        waits_for_a_port(OPENED.setdefault(address, []))
         with contextlib.suppress(FileNotFoundError):
             os.remove(path)
         status, said = network.within(network.modem, *words, seconds=20)

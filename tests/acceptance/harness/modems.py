@@ -6,7 +6,7 @@ import time
 
 from harness import ROOT, check, serving
 from harness.clerks import GOLD, Clerk, is_heard
-from harness.network import address_of_lo, loopback, port_of, took
+from harness.network import address_of_lo, loopback, port_of, sends_as_client, took
 from harness.told import SECRET
 
 sys.path.insert(0, os.path.join(ROOT, "tests", "examples"))
@@ -58,7 +58,7 @@ class Conversation:
         return reply
 
     def send(self, data):
-        self.relay.sendto(data, (SERVER, PORTS[0]))
+        sends_as_client(self.relay, data, (SERVER, PORTS[0]))
 
     def heard_at(self, _target, port):
         """The socket at which a reply is heard."""

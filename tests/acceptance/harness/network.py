@@ -38,6 +38,28 @@ def took(each):
     return data, socket.inet_ntoa(target) if target else ""
 
 
+def speaks_for_itself(data):
+    """The client's own address in a DHCP message without a relay, as text; None for another datagram."""
+    own = len(data) >= 240 and data[24:28] == bytes(4) and data[12:16] != bytes(4)
+    return socket.inet_ntoa(data[12:16]) if own else None
+
+
+def sends_as_client(sender, data, to):
+    """Sends a DHCP message by a relay's socket; one of a client without a relay from that client's address, as the office takes it from there alone. Gives whether
+    this machine could."""
+    own = speaks_for_itself(data)
+    if own is None or own == sender.getsockname()[0]:
+        sender.sendto(data, to)
+        return True
+    with socket.socket(socket.AF_INET, socket.SOCK_DGRAM) as client:
+        try:
+            client.bind((own, 0))
+            client.sendto(data, to)
+        except OSError:
+            return False
+    return True
+
+
 def checksum(data):
     total = sum(struct.unpack(f">{len(data) // 2}H", data))
     while total >> 16:
