@@ -14,7 +14,7 @@ use std::io::{self, ErrorKind};
 use std::os::fd::AsRawFd;
 
 // How many connections are held at a time.
-const MOST: usize = 64;
+const MOST: usize = 512;
 
 // How many requests the office takes at a time. It would close a further connection, so those are
 // left unread until one ends.
@@ -38,10 +38,6 @@ pub struct Clerks {
     spare: Option<Unsent>,
     // The place of the connection whose turn it is to be asked.
     turn: usize,
-    // Whether the newest of several connections alike is the next whose request is begun, or the
-    // oldest. So a clerk behind many slow peers has a turn soon, and one before many quick ones
-    // too.
-    is_newest_next: bool,
     // The moment in which they were asked last.
     moment: u64,
     // Whether a connection may wait to be accepted.
@@ -77,7 +73,6 @@ impl Clerks {
             numbers: Numbers::new(),
             spare: None,
             turn: 0,
-            is_newest_next: true,
             moment: 0,
             is_waited_for: true,
             is_stirred: true,
@@ -124,7 +119,15 @@ impl Clerks {
             Asked::Dropped => dropped = true,
             Asked::Quiet => {}
         }
+        for connection in self.live.iter_mut() {
+            connection.judge(alloc);
+        }
         self.begin();
+        match self.make_way() {
+            Asked::Gave(what) => return Ok(Asked::Gave(what)),
+            Asked::Dropped => dropped = true,
+            Asked::Quiet => {}
+        }
         for _place in 0..self.live.len() {
             match self.ask_one(alloc) {
                 Asked::Gave(what) => return Ok(Asked::Gave(what)),
@@ -179,7 +182,10 @@ impl Clerks {
                     self.is_waited_for = false;
                     return Ok(Asked::Quiet);
                 }
-                Accepted::NoRoom => return Ok(self.make_room()),
+                Accepted::NoRoom => match self.make_room() {
+                    Asked::Dropped => {}
+                    other => return Ok(other),
+                },
             }
         }
         Ok(Asked::Dropped)
@@ -294,18 +300,51 @@ impl Clerks {
             if let Some(connection) = self.live.get_mut(place) {
                 connection.begin(self.moment);
             }
-            self.is_newest_next = !self.is_newest_next;
         }
     }
 
-    // The place of the connection whose request is begun next.
+    // The place of the connection whose request is begun next: a whole one before any that isn't,
+    // and of those alike the one that came first.
     fn next_to_begin(&self) -> Option<usize> {
         let mut most = 0;
         let mut found = None;
         for (place, connection) in self.live.iter().enumerate() {
             let rank = connection.rank();
-            if rank > most || rank > 0 && rank == most && self.is_newest_next {
+            if rank > most {
                 most = rank;
+                found = Some(place);
+            }
+        }
+        found
+    }
+
+    // Where a whole request waits, and no place is free for it, ends the one that the office began
+    // to take first of those that aren't whole and have had their time.
+    fn make_way(&mut self) -> Asked {
+        if !self.waits_whole() {
+            return Asked::Quiet;
+        }
+        match self.longest_part() {
+            Some(place) if place < self.live.len() => self.end(place),
+            _ => Asked::Quiet,
+        }
+    }
+
+    // Whether a whole request waits to be begun.
+    fn waits_whole(&self) -> bool {
+        self.live.iter().any(|connection| connection.waits_whole())
+    }
+
+    // The place of the connection whose request was begun first, of those that are to give way.
+    fn longest_part(&self) -> Option<usize> {
+        let mut since = u64::MAX;
+        let mut found = None;
+        for (place, connection) in self.live.iter().enumerate() {
+            if let Some(moment) = connection.gives_way_at()
+                && moment <= self.moment
+                && connection.began_at() < since
+            {
+                since = connection.began_at();
                 found = Some(place);
             }
         }
@@ -350,16 +389,22 @@ impl Clerks {
         }
     }
 
-    // The first moment in which a connection is over, or may make room for one that waits.
+    // The first moment in which a connection is over, or may make room for one that waits, or is to
+    // give way to a whole request.
     fn first_due(&self) -> u64 {
+        let is_wanted = self.waits_whole();
         let first = if self.is_waited_for {
             self.moment.saturating_add(NEXT_TRY)
         } else {
             u64::MAX
         };
-        self.live
-            .iter()
-            .fold(first, |first, connection| first.min(connection.due()))
+        self.live.iter().fold(first, |first, connection| {
+            let due = first.min(connection.due());
+            match connection.gives_way_at() {
+                Some(moment) if is_wanted => due.min(moment),
+                _ => due,
+            }
+        })
     }
 }
 

@@ -3,3 +3,4 @@ pub mod Connections
 pub mod Reflections
 pub mod Forgeries
 pub mod Ports
+pub mod Wholeness

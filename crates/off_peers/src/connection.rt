@@ -1,6 +1,5 @@
-ghost use Rattle.std.specs.Prelude.{◌≡◌, ◌≢◌, ◌<◌, ◌≤◌, ◌↔◌, ◌⊎◌, ◌+◌, ◌-◌, length, min, IsTrue};
-ghost use Rattle.std.specs.Prelude.{true, false, Some, MatchOption};
-ghost use Rattle.off_base.specs.Number.{greatest_u64};
+ghost use Rattle.std.specs.Prelude.{◌≡◌, ◌≢◌, ◌<◌, ◌≤◌, ◌↔◌, ◌⊎◌, length, IsTrue};
+ghost use Rattle.std.specs.Prelude.{true, false, Some, None, MatchOption};
 ghost use Rattle.off_peers.specs.Connections.{GivesNothing, IsInTime, IsPieceOf, IsSpoken};
 ghost use Rattle.off_peers.specs.Connections.{IsHeardAt, later};
 ghost use Rattle.mio.specs.Event.{is_readable, is_read_closed, is_error};
@@ -8,6 +7,7 @@ ghost use Rattle.off_peers.specs.declared.connection.Heard.TheVariants as heard;
 ghost use Rattle.off_peers.specs.declared.connection.Stage.TheVariants as stage;
 
 use crate::unsent::{Sending, Unsent};
+use crate::wholeness::is_whole;
 use mio::event::Event;
 use mio::net::TcpStream;
 use off_base::{Bytes, NoMemory};
@@ -17,6 +17,10 @@ use std::net::Shutdown;
 
 // How many bytes of a connection are taken at a time.
 const ROOM: usize = 4096;
+
+// A request that waits is judged by so many of its bytes: one that is longer isn't whole. The longest
+// row of a clerk's, a class's, is shorter.
+const MOST_JUDGED: usize = 32_768;
 
 // How many times bytes that nobody wants are read before another socket is asked.
 const MOST_DROPPED: u32 = 16;
@@ -36,20 +40,18 @@ const LONGEST_REQUEST: u64 = 30_000;
 // What it hasn't taken then is lost, and no count tells of it: the bytes were handed to the link.
 const LONGEST_CLOSE: u64 = 10_000;
 
-// As many of the bytes that wait are counted.
-const MOST_COUNTED: usize = 64;
-
-// A peer whose first bytes wait, and that sends more so many milliseconds later, drips: its request
-// isn't whole.
-const DRIP: u64 = 500;
-
-// Where no place is free, so many milliseconds must a peer have been silent whose connection makes
-// room for one that waits: one that has sent nothing, or drips, and one whose request is taken or
-// answered. The first is long enough for a clerk's request to follow its connection, also where
-// many come at once; the others wait in the listener's queue meanwhile.
+// Where no place is free, a connection makes room for one that waits so many milliseconds after its
+// accept, if nothing has come of it, or after its first bytes, if its request isn't whole; and so
+// long after the last bytes, if its request is taken or answered. The first is long enough for a
+// clerk's request to follow its connection, also where many come at once; the others wait in the
+// listener's queue meanwhile.
 const SHORT_SILENCE: u64 = 250;
 
 const LONG_SILENCE: u64 = 2_000;
+
+// So many milliseconds after the office began to take a request that wasn't whole, it gives its
+// place up to a whole one that waits.
+const LONGEST_PART: u64 = 250;
 
 /// What a connection had.
 #[derive(Drop)]
@@ -93,10 +95,11 @@ pub struct Connection {
     heard: u64,
     // Whether a piece of it was given.
     spoke: bool,
-    // Whether its peer sends a request bit by bit, while it waits.
-    drips: bool,
-    // How many bytes waited when it was heard last, as far as they are counted.
-    counted: usize,
+    // Whether its request was whole when it was judged last, and whether more has come since.
+    whole: bool,
+    fresh: bool,
+    // When the office began to take its request.
+    began: u64,
     // Whether bytes or an end may be read, and whether the system may take bytes.
     readable: bool,
     writable: bool,
@@ -121,8 +124,9 @@ impl Connection {
             until: now.saturating_add(LONGEST_SILENCE),
             heard: now,
             spoke: false,
-            drips: false,
-            counted: 0,
+            whole: false,
+            fresh: false,
+            began: 0,
             readable: false,
             writable: true,
             ended: false,
@@ -143,23 +147,65 @@ impl Connection {
         self.stage == Stage::Open
     }
 
-    /// How soon its request is to be begun: 0 where none waits; 1 where its peer drips; else the
-    /// more, the more has come of it.
-    pub fn rank(&self) -> usize
+    /// How soon its request is to be begun: 0 where none waits, 1 where it isn't whole, 2 where it
+    /// is.
+    pub fn rank(&self) -> u8
         ensures taken { self.now.stage ≢ stage.Waiting → result ≡ 0 }
         ensures unheard { self.now.readable ≡ false → result ≡ 0 }
-        ensures dripping { self.now.stage ≡ stage.Waiting → self.now.readable ≡ true
-            → self.now.drips ≡ true → result ≡ 1 }
-        ensures more { self.now.stage ≡ stage.Waiting → self.now.readable ≡ true
-            → self.now.drips ≡ false → result ≡ min (self.now.counted + 2) greatest_u64 }
+        ensures part { self.now.stage ≡ stage.Waiting → self.now.readable ≡ true
+            → self.now.whole ≡ false → result ≡ 1 }
+        ensures whole { self.now.stage ≡ stage.Waiting → self.now.readable ≡ true
+            → self.now.whole ≡ true → result ≡ 2 }
     {
         if self.stage != Stage::Waiting || !self.readable {
             return 0;
         }
-        if self.drips {
-            return 1;
+        if self.whole { 2 } else { 1 }
+    }
+
+    /// Whether a request waits that is whole.
+    pub fn waits_whole(&self) -> bool
+        ensures { IsTrue result ↔ ((self.now.stage ≡ stage.Waiting)
+            × ((self.now.readable ≡ true) × (self.now.whole ≡ true))) }
+    {
+        self.stage == Stage::Waiting && self.readable && self.whole
+    }
+
+    /// From when on it gives its place up to a whole request that waits: None where its own was
+    /// whole when it was begun, or isn't being taken.
+    pub fn gives_way_at(&self) -> Option<u64>
+        ensures part { self.now.stage ≡ stage.Open → self.now.whole ≡ false
+            → result ≡ Some (later self.now.began LONGEST_PART) }
+        ensures whole { self.now.whole ≡ true → result ≡ None }
+        ensures taken { self.now.stage ≢ stage.Open → result ≡ None }
+    {
+        if self.stage == Stage::Open && !self.whole {
+            return Some(self.began.saturating_add(LONGEST_PART));
         }
-        self.counted.saturating_add(2)
+        None
+    }
+
+    /// When the office began to take its request.
+    pub fn began_at(&self) -> u64
+        ensures { result ≡ self.now.began }
+    {
+        self.began
+    }
+
+    /// Finds out whether its request is whole, where more has come since that was found out last.
+    /// Where memory is refused it isn't.
+    pub fn judge(&mut self, alloc: Global)
+        ensures number { self.new.number ≡ self.old.number }
+        ensures stage { self.new.stage ≡ self.old.stage }
+        ensures spoke { self.new.spoke ≡ self.old.spoke }
+        ensures until { self.new.until ≡ self.old.until }
+        ensures heard { self.new.heard ≡ self.old.heard }
+        ensures taken { self.old.stage ≢ stage.Waiting → self.new.whole ≡ self.old.whole }
+    {
+        if self.stage == Stage::Waiting && self.fresh {
+            self.fresh = false;
+            self.whole = waits_whole(alloc, &self.stream);
+        }
     }
 
     /// Whether the office has closed it.
@@ -184,18 +230,18 @@ impl Connection {
         self.heard
     }
 
-    /// From when on it makes room for another: None where it waits for the office, and not for its
-    /// peer.
+    /// From when on it makes room for another: None where a whole request waits for the office, and
+    /// not for its peer.
     pub fn makes_room_at(&self) -> Option<u64>
         ensures waiting { self.now.stage ≡ stage.Waiting → MatchOption result
-            ((self.now.readable ≡ true) × (self.now.drips ≡ false))
+            ((self.now.readable ≡ true) × (self.now.whole ≡ true))
             (λ moment. moment ≡ later self.now.heard SHORT_SILENCE) }
         ensures taken { self.now.stage ≢ stage.Waiting
             → result ≡ Some (later self.now.heard LONG_SILENCE) }
     {
         match self.stage {
             Stage::Waiting => {
-                if self.readable && !self.drips {
+                if self.readable && self.whole {
                     return None;
                 }
                 Some(self.heard.saturating_add(SHORT_SILENCE))
@@ -248,10 +294,7 @@ impl Connection {
             self.heard = now;
             self.until = now.saturating_add(LONGEST_WAIT);
         }
-        if self.stage == Stage::Waiting {
-            self.drips = self.heard.saturating_add(DRIP) <= now;
-            self.counted = count_waiting(&self.stream);
-        }
+        self.fresh = true;
         self.readable = true;
     }
 
@@ -262,9 +305,12 @@ impl Connection {
         ensures spoke { self.new.spoke ≡ self.old.spoke }
         ensures until { self.new.until ≡ later now LONGEST_REQUEST }
         ensures heard { self.new.heard ≡ now }
+        ensures began { self.new.began ≡ now }
+        ensures whole { self.new.whole ≡ self.old.whole }
     {
         self.stage = Stage::Open;
         self.heard = now;
+        self.began = now;
         self.until = now.saturating_add(LONGEST_REQUEST);
     }
 
@@ -428,12 +474,11 @@ impl Connection {
     }
 }
 
-// How many bytes wait to be read, as far as they are counted.
-fn count_waiting(stream: &TcpStream) -> usize
-    ensures { result ≤ MOST_COUNTED }
-{
-    let mut room = [0u8; MOST_COUNTED];
-    stream.peek(&mut room).unwrap_or(0)
+// Whether the request that waits to be read is whole, of as many bytes as are looked at.
+fn waits_whole(alloc: Global, stream: &TcpStream) -> bool {
+    let mut room = [0u8; MOST_JUDGED];
+    let count = stream.peek(&mut room).unwrap_or(0).min(MOST_JUDGED);
+    is_whole(alloc, &room[..count]).unwrap_or(false)
 }
 
 // Reads some of the bytes that have come, and drops them.

@@ -8,6 +8,7 @@ mod hearing;
 mod numbers;
 mod reflecting;
 mod unsent;
+mod wholeness;
 
 pub use connection::{Connection, Heard};
 pub use forging::is_forged;
@@ -15,3 +16,4 @@ pub use hearing::{Opened, PortTable, Ports};
 pub use numbers::Numbers;
 pub use reflecting::{OwnPorts, is_acknowledgement, is_reflection, is_time_answer};
 pub use unsent::{ANSWER_ROOM, Sending, Unsent};
+pub use wholeness::is_whole;
