@@ -1,9 +1,9 @@
 #!/usr/bin/env python3
 """Clerks among crowds: more of them than the office takes at a time, and peers that say nothing, or a byte now and then.
 
-Eight peers that drip, 64 of them, 2,000 silent ones: a clerk is answered within 31 seconds once those before it are accepted. A peer that has sent nothing for 5 seconds
-is closed, and one whose request isn't whole after 30. `ab` sends PUTs of 9,597 bytes over 64 connections, and none fails. Of 65, 100, 200 and 500 clerks at once,
-and of 100 beside 2,000 silent peers, no request is lost. The times are printed. It ends what it started, and takes about 90 seconds, most of them waiting.
+Eight peers, 64 and 2,000 that send a head and no body, 4,000 bytes and never the last, or two bytes a second: a clerk is answered within a second. So it is beside
+peers that drip, once those before it are accepted. A peer that has sent nothing for 5 seconds is closed, and one whose request isn't whole after 30. `ab` sends PUTs of 9,597 bytes over 64 connections, and none fails. Of 65, 100, 200 and 500 clerks at once,
+and of 100 beside 2,000 silent peers, no request is lost. The times are printed. It ends what it started, and takes about two minutes, most of them waiting.
 """
 import re
 import resource
@@ -128,9 +128,52 @@ def drips(port, name, silent, dripping, pause):
     queue = Queue(port)
     passed = delay(port, 120)
     queued = queue.seconds
-    check(passed is not None and passed - queued < 31, f"{name}: a clerk is answered within 31 seconds behind {queued} s of a queue, not {passed}")
+    check(passed is not None and passed - queued < 1, f"{name}: a clerk is answered within a second after {queued} s of a queue, not {passed}")
     print(f"{name}: a clerk was answered after {passed if passed is None else round(passed, 2)} s, {queued:.2f} s of them in a queue")
     crowd.end()
+
+
+# What a slow peer sends at once, of a request that it never ends, and what it sends every half second.
+BODY = b"PUT /subscribers/7 HTTP/1.1\r\nHost: office\r\nContent-Length: "
+SLOW = {"a head and no body": (BODY + b"37\r\n\r\n", b""), "4,000 bytes and never the last": (BODY + b"4000\r\n\r\n" + b"x" * 3999, b""),
+        "two bytes a second": (b"P", b"U")}
+
+
+class Slow(Crowd):
+    """Peers whose requests never become whole, and that connect again when they are closed."""
+
+    def __init__(self, port, count, first, more):
+        self.first, self.more = first, more
+        super().__init__(port, 0, 0, 0.5)
+        self.dripping = [self.open(first) for _ in range(count)]
+
+    def run(self):
+        while not self.over:
+            for place, peer in enumerate(self.dripping):
+                try:
+                    if self.more:
+                        peer.send(self.more)
+                    elif not peer.recv(1):
+                        raise ConnectionError
+                except BlockingIOError:
+                    pass
+                except OSError:
+                    peer.close()
+                    self.dripping[place] = self.open(self.first)
+            time.sleep(self.pause)
+
+
+def slow_ones(port):
+    """A clerk beside each crowd of slow peers, three times: the eight places are taken anew each time."""
+    for name, (first, more) in SLOW.items():
+        for count in (8, 64, SILENT):
+            crowd = Slow(port, count, first, more)
+            crowd.start()
+            time.sleep(1)
+            waits = [delay(port, 70) for _ in range(3)]
+            check(None not in waits and max(waits) < 1, f"{count} peers, {name}: a clerk is answered within a second, not after {waits}")
+            print(f"{count} peers, {name}: a clerk was answered after " + ", ".join("70 s and more" if each is None else f"{each:.2f} s" for each in waits))
+            crowd.end()
 
 
 def offices(tries):
@@ -221,6 +264,7 @@ def main():
     resource.setrlimit(resource.RLIMIT_NOFILE, (min(most, 16384), most))
     offices([longer_bodies])
     offices([silent_ones])
+    offices([slow_ones])
     offices([more_than_are_held])
     offices([
         patience,

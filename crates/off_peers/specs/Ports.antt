@@ -1,6 +1,6 @@
 -- How many ports of one address the TFTP port hears. A client's address and port name its transfer
 -- (RFC 1350, section 4), so these bound how many transfers an address may have at a time.
-use Rattle.std.specs.Prelude.{ℕ, ◌+◌, ◌%◌, ◌==◌, Bool, true, ◌&&◌, ◌||◌, nat_le, nat_lt, List, [], ◌∷◌, ◌++◌, length, drop, if◌then◌else◌}
+use Rattle.std.specs.Prelude.{ℕ, ◌+◌, ◌%◌, ◌==◌, Bool, ◌&&◌, ◌||◌, nat_le, nat_lt, List, [], ◌∷◌, ◌++◌, length, drop, if◌then◌else◌}
 use Rattle.std.specs.List.{list_any, count_by, slice_set, slice_index_or}
 use Rattle.off_base.specs.declared.addresses.Peer.{Peer}
 use Rattle.off_peers.specs.declared.hearing.Opened.{Opened}
