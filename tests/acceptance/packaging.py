@@ -6,7 +6,8 @@ of the file VERSION, and so do the unit and the manual pages; each option of a h
 and is completed by bash; no link of a page leads to a file or a heading that isn't there. The
 unit's words are tried with the program, and systemd judges the unit; the manual page has each
 status and each variable. Each page is laid out without a warning. What a tool is missing for is
-said and skipped. It takes some seconds.
+said and skipped. The copy's two rights are enough for it, and the unit refuses a clerks' port that
+other machines reach unless that is asked for. It takes some seconds.
 """
 # needs: make
 import os
@@ -17,7 +18,8 @@ import sys
 import tempfile
 import time
 
-from harness import PROGRAM, ROOT, check, free_ports, listed, script, text_of
+from harness import PROGRAM, ROOT, check, free_ports, listed, script, serve, stop, text_of
+from harness.clerks import is_heard
 
 DOC = "share/doc/officed"
 HELPERS = ["office-all", "office-clerk", "office-copy", "office-counts", "office-desk",
@@ -61,7 +63,7 @@ def installs(folder):
     status, said = make("install", *words)
     root = os.path.join(folder, "opt", "office")
     check((status, files_under(root)) == (0, INSTALLED), f"what is installed: {status} {said}")
-    for name, part in zip(UNITS, ("ExecStart=/opt/office/bin/officed serve ",
+    for name, part in zip(UNITS, (" /opt/office/bin/officed serve ",
                                   "/opt/office/bin/office-counts --prometheus ",
                                   "/opt/office/bin/office-copy --unit officed ", "OnCalendar=")):
         with open(os.path.join(root, "lib/systemd/system", name), encoding="utf-8") as held:
@@ -157,11 +159,17 @@ def links(folder):
     print(f"{count} links of installed pages lead somewhere")
 
 
+def shell_of(name, key):
+    """The text that a unit hands to the shell, and the words behind it."""
+    found = re.search(rf"(?m)^{key}=/bin/sh -c '(.*)'(.*)$", text_of("packaging", name))
+    return found[1].replace("$$", "$").replace("%%", "%"), found[2].split()
+
+
 def unit_words():
     """The unit's command, its words, with another store, other ports and no turns."""
     unit = text_of("packaging", "officed.service")
     known = dict(re.findall(r"(OFFICED_(?:STORE|PORTS))=(\S+)", re.sub(r"(?m)^#.*", "", unit)))
-    words = re.search(r"(?m)^ExecStart=(.*)$", unit)[1].split()
+    _, words = shell_of("officed.service", "ExecStart")
     words = [known[word[2:-1]] if word.startswith("${") else word for word in words]
     names = dict(zip(words[2::2], words[3::2]))
     check(words[:2] == ["/usr/local/bin/officed", "serve"], "the unit serves")
@@ -187,11 +195,66 @@ def systemd(folder):
             stdout=subprocess.PIPE, stderr=subprocess.STDOUT)
         check((done.returncode, done.stdout) == (0, b""),
               f"systemd takes {name}: {done.stdout.decode()}")
-    path = os.path.join(folder, "officed.service")
-    done = subprocess.run(["systemd-analyze", "security", "--offline=yes", "--threshold=20", path],
-                          timeout=60, stdout=subprocess.PIPE, stderr=subprocess.DEVNULL)
-    print(done.stdout.decode().strip().splitlines()[-1])
-    check(done.returncode == 0, "its exposure is at most 2.0")
+    for name, most in (("officed.service", 20), ("officed-counts.service", 30),
+                       ("officed-copy.service", 30)):
+        done = subprocess.run(
+            ["systemd-analyze", "security", "--offline=yes", f"--threshold={most}",
+             os.path.join(folder, name)], timeout=60, stdout=subprocess.PIPE,
+            stderr=subprocess.DEVNULL)
+        print(done.stdout.decode().strip().splitlines()[-1])
+        check(done.returncode == 0, f"the exposure of {name} is at most {most / 10}")
+
+
+def keeps_no_core():
+    """No unit leaves a core: it would have the hubs' secrets."""
+    for name in UNITS[:3]:
+        check("\nLimitCORE=0\n" in text_of("packaging", name), f"{name} writes no core")
+
+
+def clerks_port():
+    """The unit begins only where clerks are heard on this machine alone, or anywhere is asked for."""
+    text, _ = shell_of("officed.service", "ExecStartPre")
+    for http, anywhere, expected in (
+            (None, None, 0), ("127.0.0.1", None, 0), ("127.8.0.1", None, 0), ("", None, 0),
+            ("10.0.0.2", None, 1), ("0.0.0.0", None, 1), ("10.127.0.1", None, 1),
+            ("10.0.0.2", "0", 1), ("10.0.0.2", "1", 0)):
+        known = {"PATH": os.environ["PATH"], **({} if http is None else {"OFFICED_HTTP": http}),
+                 **({} if anywhere is None else {"OFFICED_HTTP_ANYWHERE": anywhere})}
+        done = subprocess.run(["/bin/sh", "-c", text], env=known, timeout=30,
+                              stderr=subprocess.PIPE)
+        check(done.returncode == expected, f"{http}, {anywhere}: {done.returncode}")
+        check(bool(done.stderr) == (expected == 1), f"and says why: {done.stderr}")
+
+
+def copy_rights(folder):
+    """With the copy unit's two rights root copies the store of another user's office."""
+    if os.geteuid() != 0 or not shutil.which("setpriv"):
+        print("skipped the copy's rights: it's for root, with setpriv")
+        return
+    unit = text_of("packaging", "officed-copy.service")
+    rights = re.search(r"(?m)^CapabilityBoundingSet=(.+)$", unit)[1].lower().replace("cap_", "+")
+    user, home = 65534, os.path.join(folder, "owned")
+    os.mkdir(home, 0o700)
+    os.chown(home, user, user)
+    os.chmod(folder, 0o711)
+    store, ports = os.path.join(home, "office.db"), free_ports()
+    program = subprocess.Popen(
+        ["setpriv", f"--reuid={user}", f"--regid={user}", "--clear-groups", *serve(
+            store, 10**9, ports)], stdout=subprocess.DEVNULL, stderr=subprocess.DEVNULL)
+    try:
+        check(is_heard(ports[3], seconds=60, program=program), "the office of another user answers")
+        words = [sys.executable, os.path.join(ROOT, "bin", "office-copy"), "--pid",
+                 str(program.pid), store, os.path.join(folder, "copied.db")]
+        for given, expected in ((rights, 0), ("+dac_read_search", 3)):
+            listed_ = ",".join(["-all", *given.split()])
+            done = subprocess.run(["setpriv", f"--bounding-set={listed_}", *words], timeout=60,
+                                  stdout=subprocess.PIPE, stderr=subprocess.STDOUT)
+            check(done.returncode == expected, f"a copy by {given}: {done.stdout.decode()}")
+            if expected == 0:
+                print(f"by {given}: {done.stdout.decode().strip()}")
+        check(program.poll() is None, "and the office goes on")
+    finally:
+        stop(program)
 
 
 def copies(folder):
@@ -240,7 +303,10 @@ def main():
         installs(folder)
         systemd(folder)
         copies(folder)
+        copy_rights(folder)
     unit_words()
+    keeps_no_core()
+    clerks_port()
     manual()
 
 

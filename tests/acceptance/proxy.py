@@ -3,12 +3,16 @@
 
 nginx runs the file as it stands, but for its paths and ports. Who gives no password, or a wrong
 one, is refused; a clerk with one puts, shows and removes, also by bin/office-clerk, by a chunked
-body and with a body of the greatest length. It ends what it started, and takes some seconds.
+body and with a body of the greatest length. A request for another host, for none or for two, as a
+page sends whose name was made to lead here, changes nothing. It ends what it started, and takes
+some seconds.
 """
 # needs: nginx openssl curl
 import json
 import os
 import re
+import socket
+import ssl
 import subprocess
 import sys
 import tempfile
@@ -19,7 +23,8 @@ from harness.clerks import wait_until_answering
 from clerk_examples import CLERK
 
 ANN = {"active": True, "cpes": 2, "name": "Ann"}
-NAMES = ["access_log", "auth_basic_user_file", "ssl_certificate", "ssl_certificate_key"]
+# The recipe's files, and how often it names each.
+NAMES = {"access_log": 2, "auth_basic_user_file": 1, "ssl_certificate": 2, "ssl_certificate_key": 2}
 MAIN = """daemon off;
 master_process off;
 pid %(folder)s/pid;
@@ -38,9 +43,10 @@ def made(folder, port, office):
     with open(os.path.join(ROOT, "packaging", "nginx.conf"), encoding="utf-8") as held:
         recipe = held.read()
     recipe = recipe.replace("8443", str(port)).replace("127.0.0.1:8080", f"127.0.0.1:{office}")
-    for name in NAMES:
+    recipe = recipe.replace("office.example", "localhost")
+    for name, expected in NAMES.items():
         recipe, count = re.subn(rf"(?m)^( *{name}) /[^ ;]*/", rf"\1 {folder}/", recipe)
-        check(count == 1, f"the recipe has {name} once")
+        check(count == expected, f"the recipe has {name} {expected} times: {count}")
     run = {"stdout": subprocess.PIPE, "stderr": subprocess.DEVNULL, "check": True, "timeout": 60}
     subprocess.run(["openssl", "req", "-x509", "-newkey", "rsa:2048", "-nodes", "-days", "1",
                     "-subj", "/CN=localhost", "-addext", "subjectAltName=DNS:localhost",
@@ -98,6 +104,36 @@ def asks(clerk):
     check(status == 1 and "no-row" in said, "and is told so")
 
 
+def status_of(clerk, version, *hosts):
+    """The status of a PUT with a clerk's password, by these fields Host."""
+    body = json.dumps({**ANN, "name": "Eve"})
+    lines = [f"PUT /subscribers/7 {version}", *(f"Host: {each}" for each in hosts),
+             "Authorization: Basic YW5uOnF1aWV0", f"Content-Length: {len(body)}",
+             "Connection: close", "", body]
+    known = ssl.create_default_context(cafile=f"{clerk.folder}/officed.crt")
+    with socket.create_connection(("127.0.0.1", clerk.port), 30) as raw, \
+            known.wrap_socket(raw, server_hostname="localhost") as talk:
+        talk.sendall("\r\n".join(lines).encode())
+        with talk.makefile("rb") as answer:
+            return answer.readline().split()[1].decode()
+
+
+def rebound(clerk):
+    """Whoever asks by another name, by none or by two changes nothing, with a password neither."""
+    put = ("/subscribers/7", "-X", "PUT", "--data-binary", "@-")
+    check(clerk.curl(*put, given=json.dumps(ANN).encode())[0] == "200", "a row is put")
+    mine, page = f"localhost:{clerk.port}", f"evil.example:{clerk.port}"
+    for hosts, version, expected in (
+            ([page], "HTTP/1.1", "421"), ([page], "HTTP/1.0", "421"), ([], "HTTP/1.0", "421"),
+            (["127.0.0.1"], "HTTP/1.1", "421"), ([], "HTTP/1.1", "400"),
+            ([page, mine], "HTTP/1.1", "400"), ([mine, page], "HTTP/1.1", "400"),
+            ([mine, mine], "HTTP/1.1", "400")):
+        found = status_of(clerk, version, *hosts)
+        check(found == expected, f"{version} with the hosts {hosts}: {found}")
+    check(json.loads(clerk.curl("/subscribers/7")[1]) == ANN, "and the row is as it was")
+    check(status_of(clerk, "HTTP/1.1", mine) == "200", "the office's own name is served")
+
+
 def waits(clerk):
     for _ in range(100):
         if subprocess.run(["curl", "-sk", "-o", os.devnull, f"https://localhost:{clerk.port}/"],
@@ -115,6 +151,7 @@ def behind_nginx(folder, office):
     try:
         waits(clerk)
         asks(clerk)
+        rebound(clerk)
     finally:
         stop(proxy)
     with open(os.path.join(folder, "officed.log"), encoding="utf-8") as held:
