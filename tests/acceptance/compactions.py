@@ -58,7 +58,7 @@ for number in range(len(keys), 1 << 31):
     os.pwrite(file.fileno(), b"\\1", gate)
     gate += 5 + len(payload)
     os.write(lines, b"!")
-    time.sleep(0.001)
+    time.sleep(0.005)
 """
 
 
@@ -90,6 +90,11 @@ class Writer:
     def pid(self):
         with open(self.notes + ".pid") as file:
             return int(file.read())
+
+    def blocked(self):
+        """The signals that don't reach the writer, as the system has them."""
+        with open(f"/proc/{self.pid()}/status") as file:
+            return next(line.split()[1] for line in file if line.startswith("SigBlk"))
 
     def noted(self):
         return os.path.getsize(self.notes) if os.path.exists(self.notes) else 0
@@ -198,6 +203,7 @@ def kills(writer):
         with writer.no_compaction():
             writer.goes_on(what)
         writer.is_whole(f"{what}, then")
+        check(int(writer.blocked(), 16) == 0, f"{what}: signals reach the writer")
         swaps += os.stat(writer.path).st_ino != inode
         for each in writer.old_ones():
             os.unlink(each)
