@@ -12,7 +12,7 @@ man = $(DESTDIR)$(PREFIX)/share/man/man8
 doc = $(DESTDIR)$(PREFIX)/share/doc/officed
 pages = docs/OPERATING.md docs/MESSAGES.md docs/CLERK_API.md docs/openapi.json docs/SIZING.md \
 	docs/ALARMS.md docs/UPGRADING.md docs/PAST_ONE_MACHINE.md docs/COMPARISON.md \
-	packaging/nginx.conf packaging/prometheus-rules.yml
+	packaging/nginx.conf packaging/prometheus-rules.yml packaging/grafana-dashboard.json
 example = examples/first-office
 helpers = office-all office-clerk office-copy office-counts office-desk office-sql office-watch
 units = officed.service officed-counts.service officed-copy.service officed-copy.timer
@@ -32,7 +32,7 @@ install:
 	sed 's|/usr/local|$(PREFIX)|g' packaging/officed.8 >$(man)/officed.8
 	chmod 644 $(man)/officed.8
 	install -m 644 $(pages) $(doc)
-	sed -i 's#(\.\./packaging/\(nginx.conf\|prometheus-rules.yml\))#(\1)#g' $(doc)/*.md
+	sed -i 's#(\.\./packaging/\(nginx.conf\|prometheus-rules.yml\|grafana-dashboard.json\))#(\1)#g' $(doc)/*.md
 	install -d $(doc)/first-office
 	install -m 644 $(example)/*.json $(doc)/first-office
 	install -m 755 $(example)/set-up $(doc)/first-office
