@@ -4,8 +4,8 @@
 Each rule's words stand in docs/MESSAGES.md under their service, and its counters are those that
 office-counts writes. Where promtool is there it judges the rules; and they are tried by it over
 counters of this script: some alarms come, the others don't. packaging/grafana-dashboard.json is of
-the form that Grafana reads, as far as is known without one: its panels have places of their own, and
-its queries name what office-counts writes; promtool, where it's there, reads them.
+the form that Grafana reads, as far as is known without one: its panels have places of their own,
+and its queries name what office-counts writes; promtool, where it's there, reads them.
 """
 import json
 import os

@@ -2,8 +2,8 @@
 """What docs/COMPARISON.md names of other programs is in their manuals.
 
 Options, DBus methods and objects that the page names are looked for in the manuals of dnsmasq, ISC
-dhcpd and Kea, where their Debian packages (dnsmasq-base, isc-dhcp-server, kea-doc) are installed, or
-unpacked in the folder that MANUALS names; what isn't there is skipped. It takes a second.
+dhcpd and Kea, where their Debian packages (dnsmasq-base, isc-dhcp-server, kea-doc) are installed,
+or unpacked in the folder that MANUALS names; what isn't there is skipped. It takes a second.
 """
 import gzip
 import os

@@ -3,9 +3,10 @@
 
 What is expected is counted here line by line, in another way. It reads files and pipes, rewrites
 its Prometheus file while it goes on, and ends at SIGTERM with all that came; each line of the file
-has the form of the text format. With a store the file has gauges of each pool, of rows, of bytes and
-of the last backup; a folder that isn't there is said once, at once. Its speed is printed and judged: 200,000 lines a second of the
-processor's time, of which a busy machine gives it less.
+has the form of the text format. With a store the file has gauges of each pool, of rows, of bytes
+and of the last backup; a folder that isn't there is said once, at once, also by the unit. Its speed
+is printed and judged: 200,000 lines a second of the processor's time, of which a busy machine gives
+it less.
 """
 import collections
 import os
@@ -160,7 +161,7 @@ def gauges(path):
 
 
 def of_a_store(folder):
-    """The gauges of a store: of two pools, each with an address of each state, and one that ended."""
+    """The gauges of a store: of two pools, with addresses of each state, and one that ended."""
     path, out, now = os.path.join(folder, "office.db"), os.path.join(folder, "g.prom"), time.time()
     later = int(now) + 3600
     made(path, [*ROWS[:9], *leased("10.64.0.10", BOUND, 0xEE, later),
@@ -205,9 +206,16 @@ def without_its_folder(folder):
     said = program.communicate(timeout=60)[1].decode()
     check(program.returncode == 2 and said.count("\n") == 1 and
           f"there is no folder {os.path.dirname(out)}" in said, f"no folder: {said}")
-    unit = os.path.join(ROOT, "packaging", "officed-counts.service")
-    with open(unit, encoding="utf-8") as held:
-        check("\nRestartPreventExitStatus=2\n" in held.read(), "the unit isn't started again then")
+    with open(os.path.join(ROOT, "packaging", "officed-counts.service"), encoding="utf-8") as held:
+        unit = held.read()
+    check("\nRestartPreventExitStatus=2\n" in unit and "\nReadWritePaths=-/" in unit,
+          "the unit runs without its folder, and isn't started again then")
+    words = re.search(r"(?m)^ExecStart=/bin/sh -c '(.*)'$", unit)[1]
+    words = words.replace("/usr/local/bin/office-counts", COUNTS).replace(
+        "/var/lib/prometheus/node-exporter", os.path.dirname(out))
+    done = subprocess.run(["/bin/sh", "-c", words], stdin=subprocess.DEVNULL,
+                          stderr=subprocess.PIPE, timeout=60)
+    check(done.returncode == 2 and done.stderr.decode() == said, f"nor does the unit: {done}")
 
 
 def main():
