@@ -18,7 +18,7 @@ data = $(DESTDIR)$(PREFIX)/share/officed
 completions = $(DESTDIR)$(PREFIX)/share/bash-completion/completions
 pages = docs/OPERATING.md docs/MESSAGES.md docs/CLERK_API.md docs/openapi.json docs/SIZING.md \
 	docs/ALARMS.md docs/UPGRADING.md docs/PAST_ONE_MACHINE.md docs/COMPARISON.md CHANGELOG.md \
-	packaging/nginx.conf packaging/prometheus-rules.yml
+	packaging/nginx.conf packaging/prometheus-rules.yml packaging/grafana-dashboard.json
 example = examples/first-office
 helpers = office-all office-clerk office-copy office-counts office-desk office-modem office-sql \
 	office-unit office-watch

@@ -3,8 +3,11 @@
 
 Each rule's words stand in docs/MESSAGES.md under their service, and its counters are those that
 office-counts writes. Where promtool is there it judges the rules; and they are tried by it over
-counters of this script: some alarms come, the others don't.
+counters of this script: some alarms come, the others don't. packaging/grafana-dashboard.json is of
+the form that Grafana reads, as far as is known without one: its panels have places of their own,
+and its queries name what office-counts writes; promtool, where it's there, reads them.
 """
+import json
 import os
 import re
 import shutil
@@ -41,9 +44,34 @@ tests:
         values: '0+90x60'
       - series: 'node_systemd_unit_state{name="officed.service",state="active"}'
         values: '1x40'
+      - series: 'officed_pool_state{pool="1",kind="modems",state="free"}'
+        values: '24x60'
+      - series: 'officed_pool_state{pool="2",kind="modems",state="free"}'
+        values: '26x60'
+      - series: 'officed_pool_state{pool="1",kind="devices",state="free"}'
+        values: '0x60'
+      - series: 'officed_pool_addresses{pool="1",kind="modems"}'
+        values: '240x60'
+      - series: 'officed_pool_addresses{pool="2",kind="modems"}'
+        values: '240x60'
+      - series: 'officed_pool_addresses{pool="1",kind="devices"}'
+        values: '90x60'
+      - series: 'officed_backup_age_seconds'
+        values: '86400+60x200'
+      - series: 'officed_lines_total{service="http",word="404 no-row"}'
+        values: '0+120x60'
       - series: 'node_textfile_mtime_seconds{file="/metrics/officed.prom"}'
         values: '0+60x60'
     alert_rule_test:
+      - {eval_time: 30m, alertname: OfficePoolNearlyFull, exp_alerts: [{exp_labels:
+         {severity: ticket, pool: "1", kind: modems},
+         exp_annotations: {summary: "Pool 1 is 90 %% full"}}]}
+      - {eval_time: 10m, alertname: OfficePoolNearlyFull, exp_alerts: []}
+      - {eval_time: 30m, alertname: OfficeDevicePoolNearlyFull, exp_alerts: [{exp_labels:
+         {severity: ticket, pool: "1", kind: devices},
+         exp_annotations: {summary: "Pool 1 for devices is 90 %% full"}}]}
+      - {eval_time: 50m, alertname: OfficeBackupOld, exp_alerts: []}
+      - {eval_time: 50m, alertname: OfficeClerksRefused, exp_alerts: []}
       - {eval_time: 30m, alertname: OfficePoolFull, exp_alerts: [{exp_labels: {severity: page},
          exp_annotations: {summary: "A pool of addresses is full"}}]}
       - {eval_time: 15m, alertname: OfficePoolFull, exp_alerts: []}
@@ -95,23 +123,57 @@ def words_begin(rules):
                 for service, known in begun), f"{labels}: {word} is counted from the start")
 
 
+def queries_of(board):
+    return [target["expr"] for panel in board["panels"] for target in panel["targets"]]
+
+
+def dashboard(counts):
+    """The dashboard's form; gives its queries as rules, for promtool."""
+    board = json.loads(text_of("packaging", "grafana-dashboard.json"))
+    check({"title", "uid", "schemaVersion", "panels", "templating", "time"} <= set(board), "fields")
+    variables = {each["name"] for each in board["templating"]["list"]}
+    ids, taken = set(), set()
+    for panel in board["panels"]:
+        place = panel["gridPos"]
+        cells = {(x, y) for x in range(place["x"], place["x"] + place["w"])
+                 for y in range(place["y"], place["y"] + place["h"])}
+        check(panel["id"] not in ids and not cells & taken and place["x"] + place["w"] <= 24,
+              f"the place of {panel['title']}")
+        check(panel["type"] in ("timeseries", "stat", "bargauge") and panel["targets"]
+              and {"defaults", "overrides"} <= set(panel["fieldConfig"]), panel["title"])
+        check(panel["datasource"]["uid"].strip("${}") in variables, "the data source is chosen")
+        ids, taken = ids | {panel["id"]}, taken | cells
+    shown = set(re.findall(r"officed_\w+", " ".join(queries_of(board))))
+    written = set(re.findall(r'"(officed_[a-z_]+)"', counts))
+    check(shown == written, f"the dashboard shows what is written: {shown ^ written}")
+    rules = [{"record": f"trial:{at}", "expr": each} for at, each in enumerate(queries_of(board))]
+    return json.dumps({"groups": [{"name": "queries", "rules": rules}]})
+
+
 def main():
     with open(RULES, encoding="utf-8") as held:
         rules = held.read()
     names = re.findall(r"- alert: (\w+)", rules)
-    told = re.findall(r"(?m)^\| `(\w+)` \|", text_of("docs", "ALARMS.md"))
+    told = re.findall(r"(?m)^\| `(Office\w+)` \|", text_of("docs", "ALARMS.md"))
     check(names == told, f"the alarms of the page: {set(names) ^ set(told)}")
     words_exist(rules)
     words_begin(rules)
     counts = text_of("bin", "office-counts")
-    for name in set(re.findall(r"officed_\w+_total", rules)):
+    for name in set(re.findall(r"officed_\w+(?=[{ )\[])", rules)):
         check(f'"{name}"' in counts, f"office-counts writes {name}")
+    queries = dashboard(counts)
     tool = shutil.which("promtool")
     if tool:
         done = subprocess.run([tool, "check", "rules", RULES], stdout=subprocess.PIPE,
                               stderr=subprocess.STDOUT)
         check(done.returncode == 0, f"promtool takes them: {done.stdout.decode()}")
         with tempfile.TemporaryDirectory() as folder:
+            trial = os.path.join(folder, "queries.yml")
+            with open(trial, "w", encoding="utf-8") as held:
+                held.write(queries)
+            done = subprocess.run([tool, "check", "rules", trial], stdout=subprocess.PIPE,
+                                  stderr=subprocess.STDOUT)
+            check(done.returncode == 0, f"the dashboard's queries: {done.stdout.decode()}")
             trial = os.path.join(folder, "trial.yml")
             with open(trial, "w", encoding="utf-8") as held:
                 held.write(TRIAL % RULES)

@@ -150,7 +150,8 @@ def by_parts(port):
     words = ("import", "-")
     status, said, wrong = clerk(port, *words, given=people(4100))
     check((status, said) == (1, summary.format("4,000", "500", "0")), f"parts: {status} {said}")
-    check("rows 4001 to 4500: " in wrong and "line 8,200, column cpes: `0`: " in wrong, f"which: {wrong}")
+    check("rows 4001 to 4500: " in wrong and "line 8,200, column cpes: `0`: " in wrong,
+          f"which: {wrong}")
     check(clerk(port, "get", "subscribers/4001")[0] == 1, "a refused part puts nothing")
     for what in ("mended", "once more"):
         status, said, wrong = clerk(port, *words, given=people())

@@ -3,8 +3,10 @@
 
 What is expected is counted here line by line, in another way. It reads files and pipes, rewrites
 its Prometheus file while it goes on, and ends at SIGTERM with all that came; each line of the file
-has the form of the text format. Its speed is printed and judged: 200,000 lines a second of the
-processor's time, of which a busy machine gives it less.
+has the form of the text format. With a store the file has gauges of each pool, of rows, of bytes
+and of the last backup; a folder that isn't there is said once, at once, also by the unit. Its speed
+is printed and judged: 200,000 lines a second of the processor's time, of which a busy machine gives
+it less.
 """
 import collections
 import os
@@ -17,6 +19,7 @@ import tempfile
 import time
 
 from harness import ROOT, check, loaded, script
+from store_reader import (BOUND, DECLINED, DEVICE_POOL, OFFERED, ROWS, device, leased, made)
 
 COUNTS = os.path.join(ROOT, "bin", "office-counts")
 PLAIN = ["dhcp offer", "dhcp ack", "dhcp not-your-address", "time sent", "tftp oack", "tftp done",
@@ -147,6 +150,74 @@ def while_it_goes_on(folder):
     check(not left, "nothing is left beside it")
 
 
+def gauges(path):
+    """The gauges of a file, each of whose lines is of the text format."""
+    with open(path, encoding="utf-8") as held:
+        text = held.read()
+    found = re.findall(r"(?m)^(officed_(?:pool|rows|store|backup)\w*)(?:\{(.*)\})? (\d+)$", text)
+    for name in {name for name, _, _ in found}:
+        check(f"# TYPE {name} gauge\n" in text and f"# HELP {name} " in text, f"{name} is a gauge")
+    return {(name, *re.findall(r'"([^"]*)"', labels)): int(value) for name, labels, value in found}
+
+
+def of_a_store(folder):
+    """The gauges of a store: of two pools, with addresses of each state, and one that ended."""
+    path, out, now = os.path.join(folder, "office.db"), os.path.join(folder, "g.prom"), time.time()
+    later = int(now) + 3600
+    made(path, [*ROWS[:9], *leased("10.64.0.10", BOUND, 0xEE, later),
+                *leased("10.64.0.11", OFFERED, 0xF0, later),
+                *leased("10.64.0.12", DECLINED, 0, later),
+                *leased("10.64.0.13", BOUND, 0xEF, int(now) - 5), DEVICE_POOL,
+                device("10.128.0.10", BOUND, 0xEE, 0xA1, later),
+                device("10.128.0.11", BOUND, 0xEE, 0xA2, later)]).close()
+    backups = os.path.join(folder, "backups")
+    os.mkdir(backups)
+    for name, age in (("office-1.db", 90_000), ("office-2.db", 3600)):
+        with open(os.path.join(backups, name), "wb"):
+            pass
+        os.utime(os.path.join(backups, name), (now - age, now - age))
+    subprocess.run([COUNTS, "--prometheus", out, "--store", path, "--backup", backups],
+                   stdin=subprocess.DEVNULL, timeout=60, check=True)
+    found = gauges(out)
+    age = found.pop(("officed_backup_age_seconds",), -1)
+    check(3600 <= age < 3700, f"the newest backup is an hour old: {age}")
+    check(found.pop(("officed_store_bytes",), -1) == os.path.getsize(path), "its bytes")
+    expected = {("officed_pool_addresses", "1", "modems"): 5,
+                ("officed_pool_addresses", "1", "devices"): 6}
+    for kind, counts in (("modems", (2, 1, 1, 1)), ("devices", (4, 0, 2, 0))):
+        for state, count in zip(("free", "offered", "bound", "resting"), counts):
+            expected["officed_pool_state", "1", kind, state] = count
+    for kind, count in (("hub", 1), ("class", 1), ("pool", 1), ("device-pool", 1),
+                        ("subscriber", 2), ("add-on", 0), ("modem", 4), ("lease", 4),
+                        ("device-lease", 2), ("import", 0)):
+        expected["officed_rows", kind] = count
+    check(found == expected, f"the gauges: {sorted(found.items() ^ expected.items())}")
+    done = subprocess.run([COUNTS, "--prometheus", out, "--store", os.path.join(folder, "none")],
+                          stdin=subprocess.DEVNULL, stderr=subprocess.PIPE, timeout=60)
+    check(done.returncode == 0 and done.stderr.count(b"\n") == 1 and not gauges(out),
+          f"a store that can't be read is said once, and has no gauges: {done.stderr}")
+
+
+def without_its_folder(folder):
+    """A folder that isn't there is said in one line, before a line of the office comes."""
+    out = os.path.join(folder, "nowhere", "officed.prom")
+    program = subprocess.Popen([COUNTS, "--prometheus", out], stdin=subprocess.PIPE,
+                               stderr=subprocess.PIPE)
+    said = program.communicate(timeout=60)[1].decode()
+    check(program.returncode == 2 and said.count("\n") == 1 and
+          f"there is no folder {os.path.dirname(out)}" in said, f"no folder: {said}")
+    with open(os.path.join(ROOT, "packaging", "officed-counts.service"), encoding="utf-8") as held:
+        unit = held.read()
+    check("\nRestartPreventExitStatus=2\n" in unit and "\nReadWritePaths=-/" in unit,
+          "the unit runs without its folder, and isn't started again then")
+    words = re.search(r"(?m)^ExecStart=/bin/sh -c '(.*)'$", unit)[1]
+    words = words.replace("/usr/local/bin/office-counts", COUNTS).replace(
+        "/var/lib/prometheus/node-exporter", os.path.dirname(out))
+    done = subprocess.run(["/bin/sh", "-c", words], stdin=subprocess.DEVNULL,
+                          stderr=subprocess.PIPE, timeout=60)
+    check(done.returncode == 2 and done.stderr.decode() == said, f"nor does the unit: {done}")
+
+
 def main():
     random.seed(7)
     few = [event(number) for number in range(1, 2000)]
@@ -156,6 +227,8 @@ def main():
     with tempfile.TemporaryDirectory() as folder:
         from_files(folder, many)
         while_it_goes_on(folder)
+        of_a_store(folder)
+        without_its_folder(folder)
 
 
 if __name__ == "__main__":

@@ -555,7 +555,8 @@ def filled(page, port, folder):
         for scheme, width in (("dark", 600), ("dark", 1200), ("light", 600), ("light", 1200)):
             browser.looks(scheme, width)
             for name in ("", "pools", "classes", "subscribers", "lines", "hubs", "hub/0", "pool/1",
-                         "subscriber/7", "class/1", "modem/02aabbccddee", "import", "find?what=0200000000a1"):
+                         "subscriber/7", "class/1", "modem/02aabbccddee", "import",
+                         "find?what=0200000000a1"):
                 browser.go(f"{home}/{name}")
                 wide = browser.run("document.documentElement.scrollWidth")
                 check(wide <= width, f"/{name} is {wide} pixels wide at {width}")

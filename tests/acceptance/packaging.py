@@ -34,7 +34,7 @@ INSTALLED = {
     **{f"{DOC}/{name}": 0o644 for name in (
         "OPERATING.md", "MESSAGES.md", "CLERK_API.md", "openapi.json", "SIZING.md", "ALARMS.md",
         "UPGRADING.md", "PAST_ONE_MACHINE.md", "COMPARISON.md", "CHANGELOG.md", "LICENSE", "NOTICE",
-        "nginx.conf", "prometheus-rules.yml")},
+        "nginx.conf", "prometheus-rules.yml", "grafana-dashboard.json")},
     **{f"{DOC}/first-office/{name}": 0o644 for name in (
         "hub-0.json", "class-1.json", "pool-1.json", "subscriber-7.json",
         "modem-02aabbccddee.json")},

@@ -41,6 +41,7 @@ WORDS = [
     ("modem", "--devices x", 2, "x isn't a number from 0 to 254"),
     ("modem", "--relay nonsense", 2, "nonsense isn't an IPv4 address"),
     ("modem", "--relay 300.1.1.1", 2, "300.1.1.1 isn't an IPv4 address"),
+    ("modem", "--device-relay x", 2, "x isn't an IPv4 address"),
     ("modem", "--server no.such.machine.invalid", 2, "no.such.machine.invalid isn't an address"),
     ("modem", "--ask-lease nonsense", 2, "nonsense is neither"),
     ("modem", "--serial " + 300 * "x", 2, "a serial number has at most"),
