@@ -1,1 +1,2 @@
+pub mod DropExamples
 pub mod Fronts
