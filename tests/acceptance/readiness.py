@@ -2,13 +2,14 @@
 """bin/office-unit waits for the unit until an office answers, and explains how it ended.
 
 Over loopback: it waits while no office is there, up to its limit; it ends with 0 when all four
-ports answer, and with 1 when the office's process has ended. Then offices that can't start: each
+ports answer, each of which it asks once, and with 1 when the office's process has ended. Then offices that can't start: each
 ends with 10 or 11 for a cause that the page MESSAGES names, and the one line that follows names that
 cause. Each status of that page has a meaning. It takes some seconds.
 """
 import contextlib
 import os
 import re
+import signal
 import socket
 import subprocess
 import sys
@@ -64,6 +65,29 @@ def ready():
         check(status == 1 and "HTTP doesn't answer at 127.0.0.1 port 1 " in said, said)
     status, said = unit("ready", MAINPID=str(program.pid), **known)
     check(status == 1 and "the office ended before it was ready" in said, said)
+
+
+def asks_once():
+    """An office that takes long to answer is asked once by each service."""
+    ports = free_ports()
+    with tempfile.TemporaryFile() as log:
+        words = [PROGRAM, "serve", "--store", "memory", "--ports", listed(ports), "--turns", TURNS]
+        program = subprocess.Popen(words, env={**os.environ, "OFFICED_UDP": "127.0.0.1"},
+                                   stdin=subprocess.DEVNULL, stdout=log)
+        known = {"OFFICED_PORTS": listed(ports), "OFFICED_UDP": "127.0.0.1"}
+        check(unit("ready", **known)[0] == 0, "it's there")
+        program.send_signal(signal.SIGSTOP)
+        waits = subprocess.Popen([UNIT, "ready"], env={**os.environ, **known},
+                                 stdout=subprocess.PIPE)
+        time.sleep(3)
+        program.send_signal(signal.SIGCONT)
+        waits.communicate(timeout=60)
+        program.terminate()
+        program.wait()
+        log.seek(0)
+        lines = [line.split(maxsplit=1)[1] for line in log.read().decode().splitlines()]
+    asked = ["dhcp dhcp-short", "time sent", "tftp no-lease", "http 404 no-row"]
+    check([line for line in lines if not line.startswith("tick")] == asked * 2, f"lines: {lines}")
 
 
 def end_of(ports, store="memory", **known):
@@ -128,9 +152,9 @@ def meanings():
     for status in statuses[:10]:
         said = unit("ended", EXIT_CODE="exited", EXIT_STATUS=str(status))[1]
         check(f"ended with status {status}: " in said and "no status" not in said, said)
-    for signal in ("TERM", "KILL", "SEGV"):
-        said = unit("ended", EXIT_CODE="killed", EXIT_STATUS=signal)[1]
-        check(f"ended with signal {signal}: " in said, said)
+    for name in ("TERM", "KILL", "SEGV"):
+        said = unit("ended", EXIT_CODE="killed", EXIT_STATUS=name)[1]
+        check(f"ended with signal {name}: " in said, said)
     check(unit("ended", EXIT_STATUS="")[0] == 2, "it's for a unit of systemd")
     check(unit("ready", "--ports", "1,2,3")[0] == 2, "words that can't be read")
     words = text_of("packaging", "officed.service")
@@ -141,6 +165,7 @@ def meanings():
 
 def main():
     ready()
+    asks_once()
     sockets()
     stores()
     meanings()
