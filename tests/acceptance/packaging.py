@@ -5,7 +5,8 @@ It is installed into a folder of this script and removed again. There each helpe
 of the file VERSION, and so do the unit and the manual pages; each option of a helper is in its page
 and is completed by bash; no link of a page leads to a file or a heading that isn't there. The
 unit's words are tried with the program, and systemd judges the unit; the manual page has each
-status and each variable. Each page is laid out without a warning. What a tool is missing for is
+status and each variable. Each page is laid out without a warning. NOTICE has the copyrights of the
+toolchain's libraries. What a tool is missing for is
 said and skipped. The copy's two rights are enough for it, and the unit refuses a clerks' port that
 other machines reach unless that is asked for. It takes some seconds.
 """
@@ -18,7 +19,8 @@ import sys
 import tempfile
 import time
 
-from harness import PROGRAM, ROOT, check, free_ports, listed, script, serve, stop, text_of
+from harness import (PROGRAM, ROOT, check, free_ports, listed, loaded, script, serve, stop,
+                     text_of)
 from harness.clerks import is_heard
 
 DOC = "share/doc/officed"
@@ -296,6 +298,31 @@ def laid_out(path):
         check((done.returncode, done.stderr) == (0, b""), f"the layout: {done.stderr.decode()}")
 
 
+def notices(folder):
+    """NOTICE names each library in the program that the toolchain has a licence file of, with its
+    copyrights."""
+    if not shutil.which("rt"):
+        print("notices: skipped, since this machine has no toolchain")
+        return
+    build = loaded("office-build")
+    tool = build.Unproved(folder)
+    known = build.lines()
+    first = {each for name in build.needed(build.crates()) for each in known[name]
+             if each not in known}
+    notice, count = text_of("NOTICE"), 0
+    for name in tool.kit(["std", *sorted(first)]):
+        source = tool.tool.path("rattle", name)
+        for file in sorted(os.listdir(source)):
+            if not file.startswith("LICENSE"):
+                continue
+            count += 1
+            check(re.search(rf"(?m)^\* (\w+, )*{name}(, \w+)*: ", notice), f"NOTICE has {name}")
+            for line in re.findall(r"(?m)^Copyright \(c\) .*$", read(source, file)):
+                check(line.strip() in notice, f"NOTICE has {line} of {name}")
+    check(count > 10, f"only {count} licence files were looked at")
+    check("Apache License" in text_of("LICENSE").splitlines()[0], "LICENSE is Apache's")
+
+
 def main():
     if not shutil.which("groff"):
         print("the layout of manual pages: skipped, since this machine has no groff")
@@ -304,6 +331,7 @@ def main():
         systemd(folder)
         copies(folder)
         copy_rights(folder)
+        notices(folder)
     unit_words()
     keeps_no_core()
     clerks_port()
