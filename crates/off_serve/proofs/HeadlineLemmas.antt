@@ -1,10 +1,11 @@
 -- From the loop and the run's own line to the headline.
-use Rattle.std.proofs.Common.{◌≡◌, ◌≢◌, ℕ, ◌⊎◌, List, [], ◌∷◌, All, Option, Some, MatchOption, refl, ap, ◌∙◌, subst, inl, inr, arith}
+use Rattle.std.proofs.Common.{◌≡◌, ◌≢◌, ℕ, ◌⊎◌, Bool, List, [], ◌∷◌, All, Option, Some, MatchOption, refl, ap, ◌∙◌, subst, inl, inr, arith}
 use Rattle.off_defs.specs.Told.{Told}
 use Rattle.off_defs.proofs.ToldLemmas.{told_weaker}
 use Rattle.off_defs.specs.declared.writes.Write.{Write}
 use Rattle.off_defs.specs.State.{Tables, State, Held, held_at_start, start, state_of}
-use Rattle.off_book.proofs.SavesLemmas.{saves_doubt}
+use Rattle.off_book.specs.Crashes.{turn_steps, Saves}
+use Rattle.off_book.proofs.LeftLemmas.{left_wider}
 use Rattle.off_book.specs.Words.{Job}
 use Rattle.off_book.specs.Run.{Turn, SaysMemory, failures_by, commits_by, lost_by, lines_from}
 use Rattle.off_book.proofs.StepLemmas.{turns_did}
@@ -115,6 +116,23 @@ keeper_opened turns first a b c settled ran = record {
   up = up_chain (omega (arith, settled.faults)) ran.faults.grew.later (λ up. inl (settled.up up)) ran.up;
 }
 
+-- more may be in doubt before the run, and as much is safe at each moment
+abbrev saves_after_doubt : {first more : Tables → Type 0} {from : ℕ} {s : State} {done : List Turn} {opened : ℕ → Tables → Type 0} {doubt : Tables → Type 0} {waits : Bool} {to : ℕ} {last : State}
+    → ((u : Tables) → first u → more u) → Saves turn_steps first from s done opened doubt waits to last → Saves turn_steps more from s done opened doubt waits to last
+saves_after_doubt wider saves = record {
+  run = saves.run;
+  later = saves.later;
+  safe = saves.safe;
+  taken = saves.taken;
+  rises = saves.rises;
+  top = saves.top;
+  most = saves.most;
+  within = saves.within;
+  leaves = λ m u early upto shown. left_wider turn_steps (wider u) (saves.leaves m u early upto shown);
+  doubts = λ u doubt. left_wider turn_steps (wider u) (saves.doubts u doubt);
+  all = saves.all;
+}
+
 -- what a crash leaves from the opening on
 saves_behind : (turns : List Turn) (moments : List ℕ) (first last : Desk) (a b c : KeeperSeen) → Rests a → Opened first a b → first.held ≡ held_at_start → RanFrom turns moments first last b c
     → (t v u : Tables) → a.tables t → v ≡ migrated t → SavesIn b c (state_of v first.held) turns moments (state_of u last.held)
@@ -122,7 +140,7 @@ saves_behind : (turns : List Turn) (moments : List ℕ) (first last : Desk) (a b
 saves_behind turns moments first last a b c rests opened fresh ran t v u told is saves =
     let here = subst (λ (s : State). SavesIn b c s turns moments (state_of u last.held)) (opened_state first t v is fresh) saves in
     record {
-      opened = record { at = b.moment; opening = leaves_opening rests opened ran.past t told; saves = saves_doubt (doubts_opened opened t told) here.saves };
+      opened = record { at = b.moment; opening = leaves_opening rests opened ran.past t told; saves = saves_after_doubt (doubts_opened opened t told) here.saves };
       sent = here.sent;
     }
 
