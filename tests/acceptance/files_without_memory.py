@@ -7,6 +7,7 @@ the datagram itself, and all is as it was, since the answer at last is that of t
 packet that opens a transfer or goes on with one, each refusal that is told to the client, and a Tick that sends, is refused at least once. It wants `cc` and
 `unshare -rn`, ends what it started, and takes under a minute.
 """
+# proved: a build without the proof has an allocator of its own, which can't be made to refuse
 import collections
 import os
 import shutil

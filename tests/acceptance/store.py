@@ -292,6 +292,9 @@ def imports(kind="", rows=rows_of):
 
 def hungry():
     """With so little memory that a file can't be opened: status 6, and never 11."""
+    if "OFFICE_UNPROVED" in os.environ:
+        print("little memory: skipped, since a build without the proof has an allocator of its own")
+        return
     found = {}
     with folder() as (_, store):
         made_with(store, [(b"\2" + struct.pack(">I", number), b"\1\2\3Ann") for number in range(ROWS)])
