@@ -48,13 +48,7 @@ impl Link for WantingLink {
         self.link.next_waiting(alloc)
     }
 
-    fn send(
-        &mut self,
-        pass: Pass,
-        service: Service,
-        to: Peer,
-        bytes: &[u8],
-    ) -> Result<(), Failed> {
+    fn send(&mut self, pass: Pass, service: Service, to: Peer, bytes: &[u8]) -> Result<(), Failed> {
         self.link.send(pass, service, to, bytes)
     }
 
