@@ -200,7 +200,7 @@ def reads_from_afar():
     check(printed(modem.tell_file, file, {b"tsize": 9}, 1, 0)[1], "another size than said")
 
 
-modem = loaded("modem")
+modem = loaded("office-modem")
 
 
 def main():

@@ -275,8 +275,9 @@ def copies(folder):
         words = words.replace(old, new)
     done = subprocess.run(["sh", "-c", words], timeout=60, stdout=subprocess.PIPE,
                           stderr=subprocess.STDOUT)
-    check((done.returncode, os.listdir(copies_)) == (0, [time.strftime("office-%u.db")]),
-          f"a copy: {done.stdout.decode()} {os.listdir(copies_)}")
+    name, made = time.strftime("office-%u.db"), sorted(os.listdir(copies_))
+    check((done.returncode, made) == (0, [name, f"{name}.sum"]),
+          f"a copy and its sum: {done.stdout.decode()} {made}")
 
 
 def manual():
