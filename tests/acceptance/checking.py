@@ -91,8 +91,9 @@ def proved(folder):
 
 # Of which Debian package each program is that a script needs; of one that Debian hasn't, nothing.
 PACKAGES = {"make": "make", "curl": "curl", "openapi-spec-validator": "", "openssl": "openssl",
-            "nginx": "nginx-light", "dhcpd": "isc-dhcp-server", "unshare": "util-linux", "nsenter": "util-linux",
-            "ip": "iproute2", "systemd-analyze": "systemd"}
+            "nginx": "nginx-light", "dhcpd": "isc-dhcp-server", "unshare": "util-linux",
+            "nsenter": "util-linux", "ip": "iproute2", "systemd-analyze": "systemd",
+            "nft": "nftables", "sha256sum": "coreutils"}
 # A package manager that has git and make, and writes down what it's asked.
 MANAGER = """#!/bin/sh
 case ${0##*/} in

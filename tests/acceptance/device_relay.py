@@ -18,7 +18,7 @@ from harness.clerks import wait_until_answering
 from clerk_examples import clerk
 
 PORTS = [67, 37, 69, 8080]
-MODEM = os.path.join(ROOT, "bin", "modem")
+MODEM = os.path.join(ROOT, "bin", "office-modem")
 
 
 def sh(line):
